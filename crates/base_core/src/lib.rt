@@ -1,0 +1,18 @@
+//! Values, names, numbers, lists, refusals, sources of bytes and sinks for them.
+#![tactic(auto)]
+
+mod copied;
+mod ids;
+mod list;
+mod objects;
+mod refusal;
+mod text;
+mod value;
+
+pub use copied::Copied;
+pub use ids::{AttrNo, ClassId, ColumnNo, ObjId, RelNo, TableId};
+pub use list::ListOf;
+pub use objects::{ObjList, ObjSet};
+pub use refusal::{ArgumentKind, IntegrityKind, LimitKind, Refusal, RequestKind, RowName, Warning};
+pub use text::{Blob, Name, Text};
+pub use value::{ArithOp, Key, Kind, RowList, RowValues, Value, compare};

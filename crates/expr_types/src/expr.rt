@@ -1,0 +1,72 @@
+//! Expressions.
+
+use base_core::{ArithOp, ColumnNo, Copied, ListOf, Name, RowValues, TableId, Value};
+use sqlite_items::{Boxed, Items};
+use std::alloc::AllocError;
+
+#[derive(Clone, Copy, Debug, PartialEq, Eq)]
+pub enum CompareOp {
+    Equal,
+    NotEqual,
+    Less,
+    LessEqual,
+    Greater,
+    GreaterEqual,
+}
+
+/// A function of SQL. The first four are aggregates.
+#[derive(Clone, Copy, Debug, PartialEq, Eq)]
+pub enum Func {
+    Count,
+    Sum,
+    Min,
+    Max,
+    Lower,
+    Upper,
+    Length,
+    Coalesce,
+}
+
+/// A source of rows: a table, and the name under which it stands where it has one of its own.
+#[derive(Clone, Debug, Drop, PartialEq, Eq)]
+pub struct Origin {
+    pub table: TableId,
+    pub alias: Option<Name>,
+}
+
+impl Copied for Origin {
+    fn copied(&self) -> Result<Origin, AllocError> {
+        self.clone()
+    }
+}
+
+/// Sources.
+pub type OriginList = ListOf<Origin>;
+
+/// An expression. A first `bool` is true for the negated form. No `Lit` holds `Null`.
+#[derive(Debug, Drop)]
+pub enum Expr {
+    /// The source's place in the scope, the innermost last, and its column.
+    Column(u32, ColumnNo),
+    Lit(Value),
+    Compare(CompareOp, Boxed<Expr>, Boxed<Expr>),
+    IsNull(bool, Boxed<Expr>),
+    And(Items<Expr>),
+    Or(Items<Expr>),
+    Not(Boxed<Expr>),
+    Arith(ArithOp, Boxed<Expr>, Boxed<Expr>),
+    Neg(Boxed<Expr>),
+    Concat(Boxed<Expr>, Boxed<Expr>),
+    Like(bool, Boxed<Expr>, Boxed<Expr>),
+    Ilike(bool, Boxed<Expr>, Boxed<Expr>),
+    InList(bool, Boxed<Expr>, RowValues),
+    Between(bool, Boxed<Expr>, Boxed<Expr>, Boxed<Expr>),
+    Distinct(bool, Boxed<Expr>, Boxed<Expr>),
+    Call(Func, Items<Expr>),
+    CountAll,
+    /// A row of the source for which the condition is true; in the condition the source stands last in scope.
+    Exists(bool, Origin, Boxed<Expr>),
+}
+
+/// Expressions.
+pub type ExprList = Items<Expr>;

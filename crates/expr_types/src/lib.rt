@@ -1,0 +1,8 @@
+//! Expressions, selects, bulk statements and queries for objects, as data without pointers.
+#![tactic(auto)]
+
+mod expr;
+mod select;
+
+pub use expr::{CompareOp, Expr, ExprList, Func, Origin, OriginList};
+pub use select::{Bulk, Joined, ObjectQuery, Select, Statement};
