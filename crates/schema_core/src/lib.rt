@@ -4,6 +4,7 @@
 mod changes;
 mod declaration;
 mod keys;
+mod order;
 mod schema;
 mod statement;
 mod table;
