@@ -38,3 +38,25 @@ pub key_more : {A B : Type 0} (E : A → B → Bool) (p : B → Bool) (xs : List
 key_more E p xs ys i j d h k = ap (λ zs. pointwise E (drop i xs) (filter p zs)) (drop_all j ys k) ∙ ap (λ zs. pointwise E zs []) (drop-cons xs i d h)
 
 pub ruleset key_steps = (key_taken, key_differs, key_skipped, key_lacks, key_end, key_more)
+
+-- ---- two lists side by side
+
+pub pair_at : {A B : Type 0} (E : A → B → Bool) (xs : List A) (ys : List B) (i : ℕ) (d : A) (e : B) → i < length xs → i < length ys → pointwise E (drop i xs) (drop i ys) ≡ (E (get_or xs i d) (get_or ys i e) && pointwise E (drop (i + 1) xs) (drop (i + 1) ys))
+pair_at E xs ys i d e h k = rw (add-one, drop-cons xs i d, drop-cons ys i e) refl
+
+pub pair_same : {A B : Type 0} (E : A → B → Bool) (xs : List A) (ys : List B) (i : ℕ) (d : A) (e : B) → i < length xs → i < length ys → E (get_or xs i d) (get_or ys i e) ≡ true → pointwise E (drop (i + 1) xs) (drop (i + 1) ys) ≡ pointwise E (drop i xs) (drop i ys)
+pair_same E xs ys i d e h k same = sym (pair_at E xs ys i d e h k ∙ ap (λ b. b && pointwise E (drop (i + 1) xs) (drop (i + 1) ys)) same)
+
+pub pair_differs : {A B : Type 0} (E : A → B → Bool) (xs : List A) (ys : List B) (i : ℕ) (d : A) (e : B) → i < length xs → i < length ys → E (get_or xs i d) (get_or ys i e) ≡ false → pointwise E (drop i xs) (drop i ys) ≡ false
+pair_differs E xs ys i d e h k other = pair_at E xs ys i d e h k ∙ ap (λ b. b && pointwise E (drop (i + 1) xs) (drop (i + 1) ys)) other
+
+pub pair_lacks : {A B : Type 0} (E : A → B → Bool) (xs : List A) (ys : List B) (i : ℕ) (d : A) → i < length xs → length ys ≤ i → pointwise E (drop i xs) (drop i ys) ≡ false
+pair_lacks E xs ys i d h k = ap (pointwise E (drop i xs)) (drop_all i ys k) ∙ ap (λ zs. pointwise E zs []) (drop-cons xs i d h)
+
+pub pair_more : {A B : Type 0} (E : A → B → Bool) (xs : List A) (ys : List B) (i : ℕ) (e : B) → length xs ≤ i → i < length ys → pointwise E (drop i xs) (drop i ys) ≡ false
+pair_more E xs ys i e h k = ap (λ zs. pointwise E zs (drop i ys)) (drop_all i xs h) ∙ ap (pointwise E []) (drop-cons ys i e k)
+
+pub pair_end : {A B : Type 0} (E : A → B → Bool) (xs : List A) (ys : List B) (i : ℕ) → length xs ≤ i → length ys ≤ i → pointwise E (drop i xs) (drop i ys) ≡ true
+pair_end E xs ys i h k = ap (λ zs. pointwise E zs (drop i ys)) (drop_all i xs h) ∙ ap (pointwise E []) (drop_all i ys k)
+
+pub ruleset pair_steps = (pair_same, pair_differs, pair_lacks, pair_more, pair_end)

@@ -1,4 +1,5 @@
 pub mod Apply
 pub mod Catalog
 pub mod Declaration
+pub mod DependencyOrder
 pub mod Tables
