@@ -1,0 +1,432 @@
+//! The arena of objects.
+
+ghost use Rattle.std.specs.Prelude.{◌≡◌, ◌<◌, ◌≤◌, ◌≢◌, ◌+◌, [], length, true, false, IfOk, IfErr, OnOk, OnErr, IfSome, is_some, ◌++◌, ◌∷◌};
+ghost use Rattle.std.specs.List.{position, zip};
+ghost use Rattle.base_core.specs.Answers.{Takes};
+ghost use Rattle.base_core.specs.declared.refusal.Refusal.TheVariants.{Memory};
+ghost use Rattle.mapper_core.specs.Mapped.{IsAttribute, IsClass, is_key_attribute};
+ghost use Rattle.object_arena.specs.declared.object.State.TheVariants.{Persistent};
+ghost use Rattle.object_arena.specs.Graph.{IsCell, IsLink, IsObject, cell_at, either_fault, empty_graph, expired, has_identity, is_persistent, key_fault, kind_fault, make, object_at, put_back_object, root_at, set_cell, shown, value_fault, with_cell, with_fresh, with_link, with_marks, with_object, with_state, with_value};
+ghost use Rattle.object_arena.specs.Identity.{IsFree, find_identity, has_key, holds, is_other, is_taken, register, registered};
+ghost use Rattle.object_arena.specs.Fit.{IsFit};
+
+use crate::{Cell, CellRead, Link, Object, State, parts};
+use base_core::{AttrNo, ClassId, Key, Kind, LimitKind, ObjId, Refusal, RelNo, RequestKind, Value};
+use mapper_core::Mapping;
+use schema_core::{kind_of_value, same_kind};
+use std::alloc::Global;
+use std::cmp::Ordering;
+use std::marker::Model;
+
+/// How many objects there are at most.
+const OBJECT_LIMIT: usize = 1_000_000;
+
+/// Objects, numbered from 1 in the order in which they are made, and the identity map.
+#[derive(Debug, Drop)]
+pub struct Arena {
+    alloc: Global,
+    objects: Vec<Object>,
+    /// The root class of each object's class.
+    roots: Vec<ClassId>,
+}
+
+impl Model for Arena {
+    ghost use Rattle.object_arena.specs.Graph.{Graph};
+    ghost use Rattle.object_arena.specs.Identity.{IsGraph};
+
+    ghost Value = { Graph };
+
+    ghost view = { λ a. record { objects = a.objects.items; roots = a.roots.items } };
+
+    ghost invariant = { λ a. IsGraph a.objects.items a.roots.items };
+}
+
+impl Arena {
+    /// No objects.
+    pub fn new(alloc: Global) -> Arena
+        ensures { result ≡ empty_graph }
+    {
+        Arena {
+            alloc,
+            objects: Vec::new(alloc),
+            roots: Vec::new(alloc),
+        }
+    }
+
+    /// How many objects have been made.
+    pub fn count(&self) -> u32
+        ensures { result ≡ length self.now.objects }
+    {
+        self.objects.len() as u32
+    }
+
+    /// An object's record.
+    pub fn object(&self, object: ObjId) -> &Object
+        requires { IsObject self.now object }
+        ensures { result.now ≡ object_at self.now object }
+    {
+        &self.objects[object.0 as usize - 1]
+    }
+
+    /// An object's class.
+    pub fn class_of(&self, object: ObjId) -> ClassId
+        requires { IsObject self.now object }
+        ensures { result ≡ (object_at self.now object).class }
+    {
+        self.objects[object.0 as usize - 1].class
+    }
+
+    /// An object's state.
+    pub fn state_of(&self, object: ObjId) -> State
+        requires { IsObject self.now object }
+        ensures { result ≡ (object_at self.now object).state }
+    {
+        self.objects[object.0 as usize - 1].state
+    }
+
+    /// What a cell of an object holds.
+    pub fn get_cell(&self, object: ObjId, attr: AttrNo) -> CellRead<'_>
+        requires object { IsObject self.now object }
+        requires attr { IsCell self.now object attr }
+        ensures { shown result ≡ (cell_at self.now object attr).value }
+    {
+        read_of(
+            self.objects[object.0 as usize - 1]
+                .cells
+                .at(attr.0 as usize),
+        )
+    }
+
+    /// The persistent object that has a key under a root class, if there is one.
+    pub fn find_identity(&self, root: ClassId, key: &Key) -> Option<ObjId>
+        ensures { result ≡ find_identity self.now root key.now }
+    {
+        match place_of(self.objects.as_slice(), self.roots.as_slice(), root, key) {
+            Some(place) => Some(ObjId(place as u32 + 1)),
+            None => None,
+        }
+    }
+
+    /// Whether another persistent object has the key that an object is to have.
+    fn is_taken(&self, object: ObjId, key: &Key) -> bool
+        requires { IsObject self.now object }
+        ensures { result ≡ is_taken self.now object key.now }
+    {
+        is_other(object, self.find_identity(self.root_at(object), key))
+    }
+
+    /// The root class of an object's class.
+    fn root_at(&self, object: ObjId) -> ClassId
+        requires { IsObject self.now object }
+        ensures { result ≡ root_at self.now object }
+    {
+        self.roots[object.0 as usize - 1]
+    }
+
+    #[tactic(auto, using(crate::proofs::GraphLemmas::graph_pushed), unfolding(crate::specs::Graph::make))]
+    /// Makes a transient object of a class, by the next number: null cells, unset links, no identity.
+    ///
+    /// # Errors
+    /// `LimitReached(Objects)` where there are 1,000,000 objects. A refusal changes nothing.
+    pub fn make(&mut self, mapping: &Mapping, class: ClassId) -> Result<ObjId, Refusal>
+        requires declared { IsClass mapping.now class }
+        requires configured { mapping.now.configured ≡ true }
+        ensures step { Takes (λ object. object) (make self.old mapping.now class) self.old result self.new }
+        ensures made { OnOk result (self.new ≡ with_fresh self.old mapping.now class) }
+    {
+        if self.objects.len() >= OBJECT_LIMIT {
+            return Err(Refusal::LimitReached(LimitKind::Objects));
+        }
+        let object = parts::fresh_object(self.alloc, mapping, class)?;
+        push_both(&mut self.objects, &mut self.roots, object, class)?;
+        Ok(ObjId(self.objects.len() as u32))
+    }
+
+    #[tactic(auto, using(crate::proofs::FitLemmas::fit_class, crate::proofs::FitLemmas::fit_cells), unfolding(crate::specs::Graph::set_cell))]
+    /// Sets a cell of an object. Its base, what was last read or written, stays.
+    ///
+    /// # Errors
+    /// `TypeMismatch` where the value is not NULL and of another kind than the attribute, then
+    /// `InvalidRequestError(KeyChange)` where the object has an identity and the attribute is a column of the primary
+    /// key. A refusal changes nothing.
+    pub fn set_cell(
+        &mut self,
+        mapping: &Mapping,
+        object: ObjId,
+        attr: AttrNo,
+        value: Value,
+    ) -> Result<(), Refusal>
+        requires configured { mapping.now.configured ≡ true }
+        requires fit { IsFit mapping.now self.old }
+        requires object { IsObject self.old object }
+        requires attr { IsAttribute mapping.now (object_at self.old object).class attr }
+        ensures step { Takes (λ _. tt) (set_cell self.old mapping.now object attr value) self.old result self.new }
+        ensures set { OnOk result (self.new ≡ with_value self.old object attr value) }
+        ensures fits { IsFit mapping.now self.new }
+    {
+        match cell_fault(mapping, self.object(object), attr, &value) {
+            Some(fault) => Err(fault),
+            None => {
+                self.put_value(object, attr, value);
+                Ok(())
+            }
+        }
+    }
+
+    #[tactic(auto, using(crate::proofs::GraphLemmas::graph_kept))]
+    /// A cell holds a value; its base stays.
+    fn put_value(&mut self, object: ObjId, attr: AttrNo, value: Value)
+        requires object { IsObject self.old object }
+        requires attr { IsCell self.old object attr }
+        ensures { self.new ≡ with_value self.old object attr value }
+    {
+        parts::put_value(&mut self.objects[object.0 as usize - 1], attr, value);
+    }
+
+    #[tactic(auto, using(crate::proofs::GraphLemmas::graph_registered), unfolding(crate::specs::Identity::register))]
+    /// Makes an object persistent under a key.
+    ///
+    /// # Errors
+    /// `InvalidRequestError(IdentityConflict)` where another persistent object has this key under the same root class.
+    /// A refusal changes nothing.
+    pub fn register(&mut self, object: ObjId, key: Key) -> Result<(), Refusal>
+        requires { IsObject self.old object }
+        ensures step { Takes (λ _. tt) (register self.old object key) self.old result self.new }
+        ensures registered { OnOk result (self.new ≡ registered self.old object key) }
+    {
+        if self.is_taken(object, &key) {
+            return Err(Refusal::InvalidRequestError(RequestKind::IdentityConflict));
+        }
+        let target = &mut self.objects[object.0 as usize - 1];
+        target.state = State::Persistent;
+        target.identity = Some(key);
+        Ok(())
+    }
+
+    #[tactic(auto, using(crate::proofs::GraphLemmas::graph_kept))]
+    /// Drops what is known of an object's cells and links, so that they are to be read again, and its orphan mark.
+    pub fn expire(&mut self, object: ObjId)
+        requires object { IsObject self.old object }
+        requires persistent { (object_at self.old object).state ≡ Persistent }
+        ensures { self.new ≡ with_object self.old object (expired (object_at self.old object)) }
+    {
+        parts::expire(self.alloc, &mut self.objects[object.0 as usize - 1]);
+    }
+
+    #[tactic(auto, using(crate::proofs::GraphLemmas::graph_kept))]
+    /// Replaces a cell of an object. The only refusal is want of memory, and it changes nothing.
+    pub fn put_cell(&mut self, object: ObjId, attr: AttrNo, cell: Cell) -> Result<(), Refusal>
+        requires object { IsObject self.old object }
+        requires attr { IsCell self.old object attr }
+        ensures ok { OnOk result (self.new ≡ with_cell self.old object attr cell) }
+        ensures err { OnErr result (self.new ≡ self.old) }
+        ensures cause { IfErr result (λ e. e ≡ Memory) }
+    {
+        let target = &mut self.objects[object.0 as usize - 1];
+        let _old = target.cells.replace(attr.0 as usize, cell);
+        Ok(())
+    }
+
+    #[tactic(auto, using(crate::proofs::GraphLemmas::graph_kept))]
+    /// Replaces a link of an object. The only refusal is want of memory, and it changes nothing.
+    pub fn put_link(&mut self, object: ObjId, relation: RelNo, link: Link) -> Result<(), Refusal>
+        requires object { IsObject self.old object }
+        requires relation { IsLink self.old object relation }
+        ensures ok { OnOk result (self.new ≡ with_link self.old object relation link) }
+        ensures err { OnErr result (self.new ≡ self.old) }
+        ensures cause { IfErr result (λ e. e ≡ Memory) }
+    {
+        let target = &mut self.objects[object.0 as usize - 1];
+        let _old = target.links.replace(relation.0 as usize, link);
+        Ok(())
+    }
+
+    #[tactic(auto, using(crate::proofs::GraphLemmas::graph_kept))]
+    /// Replaces an object's add number and marks. The only refusal is want of memory, and it changes nothing.
+    pub fn put_marks(
+        &mut self,
+        object: ObjId,
+        added: u64,
+        marked: bool,
+        orphan: bool,
+    ) -> Result<(), Refusal>
+        requires { IsObject self.old object }
+        ensures ok { OnOk result (self.new ≡ with_marks self.old object added marked orphan) }
+        ensures err { OnErr result (self.new ≡ self.old) }
+        ensures cause { IfErr result (λ e. e ≡ Memory) }
+    {
+        let target = &mut self.objects[object.0 as usize - 1];
+        target.added = added;
+        target.marked = marked;
+        target.orphan = orphan;
+        Ok(())
+    }
+
+    #[tactic(auto, using(crate::proofs::GraphLemmas::graph_stated))]
+    /// Replaces an object's state; a transient or pending object has no identity. The only refusal is want of memory,
+    /// and it changes nothing.
+    pub fn put_state(&mut self, object: ObjId, state: State) -> Result<(), Refusal>
+        requires object { IsObject self.old object }
+        requires state { is_persistent state ≡ false }
+        requires identity { has_identity state ≡ true → is_some (object_at self.old object).identity ≡ true }
+        ensures ok { OnOk result (self.new ≡ with_state self.old object state) }
+        ensures err { OnErr result (self.new ≡ self.old) }
+        ensures cause { IfErr result (λ e. e ≡ Memory) }
+    {
+        parts::put_state(&mut self.objects[object.0 as usize - 1], state);
+        Ok(())
+    }
+
+    #[tactic(auto, using(crate::proofs::GraphLemmas::graph_back))]
+    /// Puts an object back into a state and an identity that it had, without a delete mark. The expired cells of a
+    /// transient object become NULL, its unloaded links become unset or have the members added meanwhile, a link to an
+    /// object is changed, and collections have no base.
+    pub fn put_back(&mut self, object: ObjId, state: State, identity: Option<Key>)
+        requires object { IsObject self.old object }
+        requires identity { has_identity state ≡ is_some identity }
+        requires one { is_persistent state ≡ true → IsFree self.old object identity }
+        ensures { self.new ≡ with_object self.old object (put_back_object (object_at self.old object) state identity) }
+    {
+        parts::put_back(
+            self.alloc,
+            &mut self.objects[object.0 as usize - 1],
+            state,
+            identity,
+        );
+    }
+}
+
+/// What is read of a cell.
+fn read_of(cell: &Cell) -> CellRead<'_>
+    ensures { shown result ≡ cell.now.value }
+{
+    match &cell.value {
+        Some(value) => CellRead::Held(value),
+        None => CellRead::Expired,
+    }
+}
+
+/// Whether a key is that of an identity.
+fn has_key(key: &Key, identity: &Option<Key>) -> bool
+    ensures { result ≡ has_key key.now identity.now }
+{
+    match identity {
+        Some(own) => own.cmp(key) == Ordering::Equal,
+        None => false,
+    }
+}
+
+/// Whether a state is that of a persistent object.
+fn is_persistent(state: State) -> bool
+    ensures { result ≡ is_persistent state }
+{
+    match state {
+        State::Persistent => true,
+        State::Transient | State::Pending | State::Deleted | State::Detached => false,
+    }
+}
+
+/// Whether an object, of a class under the root, is persistent under the root and key.
+fn holds(root: ClassId, key: &Key, object: &Object, own: ClassId) -> bool
+    ensures { result ≡ holds root key.now (object.now, own) }
+{
+    is_persistent(object.state) && own.0 == root.0 && has_key(key, &object.identity)
+}
+
+/// The place of the persistent object that has a key under a root class.
+fn place_of(objects: &[Object], roots: &[ClassId], root: ClassId, key: &Key) -> Option<usize>
+    ensures place { result ≡ position (holds root key.now) (zip objects.now roots.now) }
+    ensures inside { IfSome result (λ place. place < length objects.now) }
+{
+    objects
+        .iter()
+        .zip(roots.iter())
+        .position(|(object, own)| holds(root, key, object, *own))
+}
+
+/// Whether another object was found.
+fn is_other(object: ObjId, found: Option<ObjId>) -> bool
+    ensures { result ≡ is_other object found }
+{
+    match found {
+        Some(found) => found.0 != object.0,
+        None => false,
+    }
+}
+
+/// Adds an object and its root class, or neither.
+fn push_both(
+    objects: &mut Vec<Object>,
+    roots: &mut Vec<ClassId>,
+    object: Object,
+    root: ClassId,
+) -> Result<(), Refusal>
+    ensures ok { OnOk result ((objects.new.items ≡ objects.old.items ++ object ∷ []) × (roots.new.items ≡ roots.old.items ++ root ∷ [])) }
+    ensures err { OnErr result ((objects.new.items ≡ objects.old.items) × (roots.new.items ≡ roots.old.items)) }
+    ensures cause { IfErr result (λ e. e ≡ Memory) }
+{
+    roots.reserve(1)?;
+    objects.push(object)?;
+    match roots.push(root) {
+        Ok(()) => Ok(()),
+        Err(_full) => {
+            let _object = objects.pop();
+            Err(Refusal::Memory)
+        }
+    }
+}
+
+/// Why a value of a kind is not taken where a kind is wanted.
+fn kind_fault(wanted: Kind, found: Option<Kind>) -> Option<Refusal>
+    ensures { result ≡ kind_fault wanted found }
+{
+    match found {
+        None => None,
+        Some(found) => {
+            if same_kind(wanted, found) {
+                None
+            } else {
+                Some(Refusal::TypeMismatch(wanted, found))
+            }
+        }
+    }
+}
+
+/// Whether an attribute is a column of the key.
+fn is_key_attribute(mapping: &Mapping, class: ClassId, attr: AttrNo) -> bool
+    requires declared { IsClass mapping.now class }
+    requires configured { mapping.now.configured ≡ true }
+    ensures { result ≡ is_key_attribute mapping.now class attr }
+{
+    mapping
+        .key_attributes(class)
+        .iter()
+        .any(|key| key.0 == attr.0)
+}
+
+/// Why the cell of an object's key is not set.
+fn key_fault(mapping: &Mapping, object: &Object, attr: AttrNo) -> Option<Refusal>
+    requires declared { IsClass mapping.now object.now.class }
+    requires configured { mapping.now.configured ≡ true }
+    ensures { result ≡ key_fault mapping.now object.now attr }
+{
+    if object.identity.is_some() && is_key_attribute(mapping, object.class, attr) {
+        Some(Refusal::InvalidRequestError(RequestKind::KeyChange))
+    } else {
+        None
+    }
+}
+
+/// Why a value is not taken for a cell.
+fn cell_fault(mapping: &Mapping, object: &Object, attr: AttrNo, value: &Value) -> Option<Refusal>
+    requires declared { IsClass mapping.now object.now.class }
+    requires configured { mapping.now.configured ≡ true }
+    requires attr { IsAttribute mapping.now object.now.class attr }
+    ensures { result ≡ either_fault (value_fault mapping.now object.now attr value.now) (key_fault mapping.now object.now attr) }
+{
+    let wanted = mapping.attributes(object.class)[attr.0 as usize].kind;
+    match kind_fault(wanted, kind_of_value(value)) {
+        Some(fault) => Some(fault),
+        None => key_fault(mapping, object, attr),
+    }
+}
