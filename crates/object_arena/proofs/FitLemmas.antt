@@ -1,24 +1,33 @@
 -- What a change of one object keeps of a graph that fits its mapping.
-use Rattle.std.proofs.Common.{◌≡◌, ◌<◌, ◌≤◌, Bool, true, false, length, Option, None, Some, refl, sym, ap, ◌∙◌, arith}
-use Rattle.std.specs.Prelude.{if◌then◌else◌}
+use Rattle.std.proofs.Common.{◌≡◌, ℕ, ◌<◌, ◌≤◌, Bool, true, false, List, [], ◌∷◌, ◌++◌, length, Option, None, Some, refl, sym, ap, ◌∙◌, arith}
+use Rattle.std.specs.Prelude.{slice_set, if◌then◌else◌}
 use Rattle.std.specs.Cmp.Lexicographic.{as_long}
 use Rattle.std.proofs.Math.Seq.{map-set_same}
 use Rattle.std.proofs.lemmas.Bool.{and_from, and_parts}
-use Rattle.std.proofs.lemmas.List.Elements.{All-set}
+use Rattle.std.proofs.lemmas.List.{length-map, length-set, map-append}
+use Rattle.std.proofs.lemmas.List.Elements.{All-push, All-set}
 use Rattle.base_core.specs.declared.ids.AttrNo.{AttrNo}
+use Rattle.base_core.specs.declared.ids.ClassId.{ClassId}
 use Rattle.base_core.specs.declared.ids.ObjId.{ObjId}
+use Rattle.base_core.specs.declared.ids.RelNo.{RelNo}
 use Rattle.base_core.specs.declared.value.Kind.{Kind}
 use Rattle.base_core.specs.declared.value.Value.{Value}
 use Rattle.base_core.specs.declared.refusal.Refusal.{Refusal}
 use Rattle.base_core.specs.declared.refusal.Refusal.TheVariants.{TypeMismatch}
 use Rattle.schema_core.specs.Catalog.{same_kind}
 use Rattle.schema_core.specs.Tables.{kind_of_value}
-use Rattle.mapper_core.specs.Mapped.{IsAttribute, IsClass, Mapped, attribute_of, attributes_of, no_attribute, root_of}
+use Rattle.mapper_types.specs.declared.mapped.Attribute.{Attribute}
+use Rattle.mapper_core.specs.Mapped.{IsAttribute, IsClass, Mapped, attribute_of, attributes_of, no_attribute, relations_of, root_of}
+use Rattle.object_arena.specs.declared.object.State.{State}
+use Rattle.object_arena.specs.declared.object.State.TheVariants.{Transient, Pending, Persistent, Deleted, Detached}
 use Rattle.object_arena.specs.declared.object.Cell.{Cell}
+use Rattle.object_arena.specs.declared.object.Link.{Link}
+use Rattle.object_arena.specs.declared.object.Link.TheVariants.{Unset, Unloaded}
 use Rattle.object_arena.specs.declared.object.Object.{Object}
-use Rattle.object_arena.specs.Graph.{Graph, IsObject, cell_in, cell_put, either_fault, expired_cell, key_fault, kind_fault, no_object, object_at, place_of, value_fault, with_object, with_value}
-use Rattle.object_arena.specs.Fit.{IsFit, ObjectFits, cell_fits, is_of_kind, value_fits}
-use Rattle.object_arena.proofs.PartLemmas.{pointwise_at, pointwise_set}
+use Rattle.object_arena.specs.Graph.{Graph, IsCell, IsObject, cell_in, cell_put, either_fault, expired, expired_cell, fresh_object, kept_identity, key_fault, kind_fault, no_object, null_cell, object_at, place_of, put_back_object, settled, settled_cell, settled_link, settled_value, value_fault, with_cell, with_fresh, with_link, with_marks, with_object, with_state, with_value}
+use Rattle.object_arena.specs.Identity.{registered}
+use Rattle.object_arena.specs.Fit.{IsFit, ObjectFits, cell_fits, identity_fits, is_of_kind, key_fits, value_fits}
+use Rattle.object_arena.proofs.PartLemmas.{pointwise_at, pointwise_made, pointwise_map, pointwise_set}
 
 -- an object of a graph that fits
 pub fit_at : (mapped : Mapped) (graph : Graph) (object : ObjId) → IsFit mapped graph → IsObject graph object → ObjectFits mapped (object_at graph object)
@@ -74,3 +83,134 @@ fit_value mapped graph new_graph object attr value fit within inside taken is =
       links = fits.links;
     })
     refl)
+
+-- a fresh object
+pub fit_fresh : (mapped : Mapped) (graph new_graph : Graph) (class : ClassId) → IsClass mapped class → new_graph ≡ with_fresh graph mapped class → IsFit mapped graph → IsFit mapped new_graph
+fit_fresh mapped graph new_graph class declared is fit =
+    let new : Object = fresh_object mapped class in
+    let fits : ObjectFits mapped new = record {
+      class = declared;
+      cells = pointwise_made cell_fits (attributes_of mapped class) null_cell (λ attribute. refl);
+      identity = refl;
+      links = length-map (relations_of mapped class) (λ relation. Unset);
+    } in
+    rw is
+    (record {
+      objects = All-push (ObjectFits mapped) graph.objects new fit.objects fits;
+      roots = rw (map-append (λ (o : Object). root_of mapped o.class) graph.objects (new ∷ [])) (ap (λ (roots : List ClassId). roots ++ root_of mapped class ∷ []) fit.roots);
+    })
+
+-- another cell that fits
+pub fit_cell : (mapped : Mapped) (graph new_graph : Graph) (object : ObjId) (attr : AttrNo) (cell : Cell) → IsObject graph object → IsCell graph object attr → new_graph ≡ with_cell graph object attr cell → IsFit mapped graph → cell_fits (attribute_of mapped (object_at graph object).class attr) cell ≡ true → IsFit mapped new_graph
+fit_cell mapped graph new_graph object attr cell within inside is fit good =
+    let old : Object = object_at graph object in
+    let fits : ObjectFits mapped old = fit_at mapped graph object fit within in
+    let held : attr.0 < length (attributes_of mapped old.class) = rw (fit_cells mapped graph object fit within) inside in
+    rw is
+    (fit_set mapped graph object (cell_put old attr cell) fit
+    (record {
+      class = fits.class;
+      cells = pointwise_set cell_fits (attributes_of mapped old.class) old.cells attr.0 cell no_attribute fits.cells good held;
+      identity = fits.identity;
+      links = fits.links;
+    })
+    refl)
+
+-- another link
+pub fit_link : (mapped : Mapped) (graph new_graph : Graph) (object : ObjId) (relation : RelNo) (link : Link) → IsObject graph object → new_graph ≡ with_link graph object relation link → IsFit mapped graph → IsFit mapped new_graph
+fit_link mapped graph new_graph object relation link within is fit =
+    let old : Object = object_at graph object in
+    let fits : ObjectFits mapped old = fit_at mapped graph object fit within in
+    rw is
+    (fit_set mapped graph object (record old { links = slice_set old.links relation.0 link }) fit
+    (record { class = fits.class; cells = fits.cells; identity = fits.identity; links = length-set old.links relation.0 link ∙ fits.links })
+    refl)
+
+-- other marks
+pub fit_marks : (mapped : Mapped) (graph new_graph : Graph) (object : ObjId) (added : ℕ) (marked orphan : Bool) → IsObject graph object → new_graph ≡ with_marks graph object added marked orphan → IsFit mapped graph → IsFit mapped new_graph
+fit_marks mapped graph new_graph object added marked orphan within is fit =
+    let old : Object = object_at graph object in
+    let fits : ObjectFits mapped old = fit_at mapped graph object fit within in
+    rw is
+    (fit_set mapped graph object (record old { added = added; marked = marked; orphan = orphan }) fit
+    (record { class = fits.class; cells = fits.cells; identity = fits.identity; links = fits.links })
+    refl)
+
+kept_fits : (mapped : Mapped) (class : ClassId) (state : State) (identity : Option (List Value)) → identity_fits mapped class identity ≡ true → identity_fits mapped class (kept_identity state identity) ≡ true
+kept_fits mapped class Transient identity h = refl
+kept_fits mapped class Pending identity h = refl
+kept_fits mapped class Persistent identity h = h
+kept_fits mapped class Deleted identity h = h
+kept_fits mapped class Detached identity h = h
+
+-- another state
+pub fit_state : (mapped : Mapped) (graph new_graph : Graph) (object : ObjId) (state : State) → IsObject graph object → new_graph ≡ with_state graph object state → IsFit mapped graph → IsFit mapped new_graph
+fit_state mapped graph new_graph object state within is fit =
+    let old : Object = object_at graph object in
+    let fits : ObjectFits mapped old = fit_at mapped graph object fit within in
+    rw is
+    (fit_set mapped graph object (record old { state = state; identity = kept_identity state old.identity }) fit
+    (record { class = fits.class; cells = fits.cells; identity = kept_fits mapped old.class state old.identity fits.identity; links = fits.links })
+    refl)
+
+-- a registration under a key that fits
+pub fit_registered : (mapped : Mapped) (graph new_graph : Graph) (object : ObjId) (key : List Value) → IsObject graph object → new_graph ≡ registered graph object key → IsFit mapped graph → key_fits mapped (object_at graph object).class key ≡ true → IsFit mapped new_graph
+fit_registered mapped graph new_graph object key within is fit good =
+    let old : Object = object_at graph object in
+    let fits : ObjectFits mapped old = fit_at mapped graph object fit within in
+    rw is
+    (fit_set mapped graph object (record old { state = Persistent; identity = Some key }) fit
+    (record { class = fits.class; cells = fits.cells; identity = good; links = fits.links })
+    refl)
+
+-- an expired object
+pub fit_expired : (mapped : Mapped) (graph new_graph : Graph) (object : ObjId) → IsObject graph object → new_graph ≡ with_object graph object (expired (object_at graph object)) → IsFit mapped graph → IsFit mapped new_graph
+fit_expired mapped graph new_graph object within is fit =
+    let old : Object = object_at graph object in
+    let fits : ObjectFits mapped old = fit_at mapped graph object fit within in
+    rw is
+    (fit_set mapped graph object (expired old) fit
+    (record {
+      class = fits.class;
+      cells = pointwise_map cell_fits (λ cell. expired_cell) (attributes_of mapped old.class) old.cells (λ attribute cell h. refl) fits.cells;
+      identity = fits.identity;
+      links = length-map old.links (λ link. Unloaded [] []) ∙ fits.links;
+    })
+    refl)
+
+settled_fits : (attribute : Attribute) (cell : Cell) → cell_fits attribute cell ≡ true → cell_fits attribute (settled_cell cell) ≡ true
+settled_fits attribute cell h = by_value cell.value h
+  where
+    by_value : (value : Option Value) → cell_fits attribute cell ≡ true → cell_fits attribute (settled_value value cell) ≡ true
+    by_value None h = refl
+    by_value (Some value) h = h
+
+settled_object_fits : (mapped : Mapped) (state : State) (object : Object) → ObjectFits mapped object → ObjectFits mapped (settled state object)
+settled_object_fits mapped Transient object fits = record {
+  class = fits.class;
+  cells = pointwise_map cell_fits settled_cell (attributes_of mapped object.class) object.cells settled_fits fits.cells;
+  identity = fits.identity;
+  links = length-map object.links settled_link ∙ fits.links;
+}
+settled_object_fits mapped Pending object fits = fits
+settled_object_fits mapped Persistent object fits = fits
+settled_object_fits mapped Deleted object fits = fits
+settled_object_fits mapped Detached object fits = fits
+
+settled_class : (state : State) (object : Object) → (settled state object).class ≡ object.class
+settled_class Transient object = refl
+settled_class Pending object = refl
+settled_class Persistent object = refl
+settled_class Deleted object = refl
+settled_class Detached object = refl
+
+-- an object put back under an identity that fits
+pub fit_back : (mapped : Mapped) (graph new_graph : Graph) (object : ObjId) (state : State) (identity : Option (List Value)) → IsObject graph object → new_graph ≡ with_object graph object (put_back_object (object_at graph object) state identity) → IsFit mapped graph → identity_fits mapped (object_at graph object).class identity ≡ true → IsFit mapped new_graph
+fit_back mapped graph new_graph object state identity within is fit good =
+    let old : Object = object_at graph object in
+    let fits : ObjectFits mapped old = fit_at mapped graph object fit within in
+    let moved : Object = record old { state = state; identity = identity; marked = false } in
+    rw is
+    (fit_set mapped graph object (put_back_object old state identity) fit
+    (settled_object_fits mapped state moved (record { class = fits.class; cells = fits.cells; identity = good; links = fits.links }))
+    (settled_class state moved))

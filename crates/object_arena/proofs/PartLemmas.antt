@@ -46,3 +46,17 @@ value_put object attr value between new hole old here out back =
     ∙ ap (λ (cells : List Cell). slice_set cells attr.0 (record { value = Some value; base = old.base })) out
     ∙ set_twice object.cells attr.0 hole (record { value = Some value; base = old.base })
     ∙ ap (λ (cell : Cell). slice_set object.cells attr.0 (record { value = Some value; base = cell.base })) (sym was))
+
+-- partners that still go together when each second one is changed
+pub pointwise_map : {A B : Type 0} (p : A → B → Bool) (f : B → B) (xs : List A) (ys : List B) → ((x : A) (y : B) → p x y ≡ true → p x (f y) ≡ true) → pointwise p xs ys ≡ true → pointwise p xs (map f ys) ≡ true
+pointwise_map p f [] [] keeps all = refl
+pointwise_map p f [] (y ∷ ys) keeps all = absurd cc
+pointwise_map p f (x ∷ xs) [] keeps all = absurd cc
+pointwise_map p f (x ∷ xs) (y ∷ ys) keeps all =
+    and_from (p x (f y)) (pointwise p xs (map f ys)) (keeps x y (and_parts (p x y) (pointwise p xs ys) all).0)
+    (pointwise_map p f xs ys keeps (and_parts (p x y) (pointwise p xs ys) all).1)
+
+-- what goes with each of a list
+pub pointwise_made : {A B : Type 0} (p : A → B → Bool) (xs : List A) (y : B) → ((x : A) → p x y ≡ true) → pointwise p xs (map (λ x. y) xs) ≡ true
+pointwise_made p [] y each = refl
+pointwise_made p (x ∷ xs) y each = and_from (p x y) (pointwise p xs (map (λ z. y) xs)) (each x) (pointwise_made p xs y each)

@@ -4,11 +4,11 @@ ghost use Rattle.std.specs.Prelude.{◌≡◌, ◌<◌, ◌≤◌, ◌≢◌, �
 ghost use Rattle.std.specs.List.{position, zip};
 ghost use Rattle.base_core.specs.Answers.{Takes};
 ghost use Rattle.base_core.specs.declared.refusal.Refusal.TheVariants.{Memory};
-ghost use Rattle.mapper_core.specs.Mapped.{IsAttribute, IsClass, is_key_attribute};
+ghost use Rattle.mapper_core.specs.Mapped.{IsAttribute, IsClass, Mapped, attribute_of, is_key_attribute};
 ghost use Rattle.object_arena.specs.declared.object.State.TheVariants.{Persistent};
-ghost use Rattle.object_arena.specs.Graph.{IsCell, IsLink, IsObject, cell_at, either_fault, empty_graph, expired, has_identity, is_persistent, key_fault, kind_fault, make, object_at, put_back_object, root_at, set_cell, shown, value_fault, with_cell, with_fresh, with_link, with_marks, with_object, with_state, with_value};
-ghost use Rattle.object_arena.specs.Identity.{IsFree, find_identity, has_key, holds, is_other, is_taken, register, registered};
-ghost use Rattle.object_arena.specs.Fit.{IsFit};
+ghost use Rattle.object_arena.specs.Graph.{IsCell, IsLink, IsObject, cell_at, either_fault, empty_graph, expired, has_identity, is_persistent, key_fault, kind_fault, make, object_at, object_limit, put_back_object, root_at, set_cell, shown, value_fault, with_cell, with_fresh, with_link, with_marks, with_object, with_state, with_value};
+ghost use Rattle.object_arena.specs.Identity.{IsFree, IsOne, find_identity, has_key, holds, is_identified, is_other, is_taken, register, registered};
+ghost use Rattle.object_arena.specs.Fit.{IsFit, ObjectFits, cell_fits, identity_fits, key_fits};
 
 use crate::{Cell, CellRead, Link, Object, State, parts};
 use base_core::{AttrNo, ClassId, Key, Kind, LimitKind, ObjId, Refusal, RelNo, RequestKind, Value};
@@ -55,15 +55,20 @@ impl Arena {
 
     /// How many objects have been made.
     pub fn count(&self) -> u32
-        ensures { result ≡ length self.now.objects }
+        ensures count { result ≡ length self.now.objects }
+        ensures few { length self.now.objects ≤ object_limit }
+        ensures one { IsOne self.now.objects self.now.roots }
     {
         self.objects.len() as u32
     }
 
+    #[tactic(auto, using(crate::proofs::FitLemmas::fit_at))]
     /// An object's record.
     pub fn object(&self, object: ObjId) -> &Object
         requires { IsObject self.now object }
-        ensures { result.now ≡ object_at self.now object }
+        ensures is { result.now ≡ object_at self.now object }
+        ensures identified { is_identified result.now ≡ true }
+        ensures fits { (mapped : Mapped) → IsFit mapped self.now → ObjectFits mapped result.now }
     {
         &self.objects[object.0 as usize - 1]
     }
@@ -99,7 +104,8 @@ impl Arena {
 
     /// The persistent object that has a key under a root class, if there is one.
     pub fn find_identity(&self, root: ClassId, key: &Key) -> Option<ObjId>
-        ensures { result ≡ find_identity self.now root key.now }
+        ensures found { result ≡ find_identity self.now root key.now }
+        ensures made { IfSome result (λ object. IsObject self.now object) }
     {
         match place_of(self.objects.as_slice(), self.roots.as_slice(), root, key) {
             Some(place) => Some(ObjId(place as u32 + 1)),
@@ -123,7 +129,7 @@ impl Arena {
         self.roots[object.0 as usize - 1]
     }
 
-    #[tactic(auto, using(crate::proofs::GraphLemmas::graph_pushed), unfolding(crate::specs::Graph::make))]
+    #[tactic(auto, unfolding(crate::specs::Graph::make))]
     /// Makes a transient object of a class, by the next number: null cells, unset links, no identity.
     ///
     /// # Errors
@@ -133,13 +139,27 @@ impl Arena {
         requires configured { mapping.now.configured ≡ true }
         ensures step { Takes (λ object. object) (make self.old mapping.now class) self.old result self.new }
         ensures made { OnOk result (self.new ≡ with_fresh self.old mapping.now class) }
+        ensures fits { IsFit mapping.now self.old → IsFit mapping.now self.new }
     {
         if self.objects.len() >= OBJECT_LIMIT {
             return Err(Refusal::LimitReached(LimitKind::Objects));
         }
+        self.add_fresh(mapping, class)?;
+        Ok(ObjId(self.count()))
+    }
+
+    #[tactic(auto, using(crate::proofs::GraphLemmas::graph_pushed))]
+    /// One more transient object of a class.
+    fn add_fresh(&mut self, mapping: &Mapping, class: ClassId) -> Result<(), Refusal>
+        requires declared { IsClass mapping.now class }
+        requires configured { mapping.now.configured ≡ true }
+        requires room { length self.old.objects < object_limit }
+        ensures ok { OnOk result (self.new ≡ with_fresh self.old mapping.now class) }
+        ensures err { OnErr result (self.new ≡ self.old) }
+        ensures cause { IfErr result (λ e. e ≡ Memory) }
+    {
         let object = parts::fresh_object(self.alloc, mapping, class)?;
-        push_both(&mut self.objects, &mut self.roots, object, class)?;
-        Ok(ObjId(self.objects.len() as u32))
+        push_both(&mut self.objects, &mut self.roots, object, class)
     }
 
     #[tactic(auto, using(crate::proofs::FitLemmas::fit_class, crate::proofs::FitLemmas::fit_cells), unfolding(crate::specs::Graph::set_cell))]
@@ -183,7 +203,7 @@ impl Arena {
         parts::put_value(&mut self.objects[object.0 as usize - 1], attr, value);
     }
 
-    #[tactic(auto, using(crate::proofs::GraphLemmas::graph_registered), unfolding(crate::specs::Identity::register))]
+    #[tactic(auto, unfolding(crate::specs::Identity::register))]
     /// Makes an object persistent under a key.
     ///
     /// # Errors
@@ -193,27 +213,45 @@ impl Arena {
         requires { IsObject self.old object }
         ensures step { Takes (λ _. tt) (register self.old object key) self.old result self.new }
         ensures registered { OnOk result (self.new ≡ registered self.old object key) }
+        ensures fits { (mapped : Mapped) → IsFit mapped self.old → key_fits mapped (object_at self.old object).class key ≡ true → IsFit mapped self.new }
     {
         if self.is_taken(object, &key) {
             return Err(Refusal::InvalidRequestError(RequestKind::IdentityConflict));
         }
-        let target = &mut self.objects[object.0 as usize - 1];
-        target.state = State::Persistent;
-        target.identity = Some(key);
+        self.settle_identity(object, key);
         Ok(())
     }
 
-    #[tactic(auto, using(crate::proofs::GraphLemmas::graph_kept))]
+    /// Makes an object persistent under a key that no other persistent object has.
+    fn settle_identity(&mut self, object: ObjId, key: Key)
+        requires object { IsObject self.old object }
+        requires free { is_taken self.old object key ≡ false }
+        ensures { self.new ≡ registered self.old object key }
+    {
+        let target = &mut self.objects[object.0 as usize - 1];
+        target.state = State::Persistent;
+        target.identity = Some(key);
+    }
+
     /// Drops what is known of an object's cells and links, so that they are to be read again, and its orphan mark.
     pub fn expire(&mut self, object: ObjId)
         requires object { IsObject self.old object }
         requires persistent { (object_at self.old object).state ≡ Persistent }
+        ensures expired { self.new ≡ with_object self.old object (expired (object_at self.old object)) }
+        ensures fits { (mapped : Mapped) → IsFit mapped self.old → IsFit mapped self.new }
+    {
+        self.write_expired(object);
+    }
+
+    #[tactic(auto, using(crate::proofs::GraphLemmas::graph_kept))]
+    /// Drops what is known of an object.
+    fn write_expired(&mut self, object: ObjId)
+        requires { IsObject self.old object }
         ensures { self.new ≡ with_object self.old object (expired (object_at self.old object)) }
     {
         parts::expire(self.alloc, &mut self.objects[object.0 as usize - 1]);
     }
 
-    #[tactic(auto, using(crate::proofs::GraphLemmas::graph_kept))]
     /// Replaces a cell of an object. The only refusal is want of memory, and it changes nothing.
     pub fn put_cell(&mut self, object: ObjId, attr: AttrNo, cell: Cell) -> Result<(), Refusal>
         requires object { IsObject self.old object }
@@ -221,13 +259,23 @@ impl Arena {
         ensures ok { OnOk result (self.new ≡ with_cell self.old object attr cell) }
         ensures err { OnErr result (self.new ≡ self.old) }
         ensures cause { IfErr result (λ e. e ≡ Memory) }
+        ensures fits { (mapped : Mapped) → IsFit mapped self.old → cell_fits (attribute_of mapped (object_at self.old object).class attr) cell ≡ true → IsFit mapped self.new }
     {
-        let target = &mut self.objects[object.0 as usize - 1];
-        let _old = target.cells.replace(attr.0 as usize, cell);
+        self.write_cell(object, attr, cell);
         Ok(())
     }
 
     #[tactic(auto, using(crate::proofs::GraphLemmas::graph_kept))]
+    /// Replaces a cell of an object.
+    fn write_cell(&mut self, object: ObjId, attr: AttrNo, cell: Cell)
+        requires object { IsObject self.old object }
+        requires attr { IsCell self.old object attr }
+        ensures { self.new ≡ with_cell self.old object attr cell }
+    {
+        let target = &mut self.objects[object.0 as usize - 1];
+        let _old = target.cells.replace(attr.0 as usize, cell);
+    }
+
     /// Replaces a link of an object. The only refusal is want of memory, and it changes nothing.
     pub fn put_link(&mut self, object: ObjId, relation: RelNo, link: Link) -> Result<(), Refusal>
         requires object { IsObject self.old object }
@@ -235,13 +283,23 @@ impl Arena {
         ensures ok { OnOk result (self.new ≡ with_link self.old object relation link) }
         ensures err { OnErr result (self.new ≡ self.old) }
         ensures cause { IfErr result (λ e. e ≡ Memory) }
+        ensures fits { (mapped : Mapped) → IsFit mapped self.old → IsFit mapped self.new }
     {
-        let target = &mut self.objects[object.0 as usize - 1];
-        let _old = target.links.replace(relation.0 as usize, link);
+        self.write_link(object, relation, link);
         Ok(())
     }
 
     #[tactic(auto, using(crate::proofs::GraphLemmas::graph_kept))]
+    /// Replaces a link of an object.
+    fn write_link(&mut self, object: ObjId, relation: RelNo, link: Link)
+        requires object { IsObject self.old object }
+        requires relation { IsLink self.old object relation }
+        ensures { self.new ≡ with_link self.old object relation link }
+    {
+        let target = &mut self.objects[object.0 as usize - 1];
+        let _old = target.links.replace(relation.0 as usize, link);
+    }
+
     /// Replaces an object's add number and marks. The only refusal is want of memory, and it changes nothing.
     pub fn put_marks(
         &mut self,
@@ -254,15 +312,24 @@ impl Arena {
         ensures ok { OnOk result (self.new ≡ with_marks self.old object added marked orphan) }
         ensures err { OnErr result (self.new ≡ self.old) }
         ensures cause { IfErr result (λ e. e ≡ Memory) }
+        ensures fits { (mapped : Mapped) → IsFit mapped self.old → IsFit mapped self.new }
+    {
+        self.write_marks(object, added, marked, orphan);
+        Ok(())
+    }
+
+    #[tactic(auto, using(crate::proofs::GraphLemmas::graph_kept))]
+    /// Replaces an object's add number and marks.
+    fn write_marks(&mut self, object: ObjId, added: u64, marked: bool, orphan: bool)
+        requires { IsObject self.old object }
+        ensures { self.new ≡ with_marks self.old object added marked orphan }
     {
         let target = &mut self.objects[object.0 as usize - 1];
         target.added = added;
         target.marked = marked;
         target.orphan = orphan;
-        Ok(())
     }
 
-    #[tactic(auto, using(crate::proofs::GraphLemmas::graph_stated))]
     /// Replaces an object's state; a transient or pending object has no identity. The only refusal is want of memory,
     /// and it changes nothing.
     pub fn put_state(&mut self, object: ObjId, state: State) -> Result<(), Refusal>
@@ -272,16 +339,38 @@ impl Arena {
         ensures ok { OnOk result (self.new ≡ with_state self.old object state) }
         ensures err { OnErr result (self.new ≡ self.old) }
         ensures cause { IfErr result (λ e. e ≡ Memory) }
+        ensures fits { (mapped : Mapped) → IsFit mapped self.old → IsFit mapped self.new }
     {
-        parts::put_state(&mut self.objects[object.0 as usize - 1], state);
+        self.write_state(object, state);
         Ok(())
     }
 
-    #[tactic(auto, using(crate::proofs::GraphLemmas::graph_back))]
+    #[tactic(auto, using(crate::proofs::GraphLemmas::graph_stated))]
+    /// Replaces an object's state.
+    fn write_state(&mut self, object: ObjId, state: State)
+        requires object { IsObject self.old object }
+        requires state { is_persistent state ≡ false }
+        requires identity { has_identity state ≡ true → is_some (object_at self.old object).identity ≡ true }
+        ensures { self.new ≡ with_state self.old object state }
+    {
+        parts::put_state(&mut self.objects[object.0 as usize - 1], state);
+    }
+
     /// Puts an object back into a state and an identity that it had, without a delete mark. The expired cells of a
     /// transient object become NULL, its unloaded links become unset or have the members added meanwhile, a link to an
     /// object is changed, and collections have no base.
     pub fn put_back(&mut self, object: ObjId, state: State, identity: Option<Key>)
+        requires object { IsObject self.old object }
+        requires identity { has_identity state ≡ is_some identity }
+        requires one { is_persistent state ≡ true → IsFree self.old object identity }
+        ensures back { self.new ≡ with_object self.old object (put_back_object (object_at self.old object) state identity) }
+        ensures fits { (mapped : Mapped) → IsFit mapped self.old → identity_fits mapped (object_at self.old object).class identity ≡ true → IsFit mapped self.new }
+    {
+        self.write_back(object, state, identity);
+    }
+
+    /// Puts an object back.
+    fn write_back(&mut self, object: ObjId, state: State, identity: Option<Key>)
         requires object { IsObject self.old object }
         requires identity { has_identity state ≡ is_some identity }
         requires one { is_persistent state ≡ true → IsFree self.old object identity }

@@ -1,14 +1,5 @@
-use Rattle.std.proofs.Common.{◌≡◌, ◌∙◌, Some, false, sym, subst, refl}
-use Rattle.object_arena.specs.declared.object.State.TheVariants.{Persistent}
-use Rattle.object_arena.specs.Graph.{Graph, IsObject}
-use Rattle.object_arena.specs.Identity.{is_taken}
-use Rattle.object_arena.proofs.GraphLemmas.{graph_registered}
+use Rattle.object_arena.proofs.FitLemmas.{fit_registered}
 use Rattle.object_arena.proofs.arena.Arena.register.Goals as goal
 
-pub invariant_of-self : goal.invariant_of-self
-invariant_of-self c =
-    let within = subst (λ (g : Graph). IsObject g c.args.object) (sym c.self.view_is) c.requires in
-    let free = subst (λ (g : Graph). is_taken g c.args.object c.args.key ≡ false) (sym c.self.view_is) (sym c.is_taken.ensures ∙ c.if-is_taken.false) in
-    graph_registered c.self.inside.objects.items c.self.inside.roots.items c.args.object c.args.key
-    (record c.index_mut-target.result.now { state = Persistent; identity = Some c.args.key })
-    c.self.invariant within.0 within.1 free refl refl
+pub returns-clause-fits : goal.returns-clause-fits
+returns-clause-fits c = λ mapped fit good. fit_registered mapped c.args.self.now c.settle_identity.new.self c.args.object c.args.key c.requires c.settle_identity.ensures fit good

@@ -8,4 +8,4 @@ pub returns-in-None-clause-fits : goal.returns-in-None-clause-fits
 returns-in-None-clause-fits c =
     let fault = λ (o : Object). either_fault (value_fault c.args.mapping.now o c.args.attr c.args.value) (key_fault c.args.mapping.now o c.args.attr) in
     fit_value c.args.mapping.now c.args.self.now c.put_value.new.self c.args.object c.args.attr c.args.value c.requires.fit c.requires.object c.requires.attr
-    (ap fault (sym c.object.ensures) ∙ sym c.in-None.ensures) c.put_value.ensures
+    (ap fault (sym c.object.ensures.is) ∙ sym c.in-None.ensures) c.put_value.ensures

@@ -1,0 +1,5 @@
+use Rattle.object_arena.proofs.FitLemmas.{fit_expired}
+use Rattle.object_arena.proofs.arena.Arena.expire.Goals as goal
+
+pub returns-clause-fits : goal.returns-clause-fits
+returns-clause-fits c = λ mapped fit. fit_expired mapped c.args.self.now c.write_expired.new.self c.args.object c.requires.object c.write_expired.ensures fit
