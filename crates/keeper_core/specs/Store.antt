@@ -1,0 +1,26 @@
+-- What a keeper that tells has: its tables, and those at the start of each scope in progress.
+use Rattle.std.specs.Prelude.{ℕ, List, [], ◌∷◌, length}
+use Rattle.base_core.specs.declared.ids.TableId.{TableId}
+use Rattle.base_core.specs.declared.value.Value.{Value}
+
+-- the created tables, rising by number, each with its rows as pairs of key and row, rising by key
+abbrev pub Tables : Type 0
+Tables = List (TableId × List (List Value × List Value))
+
+-- the tables now, and the tables at the start of each scope, the innermost first; the outermost scope is the transaction
+pub record Store : Type 0 where
+  pub tables : Tables
+  pub scopes : List Tables
+
+-- 0 without a scope, 1 in the transaction, one more for each savepoint
+abbrev pub depth_of : Store → ℕ
+depth_of store = length store.scopes
+
+-- the tables at the start of the outermost scope, or the tables now
+abbrev pub outermost : Tables → List Tables → Tables
+outermost tables [] = tables
+outermost tables (s ∷ scopes) = outermost s scopes
+
+-- the tables that were committed last
+abbrev pub committed_of : Store → Tables
+committed_of store = outermost store.tables store.scopes

@@ -1,0 +1,10 @@
+//! The trait of keepers.
+
+use base_core::Name;
+
+/// Where a keeper keeps its tables.
+#[derive(Clone, Debug, Drop, PartialEq, Eq)]
+pub enum Target {
+    Memory,
+    File(Name),
+}

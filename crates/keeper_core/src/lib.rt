@@ -1,0 +1,10 @@
+//! The store's interface: what a keeper of tables does, what is seen of it, and the calls by which the layers above use it.
+#![tactic(auto)]
+
+mod keeper;
+mod notes;
+mod sent;
+
+pub use keeper::Target;
+pub use notes::{Note, Notes};
+pub use sent::Sent;
