@@ -1,0 +1,4 @@
+pub mod Checked
+pub mod Truth
+pub mod Texts
+pub mod Eval

@@ -1,0 +1,2 @@
+//! The value of an expression at a row.
+#![tactic(auto)]
