@@ -1,3 +1,4 @@
 pub mod Store
 pub mod Acting
 pub mod Moment
+pub mod Calls

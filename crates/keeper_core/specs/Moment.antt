@@ -1,10 +1,12 @@
 -- What is seen of a keeper, or of an object beside it, at one moment, and the one relation that every acting call ensures.
-use Rattle.std.specs.Prelude.{◌≡◌, ℕ, ◌≤◌, Bool, true, false, List, [], ◌++◌, Option, None, Some, Result, Ok, Err, OnOk, IfErr, MatchBool}
+use Rattle.std.specs.Prelude.{◌≡◌, ℕ, ◌≤◌, Bool, true, false, List, [], ◌++◌, Option, None, Some, Result, Ok, Err, OnOk, IfErr, MatchBool, is_ok, IfSome, length}
 use Rattle.std.specs.Option.{option_map}
 use Rattle.base_core.specs.Counts.{Rose}
 use Rattle.base_core.specs.declared.refusal.Refusal.{Refusal}
 use Rattle.base_core.specs.declared.refusal.Refusal.TheVariants.{Memory, KeeperFault}
 use Rattle.keeper_core.specs.declared.keeper.Target.{Target}
+use Rattle.keeper_core.specs.declared.keeper.Target.TheVariants as targets
+use Rattle.keeper_core.specs.Store.{Store, committed_of}
 use Rattle.keeper_core.specs.declared.sent.Sent.{Sent}
 use Rattle.keeper_core.specs.Acting.{Event, Log, Run, after_events, ends_early, is_of_tables, joined}
 
@@ -28,6 +30,10 @@ pub record Moment (W : Type 0) : Type 0 where
   pub depth : ℕ
   pub target : Option Target
   pub attached : Bool
+
+-- a keeper that was given no target
+abbrev pub IsFresh : {W : Type 0} → Moment W → Type 0
+IsFresh moment = (moment.target ≡ None) × (moment.attached ≡ false)
 
 -- the outcome is the run's, whole
 pub record IsRun {W A : Type 0} (run : Run W A) (before : Log) (result : Result A Refusal) (now : Told W) : Type 0 where
@@ -99,3 +105,27 @@ pub record Way {W A S : Type 0} (tell : S → Moment W) (whole : W → Run W A) 
 
 pub data Reaches {W A S : Type 0} (tell : S → Moment W) (whole : W → Run W A) (old : S) (rest : W → Run W A) (mid : S) : Type 0 where
   Reached : Way tell whole old rest mid → Reaches tell whole old rest mid
+
+-- what a keeper in memory that tells has to begin with: no tables, no scope, nothing sent
+abbrev pub new_store : Told Store
+new_store = record { world = record { tables = []; scopes = [] }; log = record { sent = []; committed = []; written = [] } }
+
+-- a keeper that tells goes on telling in memory, from a new store on; a file may hold tables that are not told
+abbrev pub IsToldAnew : Target → Option (Told Store) → Result (Unit {0}) Refusal → Option (Told Store) → Type 0
+IsToldAnew targets.Memory (Some told) (Ok u) now = now ≡ Some new_store
+IsToldAnew target told (Err e) now = now ≡ told
+IsToldAnew target told r now = Unit {0}
+
+-- the keeper keeps the target, and whether it took it; no scope is open
+pub record IsAttached (old : Moment Store) (target : Target) (result : Result (Unit {0}) Refusal) (new : Moment Store) : Type 0 where
+  pub told : IsToldAnew target old.told result new.told
+  pub faults : old.faults ≤ new.faults
+  pub fault : IfErr result (λ e. e ≡ KeeperFault → Rose old.faults new.faults)
+  pub calm : IsCalm old new
+  pub depth : new.depth ≡ 0
+  pub given : new.target ≡ Some target
+  pub attached : new.attached ≡ is_ok result
+
+-- what a keeper tells fits its depth, and the tables that the outside saw committed are the store's
+abbrev pub IsCoherent : Moment Store → Type 0
+IsCoherent moment = IfSome moment.told (λ told. (moment.depth ≡ length told.world.scopes) × (told.log.committed ≡ committed_of told.world))

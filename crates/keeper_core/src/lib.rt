@@ -5,6 +5,6 @@ mod keeper;
 mod notes;
 mod sent;
 
-pub use keeper::Target;
+pub use keeper::{Keeper, KeeperStop, QueryRefusal, Target, WriteRefusal};
 pub use notes::{Note, Notes};
 pub use sent::Sent;
