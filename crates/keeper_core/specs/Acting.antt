@@ -3,7 +3,7 @@ use Rattle.std.specs.Prelude.{◌≡◌, ℕ, Bool, true, false, List, [], ◌�
 use Rattle.base_core.specs.declared.refusal.Refusal.{Refusal}
 use Rattle.base_core.specs.declared.refusal.Refusal.TheVariants.{Memory, KeeperFault, DataError, KeysSpent, IntegrityError, OperationalError}
 use Rattle.keeper_core.specs.declared.sent.Sent.{Sent}
-use Rattle.keeper_core.specs.Store.{Tables}
+use Rattle.schema_core.specs.Tables.{Tables}
 
 -- one thing that the outside sees: a statement that is sent, with the tables that it leaves committed, or a byte that is written
 pub data Event : Type 0 where

@@ -14,8 +14,13 @@ use Rattle.keeper_core.specs.declared.keeper.KeeperStop.{KeeperStop}
 use Rattle.keeper_core.specs.declared.keeper.KeeperStop.TheVariants as stops
 use Rattle.keeper_core.specs.declared.keeper.WriteRefusal.{WriteRefusal}
 use Rattle.keeper_core.specs.declared.keeper.WriteRefusal.TheVariants as writes
-use Rattle.keeper_core.specs.Acting.{Run, Sends, quiet, give}
-use Rattle.keeper_core.specs.Store.{Store, Tables, committed_of, is_created, created, dropped, rows_of}
+use Rattle.keeper_core.specs.Acting.{Run, Sends, quiet, give, ends_early}
+use Rattle.schema_core.specs.declared.statement.Breach.{Breach}
+use Rattle.schema_core.specs.declared.statement.Breach.TheVariants as breaches
+use Rattle.schema_core.specs.Apply.{Outcome, apply, table_of}
+use Rattle.schema_core.specs.Catalog.{Catalog}
+use Rattle.schema_core.specs.Tables.{Tables, rows_in}
+use Rattle.keeper_core.specs.Store.{Store, committed_of, is_created, created, dropped}
 
 -- ---- refusals of a keeper as refusals of the layers above
 
@@ -27,12 +32,6 @@ as_refusal told (Err e) = Err (told e)
 abbrev pub stop_refusal : KeeperStop → Refusal
 stop_refusal stops.Fault = refusals.KeeperFault
 stop_refusal stops.Memory = refusals.Memory
-
--- the table that a statement writes
-abbrev pub table_of : RowStmt → TableId
-table_of (row.Insert table values) = table
-table_of (row.Update table key cells) = table
-table_of (row.Delete table key) = table
 
 abbrev pub write_refusal : TableId → WriteRefusal → Refusal
 write_refusal table (writes.NoTable absent) = refusals.OperationalError absent
@@ -92,7 +91,25 @@ commit w = sends sent.Commit (record { tables = w.tables; scopes = [] }) (Ok tt)
 
 -- the rows of a created table, rising by key; this is no statement
 unfoldable pub scan : TableId → Store → Run Store (Option (List (List Value)))
-scan table w = give (option_map (λ rows. map (λ entry. entry.1) rows) (rows_of w.tables table)) w
+scan table w = give (option_map (λ rows. map (λ entry. entry.1) rows) (rows_in w.tables table)) w
+
+-- why a statement that breaks a rule of its table is refused
+abbrev pub breach_refusal : TableId → Breach → Refusal
+breach_refusal table (breaches.NoTable absent) = refusals.OperationalError absent
+breach_refusal table breaches.Missing = refusals.StaleDataError table
+breach_refusal table breaches.NotNull = refusals.IntegrityError kinds.NotNull table
+breach_refusal table breaches.KeysSpent = refusals.KeysSpent table
+breach_refusal table breaches.PrimaryKey = refusals.IntegrityError kinds.PrimaryKey table
+breach_refusal table breaches.Unique = refusals.IntegrityError kinds.Unique table
+breach_refusal table breaches.Foreign = refusals.IntegrityError kinds.Foreign table
+
+abbrev pub written : RowStmt → Outcome → Store → Run Store (List Value)
+written statement (Ok done) w = sends (sent.Write statement) (record { tables = done.1; scopes = w.scopes }) (Ok done.0)
+written statement (Err breach) w = sends (sent.Write statement) w (Err (breach_refusal (table_of statement) breach))
+
+-- a statement on one row; a refused one changes nothing
+unfoldable pub write : Catalog → RowStmt → Store → Run Store (List Value)
+write schema statement w = written statement (apply schema w.tables statement) w
 
 -- ---- what every keeper's depth is after a call
 
@@ -106,6 +123,11 @@ abbrev pub depth_after_write : {A : Type 0} → Result A WriteRefusal → ℕ �
 depth_after_write (Err writes.Fault) now = 0
 depth_after_write (Err writes.Memory) now = 0
 depth_after_write r now = now
+
+-- the depth that a call leaves: now, or where it ended early, ended
+abbrev pub depth_left : {A : Type 0} → Result A Refusal → ℕ → ℕ → ℕ
+depth_left (Ok x) now ended = now
+depth_left (Err e) now ended = if ends_early e then ended else now
 
 -- ---- what every keeper's answers are like
 

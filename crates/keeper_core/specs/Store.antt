@@ -1,30 +1,16 @@
 -- What a keeper that tells has: its tables, and those at the start of each scope in progress.
-use Rattle.std.specs.Prelude.{ℕ, Bool, List, [], ◌∷◌, length, is_some, Option}
-use Rattle.std.specs.Ordering.{nat_cmp}
-use Rattle.std.specs.declared.cmp.Ordering.{Ordering}
-use Rattle.std.specs.BTreeMap.{insert_entry, is_at}
-use Rattle.std.specs.Map.{lookup, remove_entry}
+use Rattle.std.specs.Prelude.{ℕ, Bool, List, [], ◌∷◌, length, is_some}
+use Rattle.std.specs.BTreeMap.{is_at}
+use Rattle.std.specs.Map.{remove_entry}
 use Rattle.base_core.specs.declared.ids.TableId.{TableId}
-use Rattle.base_core.specs.declared.value.Value.{Value}
-
--- the created tables, rising by number, each with its rows as pairs of key and row, rising by key
-abbrev pub Tables : Type 0
-Tables = List (TableId × List (List Value × List Value))
-
--- tables by number
-abbrev pub table_cmp : TableId → TableId → Ordering
-table_cmp a b = nat_cmp a.0 b.0
-
--- the rows of a table, where it was created
-abbrev pub rows_of : Tables → TableId → Option (List (List Value × List Value))
-rows_of tables table = lookup (is_at (table_cmp table)) tables
+use Rattle.schema_core.specs.Tables.{Tables, rows_in, table_cmp, with_rows}
 
 abbrev pub is_created : Tables → TableId → Bool
-is_created tables table = is_some (rows_of tables table)
+is_created tables table = is_some (rows_in tables table)
 
 -- the tables with one more, which has no rows
 abbrev pub created : Tables → TableId → Tables
-created tables table = insert_entry table_cmp tables table []
+created tables table = with_rows tables table []
 
 -- the tables without one
 abbrev pub dropped : Tables → TableId → Tables

@@ -2,10 +2,12 @@
 
 ghost use Rattle.std.specs.Prelude.{◌≡◌, ◌+◌, ◌-◌, ◌<◌, ◌≤◌, ℕ, [], None, Some, true, false, length, is_ok, IfErr, IsErrOf, IfOk};
 ghost use Rattle.schema_core.specs.Catalog.{IsTable};
+ghost use Rattle.schema_core.specs.Apply.{table_of};
+ghost use Rattle.schema_core.specs.WellFormed.{IsWellFormed, IsKeyFor};
 ghost use Rattle.keeper_core.specs.Moment.{Moment, Runs, IsAttached, IsCoherent};
 ghost use Rattle.keeper_core.specs.Store.{Store};
 ghost use Rattle.keeper_core.specs.Calls as call;
-ghost use Rattle.keeper_core.specs.Calls.{as_refusal, stop_refusal, write_refusal, table_of, depth_after, depth_after_write, CanRefuse};
+ghost use Rattle.keeper_core.specs.Calls.{as_refusal, stop_refusal, write_refusal, depth_after, depth_after_write, CanRefuse};
 
 use base_core::{ArithOp, Key, Name, RowList, TableId};
 use schema_core::{RowStmt, Schema};
@@ -76,7 +78,12 @@ pub trait Keeper {
         ensures depth { (moment self.new).depth ≡ 0 };
 
     /// Drops a table, and commits; true where it was there.
-    fn drop_table(&mut self, alloc: Global, schema: &Schema, table: TableId) -> Result<bool, KeeperStop>
+    fn drop_table(
+        &mut self,
+        alloc: Global,
+        schema: &Schema,
+        table: TableId,
+    ) -> Result<bool, KeeperStop>
         requires attached { (moment self.old).attached ≡ true }
         requires outside { (moment self.old).depth ≡ 0 }
         requires declared { IsTable schema.now table }
@@ -126,8 +133,28 @@ pub trait Keeper {
         ensures step { Runs moment (λ u. u) call.commit self.old (as_refusal stop_refusal result) self.new }
         ensures depth { (moment self.new).depth ≡ 0 };
 
+    /// Does a statement on one row, judged on the tables that it leaves, and answers the row's key.
+    fn write(
+        &mut self,
+        alloc: Global,
+        schema: &Schema,
+        statement: &RowStmt,
+    ) -> Result<Key, WriteRefusal>
+        requires attached { (moment self.old).attached ≡ true }
+        requires inside { 1 ≤ (moment self.old).depth }
+        requires fits { IsWellFormed schema.now statement.now }
+        ensures step { Runs moment (λ key. key) (call.write schema.now statement.now) self.old (as_refusal (write_refusal (table_of statement.now)) result) self.new }
+        ensures depth { (moment self.new).depth ≡ depth_after_write result (moment self.old).depth }
+        ensures key { IfOk result (λ key. IsKeyFor schema.now statement.now key) }
+        ensures refuses { IfErr result (λ e. CanRefuse statement.now e) };
+
     /// The rows of a table, rising by key, or none where it was not created. This is no statement.
-    fn scan(&mut self, alloc: Global, schema: &Schema, table: TableId) -> Result<Option<RowList>, KeeperStop>
+    fn scan(
+        &mut self,
+        alloc: Global,
+        schema: &Schema,
+        table: TableId,
+    ) -> Result<Option<RowList>, KeeperStop>
         requires attached { (moment self.old).attached ≡ true }
         requires declared { IsTable schema.now table }
         ensures step { Runs moment (λ rows. rows) (call.scan table) self.old (as_refusal stop_refusal result) self.new }

@@ -2,3 +2,4 @@ pub mod Apply
 pub mod Catalog
 pub mod Declaration
 pub mod Tables
+pub mod WellFormed
