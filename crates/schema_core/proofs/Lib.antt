@@ -1,1 +1,4 @@
+pub mod Placing
 pub mod SomeTwo
+pub mod Steps
+pub mod Targets

@@ -1,13 +1,16 @@
 //! Tables as they are declared, statements on single rows, and the changes that a flush makes.
 #![tactic(auto)]
 
+mod cells;
 mod changes;
 mod declaration;
 mod keys;
+mod order;
 mod schema;
 mod statement;
 mod table;
 
+pub use cells::{is_required, kind_of_value};
 pub use changes::{ChangedRow, GoneRow, NewRow, Plan, Planned, RowCell, RowChanges};
 pub use declaration::{kind_of, same_kind};
 pub use schema::Schema;
