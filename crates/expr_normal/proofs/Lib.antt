@@ -1,0 +1,2 @@
+pub mod Negates
+pub mod Reversed

@@ -1,0 +1,10 @@
+-- The normal form of a negation.
+use Rattle.std.proofs.Common.{◌≡◌}
+use Rattle.expr_types.specs.declared.expr.Expr.{Expr}
+use Rattle.expr_types.specs.declared.expr.Expr.TheVariants as expr
+use Rattle.expr_types.specs.Normal.{normal, normal_level, negated}
+use Rattle.expr_types.proofs.Folds.{fold-Not}
+
+pub normal_of_not : (e : Expr) → normal (expr.Not e) ≡ negated (normal e)
+unfolding normal
+normal_of_not e = fold-Not Expr normal_level e

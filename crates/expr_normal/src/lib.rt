@@ -1,0 +1,7 @@
+//! The normal form of expressions.
+#![tactic(auto)]
+
+mod form;
+mod level;
+
+pub use form::{negate, normal};
