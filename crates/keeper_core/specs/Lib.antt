@@ -2,3 +2,4 @@ pub mod Store
 pub mod Acting
 pub mod Moment
 pub mod Calls
+pub mod Beside
