@@ -1,2 +1,16 @@
 //! The value of an expression at a row.
 #![tactic(auto)]
+
+mod aggregate;
+mod compare;
+mod evaluate;
+mod number;
+mod pattern;
+mod scope;
+mod text;
+mod truth;
+
+pub use compare::{below, is_null, same};
+pub use evaluate::value_in;
+pub use scope::{Scope, TableRows};
+pub use truth::passes;
