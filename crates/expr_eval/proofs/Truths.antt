@@ -44,4 +44,5 @@ pub all3_done : {X : Type 0} (f : X → Option Bool) (found : Option Bool) (xs :
 all3_done f found xs i h = ap (λ l. and3 found (all3 (map f l))) (drop_all i xs h) ∙ and3_true found
 
 pub ruleset disjunctions = (any3_more, any3_done)
+
 pub ruleset conjunctions = (all3_more, all3_done)

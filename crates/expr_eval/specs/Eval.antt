@@ -190,10 +190,13 @@ abbrev pub along_from : Place → Meaning → List Value → List Row → Checke
 along_from p m done [] = Ok done
 along_from p m done (r ∷ rs) = m (record p { row = r }) >>= λ v. along_from p m (done ++ v ∷ []) rs
 
+abbrev pub ungrouped : Place → Place
+ungrouped p = record p { group = None }
+
 -- an aggregate's operand is evaluated at each row of the group, in order; what is NULL is left out
 abbrev pub over : Option (List Row) → Place → Meaning → Checked (Option (List Value))
 over None p m = Ok None
-over (Some rows) p m = along_from (record p { group = None }) m [] rows >>= λ vs. Ok (Some (known vs))
+over (Some rows) p m = along_from (ungrouped p) m [] rows >>= λ vs. Ok (Some (known vs))
 
 abbrev pub gathered : List Meaning → Place → Checked (Option (List Value))
 gathered [] p = Ok None
@@ -219,12 +222,15 @@ abbrev pub first_of : List Value → Value
 first_of [] = value.Null
 first_of (v ∷ vs) = v
 
+abbrev pub of_text : Func → Value → Value
+of_text Lower v = lowered v
+of_text Upper v = raised v
+of_text Length v = text_length v
+of_text f v = value.Null
+
 abbrev pub applied : Func → List Value → Value
-applied Lower vs = lowered (first_of vs)
-applied Upper vs = raised (first_of vs)
-applied Length vs = text_length (first_of vs)
 applied Coalesce vs = first_known vs
-applied f vs = value.Null
+applied f vs = of_text f (first_of vs)
 
 abbrev pub called : Func → List Meaning → Meaning
 called f ms p = if is_aggregate f then gathered ms p >>= aggregated f else all_from p [] ms >>= λ vs. Ok (applied f vs)
@@ -265,7 +271,7 @@ meaning (Expr-F.Concat a b) = two a b (λ x y. Ok (concatenated x y))
 meaning (Expr-F.Like neg a b) = two a b (λ x y. truth (signed neg (is_like x y)))
 meaning (Expr-F.Ilike neg a b) = two a b (λ x y. truth (signed neg (is_like x y)))
 meaning (Expr-F.InList neg a vs) = one a (λ x. truth (signed neg (among x vs)))
-meaning (Expr-F.Between neg a b c) = λ p. a p >>= λ x. b p >>= λ y. c p >>= λ z. truth (signed neg (between x y z))
+meaning (Expr-F.Between neg a b c) = λ p. a p >>= λ x. pair b c p >>= λ v. truth (signed neg (between x v.0 v.1))
 meaning (Expr-F.Distinct neg a b) = two a b (λ x y. truth (signed neg (Some (not (same x y)))))
 meaning (Expr-F.Call f operands) = called f operands
 meaning Expr-F.CountAll = λ p. Ok (count_of p.group)

@@ -1,11 +1,14 @@
 //! Aggregates, over the values of a group's rows.
 
 ghost use Rattle.std.specs.Prelude.{◌≡◌, IfOk};
+ghost use Rattle.std.specs.Option.{option_map};
+ghost use Rattle.expr_eval.specs.Checked.{Answers};
 ghost use Rattle.expr_eval.specs.Eval as spec;
 
 use crate::compare::{below, is_null};
 use crate::number::arithmetic;
 use base_core::{ArithOp, Copied, Refusal, Value};
+use expr_types::Func;
 use std::alloc::AllocError;
 
 /// The values that are not NULL.
@@ -57,4 +60,20 @@ pub(crate) fn greatest(values: &[Value]) -> Result<Value, AllocError>
         }
     }
     best.copied()
+}
+
+/// An aggregate of a group's values; NULL outside a group.
+pub(crate) fn aggregated(function: Func, values: Option<Vec<Value>>) -> Result<Value, Refusal>
+    ensures { Answers (spec.aggregated function (option_map (λ v. v.items) values)) result }
+{
+    let Some(values) = values else {
+        return Ok(Value::Null);
+    };
+    match function {
+        Func::Count => Ok(Value::Int(values.len() as i64)),
+        Func::Sum => total(&values),
+        Func::Min => Ok(least(&values)?),
+        Func::Max => Ok(greatest(&values)?),
+        _ => Ok(Value::Null),
+    }
 }

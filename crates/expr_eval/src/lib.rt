@@ -4,6 +4,7 @@
 mod aggregate;
 mod compare;
 mod evaluate;
+mod function;
 mod number;
 mod pattern;
 mod scope;
@@ -11,6 +12,6 @@ mod text;
 mod truth;
 
 pub use compare::{below, is_null, same};
-pub use evaluate::value_in;
-pub use scope::{Scope, TableRows};
+pub use evaluate::{eval, value_in};
+pub use scope::{Scope, TableRows, joined, rows_in};
 pub use truth::passes;

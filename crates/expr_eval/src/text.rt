@@ -4,6 +4,7 @@ ghost use Rattle.std.specs.Prelude.{pos, ◌≡◌, IfOk, length};
 ghost use Rattle.std.specs.Str.{chars};
 ghost use Rattle.expr_eval.specs.Eval as spec;
 
+use crate::pattern::like;
 use base_core::{Text, Value};
 use std::alloc::{AllocError, Global};
 
@@ -63,4 +64,18 @@ fn characters(text: &str) -> i64
     ensures { result ≡ pos (length (chars text.now)) }
 {
     text.chars().count() as i64
+}
+
+/// Whether the first text is like the second.
+pub(crate) fn is_like(
+    alloc: Global,
+    text: &Value,
+    pattern: &Value,
+) -> Result<Option<bool>, AllocError>
+    ensures { IfOk result (λ t. t ≡ spec.is_like text.now pattern.now) }
+{
+    match (text, pattern) {
+        (Value::Text(t), Value::Text(p)) => Ok(Some(like(alloc, t.get(), p.get())?)),
+        _ => Ok(None),
+    }
 }

@@ -6,8 +6,9 @@ use Rattle.expr_eval.proofs.pattern.before.Goals as goal
 
 pub loop-i-preserved : goal.loop-i-preserved
 loop-i-preserved c = (
-    λ later h. rw (c.in_ok-push-2.ensures.items, c.next_end.ensures, c.deref.ensures.value) (ends_more _ _ _ _ _ _ h (c.loop-i.invariant.0 later h) c.loop-i-test.true),
-    grind (arith, common_steps))
+  λ later h. rw (c.in_ok-push-2.ensures.items, c.next_end.ensures, c.deref.ensures.value) (ends_more _ _ _ _ _ _ h (c.loop-i.invariant.0 later h) c.loop-i-test.true),
+  grind (arith, common_steps),
+)
 
 pub returns : goal.returns
 returns c = λ later h.

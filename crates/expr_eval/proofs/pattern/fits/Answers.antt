@@ -8,5 +8,6 @@ rest p i j e l = ap (λ n. get_or p i 0 ∷ drop n p) e ∙ sym (drop_more p i 0
 
 pub loop-at-preserved : goal.loop-at-preserved
 loop-at-preserved c = (
-    subst (λ p. AreEnds p c.args.text.now c.in_ok-ends-2.ends.items) (rest c.args.pattern.now (c.loop-at.at - 1) c.loop-at.at (omega arith) (omega arith)) (c.in_ok-ends-2.ensures (drop c.loop-at.at c.args.pattern.now) (rw c.deref.ensures.value c.loop-at.invariant.0)),
-    omega arith)
+  subst (λ p. AreEnds p c.args.text.now c.in_ok-ends-2.ends.items) (rest c.args.pattern.now (c.loop-at.at - 1) c.loop-at.at (omega arith) (omega arith)) (c.in_ok-ends-2.ensures (drop c.loop-at.at c.args.pattern.now) (rw c.deref.ensures.value c.loop-at.invariant.0)),
+  omega arith,
+)
