@@ -1,6 +1,7 @@
 //! Lists and sets of objects.
 
-ghost use Rattle.std.specs.Prelude.{◌≡◌, ◌<◌, ℕ, [], ◌∷◌, ◌++◌, length, slice_get, Some, OnOk, OnErr, All};
+ghost use Rattle.std.specs.Prelude.{◌≡◌, ◌<◌, ℕ, [], ◌∷◌, ◌++◌, length, slice_get, Some, OnOk, OnErr, IfErr};
+ghost use Rattle.base_core.specs.declared.refusal.Refusal.TheVariants.{Memory};
 
 use crate::{ListOf, ObjId, Refusal};
 use std::alloc::Global;
@@ -45,6 +46,7 @@ impl ObjSet {
         requires { IsAbove self.old object }
         ensures ok { OnOk result (self.new ≡ self.old ++ object ∷ []) }
         ensures err { OnErr result (self.new ≡ self.old) }
+        ensures cause { IfErr result (λ e. e ≡ Memory) }
     {
         self.members.push(object)?;
         Ok(())

@@ -2,9 +2,14 @@
 #![tactic(auto)]
 
 mod changes;
+mod declaration;
+mod keys;
+mod schema;
 mod statement;
 mod table;
 
 pub use changes::{ChangedRow, GoneRow, NewRow, Plan, Planned, RowCell, RowChanges};
+pub use declaration::{kind_of, same_kind};
+pub use schema::Schema;
 pub use statement::RowStmt;
 pub use table::{ColumnKind, ColumnSpec, ForeignSpec, TableSpec};

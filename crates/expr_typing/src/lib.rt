@@ -1,0 +1,2 @@
+//! The kinds of expressions, and which statements are plain.
+#![tactic(auto)]

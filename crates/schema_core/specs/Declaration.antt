@@ -1,0 +1,88 @@
+-- Which declarations of tables are taken, the first fault of one that is not, and when every foreign key has its target.
+use Rattle.std.specs.Prelude.{ℕ, Bool, true, false, not, ◌&&◌, ◌||◌, List, [], ◌∷◌, ◌++◌, length, Option, None, Some, is_some, Result, Ok, Err, if◌then◌else◌}
+use Rattle.std.specs.List.{list_any, list_all}
+use Rattle.std.specs.Cmp.Lexicographic.{pointwise}
+use Rattle.base_core.specs.declared.ids.TableId.{TableId}
+use Rattle.base_core.specs.declared.refusal.ArgumentKind.{ArgumentKind}
+use Rattle.base_core.specs.declared.refusal.ArgumentKind.TheVariants.{DuplicateName, UnknownColumn, NoPrimaryKey, SharedColumn, BadTarget}
+use Rattle.base_core.specs.declared.refusal.Refusal.{Refusal}
+use Rattle.base_core.specs.declared.refusal.Refusal.TheVariants.{ArgumentError}
+use Rattle.schema_core.specs.declared.table.ColumnSpec.{ColumnSpec}
+use Rattle.schema_core.specs.declared.table.ForeignSpec.{ForeignSpec}
+use Rattle.schema_core.specs.declared.table.TableSpec.{TableSpec}
+use Rattle.schema_core.specs.Catalog.{Catalog, find_table, has_name, key_columns, kind_of, no_table, same_kind, same_name, spec_of}
+
+-- an item and a later one pass the test
+abbrev pub some_two : {A : Type 0} → (A → A → Bool) → List A → Bool
+some_two test [] = false
+some_two test (x ∷ xs) = list_any (λ later. test later x) xs || some_two test xs
+
+-- the list of columns of a unique constraint or of a foreign key passes the test
+abbrev pub some_list : (List (List ℕ) → Bool) → TableSpec → Bool
+some_list test spec = list_any test spec.uniques || list_any (λ foreign. test foreign.columns) spec.foreigns
+
+-- the table's name is taken, or a column, or a name in a list of columns, stands twice
+abbrev pub repeats_name : List TableSpec → TableSpec → Bool
+repeats_name tables spec =
+    is_some (find_table tables spec.name)
+    || some_two (λ one other. same_name one.name other.name) spec.columns
+    || some_list (some_two same_name) spec
+
+abbrev pub has_column : List ColumnSpec → List ℕ → Bool
+has_column columns name = list_any (λ column. same_name column.name name) columns
+
+-- a list of columns has a name that is none
+abbrev pub lists_unknown : TableSpec → Bool
+lists_unknown spec = some_list (list_any (λ name. not (has_column spec.columns name))) spec
+
+abbrev pub has_key : TableSpec → Bool
+has_key spec = list_any (λ column. column.key) spec.columns
+
+-- the foreign keys have a column in common
+abbrev pub shares_one : ForeignSpec → ForeignSpec → Bool
+shares_one foreign other = list_any (has_name other.columns) foreign.columns
+
+-- two foreign keys do
+abbrev pub shares_column : TableSpec → Bool
+shares_column spec = some_two shares_one spec.foreigns
+
+-- the first fault of a declaration beside the tables declared before it
+unfoldable pub declaration_fault : List TableSpec → TableSpec → Option ArgumentKind
+declaration_fault tables spec =
+    if repeats_name tables spec then Some DuplicateName
+    else if lists_unknown spec then Some UnknownColumn
+    else if not (has_key spec) then Some NoPrimaryKey
+    else if shares_column spec then Some SharedColumn
+    else None
+
+-- the tables with one more, whose target is still to be found
+abbrev pub with_table : Catalog → TableSpec → Catalog
+with_table schema spec = record { tables = schema.tables ++ spec ∷ []; resolved = false }
+
+abbrev pub declared_unless : Option ArgumentKind → Catalog → TableSpec → Result (TableId × Catalog) Refusal
+declared_unless (Some fault) schema spec = Err (ArgumentError fault)
+declared_unless None schema spec = Ok (record { 0 = length schema.tables }, with_table schema spec)
+
+-- the answer to a declaration: the next number with the tables then, or the first fault
+unfoldable pub declare : Catalog → TableSpec → Result (TableId × Catalog) Refusal
+declare schema spec = declared_unless (declaration_fault schema.tables spec) schema spec
+
+-- the column of this name has the kind of the other
+abbrev pub has_kind : TableSpec → List ℕ → ColumnSpec → Bool
+has_kind spec name other = list_any (λ column. same_name column.name name && same_kind (kind_of column.kind) (kind_of other.kind)) spec.columns
+
+abbrev pub refers_to : Catalog → TableSpec → ForeignSpec → Option TableId → Bool
+refers_to schema spec foreign None = false
+refers_to schema spec foreign (Some target) = pointwise (has_kind spec) foreign.columns (key_columns (spec_of schema target))
+
+-- the target is declared, and the foreign key's columns are of the kinds of its key, one by one
+abbrev pub has_target : Catalog → TableSpec → ForeignSpec → Bool
+has_target schema spec foreign = refers_to schema spec foreign (find_table schema.tables foreign.target)
+
+-- every foreign key has its target
+abbrev pub has_targets : Catalog → Bool
+has_targets schema = list_all (λ spec. list_all (has_target schema spec) spec.foreigns) schema.tables
+
+-- the answer to the search for all targets
+unfoldable pub resolve : Catalog → Result (Unit {0} × Catalog) Refusal
+resolve schema = if has_targets schema then Ok (tt, record schema { resolved = true }) else Err (ArgumentError BadTarget)

@@ -1,0 +1,97 @@
+//! The declared tables.
+
+ghost use Rattle.std.specs.Prelude.{◌≡◌, ◌<◌, ◌++◌, [], ◌∷◌, length, false};
+ghost use Rattle.base_core.specs.Answers.{Takes};
+ghost use Rattle.schema_core.specs.Catalog.{find_table, spec_of, IsTable, has_generated_key};
+ghost use Rattle.schema_core.specs.Declaration.{declare};
+
+use crate::TableSpec;
+use crate::declaration::{fault_of, place_of};
+use crate::keys::has_generated_key;
+use base_core::{ListOf, Name, Refusal, TableId};
+use std::alloc::Global;
+use std::marker::Model;
+
+/// The declared tables, each by its number, from 0 in the order of declaration.
+#[derive(Debug, Drop)]
+pub struct Schema {
+    tables: ListOf<TableSpec>,
+    resolved: bool,
+}
+
+impl Model for Schema {
+    ghost use Rattle.std.specs.Prelude.{◌≤◌, length};
+    ghost use Rattle.schema_core.specs.Catalog.{Catalog};
+
+    ghost Value = { Catalog };
+
+    ghost view = { λ s. record { tables = s.tables; resolved = s.resolved } };
+
+    ghost invariant = { λ s. length s.tables ≤ 4294967295 };
+}
+
+impl Schema {
+    /// No tables.
+    pub fn new(alloc: Global) -> Schema
+        ensures { result ≡ record { tables = []; resolved = false } }
+    {
+        Schema {
+            tables: ListOf::new(alloc),
+            resolved: false,
+        }
+    }
+
+    /// How many tables are declared.
+    pub fn count(&self) -> u32
+        ensures { result ≡ length self.now.tables }
+    {
+        self.tables.len() as u32
+    }
+
+    /// The table of a name.
+    pub fn find(&self, name: &Name) -> Option<TableId>
+        ensures { result ≡ find_table self.now.tables name.now }
+    {
+        match place_of(self.tables.as_slice(), name) {
+            Some(place) => Some(TableId(place as u32)),
+            None => None,
+        }
+    }
+
+    /// The declaration of a table.
+    pub fn spec(&self, table: TableId) -> &TableSpec
+        requires { IsTable self.now table }
+        ensures { result.now ≡ spec_of self.now table }
+    {
+        self.tables.at(table.0 as usize)
+    }
+
+    #[tactic(auto, unfolding(crate::specs::Declaration::declare))]
+    /// Declares a table, by the next number. The targets of all foreign keys are then still to be found.
+    ///
+    /// # Errors
+    /// `ArgumentError` with the first that holds: `DuplicateName` (the table's name is taken, or a column stands twice,
+    /// or a column twice in a list), `UnknownColumn` (a unique constraint or a foreign key lists a name that is no
+    /// column), `NoPrimaryKey` (no column is flagged), `SharedColumn` (two foreign keys share a column). A refusal
+    /// changes nothing.
+    pub fn declare_table(&mut self, spec: TableSpec) -> Result<TableId, Refusal>
+        requires { length self.old.tables < 4294967295 }
+        ensures { Takes (λ table. table) (declare self.old spec) self.old result self.new }
+    {
+        if let Some(fault) = fault_of(self.tables.as_slice(), &spec) {
+            return Err(Refusal::ArgumentError(fault));
+        }
+        let table = TableId(self.tables.len() as u32);
+        self.tables.push(spec)?;
+        self.resolved = false;
+        Ok(table)
+    }
+
+    /// Whether the table's keys are generated: its primary key is one integer column that is in no foreign key.
+    pub fn generated(&self, table: TableId) -> bool
+        requires { IsTable self.now table }
+        ensures { result ≡ has_generated_key (spec_of self.now table) }
+    {
+        has_generated_key(self.spec(table))
+    }
+}
