@@ -1,5 +1,5 @@
 -- Lists of objects in rising order of their numbers.
-use Rattle.std.specs.Prelude.{ℕ, ◌<◌, List, [], ◌∷◌}
+use Rattle.std.specs.Prelude.{◌<◌, List, [], ◌∷◌}
 use Rattle.base_core.specs.declared.ids.ObjId.{ObjId}
 
 -- the object is above each one of the list

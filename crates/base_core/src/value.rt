@@ -1,18 +1,69 @@
 ghost use Rattle.std.specs.Prelude.{◌≡◌, IfOk};
-ghost use Rattle.base_core.specs.Order.{value_cmp};
+ghost use Rattle.base_core.specs.Order.{rank, value_cmp};
 
 use crate::{Blob, Copied, ListOf, Text};
 use std::alloc::AllocError;
 use std::cmp::Ordering;
 
 /// What a cell holds.
-#[derive(Clone, Debug, Drop, PartialEq, Eq, PartialOrd, Ord)]
+#[derive(Clone, Debug, Drop, PartialEq, Eq)]
 pub enum Value {
     Null,
     Bool(bool),
     Int(i64),
     Text(Text),
     Bytes(Blob),
+}
+
+impl PartialOrd for Value {
+    ghost use Rattle.std.specs.Prelude.{Some};
+    ghost use Rattle.base_core.specs.Order.{value_cmp};
+    ghost use Rattle.base_core.specs.OrderLaws.{value_cmp_po};
+
+    ghost partial_cmp = { λ a b. Some (value_cmp a b) };
+
+    ghost laws = { value_cmp_po };
+
+    fn partial_cmp(&self, other: &Value) -> Option<Ordering> {
+        Some(self.cmp(other))
+    }
+}
+
+impl Ord for Value {
+    ghost use Rattle.std.specs.Prelude.{refl};
+    ghost use Rattle.base_core.specs.Order.{value_cmp};
+    ghost use Rattle.base_core.specs.OrderLaws.{value_cmp_total, value_cmp_ties};
+
+    ghost cmp = { value_cmp };
+
+    ghost total = { value_cmp_total };
+
+    ghost matches_partial_cmp = { λ _ _. refl };
+
+    ghost matches_eq = { value_cmp_ties };
+
+    fn cmp(&self, other: &Value) -> Ordering {
+        match (self, other) {
+            (Value::Bool(a), Value::Bool(b)) => a.cmp(b),
+            (Value::Int(a), Value::Int(b)) => a.cmp(b),
+            (Value::Text(a), Value::Text(b)) => a.cmp(b),
+            (Value::Bytes(a), Value::Bytes(b)) => a.cmp(b),
+            (a, b) => rank(a).cmp(&rank(b)),
+        }
+    }
+}
+
+/// Where the value's kind stands in the order.
+fn rank(value: &Value) -> u8
+    ensures { result ≡ rank value.now }
+{
+    match value {
+        Value::Null => 0,
+        Value::Bool(_) => 1,
+        Value::Int(_) => 2,
+        Value::Text(_) => 3,
+        Value::Bytes(_) => 4,
+    }
 }
 
 /// A column's kind.

@@ -1,2 +1,4 @@
+pub mod Apply
 pub mod Catalog
 pub mod Declaration
+pub mod Tables

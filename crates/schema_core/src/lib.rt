@@ -11,5 +11,5 @@ mod table;
 pub use changes::{ChangedRow, GoneRow, NewRow, Plan, Planned, RowCell, RowChanges};
 pub use declaration::{kind_of, same_kind};
 pub use schema::Schema;
-pub use statement::RowStmt;
+pub use statement::{Breach, RowStmt};
 pub use table::{ColumnKind, ColumnSpec, ForeignSpec, TableSpec};

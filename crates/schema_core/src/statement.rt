@@ -28,3 +28,18 @@ impl Copied for RowStmt {
         self.clone()
     }
 }
+
+/// Why a statement on one row is refused, in the order in which the reasons are told.
+#[derive(Clone, Copy, Debug, PartialEq, Eq)]
+pub enum Breach {
+    /// The table was not created.
+    NoTable(TableId),
+    /// An UPDATE names an absent key.
+    Missing,
+    NotNull,
+    /// A generated key would be above the greatest integer.
+    KeysSpent,
+    PrimaryKey,
+    Unique,
+    Foreign,
+}
