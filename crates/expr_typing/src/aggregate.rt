@@ -26,19 +26,24 @@ pub fn has_aggregate(e: &Expr) -> bool
     match e {
         Expr::Column(_, _) | Expr::Lit(_) => false,
         Expr::CountAll => true,
-        Expr::IsNull(_, a) | Expr::Not(a) | Expr::Neg(a) | Expr::InList(_, a, _) | Expr::Exists(_, _, a) => {
-            has_aggregate(a.get())
-        }
-        Expr::Compare(_, a, b) | Expr::Distinct(_, a, b) => has_aggregate(a.get()) || has_aggregate(b.get()),
+        Expr::IsNull(_, a)
+        | Expr::Not(a)
+        | Expr::Neg(a)
+        | Expr::InList(_, a, _)
+        | Expr::Exists(_, _, a) => { has_aggregate(a.get()) }
+        Expr::Compare(_, a, b) | Expr::Distinct(_, a, b) => has_aggregate(a.get())
+            || has_aggregate(b.get()),
         Expr::Arith(_, a, b) => has_aggregate(a.get()) || has_aggregate(b.get()),
         Expr::Concat(a, b) => has_aggregate(a.get()) || has_aggregate(b.get()),
-        Expr::Like(_, a, b) | Expr::Ilike(_, a, b) => has_aggregate(a.get()) || has_aggregate(b.get()),
+        Expr::Like(_, a, b) | Expr::Ilike(_, a, b) => has_aggregate(a.get())
+            || has_aggregate(b.get()),
         Expr::Between(_, a, low, high) => {
             has_aggregate(a.get()) || has_aggregate(low.get()) || has_aggregate(high.get())
         }
         Expr::And(parts) => some_aggregate(parts.as_slice()),
         Expr::Or(parts) => some_aggregate(parts.as_slice()),
-        Expr::Call(function, operands) => is_aggregate(*function) || some_aggregate(operands.as_slice()),
+        Expr::Call(function, operands) => is_aggregate(*function)
+            || some_aggregate(operands.as_slice()),
     }
 }
 
