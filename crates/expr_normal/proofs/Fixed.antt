@@ -1,5 +1,6 @@
 -- The normal form of a normal form is itself.
 use Rattle.std.proofs.Common.{◌≡◌, ℕ, Bool, not, List, [], ◌∷◌, ◌++◌, map, Option, Some, None, refl, sym, ap, subst, ◌∙◌, arith}
+use Rattle.std.specs.Option.{option_map}
 use Rattle.std.proofs.lemmas.List.{map-append, append_assoc, append-nil}
 use Rattle.base_core.specs.declared.ids.ColumnNo.{ColumnNo}
 use Rattle.base_core.specs.declared.value.Value.{Value}
@@ -10,7 +11,7 @@ use Rattle.expr_types.specs.declared.expr.Origin.{Origin}
 use Rattle.expr_types.specs.declared.expr.Expr.{Expr, out-Expr, roll-Expr}
 use Rattle.expr_types.specs.declared.expr.Expr.TheOpen.{Expr-F}
 use Rattle.expr_types.specs.declared.expr.Expr.TheVariants as expr
-use Rattle.expr_types.specs.declared.expr.Expr.TheViews.{roll-out-Expr}
+use Rattle.expr_types.specs.declared.expr.Expr.TheViews.{roll-out-Expr, size-Expr, sized-Not}
 use Rattle.expr_types.specs.declared.expr.Expr.TheFolds.{ind-Expr, map-Expr}
 use Rattle.expr_types.specs.declared.expr.Func.TheVariants.{Lower, Count, Sum, Min, Max, Upper, Length, Coalesce}
 use Rattle.expr_types.specs.Normal.{normal, negated, negated_at, liked, like_by, lowered, lowered_at, lowered_by, joined_parts, and_parts, and_parts_at, or_parts, or_parts_at, opposite}
@@ -132,3 +133,177 @@ fixed-Call : (f : Func) (es : List Known) → Fixed (expr.Call f (map normal (ma
 fixed-Call f es =
     let ns = map normal (map (λ (e : Known). e.0) es) in
     fixed_at (expr.Call f ns) _ (expr.outs-Call f ns) tt (normal-Call f ns ∙ ap (expr.Call f) (mapped_again es))
+
+-- ---- `not`
+
+not_fixed : (n : Expr) → Fixed n → negated n ≡ expr.Not n → Fixed (expr.Not n)
+not_fixed n h is = fixed_at (expr.Not n) _ (expr.outs-Not n) (h.again, is) (normal-Not n ∙ ap negated h.again ∙ is)
+
+negated_by : (n : Expr) (x : Expr-F Expr) → out-Expr n ≡ x → negated n ≡ negated_at n x
+unfolding negated
+negated_by n x is = ap (negated_at n) is
+
+whole_is : (n : Expr) (x : Expr-F Expr) → out-Expr n ≡ x → roll-Expr x ≡ n
+whole_is n x is = ap roll-Expr (sym is) ∙ roll-out-Expr n
+
+-- the level of a fixed form, once more
+level_again : (n m : Expr) (x : Expr-F Expr) → out-Expr n ≡ x → normal n ≡ n → normal n ≡ m → out-Expr m ≡ x
+level_again n m x is same e = ap out-Expr (sym e ∙ same) ∙ is
+
+below-Compare : (n : Expr) (op : CompareOp) (a : Expr) (b : Expr) → out-Expr n ≡ Expr-F.Compare op a b → normal n ≡ n → (normal a ≡ a) × (normal b ≡ b)
+below-Compare n op a b is same =
+    let e : Expr-F.Compare op (normal a) (normal b) ≡ Expr-F.Compare op a b =
+        sym (expr.outs-Compare op (normal a) (normal b)) ∙ level_again n (expr.Compare op (normal a) (normal b)) (Expr-F.Compare op a b) is same (ap normal (sym (sym (expr.rolls-Compare op a b) ∙ whole_is n (Expr-F.Compare op a b) is)) ∙ normal-Compare op a b) in
+    (cc, cc)
+
+below-IsNull : (n : Expr) (g : Bool) (a : Expr) → out-Expr n ≡ Expr-F.IsNull g a → normal n ≡ n → (normal a ≡ a)
+below-IsNull n g a is same =
+    let e : Expr-F.IsNull g (normal a) ≡ Expr-F.IsNull g a =
+        sym (expr.outs-IsNull g (normal a)) ∙ level_again n (expr.IsNull g (normal a)) (Expr-F.IsNull g a) is same (ap normal (sym (sym (expr.rolls-IsNull g a) ∙ whole_is n (Expr-F.IsNull g a) is)) ∙ normal-IsNull g a) in
+    cc
+
+below-Ilike : (n : Expr) (g : Bool) (a : Expr) (b : Expr) → out-Expr n ≡ Expr-F.Ilike g a b → normal n ≡ n → (normal a ≡ a) × (normal b ≡ b)
+below-Ilike n g a b is same =
+    let e : Expr-F.Ilike g (normal a) (normal b) ≡ Expr-F.Ilike g a b =
+        sym (expr.outs-Ilike g (normal a) (normal b)) ∙ level_again n (expr.Ilike g (normal a) (normal b)) (Expr-F.Ilike g a b) is same (ap normal (sym (sym (expr.rolls-Ilike g a b) ∙ whole_is n (Expr-F.Ilike g a b) is)) ∙ normal-Ilike g a b) in
+    (cc, cc)
+
+below-InList : (n : Expr) (g : Bool) (a : Expr) (vs : List Value) → out-Expr n ≡ Expr-F.InList g a vs → normal n ≡ n → (normal a ≡ a)
+below-InList n g a vs is same =
+    let e : Expr-F.InList g (normal a) vs ≡ Expr-F.InList g a vs =
+        sym (expr.outs-InList g (normal a) vs) ∙ level_again n (expr.InList g (normal a) vs) (Expr-F.InList g a vs) is same (ap normal (sym (sym (expr.rolls-InList g a vs) ∙ whole_is n (Expr-F.InList g a vs) is)) ∙ normal-InList g a vs) in
+    cc
+
+below-Between : (n : Expr) (g : Bool) (a : Expr) (low : Expr) (high : Expr) → out-Expr n ≡ Expr-F.Between g a low high → normal n ≡ n → (normal a ≡ a) × (normal low ≡ low) × (normal high ≡ high)
+below-Between n g a low high is same =
+    let e : Expr-F.Between g (normal a) (normal low) (normal high) ≡ Expr-F.Between g a low high =
+        sym (expr.outs-Between g (normal a) (normal low) (normal high)) ∙ level_again n (expr.Between g (normal a) (normal low) (normal high)) (Expr-F.Between g a low high) is same (ap normal (sym (sym (expr.rolls-Between g a low high) ∙ whole_is n (Expr-F.Between g a low high) is)) ∙ normal-Between g a low high) in
+    (cc, cc, cc)
+
+below-Distinct : (n : Expr) (g : Bool) (a : Expr) (b : Expr) → out-Expr n ≡ Expr-F.Distinct g a b → normal n ≡ n → (normal a ≡ a) × (normal b ≡ b)
+below-Distinct n g a b is same =
+    let e : Expr-F.Distinct g (normal a) (normal b) ≡ Expr-F.Distinct g a b =
+        sym (expr.outs-Distinct g (normal a) (normal b)) ∙ level_again n (expr.Distinct g (normal a) (normal b)) (Expr-F.Distinct g a b) is same (ap normal (sym (sym (expr.rolls-Distinct g a b) ∙ whole_is n (Expr-F.Distinct g a b) is)) ∙ normal-Distinct g a b) in
+    (cc, cc)
+
+below-Exists : (n : Expr) (g : Bool) (o : Origin) (a : Expr) → out-Expr n ≡ Expr-F.Exists g o a → normal n ≡ n → (normal a ≡ a)
+below-Exists n g o a is same =
+    let e : Expr-F.Exists g o (normal a) ≡ Expr-F.Exists g o a =
+        sym (expr.outs-Exists g o (normal a)) ∙ level_again n (expr.Exists g o (normal a)) (Expr-F.Exists g o a) is same (ap normal (sym (sym (expr.rolls-Exists g o a) ∙ whole_is n (Expr-F.Exists g o a) is)) ∙ normal-Exists g o a) in
+    cc
+
+-- ---- `like`
+
+lowered_is : (a : Expr) (x : Expr-F Expr) → out-Expr a ≡ x → lowered a ≡ lowered_at x
+unfolding lowered
+lowered_is a x is = ap lowered_at is
+
+lowered_normal_by : (f : Func) (es : List Expr) (x : Expr) → lowered_by f es ≡ Some x → lowered_by f (map normal es) ≡ Some (normal x)
+lowered_normal_by Lower (e ∷ []) x is = ap (option_map normal) is
+lowered_normal_by Lower [] x is = absurd (cc)
+lowered_normal_by Lower (e ∷ d ∷ es) x is = absurd (cc)
+lowered_normal_by f es x is = absurd (cc)
+
+lowered_normal_at : (a : Expr) (l : Expr-F Expr) → out-Expr a ≡ l → (x : Expr) → lowered_at l ≡ Some x → lowered (normal a) ≡ Some (normal x)
+lowered_normal_at a (Expr-F.Call f es) is x e =
+    ap lowered (ap normal (sym (sym (expr.rolls-Call f es) ∙ whole_is a (Expr-F.Call f es) is)) ∙ normal-Call f es)
+    ∙ lowered_is (expr.Call f (map normal es)) _ (expr.outs-Call f (map normal es)) ∙ lowered_normal_by f es x e
+lowered_normal_at a level is x e = absurd (cc)
+
+-- the text that a fixed form lowers is fixed
+lowered_again : (a x : Expr) → normal a ≡ a → lowered a ≡ Some x → normal x ≡ x
+lowered_again a x same e =
+    let twice : Some (normal x) ≡ Some x = sym (lowered_normal_at a (out-Expr a) refl x (sym (lowered_is a (out-Expr a) refl) ∙ e)) ∙ ap lowered same ∙ e in cc
+
+liked_by : (g : Bool) (a b : Expr) (s t : Option Expr) → lowered a ≡ s → lowered b ≡ t → liked g a b ≡ like_by g a b s t
+unfolding liked
+liked_by g a b s t ea eb = rw (ea, eb) refl
+
+like_stays : (g : Bool) (a b : Expr) → normal a ≡ a → normal b ≡ b → liked g a b ≡ expr.Like g a b → Fixed (expr.Like g a b)
+like_stays g a b ha hb e = fixed_at (expr.Like g a b) _ (expr.outs-Like g a b) tt (normal-Like g a b ∙ rw (ha, hb) e)
+
+fixed_like_by : (g : Bool) (a b : Expr) (s t : Option Expr) → lowered a ≡ s → lowered b ≡ t → normal a ≡ a → normal b ≡ b → Fixed (like_by g a b s t)
+fixed_like_by g a b (Some x) (Some y) es et ha hb = fixed-Ilike g x y (lowered_again a x ha es) (lowered_again b y hb et)
+fixed_like_by g a b (Some x) None es et ha hb = like_stays g a b ha hb (liked_by g a b (Some x) None es et)
+fixed_like_by g a b None t es et ha hb = like_stays g a b ha hb (liked_by g a b None t es et)
+
+fixed-Like : (g : Bool) (a b : Expr) → normal a ≡ a → normal b ≡ b → Fixed (liked g a b)
+fixed-Like g a b ha hb = subst Fixed (sym (liked_by g a b (lowered a) (lowered b) refl refl)) (fixed_like_by g a b (lowered a) (lowered b) refl refl ha hb)
+
+-- a fixed `like` has fixed operands that are not both lowered
+like_below_by : (g : Bool) (a b : Expr) (s t : Option Expr) → lowered (normal a) ≡ s → lowered (normal b) ≡ t → like_by g (normal a) (normal b) s t ≡ expr.Like g a b → (normal a ≡ a) × (normal b ≡ b) × (liked (not g) a b ≡ expr.Like (not g) a b)
+like_below_by g a b (Some x) (Some y) es et e =
+    let levels : Expr-F.Ilike g x y ≡ Expr-F.Like g a b = sym (expr.outs-Ilike g x y) ∙ ap out-Expr e ∙ expr.outs-Like g a b in absurd (cc)
+like_below_by g a b (Some x) None es et e =
+    let levels : Expr-F.Like g (normal a) (normal b) ≡ Expr-F.Like g a b = sym (expr.outs-Like g (normal a) (normal b)) ∙ ap out-Expr e ∙ expr.outs-Like g a b in
+    let ha : normal a ≡ a = cc in
+    let hb : normal b ≡ b = cc in
+    (ha, hb, liked_by (not g) a b (Some x) None (ap lowered (sym ha) ∙ es) (ap lowered (sym hb) ∙ et))
+like_below_by g a b None t es et e =
+    let levels : Expr-F.Like g (normal a) (normal b) ≡ Expr-F.Like g a b = sym (expr.outs-Like g (normal a) (normal b)) ∙ ap out-Expr e ∙ expr.outs-Like g a b in
+    let ha : normal a ≡ a = cc in
+    let hb : normal b ≡ b = cc in
+    (ha, hb, liked_by (not g) a b None t (ap lowered (sym ha) ∙ es) (ap lowered (sym hb) ∙ et))
+
+like_negated : (n : Expr) (g : Bool) (a b : Expr) → out-Expr n ≡ Expr-F.Like g a b → normal n ≡ n → Fixed (expr.Like (not g) a b)
+like_negated n g a b is same =
+    let n_is : expr.Like g a b ≡ n = sym (expr.rolls-Like g a b) ∙ whole_is n (Expr-F.Like g a b) is in
+    let e : like_by g (normal a) (normal b) (lowered (normal a)) (lowered (normal b)) ≡ expr.Like g a b =
+        sym (liked_by g (normal a) (normal b) (lowered (normal a)) (lowered (normal b)) refl refl) ∙ sym (normal-Like g a b) ∙ ap normal n_is ∙ same ∙ sym n_is in
+    let below : (normal a ≡ a) × (normal b ≡ b) × (liked (not g) a b ≡ expr.Like (not g) a b) = like_below_by g a b (lowered (normal a)) (lowered (normal b)) refl refl e in
+    like_stays (not g) a b below.0 below.1 below.2
+
+-- a `not` of a `not` of itself would be larger than itself
+not_endless : (b : Expr) → b ≡ expr.Not (expr.Not b) → ⊥
+not_endless b is = omega (arith, ap size-Expr is, sized-Not b, sized-Not (expr.Not b))
+
+below_not : (a : Expr) (x : Expr-F Expr) → out-Expr a ≡ x → negated a ≡ expr.Not a → OverNot x
+below_not a (Expr-F.Not b) is e =
+    absurd (not_endless b (sym (negated_by a (Expr-F.Not b) is) ∙ e ∙ ap expr.Not (sym (sym (expr.rolls-Not b) ∙ whole_is a (Expr-F.Not b) is))))
+below_not a level is e = tt
+
+negated_fixed_at : (n : Expr) (x : Expr-F Expr) → out-Expr n ≡ x → Fixed n → Fixed (negated_at n x)
+negated_fixed_at n (Expr-F.Compare op a b) is h = fixed-Compare (opposite op) a b (below-Compare n op a b is h.again).0 (below-Compare n op a b is h.again).1
+negated_fixed_at n (Expr-F.IsNull g a) is h = fixed-IsNull (not g) a (below-IsNull n g a is h.again)
+negated_fixed_at n (Expr-F.Not a) is h =
+    let over : OverNot (Expr-F.Not a) = subst OverNot is h.below in
+    record { again = over.0; below = below_not a (out-Expr a) refl over.1 }
+negated_fixed_at n (Expr-F.Like g a b) is h = like_negated n g a b is h.again
+negated_fixed_at n (Expr-F.Ilike g a b) is h = fixed-Ilike (not g) a b (below-Ilike n g a b is h.again).0 (below-Ilike n g a b is h.again).1
+negated_fixed_at n (Expr-F.InList g a vs) is h = fixed-InList (not g) a vs (below-InList n g a vs is h.again)
+negated_fixed_at n (Expr-F.Between g a low high) is h = fixed-Between (not g) a low high (below-Between n g a low high is h.again).0 (below-Between n g a low high is h.again).1 (below-Between n g a low high is h.again).2
+negated_fixed_at n (Expr-F.Distinct g a b) is h = fixed-Distinct (not g) a b (below-Distinct n g a b is h.again).0 (below-Distinct n g a b is h.again).1
+negated_fixed_at n (Expr-F.Exists g o a) is h = fixed-Exists (not g) o a (below-Exists n g o a is h.again)
+negated_fixed_at n level is h = not_fixed n h (negated_by n level is)
+
+negated_fixed : (n : Expr) → Fixed n → Fixed (negated n)
+unfolding negated
+negated_fixed n h = negated_fixed_at n (out-Expr n) refl h
+
+-- ---- all levels
+
+fixed_level : (y : Expr-F Known) → Fixed (normal (roll-Expr (map-Expr Known Expr (λ e. e.0) y)))
+fixed_level (Expr-F.Column s c) = subst Fixed (sym (ap normal (expr.rolls-Column s c) ∙ normal-Column s c)) (fixed-Column s c)
+fixed_level (Expr-F.Lit v) = subst Fixed (sym (ap normal (expr.rolls-Lit v) ∙ normal-Lit v)) (fixed-Lit v)
+fixed_level (Expr-F.Compare op a b) = subst Fixed (sym (ap normal (expr.rolls-Compare op a.0 b.0) ∙ normal-Compare op a.0 b.0)) (fixed-Compare op (normal a.0) (normal b.0) a.1.again b.1.again)
+fixed_level (Expr-F.IsNull g a) = subst Fixed (sym (ap normal (expr.rolls-IsNull g a.0) ∙ normal-IsNull g a.0)) (fixed-IsNull g (normal a.0) a.1.again)
+fixed_level (Expr-F.And es) = subst Fixed (sym (ap normal (expr.rolls-And (map (λ (e : Known). e.0) es)) ∙ normal-And (map (λ (e : Known). e.0) es))) (fixed-And es)
+fixed_level (Expr-F.Or es) = subst Fixed (sym (ap normal (expr.rolls-Or (map (λ (e : Known). e.0) es)) ∙ normal-Or (map (λ (e : Known). e.0) es))) (fixed-Or es)
+fixed_level (Expr-F.Not a) = subst Fixed (sym (ap normal (expr.rolls-Not a.0) ∙ normal-Not a.0)) (negated_fixed (normal a.0) a.1)
+fixed_level (Expr-F.Arith op a b) = subst Fixed (sym (ap normal (expr.rolls-Arith op a.0 b.0) ∙ normal-Arith op a.0 b.0)) (fixed-Arith op (normal a.0) (normal b.0) a.1.again b.1.again)
+fixed_level (Expr-F.Neg a) = subst Fixed (sym (ap normal (expr.rolls-Neg a.0) ∙ normal-Neg a.0)) (fixed-Neg (normal a.0) a.1.again)
+fixed_level (Expr-F.Concat a b) = subst Fixed (sym (ap normal (expr.rolls-Concat a.0 b.0) ∙ normal-Concat a.0 b.0)) (fixed-Concat (normal a.0) (normal b.0) a.1.again b.1.again)
+fixed_level (Expr-F.Like g a b) = subst Fixed (sym (ap normal (expr.rolls-Like g a.0 b.0) ∙ normal-Like g a.0 b.0)) (fixed-Like g (normal a.0) (normal b.0) a.1.again b.1.again)
+fixed_level (Expr-F.Ilike g a b) = subst Fixed (sym (ap normal (expr.rolls-Ilike g a.0 b.0) ∙ normal-Ilike g a.0 b.0)) (fixed-Ilike g (normal a.0) (normal b.0) a.1.again b.1.again)
+fixed_level (Expr-F.InList g a vs) = subst Fixed (sym (ap normal (expr.rolls-InList g a.0 vs) ∙ normal-InList g a.0 vs)) (fixed-InList g (normal a.0) vs a.1.again)
+fixed_level (Expr-F.Between g a low high) = subst Fixed (sym (ap normal (expr.rolls-Between g a.0 low.0 high.0) ∙ normal-Between g a.0 low.0 high.0)) (fixed-Between g (normal a.0) (normal low.0) (normal high.0) a.1.again low.1.again high.1.again)
+fixed_level (Expr-F.Distinct g a b) = subst Fixed (sym (ap normal (expr.rolls-Distinct g a.0 b.0) ∙ normal-Distinct g a.0 b.0)) (fixed-Distinct g (normal a.0) (normal b.0) a.1.again b.1.again)
+fixed_level (Expr-F.Call f es) = subst Fixed (sym (ap normal (expr.rolls-Call f (map (λ (e : Known). e.0) es)) ∙ normal-Call f (map (λ (e : Known). e.0) es))) (fixed-Call f es)
+fixed_level Expr-F.CountAll = subst Fixed (sym (ap normal expr.rolls-CountAll ∙ normal-CountAll)) fixed-CountAll
+fixed_level (Expr-F.Exists g o a) = subst Fixed (sym (ap normal (expr.rolls-Exists g o a.0) ∙ normal-Exists g o a.0)) (fixed-Exists g o (normal a.0) a.1.again)
+
+fixed : (e : Expr) → Fixed (normal e)
+fixed = ind-Expr (λ e. Fixed (normal e)) (λ x y is. subst (λ z. Fixed (normal (roll-Expr z))) is (fixed_level y))
+
+pub normal_again : (e : Expr) → normal (normal e) ≡ normal e
+normal_again e = (fixed e).again
