@@ -1,0 +1,4 @@
+//! The rows of a select.
+#![tactic(auto)]
+
+mod order;
