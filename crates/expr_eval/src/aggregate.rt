@@ -2,7 +2,7 @@
 
 ghost use Rattle.std.specs.Prelude.{◌≡◌, IfOk};
 ghost use Rattle.std.specs.Option.{option_map};
-ghost use Rattle.expr_eval.specs.Checked.{Answers};
+ghost use Rattle.expr_eval.specs.Checked.{Gives};
 ghost use Rattle.expr_eval.specs.Eval as spec;
 
 use crate::compare::{below, is_null};
@@ -64,7 +64,7 @@ pub(crate) fn greatest(values: &[Value]) -> Result<Value, AllocError>
 
 /// An aggregate of a group's values; NULL outside a group.
 pub(crate) fn aggregated(function: Func, values: Option<Vec<Value>>) -> Result<Value, Refusal>
-    ensures { Answers (spec.aggregated function (option_map (λ v. v.items) values)) result }
+    ensures { Gives (λ x. x) result (spec.aggregated function (option_map (λ v. v.items) values)) }
 {
     let Some(values) = values else {
         return Ok(Value::Null);

@@ -2,7 +2,8 @@
 
 ghost use Rattle.std.specs.Prelude.{◌≡◌, [], false, map};
 ghost use Rattle.std.specs.Option.{option_map, option_copied};
-ghost use Rattle.expr_eval.specs.Checked.{Answers, Gives};
+ghost use Rattle.base_core.specs.Answers as base;
+ghost use Rattle.expr_eval.specs.Checked.{Gives};
 ghost use Rattle.expr_eval.specs.Eval as spec;
 ghost use Rattle.expr_eval.specs.Eval.{evaluated};
 ghost use Rattle.expr_eval.specs.Place.{place_of};
@@ -23,7 +24,7 @@ use std::alloc::Global;
 #[tactic(auto, unfolding(crate::specs::Eval::evaluated))]
 #[cycle(eval)]
 pub fn value_in(alloc: Global, e: &Expr, scope: &Scope<'_>) -> Result<Value, Refusal>
-    ensures { Answers (evaluated e.now (place_of scope.now)) result }
+    ensures { Gives (λ x. x) result (evaluated e.now (place_of scope.now)) }
 {
     match e {
         Expr::Column(source, column) => Ok(scope.column(*source, *column)?),
@@ -87,6 +88,7 @@ pub fn value_in(alloc: Global, e: &Expr, scope: &Scope<'_>) -> Result<Value, Ref
     }
 }
 
+#[tactic(auto, using(crate::proofs::Told::gives_as_base))]
 /// The value of an expression at a row, without tables and groups: an `exists` finds nothing there, and an aggregate is NULL. `starts` has the
 /// place in the row at which each source begins; a column that is not there is NULL. A result outside 64 bits is DataError, the first one met
 /// from left to right, with its operator and operands: 0 and x for a unary minus.
@@ -96,7 +98,7 @@ pub fn eval<'x>(
     row: &'x RowValues,
     starts: &'x [u32],
 ) -> Result<Value, Refusal>
-    ensures { Answers (evaluated e.now (spec.at_row row.now starts.now)) result }
+    ensures { base.Gives (λ x. x) result (evaluated e.now (spec.at_row row.now starts.now)) }
 {
     let scope = Scope {
         row: row.as_slice(),
@@ -114,7 +116,7 @@ fn both(
     b: &Boxed<Expr>,
     scope: &Scope<'_>,
 ) -> Result<(Value, Value), Refusal>
-    ensures { Answers (spec.pair (evaluated a.now) (evaluated b.now) (place_of scope.now)) result }
+    ensures { Gives (λ x. x) result (spec.pair (evaluated a.now) (evaluated b.now) (place_of scope.now)) }
 {
     let x = value_in(alloc, a.get(), scope)?;
     let y = value_in(alloc, b.get(), scope)?;
@@ -123,7 +125,7 @@ fn both(
 
 #[cycle(eval)]
 fn several(alloc: Global, parts: &Items<Expr>, scope: &Scope<'_>) -> Result<Vec<Value>, Refusal>
-    ensures { Gives (λ v. v.items) (spec.all_from (place_of scope.now) [] (map evaluated parts.now)) result }
+    ensures { Gives (λ v. v.items) result (spec.all_from (place_of scope.now) [] (map evaluated parts.now)) }
 {
     let mut values = Vec::new(alloc);
     for part in parts.as_slice() {
@@ -139,7 +141,7 @@ fn called(
     operands: &Items<Expr>,
     scope: &Scope<'_>,
 ) -> Result<Value, Refusal>
-    ensures { Answers (spec.called function (map evaluated operands.now) (place_of scope.now)) result }
+    ensures { Gives (λ x. x) result (spec.called function (map evaluated operands.now) (place_of scope.now)) }
 {
     if is_aggregate(function) {
         let values = gathered(alloc, operands, scope)?;
@@ -158,7 +160,7 @@ fn gathered(
     operands: &Items<Expr>,
     scope: &Scope<'_>,
 ) -> Result<Option<Vec<Value>>, Refusal>
-    ensures { Gives (option_map (λ v. v.items)) (spec.gathered (map evaluated operands.now) (place_of scope.now)) result }
+    ensures { Gives (option_map (λ v. v.items)) result (spec.gathered (map evaluated operands.now) (place_of scope.now)) }
 {
     match operands.get(0) {
         Some(operand) => over(alloc, operand, scope),
@@ -168,7 +170,7 @@ fn gathered(
 
 #[cycle(eval)]
 fn over(alloc: Global, operand: &Expr, scope: &Scope<'_>) -> Result<Option<Vec<Value>>, Refusal>
-    ensures { Gives (option_map (λ v. v.items)) (spec.over (option_copied scope.now.group) (place_of scope.now) (evaluated operand.now)) result }
+    ensures { Gives (option_map (λ v. v.items)) result (spec.over (option_copied scope.now.group) (place_of scope.now) (evaluated operand.now)) }
 {
     let Some(rows) = scope.group else {
         return Ok(None);
@@ -184,7 +186,7 @@ fn along<'x>(
     rows: &'x [RowValues],
     scope: &Scope<'x>,
 ) -> Result<Vec<Value>, Refusal>
-    ensures { Gives (λ v. v.items) (spec.along_from (spec.ungrouped (place_of scope.now)) (evaluated operand.now) [] rows.now) result }
+    ensures { Gives (λ v. v.items) result (spec.along_from (spec.ungrouped (place_of scope.now)) (evaluated operand.now) [] rows.now) }
 {
     let mut values = Vec::new(alloc);
     for row in rows {
@@ -207,7 +209,7 @@ fn some_row(
     rows: &[RowValues],
     scope: &Scope<'_>,
 ) -> Result<bool, Refusal>
-    ensures { Answers (spec.some_from (place_of scope.now) (evaluated condition.now) false rows.now) result }
+    ensures { Gives (λ x. x) result (spec.some_from (place_of scope.now) (evaluated condition.now) false rows.now) }
 {
     let starts = more_starts(alloc, scope.starts, scope.row.len())?;
     let mut found = false;
