@@ -1,5 +1,5 @@
--- Answers that may be refused, and what a call may tell of them.
-use Rattle.std.specs.Prelude.{◌≡◌, Bool, true, false, List, [], ◌∷◌, ◌++◌, Result, Ok, Err, MatchBool}
+-- Answers that may be refused.
+use Rattle.std.specs.Prelude.{◌≡◌, Bool, true, false, MatchBool, Result, Ok, Err}
 use Rattle.base_core.specs.declared.refusal.Refusal.{Refusal}
 use Rattle.base_core.specs.declared.refusal.Refusal.TheVariants.{Memory}
 
@@ -16,15 +16,11 @@ abbrev pub is_memory : Refusal → Bool
 is_memory Memory = true
 is_memory e = false
 
--- a refusal is want of memory, or that of the definition
-abbrev pub Refuses : {A : Type 0} → Checked A → Refusal → Type 0
-Refuses told e = MatchBool (is_memory e) (Unit {0}) (told ≡ Err e)
+-- the refusal is what is told, or memory ran out
+abbrev pub Refuses : {A : Type 0} → Refusal → Checked A → Type 0
+Refuses e told = MatchBool (is_memory e) (Unit {0}) (told ≡ Err e)
 
--- what a call returned, seen by view, is the definition's answer or refusal, unless memory ran out
-abbrev pub Gives : {A X : Type 0} → (X → A) → Checked A → Result X Refusal → Type 0
-Gives view told (Ok x) = told ≡ Ok (view x)
-Gives view told (Err e) = Refuses told e
-
--- The same of values that are seen as themselves.
-abbrev pub Answers : {A : Type 0} → Checked A → Result A Refusal → Type 0
-Answers told result = Gives (λ x. x) told result
+-- the answer, seen by view, is what is told, unless memory ran out
+abbrev pub Gives : {A X : Type 0} → (X → A) → Result X Refusal → Checked A → Type 0
+Gives view (Ok x) told = told ≡ Ok (view x)
+Gives view (Err e) told = Refuses e told

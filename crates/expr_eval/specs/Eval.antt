@@ -150,29 +150,32 @@ abbrev pub total : List Value → Checked Value
 total [] = Ok value.Null
 total (v ∷ vs) = added (value.Int (pos 0)) (v ∷ vs)
 
+-- the first of the least values, NULL for none
 abbrev pub least_from : Value → List Value → Value
 least_from best [] = best
-least_from best (v ∷ vs) = least_from (if below v best then v else best) vs
+least_from best (v ∷ vs) = least_from (if is_null best || below v best then v else best) vs
 
 abbrev pub least : List Value → Value
-least [] = value.Null
-least (v ∷ vs) = least_from v vs
+least = least_from value.Null
 
+-- the first of the greatest values, NULL for none
 abbrev pub greatest_from : Value → List Value → Value
 greatest_from best [] = best
-greatest_from best (v ∷ vs) = greatest_from (if below best v then v else best) vs
+greatest_from best (v ∷ vs) = greatest_from (if is_null best || below best v then v else best) vs
 
 abbrev pub greatest : List Value → Value
-greatest [] = value.Null
-greatest (v ∷ vs) = greatest_from v vs
+greatest = greatest_from value.Null
 
 -- ---- expressions
 
 abbrev pub one : Meaning → (Value → Checked Value) → Meaning
 one a f p = a p >>= f
 
+abbrev pub pair : Meaning → Meaning → Place → Checked (Value × Value)
+pair a b p = a p >>= λ x. b p >>= λ y. Ok (x, y)
+
 abbrev pub two : Meaning → Meaning → (Value → Value → Checked Value) → Meaning
-two a b f p = a p >>= λ x. b p >>= λ y. f x y
+two a b f p = pair a b p >>= λ v. f v.0 v.1
 
 -- the values of several operands, behind those so far
 abbrev pub all_from : Place → List Value → List Meaning → Checked (List Value)
@@ -187,31 +190,50 @@ abbrev pub along_from : Place → Meaning → List Value → List Row → Checke
 along_from p m done [] = Ok done
 along_from p m done (r ∷ rs) = m (record p { row = r }) >>= λ v. along_from p m (done ++ v ∷ []) rs
 
--- an aggregate's operand is evaluated at each row of the group, in order
-abbrev pub over : Option (List Row) → Place → Meaning → (List Value → Checked Value) → Checked Value
-over None p m f = Ok value.Null
-over (Some rows) p m f = along_from (record p { group = None }) m [] rows >>= λ vs. f (known vs)
+abbrev pub ungrouped : Place → Place
+ungrouped p = record p { group = None }
 
-abbrev pub alone : List Meaning → (Meaning → Checked Value) → Checked Value
-alone [] f = Ok value.Null
-alone (m ∷ ms) f = f m
+-- an aggregate's operand is evaluated at each row of the group, in order; what is NULL is left out
+abbrev pub over : Option (List Row) → Place → Meaning → Checked (Option (List Value))
+over None p m = Ok None
+over (Some rows) p m = along_from (ungrouped p) m [] rows >>= λ vs. Ok (Some (known vs))
 
-abbrev pub aggregate : List Meaning → (List Value → Checked Value) → Meaning
-aggregate ms f p = alone ms (λ m. over p.group p m f)
+abbrev pub gathered : List Meaning → Place → Checked (Option (List Value))
+gathered [] p = Ok None
+gathered (m ∷ ms) p = over p.group p m
+
+abbrev pub is_aggregate : Func → Bool
+is_aggregate Count = true
+is_aggregate Sum = true
+is_aggregate Min = true
+is_aggregate Max = true
+is_aggregate f = false
+
+-- NULL outside a group
+abbrev pub aggregated : Func → Option (List Value) → Checked Value
+aggregated f None = Ok value.Null
+aggregated Count (Some vs) = Ok (counted vs)
+aggregated Sum (Some vs) = total vs
+aggregated Min (Some vs) = Ok (least vs)
+aggregated Max (Some vs) = Ok (greatest vs)
+aggregated f (Some vs) = Ok value.Null
 
 abbrev pub first_of : List Value → Value
 first_of [] = value.Null
 first_of (v ∷ vs) = v
 
+abbrev pub of_text : Func → Value → Value
+of_text Lower v = lowered v
+of_text Upper v = raised v
+of_text Length v = text_length v
+of_text f v = value.Null
+
+abbrev pub applied : Func → List Value → Value
+applied Coalesce vs = first_known vs
+applied f vs = of_text f (first_of vs)
+
 abbrev pub called : Func → List Meaning → Meaning
-called Count ms = aggregate ms (λ vs. Ok (counted vs))
-called Sum ms = aggregate ms total
-called Min ms = aggregate ms (λ vs. Ok (least vs))
-called Max ms = aggregate ms (λ vs. Ok (greatest vs))
-called Lower ms = several ms (λ vs. Ok (lowered (first_of vs)))
-called Upper ms = several ms (λ vs. Ok (raised (first_of vs)))
-called Length ms = several ms (λ vs. Ok (text_length (first_of vs)))
-called Coalesce ms = several ms (λ vs. Ok (first_known vs))
+called f ms p = if is_aggregate f then gathered ms p >>= aggregated f else all_from p [] ms >>= λ vs. Ok (applied f vs)
 
 abbrev pub count_of : Option (List Row) → Value
 count_of None = value.Null
@@ -249,7 +271,7 @@ meaning (Expr-F.Concat a b) = two a b (λ x y. Ok (concatenated x y))
 meaning (Expr-F.Like neg a b) = two a b (λ x y. truth (signed neg (is_like x y)))
 meaning (Expr-F.Ilike neg a b) = two a b (λ x y. truth (signed neg (is_like x y)))
 meaning (Expr-F.InList neg a vs) = one a (λ x. truth (signed neg (among x vs)))
-meaning (Expr-F.Between neg a b c) = λ p. a p >>= λ x. b p >>= λ y. c p >>= λ z. truth (signed neg (between x y z))
+meaning (Expr-F.Between neg a b c) = λ p. a p >>= λ x. pair b c p >>= λ v. truth (signed neg (between x v.0 v.1))
 meaning (Expr-F.Distinct neg a b) = two a b (λ x y. truth (signed neg (Some (not (same x y)))))
 meaning (Expr-F.Call f operands) = called f operands
 meaning Expr-F.CountAll = λ p. Ok (count_of p.group)

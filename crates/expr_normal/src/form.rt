@@ -83,16 +83,20 @@ fn reversed(alloc: Global, operands: Items<Expr>) -> Result<Items<Expr>, AllocEr
 /// The normal form: `not` over a comparison, a null test, `like`, `ilike`, `in`, `between`, `is distinct from` or
 /// `exists` becomes the opposite operator, `not not x` is x, an `and` in an `and` and an `or` in an `or` become one
 /// list, and `lower(a) like lower(b)` becomes `a ilike b`. The only refusal is want of memory.
+#[tactic(auto, using(crate::proofs::Fixed::normal_again))]
 pub fn normal(alloc: Global, e: Expr) -> Result<Expr, Refusal>
-    ensures { Gives (λ n. n) result (Ok (spec.normal e)) }
+    ensures form { Gives (λ n. n) result (Ok (spec.normal e)) }
+    // The normal form of a normal form is itself.
+    ensures fixed { IfOk result (λ n. spec.normal n ≡ n) }
 {
     Ok(form(alloc, e)?)
 }
 
 /// The normal form of `not e`. The only refusal is want of memory.
-#[tactic(auto, using(crate::proofs::Negates::normal_of_not))]
+#[tactic(auto, using(crate::proofs::Negates::normal_of_not, crate::proofs::Negates::negated_again))]
 pub fn negate(alloc: Global, e: Expr) -> Result<Expr, Refusal>
-    ensures { Gives (λ n. n) result (Ok (spec.normal (expr.Not e))) }
+    ensures form { Gives (λ n. n) result (Ok (spec.normal (expr.Not e))) }
+    ensures fixed { IfOk result (λ n. spec.normal n ≡ n) }
 {
     Ok(negated(alloc, form(alloc, e)?)?)
 }

@@ -3,5 +3,7 @@
 
 mod form;
 mod level;
+#[cfg(test)]
+mod tests;
 
 pub use form::{negate, normal};

@@ -53,6 +53,10 @@ is_aggregate Expr-F.CountAll = true
 is_aggregate (Expr-F.Call function arguments) = is_aggregate_function function
 is_aggregate level = false
 
+-- one level, by what was found of its operands
+abbrev pub aggregate_level : Expr-F Bool → Bool
+aggregate_level level = is_aggregate level || list_any (λ has. has) (operands level)
+
 -- an aggregate stands in the expression
-abbrev pub has_aggregate : Expr → Bool
-has_aggregate = fold-Expr Bool (λ level. is_aggregate level || list_any (λ has. has) (operands level))
+unfoldable pub has_aggregate : Expr → Bool
+has_aggregate = fold-Expr Bool aggregate_level
