@@ -1,6 +1,6 @@
 //! Lists that contracts see as lists.
 
-ghost use Rattle.std.specs.Prelude.{◌≡◌, ◌<◌, [], ◌∷◌, ◌++◌, length, slice_get, IsTrue, IfOk, IfErr, OnOk, OnErr, ◌↔◌, Some, vec_len};
+ghost use Rattle.std.specs.Prelude.{◌≡◌, ◌<◌, [], ◌∷◌, ◌++◌, length, slice_get, slice_set, IsTrue, IfOk, IfErr, OnOk, OnErr, ◌↔◌, Some, vec_len};
 ghost use Rattle.base_core.specs.declared.refusal.Refusal.TheVariants.{Memory};
 ghost use Rattle.std.specs.Option.{option_copied};
 
@@ -8,6 +8,7 @@ use crate::{Copied, Refusal};
 use std::alloc::{AllocError, Global};
 use std::cmp::Ordering;
 use std::marker::Model;
+use std::mem;
 use std::slice;
 
 /// A list of items. Contracts see the list alone, so two lists with the same items are equal.
@@ -78,6 +79,15 @@ impl<T> ListOf<T> {
         ensures { slice_get self.now place ≡ Some result.now }
     {
         &self.items[place]
+    }
+
+    /// The item at a place gives way to another, and is answered.
+    pub fn replace(&mut self, place: usize, item: T) -> T
+        requires { place < length self.old }
+        ensures list { self.new ≡ slice_set self.old place item }
+        ensures before { slice_get self.old place ≡ Some result }
+    {
+        mem::replace(&mut self.items[place], item)
     }
 
     /// The item at a place, if there is one.
