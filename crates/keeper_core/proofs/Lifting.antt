@@ -1,11 +1,14 @@
 -- Calls of a keeper, and changes of what stands beside it, as runs of the world that has both.
 use Rattle.std.proofs.Common.{◌≡◌, ℕ, ◌≤◌, Bool, true, false, List, [], ◌++◌, Option, None, Some, Result, Ok, Err, OnOk, IfErr, MatchBool, refl, sym, ap, ◌∙◌, subst, append-nil, arith}
+use Rattle.std.proofs.lemmas.Bool.{false≢true}
+use Rattle.base_core.specs.Counts.{Rose}
+use Rattle.keeper_core.specs.declared.sent.Sent.{Sent}
 use Rattle.base_core.specs.declared.refusal.Refusal.{Refusal}
 use Rattle.base_core.specs.declared.refusal.Refusal.TheVariants.{Memory, KeeperFault}
 use Rattle.keeper_core.specs.Store.{Store}
 use Rattle.keeper_core.specs.Acting.{Log, Run, after_events, ends_early, is_of_tables, quiet, change}
 use Rattle.keeper_core.specs.Moment.{Told, Moment, IsRun, IsCutOff, AsTold, Runs, Ran}
-use Rattle.keeper_core.specs.Beside.{Beside, beside_run, on_store, quiet_run, on_own, by_own, told_beside, moment_beside}
+use Rattle.keeper_core.specs.Beside.{Beside, beside_run, on_store, quiet_run, on_own, by_own, changes, told_beside, moment_beside}
 
 -- ---- a call of the keeper
 
@@ -62,6 +65,26 @@ on_own_ok moment {v = v} m {own = own} {now = now} {keeper = keeper} {x = x} is 
   attached = refl;
 })
 
+told_changed : {S X : Type 0} (f : S → S) (own now : S) (told : Option (Told Store)) (x : X)
+    → now ≡ f own → AsTold (λ (_ : X). tt) (changes f) (told_beside own told) (Ok x) (told_beside now told)
+unfolding changes after_events
+told_changed f own now None x is = tt
+told_changed f own now (Some t) x is = record { answer = refl; world = ap (λ s. record { own = s; store = t.world }) is; log = refl }
+
+-- a change of what stands beside the keeper
+pub changed : {S K X : Type 0} (moment : K → Moment Store) (f : S → S) {own now : S} {keeper : K} {x : X}
+    → now ≡ f own → Runs (moment_beside moment) (λ (_ : X). tt) (changes f) (own, keeper) (Ok x) (now, keeper)
+changed moment f {own = own} {now = now} {keeper = keeper} {x = x} is = Ran (record {
+  told = told_changed f own now (moment keeper).told x is;
+  faults = omega arith;
+  refusals = omega arith;
+  fault = tt;
+  shown = tt;
+  calm = (refl, refl);
+  target = refl;
+  attached = refl;
+})
+
 told_on_own_err : {S A X : Type 0} (v : X → A) (m : S → Run S A) (own now : S) (told : Option (Told Store)) (e : Refusal)
     → ends_early e ≡ false → m own ≡ quiet (Err e) now → AsTold v (on_own m) (told_beside own told) (Err e) (told_beside now told)
 unfolding on_own after_events
@@ -71,6 +94,20 @@ told_on_own_err {S = S} {A = A} v m own now (Some t) e early is =
     let whole : IsRun (quiet_run t.world (m own)) t.log (Err e) then =
     subst (λ run. IsRun (quiet_run t.world run) t.log (Err e) then) (sym is) (record { answer = refl; world = refl; log = refl }) in
     subst (λ b. MatchBool b (IsCutOff (quiet_run t.world (m own)) t.log then) (IsRun (quiet_run t.world (m own)) t.log (Err e) then)) (sym early) whole
+
+-- a refusal of what stands beside the keeper
+pub on_own_err : {S K A X : Type 0} (moment : K → Moment Store) {v : X → A} (m : S → Run S A) {own now : S} {keeper : K} {e : Refusal}
+    → ends_early e ≡ false → is_of_tables e ≡ false → m own ≡ quiet (Err e) now → Runs (moment_beside moment) v (on_own m) (own, keeper) (Err e) (now, keeper)
+on_own_err moment {v = v} m {own = own} {now = now} {keeper = keeper} {e = e} early apart is = Ran (record {
+  told = told_on_own_err v m own now (moment keeper).told e early is;
+  faults = omega arith;
+  refusals = omega arith;
+  fault = λ at. absurd (false≢true (sym early ∙ ap ends_early at));
+  shown = subst (λ b. MatchBool b (Rose (moment keeper).refusals (moment keeper).refusals × (statement : Sent) × ((moment keeper).last ≡ Some (record { statement = statement; refusal = e }))) (Unit {0})) (sym apart) tt;
+  calm = tt;
+  target = refl;
+  attached = refl;
+})
 
 -- memory ran out, whatever became of what stands beside the keeper
 told_spoiled : {S A X : Type 0} (v : X → A) (m : Beside S → Run (Beside S) A) (own now : S) (told : Option (Told Store))
@@ -114,4 +151,4 @@ chosen moment {v = v} choose {own = own} {now = now} {old = old} {new = new} {r 
   attached = p.attached;
 })
 
-pub ruleset lifting = (on_keeper, on_own_ok, spoiled, chosen)
+pub ruleset lifting = (on_keeper, on_own_ok, on_own_err, changed, spoiled, chosen)

@@ -1,5 +1,5 @@
 -- A store with something beside it that acts with it, as a session or an arena of objects: the world of the layers above.
-use Rattle.std.specs.Prelude.{◌≡◌, Option, None, Some}
+use Rattle.std.specs.Prelude.{◌≡◌, Option, None, Some, Ok}
 use Rattle.keeper_core.specs.Store.{Store}
 use Rattle.keeper_core.specs.Acting.{Run, quiet}
 use Rattle.keeper_core.specs.Moment.{Moment, Told}
@@ -22,6 +22,10 @@ quiet_run store run = record { events = run.events; answer = run.answer; after =
 
 unfoldable pub on_own : {S A : Type 0} → (S → Run S A) → Beside S → Run (Beside S) A
 on_own m w = quiet_run w.store (m w.own)
+
+-- what stands beside the store changes, and nothing is sent
+unfoldable pub changes : {S : Type 0} → (S → S) → Beside S → Run (Beside S) (Unit {0})
+changes f w = quiet (Ok tt) (record { own = f w.own; store = w.store })
 
 -- a program chosen by what stands beside the store
 unfoldable pub by_own : {S A : Type 0} → (S → Beside S → Run (Beside S) A) → Beside S → Run (Beside S) A

@@ -4,6 +4,7 @@ ghost use Rattle.std.specs.Prelude.{◌≡◌, ◌+◌, ◌-◌, ◌<◌, ◌≤
 ghost use Rattle.schema_core.specs.Catalog.{IsTable};
 ghost use Rattle.schema_core.specs.WellFormed.{IsWellFormed, IsKeyFor};
 ghost use Rattle.keeper_core.specs.Moment.{Runs};
+ghost use Rattle.keeper_core.specs.Acting as acting;
 ghost use Rattle.keeper_core.specs.Calls as call;
 ghost use Rattle.schema_core.specs.Apply as apply;
 ghost use Rattle.keeper_core.specs.Calls.{depth_left, stop_refusal};
@@ -131,5 +132,15 @@ pub fn refusal_of(table: TableId, refusal: WriteRefusal) -> Refusal
         WriteRefusal::Range(op, a, b) => Refusal::DataError(op, a, b),
         WriteRefusal::Fault => Refusal::KeeperFault,
         WriteRefusal::Memory => Refusal::Memory,
+    }
+}
+
+/// Whether a refusal ends a run: want of memory and a failure of the store do, every other refusal is a command's answer.
+pub fn ends_early(refusal: &Refusal) -> bool
+    ensures { result ≡ acting.ends_early refusal.now }
+{
+    match refusal {
+        Refusal::Memory | Refusal::KeeperFault => true,
+        _ => false,
     }
 }
