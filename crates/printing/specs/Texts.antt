@@ -181,6 +181,10 @@ refusal_text names (refusal.OperationalError table) = told (codes "OperationalEr
 refusal_text names refusal.KeeperFault = codes "KeeperFault"
 refusal_text names refusal.NotBuilt = codes "NotBuilt"
 
+-- that a relationship of a class was skipped
+abbrev pub skipped_text : List ℕ → List ℕ → List ℕ
+skipped_text class relation = codes " is not in the session, " ++ class ++ 46 ∷ relation ++ codes " skipped"
+
 -- what a warning says behind its line's number
 abbrev pub warning_text : Names → Warning → List ℕ
-warning_text names warning = object_text names warning.object ++ codes " is not in the session, " ++ names.class warning.class ++ 46 ∷ names.relation warning.class warning.relation ++ codes " skipped"
+warning_text names warning = object_text names warning.object ++ skipped_text (names.class warning.class) (names.relation warning.class warning.relation)

@@ -3,9 +3,11 @@
 
 mod names;
 mod objects;
+mod refusals;
 mod values;
 mod words;
 
 pub use names::Naming;
 pub use objects::{ObjectText, ObjectsText, RowNameText};
+pub use refusals::{RefusalText, WarningText};
 pub use values::{RowText, ValueText};

@@ -1,7 +1,0 @@
-use Rattle.std.proofs.Common.{◌≡◌, drop}
-use Rattle.schema_core.specs.Catalog.{is_required}
-use Rattle.schema_core.specs.Apply.{is_demanded, lacks_value}
-use Rattle.row_rules.proofs.missing.lacks_demanded.Given as goal
-
-abbrev pub invariant-loop-place : goal.invariant-loop-place
-invariant-loop-place l = lacks_value (is_demanded l.spec) (drop l.place l.columns) (drop l.place l.row) ≡ lacks_value (is_demanded l.spec) l.columns l.row
