@@ -114,7 +114,7 @@ abbrev pub IsTaken : Pending → Option NextLine → Pending → Type 0
 IsTaken old None now = (now ≡ old) × (has_newline old.bytes ≡ false) × (length old.bytes ≤ most_in_line) × (old.ended ≡ false)
 IsTaken old (Some answer) now = (now.ended ≡ old.ended) × KeepsLimits answer old.taken now.taken
     × ((left : List ℕ) → (old.ended ≡ true → left ≡ []) → IsNext (cut old.taken (old.bytes ++ left)) answer old.taken (old.bytes ++ left) now.taken (now.bytes ++ left)
-        × IsWhole answer old.ended (Some (old.bytes ++ left)))
+    × IsWhole answer old.ended (Some (old.bytes ++ left)))
 
 -- bytes of the source came behind the pending ones, at least one, or it has ended
 abbrev pub IsFilled : Pending → Option (List ℕ) → Pending → Option (List ℕ) → Type 0

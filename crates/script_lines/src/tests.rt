@@ -14,7 +14,11 @@ fn heard(alloc: Global, script: &[u8], failing: &[u64]) -> Result<Vec<u8>, Fail>
     for _ in 0..10 {
         match buffer.next_line(&mut source) {
             Ok(NextLine::Line(line)) => {
-                said.extend_from_slice(if line.len() > 99 { b"*" } else { line.as_slice() })?;
+                said.extend_from_slice(if line.len() > 99 {
+                    b"*"
+                } else {
+                    line.as_slice()
+                })?;
                 said.push(b'|')?;
             }
             Ok(NextLine::End) => {

@@ -11,6 +11,11 @@ returns-then-is_empty c = λ more told. ended_empty c.args.bytes.now more c.args
 
 pub returns : goal.returns
 returns c =
-    let some : 0 < length c.args.bytes.now = grind (arith, nat_tests) in
-    (grind (arith, nat_tests), omega arith, omega arith, omega arith, grind (arith, nat_tests),
-        λ more told. (ended_is c.args.bytes.now more c.args.taken (told cc) some c.requires.bare cc, λ going. cc))
+    let some : 0 < length c.args.bytes.now = grind (arith, nat_tests) in (
+      grind (arith, nat_tests),
+      omega arith,
+      omega arith,
+      omega arith,
+      grind (arith, nat_tests),
+      λ more told. (ended_is c.args.bytes.now more c.args.taken (told cc) some c.requires.bare cc, λ going. cc),
+    )
