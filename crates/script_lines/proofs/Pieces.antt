@@ -52,6 +52,9 @@ width_past bytes more bare =
     let most = prefix_len-le-length (λ (b : ℕ). not (is_newline b)) bytes in
     grind (arith, nat_tests)
 
+pub has_more : (bytes more : List ℕ) → line_width bytes < length bytes → has_newline (bytes ++ more) ≡ true
+has_more bytes more within = below (line_width (bytes ++ more)) (length (bytes ++ more)) (omega (arith, width_more bytes more within, length-append bytes more))
+
 cut_whole : (taken : ℕ) (bytes : List ℕ) → line_width bytes < length bytes → cut taken bytes ≡ whole_line taken bytes
 unfolding cut
 cut_whole taken bytes within = when_true (has_newline bytes) _ _ (below _ _ within)

@@ -1,5 +1,5 @@
 -- How a script's bytes are cut into lines.
-use Rattle.std.specs.Prelude.{◌≡◌, ℕ, ◌+◌, Bool, true, false, ◌||◌, ◌≤◌, nat_lt, nat_eq, List, [], ◌++◌, length, take, drop, Option, None, Some, if◌then◌else◌}
+use Rattle.std.specs.Prelude.{◌≡◌, ℕ, ◌+◌, Bool, true, false, ◌||◌, ◌<◌, ◌≤◌, nat_lt, nat_eq, List, [], ◌++◌, length, take, drop, Option, None, Some, if◌then◌else◌}
 use Rattle.std.specs.List.{position_or_len}
 use Rattle.std.specs.Io.BufRead.{strip_last}
 use Rattle.std.specs.Io.KnownBytes.{prepend_known, Keeps, IsAtEnd}
@@ -87,6 +87,16 @@ IsNextOf taken (Some bytes) answer now (Some rest) = IsNext (cut taken bytes) an
 abbrev pub IsNextTold : Pending → Option (List ℕ) → NextLine → Pending → Option (List ℕ) → Type 0
 IsNextTold old before answer now left = IsNextOf old.taken (to_come old before) answer now.taken (to_come now left)
 
+-- a line takes a byte or more and keeps the limits; nothing is taken at the end, and of what is too long
+abbrev pub KeepsLimits : NextLine → ℕ → ℕ → Type 0
+KeepsLimits (next.Line bytes) taken now = (length bytes ≤ most_in_line) × (taken < now) × (now ≤ most_bytes)
+KeepsLimits answer taken now = now ≡ taken
+
+-- a line that no newline ends comes only once the source has ended
+abbrev pub IsWhole : NextLine → Bool → Option (List ℕ) → Type 0
+IsWhole (next.Line line) false (Some bytes) = has_newline bytes ≡ true
+IsWhole answer ended bytes = Unit {0}
+
 -- nothing was taken and nothing is lost: the bytes to come are the same
 abbrev pub IsKept : Pending → Option (List ℕ) → Pending → Option (List ℕ) → Type 0
 IsKept old before now left = (now.taken ≡ old.taken) × Keeps (to_come old before) (to_come now left)
@@ -96,14 +106,15 @@ abbrev pub IsPiece : List ℕ → ℕ → Bool → Piece → Type 0
 IsPiece bytes taken ended piece.Open = (has_newline bytes ≡ false) × (length bytes ≤ most_in_line) × (ended ≡ false)
 IsPiece bytes taken ended piece.End = (more : List ℕ) → (ended ≡ true → more ≡ []) → cut taken (bytes ++ more) ≡ Ended
 IsPiece bytes taken ended piece.TooLong = (more : List ℕ) → (ended ≡ true → more ≡ []) → cut taken (bytes ++ more) ≡ TooLong
-IsPiece bytes taken ended (piece.Line size width) = (size ≤ width) × (width ≤ length bytes) × (taken + width ≤ most_bytes)
-    × ((more : List ℕ) → (ended ≡ true → more ≡ []) → cut taken (bytes ++ more) ≡ Line (take size bytes) (taken + width) (drop width bytes ++ more))
+IsPiece bytes taken ended (piece.Line size width) = (size ≤ most_in_line) × (size ≤ width) × (0 < width) × (width ≤ length bytes) × (taken + width ≤ most_bytes)
+    × ((more : List ℕ) → (ended ≡ true → more ≡ []) → (cut taken (bytes ++ more) ≡ Line (take size bytes) (taken + width) (drop width bytes ++ more)) × (ended ≡ false → has_newline (bytes ++ more) ≡ true))
 
 -- what stands pending after a call that told nothing, or took a line
 abbrev pub IsTaken : Pending → Option NextLine → Pending → Type 0
 IsTaken old None now = (now ≡ old) × (has_newline old.bytes ≡ false) × (length old.bytes ≤ most_in_line) × (old.ended ≡ false)
-IsTaken old (Some answer) now = (now.ended ≡ old.ended)
-    × ((left : List ℕ) → (old.ended ≡ true → left ≡ []) → IsNext (cut old.taken (old.bytes ++ left)) answer old.taken (old.bytes ++ left) now.taken (now.bytes ++ left))
+IsTaken old (Some answer) now = (now.ended ≡ old.ended) × KeepsLimits answer old.taken now.taken
+    × ((left : List ℕ) → (old.ended ≡ true → left ≡ []) → IsNext (cut old.taken (old.bytes ++ left)) answer old.taken (old.bytes ++ left) now.taken (now.bytes ++ left)
+    × IsWhole answer old.ended (Some (old.bytes ++ left)))
 
 -- bytes of the source came behind the pending ones, at least one, or it has ended
 abbrev pub IsFilled : Pending → Option (List ℕ) → Pending → Option (List ℕ) → Type 0

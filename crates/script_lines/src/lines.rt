@@ -1,6 +1,6 @@
 //! The buffer between a source and the lines of its script.
 
-ghost use Rattle.std.specs.Prelude.{◌≡◌, ◌≤◌, ℕ, [], length, false, None, Some, OnOk, IfOk, IfErr, OnErr};
+ghost use Rattle.std.specs.Prelude.{◌≡◌, ◌≤◌, ℕ, [], length, true, false, None, Some, OnOk, IfOk, IfErr, OnErr};
 ghost use Rattle.std.specs.Io.KnownBytes.{Keeps};
 ghost use Rattle.base_core.specs.Counts.{Rose};
 ghost use Rattle.script_lines.specs.declared.lines.ReadStop.TheVariants.{Memory};
@@ -73,7 +73,7 @@ impl Model for LineBuffer {
 }
 
 impl LineBuffer {
-    ghost use Rattle.script_lines.specs.Cutting.{IsNextTold, IsKept, FitsSource, IsTaken, IsFilled, has_newline, most_in_line};
+    ghost use Rattle.script_lines.specs.Cutting.{to_come, IsNextTold, KeepsLimits, IsWhole, IsKept, FitsSource, IsTaken, IsFilled, has_newline, most_in_line};
 
     /// Nothing was read yet.
     pub fn new(alloc: Global) -> LineBuffer
@@ -95,9 +95,12 @@ impl LineBuffer {
     pub fn next_line<S: Source>(&mut self, source: &mut S) -> Result<NextLine, ReadStop>
         requires { FitsSource self.old (S.left source.old) }
         ensures next { IfOk result (λ answer. IsNextTold self.old (S.left source.old) answer self.new (S.left source.new)) }
+        ensures limits { IfOk result (λ answer. KeepsLimits answer self.old.taken self.new.taken) }
+        ensures whole { IfOk result (λ answer. IsWhole answer self.new.ended (to_come self.old (S.left source.old))) }
+        ensures ended { self.old.ended ≡ true → self.new.ended ≡ true }
         ensures fits { FitsSource self.new (S.left source.new) }
         ensures kept { OnErr result (IsKept self.old (S.left source.old) self.new (S.left source.new)) }
-        ensures bare { IfErr result (λ stop. stop ≡ ReadStop.Fault → has_newline self.new.bytes ≡ false) }
+        ensures bare { IfErr result (λ stop. stop ≡ ReadStop.Fault → (self.new.ended ≡ false) × (has_newline self.new.bytes ≡ false)) }
         ensures faults { S.faults source.old ≤ S.faults source.new }
         ensures cause { IfErr result (λ stop. stop ≡ ReadStop.Fault → Rose (S.faults source.old) (S.faults source.new)) }
     {
