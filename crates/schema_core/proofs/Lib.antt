@@ -1,1 +1,3 @@
 pub mod SomeTwo
+pub mod Steps
+pub mod Targets

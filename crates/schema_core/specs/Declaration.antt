@@ -1,5 +1,5 @@
 -- Which declarations of tables are taken, the first fault of one that is not, and when every foreign key has its target.
-use Rattle.std.specs.Prelude.{ℕ, Bool, true, false, not, ◌&&◌, ◌||◌, List, [], ◌∷◌, ◌++◌, length, Option, None, Some, is_some, Result, Ok, Err, if◌then◌else◌}
+use Rattle.std.specs.Prelude.{◌≡◌, ◌<◌, ◌≤◌, take, ℕ, Bool, true, false, not, ◌&&◌, ◌||◌, List, [], ◌∷◌, ◌++◌, length, slice_index_or, Option, None, Some, is_some, Result, Ok, Err, if◌then◌else◌}
 use Rattle.std.specs.List.{list_any, list_all}
 use Rattle.std.specs.Cmp.Lexicographic.{pointwise}
 use Rattle.base_core.specs.declared.ids.TableId.{TableId}
@@ -10,7 +10,7 @@ use Rattle.base_core.specs.declared.refusal.Refusal.TheVariants.{ArgumentError}
 use Rattle.schema_core.specs.declared.table.ColumnSpec.{ColumnSpec}
 use Rattle.schema_core.specs.declared.table.ForeignSpec.{ForeignSpec}
 use Rattle.schema_core.specs.declared.table.TableSpec.{TableSpec}
-use Rattle.schema_core.specs.Catalog.{Catalog, find_table, has_name, key_columns, kind_of, no_table, same_kind, same_name, spec_of}
+use Rattle.schema_core.specs.Catalog.{Catalog, find_table, has_name, key_columns, kind_of, no_table, same_kind, same_name}
 
 -- an item and a later one pass the test
 abbrev pub some_two : {A : Type 0} → (A → A → Bool) → List A → Bool
@@ -68,21 +68,31 @@ unfoldable pub declare : Catalog → TableSpec → Result (TableId × Catalog) R
 declare schema spec = declared_unless (declaration_fault schema.tables spec) schema spec
 
 -- the column of this name has the kind of the other
-abbrev pub has_kind : TableSpec → List ℕ → ColumnSpec → Bool
-has_kind spec name other = list_any (λ column. same_name column.name name && same_kind (kind_of column.kind) (kind_of other.kind)) spec.columns
+abbrev pub has_kind : List ColumnSpec → List ℕ → ColumnSpec → Bool
+has_kind columns name other = list_any (λ column. same_name column.name name && same_kind (kind_of column.kind) (kind_of other.kind)) columns
 
-abbrev pub refers_to : Catalog → TableSpec → ForeignSpec → Option TableId → Bool
-refers_to schema spec foreign None = false
-refers_to schema spec foreign (Some target) = pointwise (has_kind spec) foreign.columns (key_columns (spec_of schema target))
+-- the columns of these names have the kinds of the key of the other table, one by one
+abbrev pub fits_key : List ColumnSpec → List (List ℕ) → TableSpec → Bool
+fits_key columns names target = pointwise (has_kind columns) names (key_columns target)
+
+abbrev pub refers_to : List TableSpec → TableSpec → ForeignSpec → Option TableId → Bool
+refers_to tables spec foreign None = false
+refers_to tables spec foreign (Some target) = fits_key spec.columns foreign.columns (slice_index_or tables target.0 no_table)
 
 -- the target is declared, and the foreign key's columns are of the kinds of its key, one by one
-abbrev pub has_target : Catalog → TableSpec → ForeignSpec → Bool
-has_target schema spec foreign = refers_to schema spec foreign (find_table schema.tables foreign.target)
+abbrev pub has_target : List TableSpec → TableSpec → ForeignSpec → Bool
+has_target tables spec foreign = refers_to tables spec foreign (find_table tables foreign.target)
 
 -- every foreign key has its target
-abbrev pub has_targets : Catalog → Bool
-has_targets schema = list_all (λ spec. list_all (has_target schema spec) spec.foreigns) schema.tables
+abbrev pub has_targets : List TableSpec → Bool
+has_targets tables = list_all (λ spec. list_all (has_target tables spec) spec.foreigns) tables
 
 -- the answer to the search for all targets
 unfoldable pub resolve : Catalog → Result (Unit {0} × Catalog) Refusal
-resolve schema = if has_targets schema then Ok (tt, record schema { resolved = true }) else Err (ArgumentError BadTarget)
+resolve schema = if has_targets schema.tables then Ok (tt, record { tables = schema.tables; resolved = true }) else Err (ArgumentError BadTarget)
+
+-- What the tables of a schema keep: each was free of faults beside those before it, and where they are resolved every foreign key has its target.
+pub record IsDeclared (tables : List TableSpec) (resolved : Bool) : Type 0 where
+  pub count : length tables ≤ 4294967295
+  pub faultless : (place : ℕ) → place < length tables → declaration_fault (take place tables) (slice_index_or tables place no_table) ≡ None
+  pub targets : resolved ≡ true → has_targets tables ≡ true

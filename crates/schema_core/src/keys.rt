@@ -1,10 +1,11 @@
-//! What a declaration says of the primary key.
+//! What a declaration says of the primary key, and of the keys that refer to it.
 
 ghost use Rattle.std.specs.Prelude.{◌≡◌, ◌&&◌};
-ghost use Rattle.std.specs.List.{list_any, count_by};
+ghost use Rattle.std.specs.List.{list_any, list_all, count_by};
 ghost use Rattle.schema_core.specs.Catalog.{has_name, is_free_integer, has_generated_key};
+ghost use Rattle.schema_core.specs.Declaration.{has_kind, fits_key, has_target, has_targets};
 
-use crate::declaration::{has_name, kind_of, same_kind};
+use crate::declaration::{has_name, kind_of, place_of, same_kind};
 use crate::{ColumnSpec, ForeignSpec, TableSpec};
 use base_core::{Kind, Name};
 
@@ -46,4 +47,61 @@ pub fn has_generated_key(spec: &TableSpec) -> bool
 {
     count_keys(spec.columns.as_slice()) == 1
         && some_free_key(spec.foreigns.as_slice(), spec.columns.as_slice())
+}
+
+/// Whether the column of a name has the kind of another column.
+fn has_kind(columns: &[ColumnSpec], name: &Name, other: &ColumnSpec) -> bool
+    ensures { result ≡ has_kind columns.now name.now other.now }
+{
+    columns.iter().any(|column| {
+        column.name == *name && same_kind(kind_of(column.kind), kind_of(other.kind))
+    })
+}
+
+#[tactic(auto, using(crate::proofs::Steps::key_steps))]
+/// Whether the columns of these names have the kinds of the other table's key, one by one.
+fn fits_key(columns: &[ColumnSpec], names: &[Name], target: &TableSpec) -> bool
+    ensures { result ≡ fits_key columns.now names.now target.now }
+{
+    let mut place = 0;
+    for column in target.columns.as_slice() {
+        if column.key {
+            if place >= names.len() || !has_kind(columns, &names[place], column) {
+                return false;
+            }
+            place += 1;
+        }
+    }
+    place == names.len()
+}
+
+/// Whether a foreign key has its target.
+fn has_target(tables: &[TableSpec], spec: &TableSpec, foreign: &ForeignSpec) -> bool
+    ensures { result ≡ has_target tables.now spec.now foreign.now }
+{
+    match place_of(tables, &foreign.target) {
+        Some(place) => fits_key(
+            spec.columns.as_slice(),
+            foreign.columns.as_slice(),
+            &tables[place],
+        ),
+        None => false,
+    }
+}
+
+/// Whether each foreign key of a table has its target.
+fn has_all_targets(tables: &[TableSpec], spec: &TableSpec) -> bool
+    ensures { result ≡ list_all (has_target tables.now spec.now) spec.now.foreigns }
+{
+    spec.foreigns
+        .as_slice()
+        .iter()
+        .all(|foreign| has_target(tables, spec, foreign))
+}
+
+/// Whether every foreign key has its target.
+pub fn has_targets(tables: &[TableSpec]) -> bool
+    ensures { result ≡ has_targets tables.now }
+{
+    tables.iter().all(|spec| has_all_targets(tables, spec))
 }

@@ -1,14 +1,16 @@
 //! The declared tables.
 
-ghost use Rattle.std.specs.Prelude.{◌≡◌, ◌<◌, ◌++◌, [], ◌∷◌, length, false};
+ghost use Rattle.std.specs.Prelude.{◌≡◌, ◌<◌, ◌++◌, [], ◌∷◌, length, true, false, Some, IfErr};
 ghost use Rattle.base_core.specs.Answers.{Takes};
-ghost use Rattle.schema_core.specs.Catalog.{find_table, spec_of, IsTable, has_generated_key};
-ghost use Rattle.schema_core.specs.Declaration.{declare};
+ghost use Rattle.schema_core.specs.Catalog.{find_table, spec_of, foreign_of, target_of, IsTable, has_generated_key};
+ghost use Rattle.schema_core.specs.Declaration.{declare, resolve};
+ghost use Rattle.base_core.specs.declared.refusal.Refusal.TheVariants.{ArgumentError};
+ghost use Rattle.base_core.specs.declared.refusal.ArgumentKind.TheVariants.{BadTarget};
 
-use crate::TableSpec;
 use crate::declaration::{fault_of, place_of};
-use crate::keys::has_generated_key;
-use base_core::{ListOf, Name, Refusal, TableId};
+use crate::keys::{has_generated_key, has_targets};
+use crate::{ForeignSpec, TableSpec};
+use base_core::{ArgumentKind, ListOf, Name, Refusal, TableId};
 use std::alloc::Global;
 use std::marker::Model;
 
@@ -20,14 +22,22 @@ pub struct Schema {
 }
 
 impl Model for Schema {
-    ghost use Rattle.std.specs.Prelude.{◌≤◌, length};
     ghost use Rattle.schema_core.specs.Catalog.{Catalog};
+    ghost use Rattle.schema_core.specs.Declaration.{IsDeclared};
 
     ghost Value = { Catalog };
 
     ghost view = { λ s. record { tables = s.tables; resolved = s.resolved } };
 
-    ghost invariant = { λ s. length s.tables ≤ 4294967295 };
+    ghost invariant = { λ s. IsDeclared s.tables s.resolved };
+}
+
+/// A foreign key of a table.
+fn foreign_at(spec: &TableSpec, foreign: usize) -> &ForeignSpec
+    requires { foreign < length spec.now.foreigns }
+    ensures { result.now ≡ foreign_of spec.now foreign }
+{
+    spec.foreigns.at(foreign)
 }
 
 impl Schema {
@@ -93,5 +103,38 @@ impl Schema {
         ensures { result ≡ has_generated_key (spec_of self.now table) }
     {
         has_generated_key(self.spec(table))
+    }
+
+    #[tactic(auto, unfolding(crate::specs::Declaration::resolve))]
+    /// Finds the target of every foreign key.
+    ///
+    /// # Errors
+    /// `ArgumentError(BadTarget)` where the target of a foreign key is not declared, or its columns differ from the
+    /// target's key in number or kinds; nothing is changed then. It takes no memory.
+    pub fn resolve(&mut self) -> Result<(), Refusal>
+        ensures step { Takes (λ _. tt) (resolve self.old) self.old result self.new }
+        ensures cause { IfErr result (λ e. e ≡ ArgumentError BadTarget) }
+    {
+        if !has_targets(self.tables.as_slice()) {
+            return Err(Refusal::ArgumentError(ArgumentKind::BadTarget));
+        }
+        self.resolved = true;
+        Ok(())
+    }
+
+    #[tactic(auto, using(crate::proofs::Targets::target_declared))]
+    /// The table to which a foreign key refers.
+    pub fn target(&self, table: TableId, foreign: u32) -> TableId
+        requires declared { IsTable self.now table }
+        requires numbered { foreign < length (spec_of self.now table).foreigns }
+        requires resolved { self.now.resolved ≡ true }
+        ensures { target_of self.now (foreign_of (spec_of self.now table) foreign) ≡ Some result }
+    {
+        let _ = &self.resolved;
+        let spec = self.spec(table);
+        match self.find(&foreign_at(spec, foreign as usize).target) {
+            Some(target) => target,
+            None => table,
+        }
     }
 }
