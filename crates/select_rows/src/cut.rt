@@ -5,8 +5,8 @@ ghost use Rattle.std.specs.List.{list_any};
 ghost use Rattle.select_rows.specs.Rows as spec;
 ghost use Rattle.select_rows.specs.Order.{same_row as same_row_spec};
 
-use base_core::{Refusal, RowValues};
-use std::alloc::Global;
+use base_core::RowValues;
+use std::alloc::{AllocError, Global};
 
 pub(crate) fn same_row(a: &RowValues, b: &RowValues) -> bool
     ensures { result ≡ same_row_spec a.now b.now }
@@ -21,7 +21,7 @@ fn is_among(rows: &[RowValues], row: &RowValues) -> bool
 }
 
 // The row goes to the end unless an equal one is there.
-fn keep_first(kept: &mut Vec<RowValues>, row: RowValues) -> Result<(), Refusal>
+fn keep_first(kept: &mut Vec<RowValues>, row: RowValues) -> Result<(), AllocError>
     ensures { OnOk result (kept.new.items ≡ (if list_any (λ d. same_row_spec d row) kept.old.items then kept.old.items else kept.old.items ++ row ∷ [])) }
 {
     if !is_among(kept, &row) {
@@ -31,7 +31,7 @@ fn keep_first(kept: &mut Vec<RowValues>, row: RowValues) -> Result<(), Refusal>
 }
 
 /// The first of equal rows is kept.
-pub(crate) fn distinct(alloc: Global, distinct: bool, rows: Vec<RowValues>) -> Result<Vec<RowValues>, Refusal>
+pub(crate) fn distinct(alloc: Global, distinct: bool, rows: Vec<RowValues>) -> Result<Vec<RowValues>, AllocError>
     ensures { IfOk result (λ kept. kept.items ≡ spec.distinct distinct rows.items) }
 {
     if !distinct {

@@ -3,7 +3,7 @@
 ghost use Rattle.std.specs.Prelude.{◌≡◌, [], IfOk};
 ghost use Rattle.select_rows.specs.Order as spec;
 
-use base_core::{ListOf, Refusal, RowValues, Value};
+use base_core::{ListOf, RowValues, Value};
 use std::alloc::{AllocError, Global};
 use std::cmp::Ordering;
 use std::collections::BTreeMap;
@@ -94,14 +94,14 @@ type Ranked = BTreeMap<(ListOf<SortKey>, usize), RowValues>;
 
 /// The rows by their keys, and rows with equal keys in the order in which they come.
 #[tactic(auto, unfolding(crate::specs::Order::in_order))]
-pub(crate) fn in_order(alloc: Global, outputs: Vec<Output>) -> Result<Vec<RowValues>, Refusal>
+pub(crate) fn in_order(alloc: Global, outputs: Vec<Output>) -> Result<Vec<RowValues>, AllocError>
     ensures { IfOk result (λ rows. rows.items ≡ spec.in_order outputs.items) }
 {
     let ranked = ranked(alloc, outputs)?;
-    Ok(ranked.into_values().collect(alloc)?)
+    ranked.into_values().collect(alloc)
 }
 
-fn ranked(alloc: Global, outputs: Vec<Output>) -> Result<Ranked, Refusal>
+fn ranked(alloc: Global, outputs: Vec<Output>) -> Result<Ranked, AllocError>
     ensures { IfOk result (λ m. m.entries ≡ spec.ranked_from [] 0 outputs.items) }
 {
     let mut ranked = BTreeMap::new(alloc);

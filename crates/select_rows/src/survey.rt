@@ -5,14 +5,14 @@ ghost use Rattle.std.specs.List.{list_any};
 ghost use Rattle.expr_types.specs.Level as level;
 ghost use Rattle.select_rows.specs.Rows as spec;
 
-use base_core::Refusal;
 use expr_types::{Expr, Func};
 use sqlite_items::Items;
+use std::alloc::AllocError;
 
 /// Appends the numbers of the tables of each `exists`, in reading order.
 #[tactic(auto, unfolding(crate::specs::Rows::named), using(crate::proofs::Surveys::all_named))]
 #[cycle(named)]
-pub(crate) fn named(e: &Expr, found: &mut Vec<u32>) -> Result<(), Refusal>
+pub(crate) fn named(e: &Expr, found: &mut Vec<u32>) -> Result<(), AllocError>
     ensures { OnOk result (found.new.items ≡ found.old.items ++ spec.named e.now) }
 {
     match e {
@@ -43,7 +43,7 @@ pub(crate) fn named(e: &Expr, found: &mut Vec<u32>) -> Result<(), Refusal>
 }
 
 #[cycle(named)]
-pub(crate) fn named_all(parts: &Items<Expr>, found: &mut Vec<u32>) -> Result<(), Refusal>
+pub(crate) fn named_all(parts: &Items<Expr>, found: &mut Vec<u32>) -> Result<(), AllocError>
     ensures { OnOk result (found.new.items ≡ found.old.items ++ spec.flat (map spec.named parts.now)) }
 {
     for part in parts.as_slice() {
