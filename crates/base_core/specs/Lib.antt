@@ -1,4 +1,5 @@
 pub mod Answers
+pub mod Counts
 pub mod Order
 pub mod OrderLaws
 pub mod Rising

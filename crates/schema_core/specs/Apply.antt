@@ -44,7 +44,7 @@ next_key (row ∷ other ∷ rows) = next_key (other ∷ rows)
 
 -- the row with this value in its key
 abbrev pub with_key : List ColumnSpec → Value → List Value → List Value
-with_key [] key row = row
+with_key [] key row = []
 with_key (column ∷ columns) key [] = []
 with_key (column ∷ columns) key (cell ∷ row) = cond column.key key cell ∷ with_key columns key row
 

@@ -3,3 +3,4 @@ pub mod Catalog
 pub mod Declaration
 pub mod DependencyOrder
 pub mod Tables
+pub mod WellFormed

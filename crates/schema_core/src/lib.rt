@@ -13,6 +13,7 @@ mod table;
 pub use cells::{is_required, kind_of_value};
 pub use changes::{ChangedRow, GoneRow, NewRow, Plan, Planned, RowCell, RowChanges};
 pub use declaration::{kind_of, same_kind};
+pub use keys::has_generated_key;
 pub use schema::Schema;
 pub use statement::{Breach, RowStmt};
 pub use table::{ColumnKind, ColumnSpec, ForeignSpec, TableSpec};

@@ -1,0 +1,4 @@
+pub mod Ends
+pub mod Operands
+pub mod Told
+pub mod Truths

@@ -1,0 +1,7 @@
+use Rattle.std.proofs.Common.{rules, not, refl, ◌≡◌, Bool, Bor}
+use Rattle.std.proofs.lemmas.Fn.{filter_same}
+use Rattle.expr_eval.specs.Eval as spec
+use Rattle.expr_eval.proofs.aggregate.known.Goals as goal
+
+pub returns : goal.returns
+returns c = filter_same _ (λ v. not (spec.is_null v)) _ (λ x b f r. search rules) _ _ c.retain.ensures.filtered

@@ -1,0 +1,7 @@
+use Rattle.std.proofs.Common.{◌≡◌, drop}
+use Rattle.base_core.specs.declared.value.Value.TheVariants as value
+use Rattle.expr_eval.specs.Eval as spec
+use Rattle.expr_eval.proofs.aggregate.total.Given as goal
+
+abbrev pub invariant-loop-value : goal.invariant-loop-value
+invariant-loop-value l = spec.added l.sum (drop l.value-index l.values) ≡ spec.total l.values

@@ -1,0 +1,39 @@
+use Rattle.std.proofs.Common.{◌≡◌, [], ◌∷◌, ◌++◌, false, length, map, drop, ℕ, ◌+◌, ◌*◌, max, None}
+use Rattle.expr_types.specs.declared.expr.Expr.{size-Expr}
+use Rattle.expr_eval.specs.Eval as spec
+use Rattle.expr_eval.specs.Eval.{evaluated}
+use Rattle.expr_eval.specs.Place.{place_of}
+use Rattle.expr_eval.proofs.evaluate.+eval.Given as goal
+
+abbrev pub invariant-several-loop-part : goal.invariant-several-loop-part
+invariant-several-loop-part l = spec.all_from (place_of l.scope) l.values.items (map evaluated (drop l.part-index l.part-items)) ≡ spec.all_from (place_of l.scope) [] (map evaluated l.parts)
+
+abbrev pub invariant-along-loop-row : goal.invariant-along-loop-row
+invariant-along-loop-row l = spec.along_from (spec.ungrouped (place_of l.scope)) (evaluated l.operand) l.values.items (drop l.row-index l.rows) ≡ spec.along_from (spec.ungrouped (place_of l.scope)) (evaluated l.operand) [] l.rows
+
+abbrev pub invariant-some_row-loop-row : goal.invariant-some_row-loop-row
+invariant-some_row-loop-row l = (spec.some_from (place_of l.scope) (evaluated l.condition) l.found (drop l.row-index l.rows) ≡ spec.some_from (place_of l.scope) (evaluated l.condition) false l.rows) × (l.starts.items ≡ l.scope.starts.now ++ length l.scope.row.now ∷ [])
+
+abbrev pub decreases-value_in : goal.decreases-value_in
+decreases-value_in l = 5 * goal.size-value_in l
+
+abbrev pub decreases-both : goal.decreases-both
+decreases-both l = 5 * max (size-Expr l.a.now) (size-Expr l.b.now) + 1
+
+abbrev pub decreases-several : goal.decreases-several
+decreases-several l = 5 * goal.size-several l + 1
+
+abbrev pub decreases-called : goal.decreases-called
+decreases-called l = 5 * goal.size-called l + 4
+
+abbrev pub decreases-gathered : goal.decreases-gathered
+decreases-gathered l = 5 * goal.size-gathered l + 3
+
+abbrev pub decreases-along : goal.decreases-along
+decreases-along l = 5 * goal.size-along l + 1
+
+abbrev pub decreases-some_row : goal.decreases-some_row
+decreases-some_row l = 5 * goal.size-some_row l + 1
+
+abbrev pub decreases-over : goal.decreases-over
+decreases-over l = 5 * goal.size-over l + 2

@@ -1,0 +1,4 @@
+pub mod Fixed
+pub mod Negates
+pub mod Reversed
+pub mod Steps

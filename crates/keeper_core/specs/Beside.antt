@@ -1,0 +1,48 @@
+-- A store with something beside it that acts with it, as a session or an arena of objects: the world of the layers above.
+use Rattle.std.specs.Prelude.{◌≡◌, Option, None, Some, Ok}
+use Rattle.keeper_core.specs.Store.{Store}
+use Rattle.keeper_core.specs.Acting.{Run, quiet}
+use Rattle.keeper_core.specs.Moment.{Moment, Told}
+
+-- what stands beside the store, and the store
+pub record Beside (S : Type 0) : Type 0 where
+  pub own : S
+  pub store : Store
+
+abbrev pub beside_run : {S A : Type 0} → S → Run Store A → Run (Beside S) A
+beside_run own run = record { events = run.events; answer = run.answer; after = record { own = own; store = run.after } }
+
+-- a program of the store, which leaves what stands beside it
+unfoldable pub on_store : {S A : Type 0} → (Store → Run Store A) → Beside S → Run (Beside S) A
+on_store m w = beside_run w.own (m w.store)
+
+-- a program of what stands beside the store, which leaves the store: it sends nothing
+abbrev pub quiet_run : {S A : Type 0} → Store → Run S A → Run (Beside S) A
+quiet_run store run = record { events = run.events; answer = run.answer; after = record { own = run.after; store = store } }
+
+unfoldable pub on_own : {S A : Type 0} → (S → Run S A) → Beside S → Run (Beside S) A
+on_own m w = quiet_run w.store (m w.own)
+
+-- what stands beside the store changes, and nothing is sent
+unfoldable pub changes : {S : Type 0} → (S → S) → Beside S → Run (Beside S) (Unit {0})
+changes f w = quiet (Ok tt) (record { own = f w.own; store = w.store })
+
+-- a program chosen by what stands beside the store
+unfoldable pub by_own : {S A : Type 0} → (S → Beside S → Run (Beside S) A) → Beside S → Run (Beside S) A
+by_own choose w = choose w.own w
+
+abbrev pub told_beside : {S : Type 0} → S → Option (Told Store) → Option (Told (Beside S))
+told_beside own None = None
+told_beside own (Some told) = Some (record { world = record { own = own; store = told.world }; log = told.log })
+
+-- what is seen of a keeper and of what stands beside it
+abbrev pub moment_beside : {S K : Type 0} → (K → Moment Store) → S × K → Moment (Beside S)
+moment_beside moment s = record {
+  told = told_beside s.0 (moment s.1).told;
+  faults = (moment s.1).faults;
+  refusals = (moment s.1).refusals;
+  last = (moment s.1).last;
+  depth = (moment s.1).depth;
+  target = (moment s.1).target;
+  attached = (moment s.1).attached;
+}

@@ -1,0 +1,5 @@
+pub mod Store
+pub mod Acting
+pub mod Moment
+pub mod Calls
+pub mod Beside

@@ -1,0 +1,146 @@
+//! A keeper's calls with the refusals of the layers above.
+
+ghost use Rattle.std.specs.Prelude.{◌≡◌, ◌+◌, ◌-◌, ◌<◌, ◌≤◌, ℕ, None, true, IfOk};
+ghost use Rattle.schema_core.specs.Catalog.{IsTable};
+ghost use Rattle.schema_core.specs.WellFormed.{IsWellFormed, IsKeyFor};
+ghost use Rattle.keeper_core.specs.Moment.{Runs};
+ghost use Rattle.keeper_core.specs.Acting as acting;
+ghost use Rattle.keeper_core.specs.Calls as call;
+ghost use Rattle.schema_core.specs.Apply as apply;
+ghost use Rattle.keeper_core.specs.Calls.{depth_left, stop_refusal};
+
+use crate::{Keeper, KeeperStop, WriteRefusal};
+use base_core::{IntegrityKind, Key, Refusal, RowList, TableId};
+use schema_core::{RowStmt, Schema};
+use std::alloc::Global;
+
+impl From<KeeperStop> for Refusal {
+    ghost from_gives = { λ stop e. e ≡ stop_refusal stop };
+
+    fn from(stop: KeeperStop) -> Refusal {
+        match stop {
+            KeeperStop::Fault => Refusal::KeeperFault,
+            KeeperStop::Memory => Refusal::Memory,
+        }
+    }
+}
+
+/// Makes a table, and commits; true where it was not there.
+pub fn create<K: Keeper>(
+    alloc: Global,
+    keeper: &mut K,
+    schema: &Schema,
+    table: TableId,
+) -> Result<bool, Refusal>
+    requires attached { (K.moment keeper.old).attached ≡ true }
+    requires outside { (K.moment keeper.old).depth ≡ 0 }
+    requires declared { IsTable schema.now table }
+    ensures step { Runs K.moment (λ b. b) (call.create table) keeper.old result keeper.new }
+    ensures depth { (K.moment keeper.new).depth ≡ 0 }
+{
+    Ok(keeper.create(alloc, schema, table)?)
+}
+
+/// Starts the transaction.
+pub fn begin<K: Keeper>(alloc: Global, keeper: &mut K) -> Result<(), Refusal>
+    requires attached { (K.moment keeper.old).attached ≡ true }
+    requires outside { (K.moment keeper.old).depth ≡ 0 }
+    ensures step { Runs K.moment (λ u. u) call.begin keeper.old result keeper.new }
+    ensures depth { (K.moment keeper.new).depth ≡ depth_left result 1 0 }
+{
+    Ok(keeper.begin(alloc)?)
+}
+
+/// Ends all scopes with the tables at the transaction's start.
+pub fn rollback<K: Keeper>(keeper: &mut K) -> Result<(), Refusal>
+    requires attached { (K.moment keeper.old).attached ≡ true }
+    requires inside { 1 ≤ (K.moment keeper.old).depth }
+    ensures step { Runs K.moment (λ u. u) call.rollback keeper.old result keeper.new }
+    ensures depth { (K.moment keeper.new).depth ≡ 0 }
+{
+    Ok(keeper.rollback()?)
+}
+
+/// Ends all scopes with the tables now.
+pub fn commit<K: Keeper>(keeper: &mut K) -> Result<(), Refusal>
+    requires attached { (K.moment keeper.old).attached ≡ true }
+    requires inside { 1 ≤ (K.moment keeper.old).depth }
+    ensures step { Runs K.moment (λ u. u) call.commit keeper.old result keeper.new }
+    ensures depth { (K.moment keeper.new).depth ≡ 0 }
+{
+    Ok(keeper.commit()?)
+}
+
+/// Does a statement on one row, and answers the row's key.
+pub fn write<K: Keeper>(
+    alloc: Global,
+    keeper: &mut K,
+    schema: &Schema,
+    statement: &RowStmt,
+) -> Result<Key, Refusal>
+    requires attached { (K.moment keeper.old).attached ≡ true }
+    requires inside { 1 ≤ (K.moment keeper.old).depth }
+    requires fits { IsWellFormed schema.now statement.now }
+    ensures step { Runs K.moment (λ key. key) (call.write schema.now statement.now) keeper.old result keeper.new }
+    ensures depth { (K.moment keeper.new).depth ≡ depth_left result (K.moment keeper.old).depth 0 }
+    ensures key { IfOk result (λ key. IsKeyFor schema.now statement.now key) }
+{
+    match keeper.write(alloc, schema, statement) {
+        Ok(key) => Ok(key),
+        Err(refusal) => Err(refusal_of(table_of(statement), refusal)),
+    }
+}
+
+/// The rows of a table, rising by key, or none where it was not created.
+pub fn scan<K: Keeper>(
+    alloc: Global,
+    keeper: &mut K,
+    schema: &Schema,
+    table: TableId,
+) -> Result<Option<RowList>, Refusal>
+    requires attached { (K.moment keeper.old).attached ≡ true }
+    requires declared { IsTable schema.now table }
+    ensures step { Runs K.moment (λ rows. rows) (call.scan table) keeper.old result keeper.new }
+    ensures depth { (K.moment keeper.new).depth ≡ depth_left result (K.moment keeper.old).depth 0 }
+{
+    Ok(keeper.scan(alloc, schema, table)?)
+}
+
+/// The table that a statement writes.
+pub fn table_of(statement: &RowStmt) -> TableId
+    ensures { result ≡ apply.table_of statement.now }
+{
+    match statement {
+        RowStmt::Insert { table, .. } => *table,
+        RowStmt::Update { table, .. } => *table,
+        RowStmt::Delete { table, .. } => *table,
+    }
+}
+
+/// A statement's refusal in the words of the layers above.
+pub fn refusal_of(table: TableId, refusal: WriteRefusal) -> Refusal
+    ensures { result ≡ call.write_refusal table refusal }
+{
+    match refusal {
+        WriteRefusal::NoTable(absent) => Refusal::OperationalError(absent),
+        WriteRefusal::Missing => Refusal::StaleDataError(table),
+        WriteRefusal::NotNull => Refusal::IntegrityError(IntegrityKind::NotNull, table),
+        WriteRefusal::KeysSpent => Refusal::KeysSpent(table),
+        WriteRefusal::PrimaryKey => Refusal::IntegrityError(IntegrityKind::PrimaryKey, table),
+        WriteRefusal::Unique => Refusal::IntegrityError(IntegrityKind::Unique, table),
+        WriteRefusal::Foreign => Refusal::IntegrityError(IntegrityKind::Foreign, table),
+        WriteRefusal::Range(op, a, b) => Refusal::DataError(op, a, b),
+        WriteRefusal::Fault => Refusal::KeeperFault,
+        WriteRefusal::Memory => Refusal::Memory,
+    }
+}
+
+/// Whether a refusal ends a run: want of memory and a failure of the store do, every other refusal is a command's answer.
+pub fn ends_early(refusal: &Refusal) -> bool
+    ensures { result ≡ acting.ends_early refusal.now }
+{
+    match refusal {
+        Refusal::Memory | Refusal::KeeperFault => true,
+        _ => false,
+    }
+}

@@ -1,0 +1,6 @@
+mod AnySteps
+mod CellSteps
+mod Entries
+mod Laws
+mod NextKey
+mod WriteSteps

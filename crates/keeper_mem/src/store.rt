@@ -1,0 +1,109 @@
+//! Tables with scopes.
+
+ghost use Rattle.std.specs.Prelude.{◌≡◌, ◌-◌, ◌<◌, ◌≤◌, [], ◌∷◌, length, drop, slice_index_or, IfOk, OnOk, OnErr};
+ghost use Rattle.std.specs.Option.{option_map, option_copied};
+ghost use Rattle.schema_core.specs.Apply.{apply};
+ghost use Rattle.schema_core.specs.Tables.{rows_in};
+ghost use Rattle.schema_core.specs.WellFormed.{IsWellFormed};
+ghost use Rattle.keeper_core.specs.Store.{Store, committed_of, created, dropped, is_created};
+ghost use Rattle.keeper_mem.specs.Held.{Did};
+
+use crate::writing::apply;
+use crate::{TableMap, TableRows, Unwritten};
+use base_core::{Copied, Key, ListOf, RowList, TableId};
+use schema_core::{RowStmt, Schema};
+use std::alloc::{AllocError, Global};
+use std::marker::Model;
+
+/// Tables, and those at the start of each scope.
+#[derive(Drop)]
+pub(crate) struct TableStore {
+    tables: TableMap,
+    /// The innermost scope first.
+    scopes: Vec<TableMap>,
+}
+
+impl Model for TableStore {
+    ghost use Rattle.keeper_core.specs.Store.{Store};
+
+    ghost Value = { Store };
+
+    ghost view = { λ s. record { tables = s.tables; scopes = s.scopes.items } };
+}
+
+impl TableStore {
+    /// No tables and no scope.
+    pub(crate) fn new(alloc: Global) -> TableStore
+        ensures { result ≡ record { tables = []; scopes = [] } }
+    {
+        TableStore {
+            tables: TableMap::new(alloc),
+            scopes: Vec::new(alloc),
+        }
+    }
+
+    /// How many scopes there are.
+    pub(crate) fn depth(&self) -> usize
+        ensures { result ≡ length self.now.scopes }
+    {
+        self.scopes.len()
+    }
+
+    /// Whether a table is created.
+    pub(crate) fn has(&self, table: TableId) -> bool
+        ensures { result ≡ is_created self.now.tables table }
+    {
+        self.tables.get(table).is_some()
+    }
+
+    /// Makes a table that has no rows. At an error nothing changes.
+    pub(crate) fn create(&mut self, alloc: Global, table: TableId) -> Result<(), AllocError>
+        ensures ok { OnOk result (self.new ≡ record { tables = created self.old.tables table; scopes = self.old.scopes }) }
+        ensures err { OnErr result (self.new ≡ self.old) }
+    {
+        self.tables.create(alloc, table)
+    }
+
+    /// Drops a table.
+    pub(crate) fn drop_table(&mut self, table: TableId)
+        ensures { self.new ≡ record { tables = dropped self.old.tables table; scopes = self.old.scopes } }
+    {
+        self.tables.drop_table(table);
+    }
+
+    /// Starts a scope. At an error nothing changes.
+    pub(crate) fn start(&mut self) -> Result<(), AllocError>
+        ensures ok { OnOk result (self.new ≡ record { tables = self.old.tables; scopes = self.old.tables ∷ self.old.scopes }) }
+        ensures err { OnErr result (self.new ≡ self.old) }
+    {
+        let copy = self.tables.copied()?;
+        self.scopes.insert(0, copy)?;
+        Ok(())
+    }
+
+    /// Ends the innermost scope, and keeps the tables.
+    pub(crate) fn end(&mut self)
+        requires { 0 < length self.old.scopes }
+        ensures { self.new ≡ record { tables = self.old.tables; scopes = drop 1 self.old.scopes } }
+    {
+        self.scopes.remove(0);
+    }
+
+    /// Ends all scopes, and keeps the tables.
+    pub(crate) fn keep(&mut self)
+        ensures { self.new ≡ record { tables = self.old.tables; scopes = [] } }
+    {
+        self.scopes.clear();
+    }
+
+    #[tactic(auto, using(crate::proofs::Scopes::outermost_scopes))]
+    /// Ends all scopes, and goes back to the tables at the start of the outermost.
+    pub(crate) fn go_back(&mut self)
+        ensures { self.new ≡ record { tables = committed_of self.old; scopes = [] } }
+    {
+        if let Some(tables) = self.scopes.pop() {
+            self.tables = tables;
+            self.scopes.clear();
+        }
+    }
+}

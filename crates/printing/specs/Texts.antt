@@ -1,0 +1,190 @@
+-- What is written of values, objects, warnings and refusals, byte by byte.
+use Rattle.std.specs.Prelude.{ℕ, ℤ, ◌/◌, ◌%◌, Bool, true, false, cond, ◌==◌, List, [], ◌∷◌, ◌++◌, map, codes}
+use Rattle.std.specs.List.{flat_map}
+use Rattle.std.specs.Fmt.{decimal, signed_decimal, digits}
+use Rattle.base_core.specs.declared.ids.AttrNo.{AttrNo}
+use Rattle.base_core.specs.declared.ids.ClassId.{ClassId}
+use Rattle.base_core.specs.declared.ids.ColumnNo.{ColumnNo}
+use Rattle.base_core.specs.declared.ids.ObjId.{ObjId}
+use Rattle.base_core.specs.declared.ids.RelNo.{RelNo}
+use Rattle.base_core.specs.declared.ids.TableId.{TableId}
+use Rattle.base_core.specs.declared.refusal.ArgumentKind.{ArgumentKind}
+use Rattle.base_core.specs.declared.refusal.ArgumentKind.TheVariants as argument
+use Rattle.base_core.specs.declared.refusal.IntegrityKind.{IntegrityKind}
+use Rattle.base_core.specs.declared.refusal.IntegrityKind.TheVariants as integrity
+use Rattle.base_core.specs.declared.refusal.LimitKind.{LimitKind}
+use Rattle.base_core.specs.declared.refusal.LimitKind.TheVariants as limit
+use Rattle.base_core.specs.declared.refusal.Refusal.{Refusal}
+use Rattle.base_core.specs.declared.refusal.Refusal.TheVariants as refusal
+use Rattle.base_core.specs.declared.refusal.RequestKind.{RequestKind}
+use Rattle.base_core.specs.declared.refusal.RequestKind.TheVariants as request
+use Rattle.base_core.specs.declared.refusal.RowName.{RowName}
+use Rattle.base_core.specs.declared.refusal.Warning.{Warning}
+use Rattle.base_core.specs.declared.value.ArithOp.{ArithOp}
+use Rattle.base_core.specs.declared.value.ArithOp.TheVariants as op
+use Rattle.base_core.specs.declared.value.Kind.{Kind}
+use Rattle.base_core.specs.declared.value.Kind.TheVariants as kind
+use Rattle.base_core.specs.declared.value.Value.{Value}
+use Rattle.base_core.specs.declared.value.Value.TheVariants.{Null, Bool as BoolValue, Int, Text, Bytes}
+
+-- The names of what refusals and warnings have by number.
+pub record Names : Type 0 where
+  pub table : TableId → List ℕ
+  pub column : TableId → ColumnNo → List ℕ
+  pub class : ClassId → List ℕ
+  pub attribute : ClassId → AttrNo → List ℕ
+  pub relation : ClassId → RelNo → List ℕ
+  -- the name of an object's class
+  pub class_of : ObjId → List ℕ
+
+-- ---- values
+
+abbrev pub doubled_byte : ℕ → List ℕ
+doubled_byte byte = cond (byte == 39) (39 ∷ 39 ∷ []) (byte ∷ [])
+
+-- the text with each of its quotes doubled
+abbrev pub doubled : List ℕ → List ℕ
+doubled text = flat_map doubled_byte text
+
+-- two hexadecimal digits in lower case
+abbrev pub hex_byte : ℕ → List ℕ
+hex_byte byte = digits 16 false (byte / 16) ++ digits 16 false (byte % 16)
+
+abbrev pub bool_text : Bool → List ℕ
+bool_text true = codes "true"
+bool_text false = codes "false"
+
+abbrev pub value_text : Value → List ℕ
+value_text Null = codes "null"
+value_text (BoolValue b) = bool_text b
+value_text (Int n) = signed_decimal n
+value_text (Text t) = 39 ∷ doubled t ++ 39 ∷ []
+value_text (Bytes bytes) = codes "x'" ++ flat_map hex_byte bytes ++ 39 ∷ []
+
+-- ---- lists
+
+-- each text with the separator before it
+abbrev pub led : {A : Type 0} → List ℕ → (A → List ℕ) → List A → List ℕ
+led separator text items = flat_map (λ item. separator ++ text item) items
+
+-- the texts with the separator between each two
+abbrev pub joined : {A : Type 0} → List ℕ → (A → List ℕ) → List A → List ℕ
+joined separator text [] = []
+joined separator text (item ∷ items) = text item ++ led separator text items
+
+-- the values of a row in parentheses
+abbrev pub row_text : List Value → List ℕ
+row_text row = 40 ∷ joined (codes ", ") value_text row ++ 41 ∷ []
+
+-- a name, `@`, and a number
+abbrev pub numbered : List ℕ → ObjId → List ℕ
+numbered name object = name ++ 64 ∷ decimal object.0
+
+abbrev pub object_text : Names → ObjId → List ℕ
+object_text names object = numbered (names.class_of object) object
+
+-- a list of objects in brackets
+abbrev pub objects_text : Names → List ObjId → List ℕ
+objects_text names objects = 91 ∷ joined (codes ", ") (object_text names) objects ++ 93 ∷ []
+
+-- ---- refusals
+
+abbrev pub kind_text : Kind → List ℕ
+kind_text kind.Integer = codes "integer"
+kind_text kind.Text = codes "text"
+kind_text kind.Boolean = codes "boolean"
+kind_text kind.Bytes = codes "bytes"
+
+abbrev pub op_text : ArithOp → List ℕ
+op_text op.Add = codes "+"
+op_text op.Sub = codes "-"
+op_text op.Mul = codes "*"
+
+abbrev pub argument_text : ArgumentKind → List ℕ
+argument_text argument.DuplicateName = codes "DuplicateName"
+argument_text argument.UnknownColumn = codes "UnknownColumn"
+argument_text argument.NoPrimaryKey = codes "NoPrimaryKey"
+argument_text argument.SharedColumn = codes "SharedColumn"
+argument_text argument.BadClass = codes "BadClass"
+argument_text argument.NoDiscriminator = codes "NoDiscriminator"
+argument_text argument.DuplicateIdentity = codes "DuplicateIdentity"
+argument_text argument.BadCascade = codes "BadCascade"
+argument_text argument.BadHook = codes "BadHook"
+argument_text argument.BadTarget = codes "BadTarget"
+argument_text argument.BadInheritance = codes "BadInheritance"
+argument_text argument.BadSecondary = codes "BadSecondary"
+argument_text argument.NoJoin = codes "NoJoin"
+argument_text argument.TwoJoins = codes "TwoJoins"
+argument_text argument.Overlap = codes "Overlap"
+argument_text argument.PartnerDiffers = codes "PartnerDiffers"
+argument_text argument.KeyForeign = codes "KeyForeign"
+argument_text argument.BadPostUpdate = codes "BadPostUpdate"
+
+abbrev pub request_text : RequestKind → List ℕ
+request_text request.NotConfigured = codes "NotConfigured"
+request_text request.Configured = codes "Configured"
+request_text (request.Unknown name) = codes "Unknown " ++ name
+request_text request.WrongKind = codes "WrongKind"
+request_text request.NotGrouped = codes "NotGrouped"
+request_text request.DuplicateFrom = codes "DuplicateFrom"
+request_text request.JoinedLimit = codes "JoinedLimit"
+request_text request.InTransaction = codes "InTransaction"
+request_text request.NotPersistent = codes "NotPersistent"
+request_text request.NotInSession = codes "NotInSession"
+request_text request.Deleted = codes "Deleted"
+request_text request.IdentityConflict = codes "IdentityConflict"
+request_text request.BadOwner = codes "BadOwner"
+request_text request.BadMember = codes "BadMember"
+request_text request.NotAMember = codes "NotAMember"
+request_text request.KeyChange = codes "KeyChange"
+request_text request.Discriminator = codes "Discriminator"
+request_text request.NoSuchIdentity = codes "NoSuchIdentity"
+
+abbrev pub limit_text : LimitKind → List ℕ
+limit_text limit.Objects = codes "objects"
+limit_text limit.Savepoints = codes "savepoints"
+
+abbrev pub integrity_text : IntegrityKind → List ℕ
+integrity_text integrity.NotNull = codes "NotNull"
+integrity_text integrity.PrimaryKey = codes "PrimaryKey"
+integrity_text integrity.Unique = codes "Unique"
+integrity_text integrity.Foreign = codes "Foreign"
+
+-- a row of a cycle: its table and its object's number
+abbrev pub row_name_text : Names → RowName → List ℕ
+row_name_text names row = numbered (names.table row.table) row.object
+
+-- what stands in parentheses behind the refusal's name
+abbrev pub told : List ℕ → List ℕ → List ℕ
+told name inside = name ++ 40 ∷ inside ++ 41 ∷ []
+
+-- the text of a refusal, with the names of what it has by number
+abbrev pub refusal_text : Names → Refusal → List ℕ
+refusal_text names refusal.Memory = codes "Memory"
+refusal_text names (refusal.ArgumentError kind) = told (codes "ArgumentError") (argument_text kind)
+refusal_text names (refusal.TypeMismatch wanted found) = told (codes "TypeMismatch") (kind_text wanted ++ codes ", " ++ kind_text found)
+refusal_text names (refusal.DataError op a b) = told (codes "DataError") (signed_decimal a ++ 32 ∷ op_text op ++ 32 ∷ signed_decimal b)
+refusal_text names (refusal.KeysSpent table) = told (codes "DataError") (codes "keys of " ++ names.table table)
+refusal_text names (refusal.CompileError table column) = told (codes "CompileError") (names.table table ++ 46 ∷ names.column table column)
+refusal_text names (refusal.ValidationError class attribute hook) = told (codes "ValidationError") (names.class class ++ 46 ∷ names.attribute class attribute ++ codes ", " ++ hook)
+refusal_text names (refusal.InvalidRequestError kind) = told (codes "InvalidRequestError") (request_text kind)
+refusal_text names (refusal.LimitReached kind) = told (codes "LimitReached") (limit_text kind)
+refusal_text names (refusal.ObjectDeletedError object) = told (codes "ObjectDeletedError") (object_text names object)
+refusal_text names (refusal.DetachedInstanceError object) = told (codes "DetachedInstanceError") (object_text names object)
+refusal_text names (refusal.CircularDependencyError rows) = told (codes "CircularDependencyError") (joined (codes " -> ") (row_name_text names) rows)
+refusal_text names refusal.ResourceClosedError = codes "ResourceClosedError"
+refusal_text names (refusal.IntegrityError kind table) = told (codes "IntegrityError") (integrity_text kind ++ codes ", " ++ names.table table)
+refusal_text names (refusal.StaleDataError table) = told (codes "StaleDataError") (names.table table)
+refusal_text names refusal.PendingRollbackError = codes "PendingRollbackError"
+refusal_text names (refusal.ScriptError line column) = told (codes "ScriptError") (decimal line ++ codes ", " ++ decimal column)
+refusal_text names (refusal.OperationalError table) = told (codes "OperationalError") (names.table table)
+refusal_text names refusal.KeeperFault = codes "KeeperFault"
+refusal_text names refusal.NotBuilt = codes "NotBuilt"
+
+-- that a relationship of a class was skipped
+abbrev pub skipped_text : List ℕ → List ℕ → List ℕ
+skipped_text class relation = codes " is not in the session, " ++ class ++ 46 ∷ relation ++ codes " skipped"
+
+-- what a warning says behind its line's number
+abbrev pub warning_text : Names → Warning → List ℕ
+warning_text names warning = object_text names warning.object ++ skipped_text (names.class warning.class) (names.relation warning.class warning.relation)

@@ -1,0 +1,93 @@
+-- The kind and the length of the token at the front of a text. A text reads as 0 past its end.
+use Rattle.std.specs.Prelude.{◌≡◌, ◌≤◌, ℕ, ◌+◌, ◌%◌, Bool, true, false, not, ◌&&◌, ◌||◌, if◌then◌else◌, ◌==◌, List, [], ◌∷◌, take, drop, map, slice_index, Option, Some, None}
+use Rattle.std.specs.Char.{is_ascii_digit, is_ascii_hexdigit, is_ascii_alphanumeric}
+use Rattle.std.specs.List.{prefix_len}
+use Rattle.std.specs.Str.{bytes_eq}
+use Rattle.script_lex.specs.declared.shape.Class.{Class}
+use Rattle.script_lex.specs.declared.shape.Class.TheVariants as class
+use Rattle.script_lex.specs.declared.kind.Kind.{Kind}
+use Rattle.script_lex.specs.declared.kind.Kind.TheVariants as k
+use Rattle.script_lex.specs.declared.kind.TheConstants.{WORDS}
+
+abbrev pub Text : Type 0
+Text = List ℕ
+
+abbrev pub is_in : Class → ℕ → Bool
+is_in class.Digit b = is_ascii_digit b
+is_in class.Hex b = is_ascii_hexdigit b
+is_in class.Word b = is_ascii_alphanumeric b || b == 95
+
+-- the first place from `at` on whose byte is not of the class
+abbrev pub past : Class → Text → ℕ → ℕ
+past c z at = at + prefix_len (is_in c) (drop at z)
+
+abbrev pub lookup : List (Text × Kind) → Text → Kind
+lookup [] word = k.Other
+lookup (w ∷ ws) word = if bytes_eq w.0 word then w.1 else lookup ws word
+
+-- the kind of a word
+unfoldable pub keyword : Text → Kind
+keyword = lookup (map (λ w. (w.0.now, w.1)) WORDS)
+
+abbrev pub word : Text → Kind × ℕ
+word z = (keyword (take (past class.Word z 0) z), past class.Word z 0)
+
+-- the place after the closing quote, for a text that begins at `at`; a doubled quote does not close
+abbrev pub closing : ℕ → Bool → ℕ → Text → Option ℕ
+closing quote is_second at [] = None
+closing quote true at (b ∷ z) = closing quote false (at + 1) z
+closing quote false at (b ∷ z) = if b == quote && not (slice_index z 0 == quote) then Some (at + 1) else closing quote (b == quote) (at + 1) z
+
+abbrev pub closed : Kind → Option ℕ → Kind × ℕ
+closed kind None = (k.Bad, 1)
+closed kind (Some end) = (kind, end)
+
+abbrev pub quoted : Kind → Text → Kind × ℕ
+quoted kind z = closed kind (closing (slice_index z 0) false 1 (drop 1 z))
+
+-- one byte long, or two where there is a second
+abbrev pub IsShort : ℕ → ℕ → Type 0
+IsShort next len = (1 ≤ len) × (len ≤ 2) × (next ≡ 0 → len ≡ 1)
+
+abbrev pub less : ℕ → Kind × ℕ
+less next = if next == 61 then (k.LessEqual, 2) else (k.Less, 1)
+
+abbrev pub greater : ℕ → Kind × ℕ
+greater next = if next == 61 then (k.GreaterEqual, 2) else (k.Greater, 1)
+
+abbrev pub equal : ℕ → Kind × ℕ
+equal next = if next == 61 then (k.Equal, 2) else (k.Assign, 1)
+
+-- a minus directly before a digit has a kind of its own
+abbrev pub minus : ℕ → Kind
+minus next = if is_ascii_digit next then k.Signed else k.Minus
+
+abbrev pub single : ℕ → Kind
+single b =
+    if b == 40 then k.LParen else (if b == 41 then k.RParen else (if b == 91 then k.LBracket else (if b == 93 then k.RBracket
+    else (if b == 44 then k.Comma else (if b == 46 then k.Dot else (if b == 43 then k.Plus else (if b == 42 then k.Star else k.Bad)))))))
+
+-- a symbol, by its first two bytes
+unfoldable pub symbol : ℕ → ℕ → Kind × ℕ
+symbol b next =
+    if b == 60 then less next else (if b == 62 then greater next else (if b == 61 then equal next
+    else (if b == 33 && next == 61 then (k.NotEqual, 2)
+    else (if b == 124 && next == 124 then (k.Concat, 2)
+    else (if b == 45 then (minus next, 1) else (single b, 1))))))
+
+-- `x'`, hexadecimal digits of an even number, and a quote
+abbrev pub is_bytes : Text → Bool
+is_bytes z =
+    let end = past class.Hex z 2 in
+    slice_index z 0 == 120 && slice_index z 1 == 39 && slice_index z end == 39 && end % 2 == 0
+
+-- the kind of the longest token at the front of a text that begins with no blank, and its length in bytes
+unfoldable pub front : Text → Kind × ℕ
+front z =
+    let b = slice_index z 0 in
+    if is_bytes z then (k.BytesLiteral, past class.Hex z 2 + 1)
+    else (if is_ascii_digit b then (k.Number, past class.Digit z 0)
+    else (if is_in class.Word b then word z
+    else (if b == 34 then quoted k.Quoted z
+    else (if b == 39 then quoted k.TextLiteral z
+    else symbol b (slice_index z 1)))))

@@ -1,0 +1,19 @@
+//! The rows of a select.
+#![tactic(auto)]
+
+mod basis;
+mod cut;
+mod filter;
+mod frame;
+// mod group;
+mod order;
+// mod output;
+// mod rows;
+// mod source;
+mod survey;
+mod table;
+
+pub use basis::Basis;
+pub use frame::Frame;
+pub use order::SortKey;
+// pub use rows::rows_of;

@@ -1,0 +1,8 @@
+//! What follows from the definitions of tables: each law is the contract of a function that does nothing.
+#![tactic(auto)]
+
+mod order;
+mod worked;
+
+pub use order::one_order;
+pub use worked::{worked_inserts, worked_others};
