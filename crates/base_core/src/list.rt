@@ -8,8 +8,7 @@ use crate::{Copied, Refusal};
 use std::alloc::{AllocError, Global};
 use std::cmp::Ordering;
 use std::marker::Model;
-use std::mem;
-use std::slice;
+use std::{mem, slice};
 
 /// A list of items. Contracts see the list alone, so two lists with the same items are equal.
 #[derive(Debug, Drop)]

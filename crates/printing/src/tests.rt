@@ -1,7 +1,7 @@
 use super::*;
 use base_core::{
-    AttrNo, Blob, ClassId, ColumnNo, ListOf, Name, ObjId, Refusal,
-    RelNo, TableId, Text, Value, Warning,
+    AttrNo, Blob, ClassId, ColumnNo, ListOf, Name, ObjId, Refusal, RelNo, TableId, Text, Value,
+    Warning,
 };
 use std::alloc::{AllocError, Global};
 use std::test::Fail;
@@ -57,7 +57,10 @@ fn values_objects_and_refusals_are_written_as_the_script_language_has_them(
     let alloc = rt.alloc();
     let row = row(alloc)?;
     let names = &OneName;
-    assert_eq!(rt; format!(in alloc; "{}", RowText(&row))?.as_str(), "(null, -7, 'o''c', true, x'0aff')");
+    assert_eq!(rt;
+        format!(in alloc; "{}", RowText(&row))?.as_str(),
+        "(null, -7, 'o''c', true, x'0aff')"
+    );
     let mut objects = ListOf::new(alloc);
     objects.push(ObjId(1))?;
     objects.push(ObjId(2))?;
@@ -65,10 +68,20 @@ fn values_objects_and_refusals_are_written_as_the_script_language_has_them(
         names,
         objects: &objects,
     };
-    assert_eq!(rt; format!(in alloc; "{listed}")?.as_str(), "[Address@1, Address@2]");
-    let refusal = &Refusal::ValidationError(ClassId(0), AttrNo(0), Name::new(String::from_str(alloc, "has_at")?));
+    assert_eq!(rt;
+        format!(in alloc; "{listed}")?.as_str(),
+        "[Address@1, Address@2]"
+    );
+    let refusal = &Refusal::ValidationError(
+        ClassId(0),
+        AttrNo(0),
+        Name::new(String::from_str(alloc, "has_at")?),
+    );
     let shown = RefusalText { names, refusal };
-    assert_eq!(rt; format!(in alloc; "{shown}")?.as_str(), "ValidationError(User.email, has_at)");
+    assert_eq!(rt;
+        format!(in alloc; "{shown}")?.as_str(),
+        "ValidationError(User.email, has_at)"
+    );
     let warning = Warning {
         object: ObjId(2),
         class: ClassId(0),

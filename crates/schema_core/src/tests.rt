@@ -43,7 +43,10 @@ fn tables_are_created_before_those_that_refer_to_them(rt: HostRuntime) -> Result
     }
     schema.resolve()?;
     let order = schema.tables_in_order(alloc)?;
-    assert_eq!(rt; order.as_slice(), [TableId(2), TableId(3), TableId(1), TableId(0)].as_slice());
+    assert_eq!(rt;
+        order.as_slice(),
+        [TableId(2), TableId(3), TableId(1), TableId(0)].as_slice()
+    );
     assert!(rt; schema.generated(TableId(0)));
     let mut row = ListOf::new(alloc);
     row.push(Value::Null)?;
