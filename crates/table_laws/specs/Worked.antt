@@ -1,15 +1,11 @@
 -- Statements on rows of two small tables, worked by hand.
-use Rattle.std.specs.Prelude.{◌≡◌, ℕ, ℤ, pos, Bool, true, false, List, [], ◌∷◌, codes, Option, None, Some, Result, Ok, Err}
-use Rattle.base_core.specs.declared.ids.ColumnNo.{ColumnNo}
+use Rattle.std.specs.Prelude.{◌≡◌, ℕ, pos, true, false, List, [], ◌∷◌, codes}
 use Rattle.base_core.specs.declared.ids.TableId.{TableId}
 use Rattle.base_core.specs.declared.value.Value.{Value}
 use Rattle.base_core.specs.declared.value.Value.TheVariants as value
-use Rattle.schema_core.specs.declared.statement.Breach.TheVariants as breach
 use Rattle.schema_core.specs.declared.statement.RowStmt.{RowStmt}
 use Rattle.schema_core.specs.declared.statement.RowStmt.TheVariants as statement
-use Rattle.schema_core.specs.declared.table.ColumnKind.{ColumnKind}
 use Rattle.schema_core.specs.declared.table.ColumnKind.TheVariants as kind
-use Rattle.schema_core.specs.declared.table.ColumnSpec.{ColumnSpec}
 use Rattle.schema_core.specs.declared.table.TableSpec.{TableSpec}
 use Rattle.schema_core.specs.Apply.{Outcome, apply}
 use Rattle.schema_core.specs.Catalog.{Catalog}

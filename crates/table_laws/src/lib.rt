@@ -1,8 +1,10 @@
 //! What follows from the definitions of tables: each law is the contract of a function that does nothing.
 #![tactic(auto)]
 
+mod legal;
 mod order;
 mod worked;
 
+pub use legal::{accepted_is_legal, one_cause};
 pub use order::one_order;
 pub use worked::{worked_inserts, worked_others};
