@@ -1,2 +1,3 @@
-pub mod Sequence
+pub mod ActsLemmas
 pub mod Lifting
+pub mod Sequence

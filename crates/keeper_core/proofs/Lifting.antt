@@ -30,6 +30,7 @@ told_on_store own v m (Some t) (Some n) (Err e) p = stops_beside own (m t.world)
 -- a call of the keeper leaves what stands beside it
 pub on_keeper : {S K A X : Type 0} {moment : K → Moment Store} {v : X → A} {m : Store → Run Store A} {own : S} {old new : K} {r : Result X Refusal}
     → Runs moment v m old r new → Runs (moment_beside {S = S} moment) v (on_store m) (own, old) r (own, new)
+unfolding moment_beside
 on_keeper {moment = moment} {v = v} {m = m} {own = own} {old = old} {new = new} {r = r} (Ran p) = Ran (record {
   told = told_on_store own v m (moment old).told (moment new).told r p.told;
   faults = p.faults;
@@ -54,6 +55,7 @@ told_on_own v m own now (Some t) x is =
 -- a change that sends nothing leaves the keeper
 pub on_own_ok : {S K A X : Type 0} (moment : K → Moment Store) {v : X → A} (m : S → Run S A) {own now : S} {keeper : K} {x : X}
     → m own ≡ quiet (Ok (v x)) now → Runs (moment_beside moment) v (on_own m) (own, keeper) (Ok x) (now, keeper)
+unfolding moment_beside
 on_own_ok moment {v = v} m {own = own} {now = now} {keeper = keeper} {x = x} is = Ran (record {
   told = told_on_own v m own now (moment keeper).told x is;
   faults = omega arith;
@@ -74,6 +76,7 @@ told_changed f own now (Some t) x is = record { answer = refl; world = ap (λ s.
 -- a change of what stands beside the keeper
 pub changed : {S K X : Type 0} (moment : K → Moment Store) (f : S → S) {own now : S} {keeper : K} {x : X}
     → now ≡ f own → Runs (moment_beside moment) (λ (_ : X). tt) (changes f) (own, keeper) (Ok x) (now, keeper)
+unfolding moment_beside
 changed moment f {own = own} {now = now} {keeper = keeper} {x = x} is = Ran (record {
   told = told_changed f own now (moment keeper).told x is;
   faults = omega arith;
@@ -98,6 +101,7 @@ told_on_own_err {S = S} {A = A} v m own now (Some t) e early is =
 -- a refusal of what stands beside the keeper
 pub on_own_err : {S K A X : Type 0} (moment : K → Moment Store) {v : X → A} (m : S → Run S A) {own now : S} {keeper : K} {e : Refusal}
     → ends_early e ≡ false → is_of_tables e ≡ false → m own ≡ quiet (Err e) now → Runs (moment_beside moment) v (on_own m) (own, keeper) (Err e) (now, keeper)
+unfolding moment_beside
 on_own_err moment {v = v} m {own = own} {now = now} {keeper = keeper} {e = e} early apart is = Ran (record {
   told = told_on_own_err v m own now (moment keeper).told e early is;
   faults = omega arith;
@@ -118,6 +122,7 @@ told_spoiled v m own now (Some t) = record { front = []; rest = (m (record { own
 
 pub spoiled : {S K A X : Type 0} (moment : K → Moment Store) {v : X → A} {m : Beside S → Run (Beside S) A} {own now : S} {keeper : K}
     → Runs (moment_beside moment) v m (own, keeper) (Err Memory) (now, keeper)
+unfolding moment_beside
 spoiled moment {v = v} {m = m} {own = own} {now = now} {keeper = keeper} = Ran (record {
   told = told_spoiled v m own now (moment keeper).told;
   faults = omega arith;
@@ -140,6 +145,7 @@ told_chosen v choose own (Some t) r (Some n) p = p
 
 pub chosen : {S K A X : Type 0} (moment : K → Moment Store) {v : X → A} (choose : S → Beside S → Run (Beside S) A) {own now : S} {old new : K} {r : Result X Refusal}
     → Runs (moment_beside moment) v (choose own) (own, old) r (now, new) → Runs (moment_beside moment) v (by_own choose) (own, old) r (now, new)
+unfolding moment_beside
 chosen moment {v = v} choose {own = own} {now = now} {old = old} {new = new} {r = r} (Ran p) = Ran (record {
   told = told_chosen v choose own (moment old).told r (told_beside now (moment new).told) p.told;
   faults = p.faults;

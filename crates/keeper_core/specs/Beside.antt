@@ -36,7 +36,7 @@ told_beside own None = None
 told_beside own (Some told) = Some (record { world = record { own = own; store = told.world }; log = told.log })
 
 -- what is seen of a keeper and of what stands beside it
-abbrev pub moment_beside : {S K : Type 0} → (K → Moment Store) → S × K → Moment (Beside S)
+unfoldable pub moment_beside : {S K : Type 0} → (K → Moment Store) → S × K → Moment (Beside S)
 moment_beside moment s = record {
   told = told_beside s.0 (moment s.1).told;
   faults = (moment s.1).faults;

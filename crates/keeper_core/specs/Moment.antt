@@ -129,3 +129,14 @@ pub record IsAttached (old : Moment Store) (target : Target) (result : Result (U
 -- what a keeper tells fits its depth, and the tables that the outside saw committed are the store's
 abbrev pub IsCoherent : Moment Store → Type 0
 IsCoherent moment = IfSome moment.told (λ told. (moment.depth ≡ length told.world.scopes) × (told.log.committed ≡ committed_of told.world))
+
+-- What every acting call keeps, whatever it does: counts never fall, a failure of the store is told only where its count
+-- rose, and the keeper keeps its target.
+pub record ActsParts {W X : Type 0} (old : Moment W) (result : Result X Refusal) (new : Moment W) : Type 0 where
+  pub faults : old.faults ≤ new.faults
+  pub fault : IfErr result (λ e. e ≡ KeeperFault → Rose old.faults new.faults)
+  pub kept : new.target ≡ old.target
+  pub attached : new.attached ≡ old.attached
+
+pub data Acts {W X : Type 0} (old : Moment W) (result : Result X Refusal) (new : Moment W) : Type 0 where
+  Acted : ActsParts old result new → Acts old result new

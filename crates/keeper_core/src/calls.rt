@@ -1,6 +1,6 @@
 //! A keeper's calls with the refusals of the layers above.
 
-ghost use Rattle.std.specs.Prelude.{◌≡◌, ◌+◌, ◌-◌, ◌<◌, ◌≤◌, ℕ, None, true, IfOk};
+ghost use Rattle.std.specs.Prelude.{◌≡◌, ◌+◌, ◌-◌, ◌<◌, ◌≤◌, ℕ, None, true, IfOk, IfErr};
 ghost use Rattle.schema_core.specs.Catalog.{IsTable};
 ghost use Rattle.schema_core.specs.WellFormed.{IsWellFormed, IsKeyFor};
 ghost use Rattle.keeper_core.specs.Moment.{Runs};
@@ -37,6 +37,7 @@ pub fn create<K: Keeper>(
     requires declared { IsTable schema.now table }
     ensures step { Runs K.moment (λ b. b) (call.create table) keeper.old result keeper.new }
     ensures depth { (K.moment keeper.new).depth ≡ 0 }
+    ensures stops { IfErr result (λ e. acting.ends_early e ≡ true) }
 {
     Ok(keeper.create(alloc, schema, table)?)
 }
@@ -47,6 +48,7 @@ pub fn begin<K: Keeper>(alloc: Global, keeper: &mut K) -> Result<(), Refusal>
     requires outside { (K.moment keeper.old).depth ≡ 0 }
     ensures step { Runs K.moment (λ u. u) call.begin keeper.old result keeper.new }
     ensures depth { (K.moment keeper.new).depth ≡ depth_left result 1 0 }
+    ensures stops { IfErr result (λ e. acting.ends_early e ≡ true) }
 {
     Ok(keeper.begin(alloc)?)
 }
@@ -57,6 +59,7 @@ pub fn rollback<K: Keeper>(keeper: &mut K) -> Result<(), Refusal>
     requires inside { 1 ≤ (K.moment keeper.old).depth }
     ensures step { Runs K.moment (λ u. u) call.rollback keeper.old result keeper.new }
     ensures depth { (K.moment keeper.new).depth ≡ 0 }
+    ensures stops { IfErr result (λ e. acting.ends_early e ≡ true) }
 {
     Ok(keeper.rollback()?)
 }
@@ -67,6 +70,7 @@ pub fn commit<K: Keeper>(keeper: &mut K) -> Result<(), Refusal>
     requires inside { 1 ≤ (K.moment keeper.old).depth }
     ensures step { Runs K.moment (λ u. u) call.commit keeper.old result keeper.new }
     ensures depth { (K.moment keeper.new).depth ≡ 0 }
+    ensures stops { IfErr result (λ e. acting.ends_early e ≡ true) }
 {
     Ok(keeper.commit()?)
 }
@@ -102,6 +106,7 @@ pub fn scan<K: Keeper>(
     requires declared { IsTable schema.now table }
     ensures step { Runs K.moment (λ rows. rows) (call.scan table) keeper.old result keeper.new }
     ensures depth { (K.moment keeper.new).depth ≡ depth_left result (K.moment keeper.old).depth 0 }
+    ensures stops { IfErr result (λ e. acting.ends_early e ≡ true) }
 {
     Ok(keeper.scan(alloc, schema, table)?)
 }
