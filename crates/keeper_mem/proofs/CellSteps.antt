@@ -4,7 +4,7 @@ use Rattle.std.proofs.lemmas.List.{drop_all, take_more, map-append}
 use Rattle.std.proofs.lemmas.Option.{slice_get_within, get_or_from_slice_get}
 use Rattle.base_core.specs.declared.ids.ColumnNo.{ColumnNo}
 use Rattle.base_core.specs.declared.value.Value.{Value}
-use Rattle.base_core.specs.declared.value.Value.TheVariants.{Null, Int}
+use Rattle.base_core.specs.declared.value.Value.TheVariants.{Null}
 use Rattle.schema_core.specs.declared.table.ColumnSpec.{ColumnSpec}
 use Rattle.keeper_mem.specs.Held.{keyed}
 use Rattle.schema_core.specs.Apply.{lacks_value, with_cells, with_key}
@@ -21,11 +21,6 @@ ended : {A : Type 0} (ys : List A) (i : ℕ) → slice_get ys i ≡ None → dro
 ended [] i is = drop_all i [] (omega arith)
 ended (y ∷ ys) zero is = cc
 ended (y ∷ ys) (suc i) is = ended ys i is
-
-slice_get_none : {A : Type 0} (ys : List A) (i : ℕ) → slice_get ys i ≡ None → length ys ≤ i
-slice_get_none [] i is = omega arith
-slice_get_none (y ∷ ys) zero is = cc
-slice_get_none (y ∷ ys) (suc i) is = let rest : length ys ≤ i = slice_get_none ys i is in omega arith
 
 set_past : {A : Type 0} (ys : List A) (i : ℕ) (y : A) → length ys ≤ i → slice_set ys i y ≡ ys
 set_past [] i y h = refl
@@ -129,34 +124,23 @@ pub ruleset lack_steps = (lack_hit, lack_free, lack_held, lack_end, lack_short)
 
 -- ---- the key written in a row
 
-pub keyed_cell : (columns : List ColumnSpec) (key : Value) (row cells : List Value) (i : ℕ) (d : Value) → i < length row
-    → (cells ++ keyed (slice_get columns i) key (get_or row i d) ∷ []) ++ with_key (drop (i + 1) columns) key (drop (i + 1) row) ≡ cells ++ with_key (drop i columns) key (drop i row)
-keyed_cell columns key row cells i d h =
-    append_assoc cells (keyed (slice_get columns i) key (get_or row i d) ∷ []) (with_key (drop (i + 1) columns) key (drop (i + 1) row))
-    ∙ ap (λ r. cells ++ r) (by (slice_get columns i) refl ∙ sym (ap (with_key (drop i columns) key) (at row i d h)))
-  where
-    next : List Value
-    next = drop (i + 1) row
-    over : (cs : List ColumnSpec) → cs ≡ [] → (cell : Value) (r : List Value) → cell ∷ with_key [] key r ≡ with_key cs key (cell ∷ r)
-    over [] is cell r = refl
-    over (c ∷ cs) is cell r = cc
-    by : (o : Option ColumnSpec) → slice_get columns i ≡ o → keyed (slice_get columns i) key (get_or row i d) ∷ with_key (drop (i + 1) columns) key next ≡ with_key (drop i columns) key (get_or row i d ∷ next)
-    by None is =
-        ap (λ c. keyed c key (get_or row i d) ∷ with_key (drop (i + 1) columns) key next) is
-        ∙ ap (λ cs. get_or row i d ∷ with_key cs key next) (drop_all (i + 1) columns (omega (arith, slice_get_none columns i is)))
-        ∙ over (drop i columns) (ended columns i is) (get_or row i d) next
-    by (Some column) is =
-        ap (λ c. keyed c key (get_or row i d) ∷ with_key (drop (i + 1) columns) key next) is
-        ∙ sym (ap (λ cs. with_key cs key (get_or row i d ∷ next)) (got columns i column is))
+pub keyed_cell : (columns : List ColumnSpec) (key : Value) (row cells : List Value) (i : ℕ) (d : ColumnSpec) (cell : Value) → i < length columns → slice_get row i ≡ Some cell
+    → (cells ++ keyed (get_or columns i d) key cell ∷ []) ++ with_key (drop (i + 1) columns) key (drop (i + 1) row) ≡ cells ++ with_key (drop i columns) key (drop i row)
+keyed_cell columns key row cells i d cell h is =
+    append_assoc cells (keyed (get_or columns i d) key cell ∷ []) (with_key (drop (i + 1) columns) key (drop (i + 1) row))
+    ∙ ap (λ r. cells ++ r) (sym (both (λ cs r. with_key cs key r) columns row i d cell h is))
 
-pub keyed_end : (columns : List ColumnSpec) (key : Value) (row : List Value) (i : ℕ) → length row ≤ i → with_key (drop i columns) key (drop i row) ≡ []
-keyed_end columns key row i h = ap (with_key (drop i columns) key) (drop_all i row h) ∙ bare (drop i columns)
-  where
-    bare : (cs : List ColumnSpec) → with_key cs key [] ≡ []
-    bare [] = refl
-    bare (c ∷ cs) = refl
+pub keyed_end : (columns : List ColumnSpec) (key : Value) (row : List Value) (i : ℕ) → length columns ≤ i → with_key (drop i columns) key (drop i row) ≡ []
+keyed_end columns key row i h = ap (λ cs. with_key cs key (drop i row)) (drop_all i columns h)
 
-pub ruleset keyed_steps = (keyed_cell, keyed_end, append-nil)
+short_keyed : (key : Value) (columns : List ColumnSpec) → with_key columns key [] ≡ []
+short_keyed key [] = refl
+short_keyed key (c ∷ cs) = refl
+
+pub keyed_short : (columns : List ColumnSpec) (key : Value) (row : List Value) (i : ℕ) → slice_get row i ≡ None → with_key (drop i columns) key (drop i row) ≡ []
+keyed_short columns key row i none = ap (with_key (drop i columns) key) (ended row i none) ∙ short_keyed key (drop i columns)
+
+pub ruleset keyed_steps = (keyed_cell, keyed_end, keyed_short, append-nil)
 
 -- ---- cells written in a row
 

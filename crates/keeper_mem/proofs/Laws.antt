@@ -2,14 +2,13 @@
 use Rattle.std.proofs.lemmas.Bool.{true≢false}
 use Rattle.std.proofs.lemmas.Map.Steps.{set_value_same}
 use Rattle.std.specs.Option.{unwrap_or}
-use Rattle.std.proofs.Common.{◌≡◌, ℕ, Bool, true, false, is_some, Result, Ok, Err, OnErr, List, [], ◌∷◌, Option, None, Some, refl, sym, ap, ◌∙◌}
-use Rattle.std.specs.declared.cmp.Ordering.{Ordering}
-use Rattle.std.specs.declared.cmp.Ordering.TheVariants.{Less, Equal, Greater}
-use Rattle.std.specs.Ordering.{nat_cmp, int_cmp, bool_cmp}
+use Rattle.std.proofs.Common.{◌≡◌, Bool, true, false, is_some, Result, Ok, Err, OnErr, List, [], Option, None, Some, refl, sym, ap, ◌∙◌}
+use Rattle.std.specs.declared.cmp.Ordering.TheVariants.{Equal}
+use Rattle.std.specs.Ordering.{bool_cmp}
 use Rattle.std.specs.Cmp.{IsTotalOrder, on_total, nat_cmp_total}
-use Rattle.std.specs.Cmp.Lexicographic.{slice_cmp, lists_total}
-use Rattle.std.specs.BTreeMap.{insert_entry, is_at}
-use Rattle.std.specs.Map.{keys_of, lookup, remove_entry, set_value}
+use Rattle.std.specs.Cmp.Lexicographic.{lists_total}
+use Rattle.std.specs.BTreeMap.{is_at}
+use Rattle.std.specs.Map.{keys_of, set_value}
 use Rattle.std.specs.List.Sorted.{IsStrictlySortedBy}
 use Rattle.std.specs.FinMap.{slice_cmp-IsAntisymmetric}
 use Rattle.std.proofs.lemmas.Map.Lookups.{CmpEqualImpliesEq, exact_bytes, exact_signed}
@@ -111,7 +110,7 @@ rows_restored tables table rows sorted created = at (rows_in tables table) refl
 -- a row put in a table, and what stood under its key brought back
 pub put_undone : (tables : Tables) (table : TableId) (key row : List Value) → AreSorted tables table → is_some (rows_in tables table) ≡ true
     → with_rows (with_rows tables table (with_row (rows_at tables table) key row)) table
-        (restored (rows_at (with_rows tables table (with_row (rows_at tables table) key row)) table) key (row_under (rows_at tables table) key)) ≡ tables
+    (restored (rows_at (with_rows tables table (with_row (rows_at tables table) key row)) table) key (row_under (rows_at tables table) key)) ≡ tables
 put_undone tables table key row sorted created =
     let rows : Rows = rows_at tables table in
     let after : Rows = with_row rows key row in
@@ -122,7 +121,7 @@ put_undone tables table key row sorted created =
 -- a row taken out of a table, and put in again
 pub taking_undone : (tables : Tables) (table : TableId) (key row : List Value) → AreSorted tables table → is_some (rows_in tables table) ≡ true → row_under (rows_at tables table) key ≡ Some row
     → with_rows (with_rows tables table (without_row (rows_at tables table) key)) table
-        (with_row (rows_at (with_rows tables table (without_row (rows_at tables table) key)) table) key row) ≡ tables
+    (with_row (rows_at (with_rows tables table (without_row (rows_at tables table) key)) table) key row) ≡ tables
 taking_undone tables table key row sorted created found =
     let rows : Rows = rows_at tables table in
     let after : Rows = without_row rows key in

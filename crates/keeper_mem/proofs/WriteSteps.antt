@@ -1,11 +1,10 @@
 -- Steps of a statement that writes one row.
-use Rattle.std.proofs.Common.{◌≡◌, ℕ, ℤ, pos, Bool, true, false, not, cond, ◌&&◌, ◌||◌, List, [], ◌∷◌, Option, None, Some, is_some, Result, Ok, Err, if◌then◌else◌, refl, sym, ap, ◌∙◌, subst}
+use Rattle.std.proofs.Common.{◌≡◌, ℕ, ℤ, Bool, true, false, not, ◌&&◌, ◌||◌, List, [], ◌∷◌, Option, None, Some, is_some, Ok, Err, if◌then◌else◌, refl, sym, ap, ◌∙◌}
 use Rattle.std.specs.declared.cmp.Ordering.{Ordering}
 use Rattle.std.specs.declared.cmp.Ordering.TheVariants.{Less, Equal, Greater}
-use Rattle.std.specs.Ordering.{match_ordering, is_eq}
+use Rattle.std.specs.Ordering.{is_eq}
 use Rattle.std.specs.List.{list_any}
-use Rattle.std.specs.BTreeMap.{insert_entry, is_at}
-use Rattle.std.specs.Map.{keys_of}
+use Rattle.std.specs.BTreeMap.{insert_entry}
 use Rattle.base_core.specs.declared.ids.TableId.{TableId}
 use Rattle.base_core.specs.declared.value.Value.{Value}
 use Rattle.base_core.specs.Order.{values_cmp}
@@ -18,12 +17,10 @@ use Rattle.schema_core.specs.declared.statement.Breach.TheVariants.{NotNull, Key
 use Rattle.schema_core.specs.declared.statement.RowStmt.{RowStmt}
 use Rattle.schema_core.specs.declared.statement.RowStmt.TheVariants.{Insert, Update, Delete}
 use Rattle.std.specs.Option.{unwrap_or}
-use Rattle.schema_core.specs.Apply.{Outcome, applied, apply, changed, deleted, inserted, is_demanded, lacks_value, next_key, put_in, put_under, table_of, taken, unless_dangling, updated, wants_key, with_cells, with_key, written}
+use Rattle.schema_core.specs.Apply.{applied, apply, changed, deleted, inserted, is_demanded, lacks_value, next_key, put_in, put_under, table_of, taken, unless_dangling, updated, wants_key, with_cells, with_key, written}
 use Rattle.schema_core.specs.Catalog.{Catalog, has_generated_key, is_required, spec_of}
 use Rattle.schema_core.specs.Tables.{Rows, Tables, collide, has_dangling, key_of, repeats_unique, row_under, rows_in, same_values, with_row, with_rows, without_row}
-use Rattle.keeper_mem.specs.Held.{AreSorted, Did, restored, rows_at}
-use Rattle.keeper_mem.specs.declared.writing.Unwritten.{Unwritten}
-use Rattle.keeper_mem.specs.declared.writing.Unwritten.TheVariants.{Breaks, Memory}
+use Rattle.keeper_mem.specs.Held.{rows_at}
 use Rattle.keeper_mem.proofs.Entries.{found_put, same_key}
 use Rattle.keeper_mem.proofs.Laws.{tables_total, values_total, put_undone, taking_undone}
 

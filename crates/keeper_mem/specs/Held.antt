@@ -1,5 +1,5 @@
 -- Tables with one of them changed, and what a statement did to tables that are held.
-use Rattle.std.specs.Prelude.{◌≡◌, Bool, cond, List, [], Option, None, Some, Result, Ok, Err, is_some}
+use Rattle.std.specs.Prelude.{◌≡◌, cond, List, [], Option, None, Some, Result, Ok, Err}
 use Rattle.std.specs.Option.{unwrap_or}
 use Rattle.std.specs.Map.{keys_of, remove_entry, set_value}
 use Rattle.std.specs.BTreeMap.{is_at}
@@ -23,9 +23,8 @@ restored rows key None = remove_entry (is_at (values_cmp key)) rows
 restored rows key (Some row) = set_value (is_at (values_cmp key)) rows row
 
 -- a cell, or the key where the cell's column is of the key
-abbrev pub keyed : Option ColumnSpec → Value → Value → Value
-keyed None key cell = cell
-keyed (Some column) key cell = cond column.key key cell
+abbrev pub keyed : ColumnSpec → Value → Value → Value
+keyed column key cell = cond column.key key cell
 
 -- tables rise by number, and the rows of one of them by key
 abbrev pub AreSorted : Tables → TableId → Type 0

@@ -1,7 +1,6 @@
 //! Cells of rows beside the columns of their table.
 
 ghost use Rattle.std.specs.Prelude.{◌≡◌, ◌&&◌, not, IfOk};
-ghost use Rattle.std.specs.Option.{option_copied};
 ghost use Rattle.schema_core.specs.Apply.{lacks_value, with_cells, with_key};
 ghost use Rattle.keeper_mem.specs.Held.{keyed};
 ghost use Rattle.schema_core.specs.Catalog.{is_required};
@@ -125,13 +124,10 @@ pub fn lacks_given(columns: &[ColumnSpec], row: &[Value], generated: bool) -> bo
     false
 }
 
-/// A cell with the key written where its column is of the key.
-fn keyed(column: Option<&ColumnSpec>, key: i64, cell: &Value) -> Result<Value, AllocError>
-    ensures { IfOk result (λ value. value ≡ keyed (option_copied column.entry) (Value.Int key) cell.now) }
+/// A cell, or the key where its column is of the key.
+fn keyed(column: &ColumnSpec, key: i64, cell: &Value) -> Result<Value, AllocError>
+    ensures { IfOk result (λ value. value ≡ keyed column.now (Value.Int key) cell.now) }
 {
-    let Some(column) = column else {
-        return cell.copied();
-    };
     if column.key {
         return Ok(Value::Int(key));
     }
@@ -149,18 +145,18 @@ pub fn with_key(
     ensures { IfOk result (λ keyed. keyed ≡ with_key columns.now (Value.Int key) row.now) }
 {
     let mut cells = Vec::with_capacity(alloc, row.len())?;
-    for (place, cell) in row.iter().enumerate() {
-        cells.push(keyed(columns.get(place), key, cell)?)?;
+    for (place, column) in columns.iter().enumerate() {
+        let Some(cell) = row.get(place) else {
+            return Ok(ListOf::from_vec(cells));
+        };
+        cells.push(keyed(column, key, cell)?)?;
     }
     Ok(ListOf::from_vec(cells))
 }
 
 #[tactic(auto, using(crate::proofs::CellSteps::written_steps))]
 /// The row with these cells written.
-pub fn with_cells(
-    row: RowValues,
-    written: &[(ColumnNo, Value)],
-) -> Result<RowValues, AllocError>
+pub fn with_cells(row: RowValues, written: &[(ColumnNo, Value)]) -> Result<RowValues, AllocError>
     ensures { IfOk result (λ changed. changed ≡ with_cells row written.now) }
 {
     let mut cells = row.into_vec();

@@ -60,7 +60,12 @@ fn dangles(
 ) -> Result<bool, AllocError>
     ensures { IfOk result (λ yes. yes ≡ dangles schema.now tables.now spec.now row.now foreign.now) }
 {
-    let key = cells_of(alloc, spec.columns.as_slice(), row, foreign.columns.as_slice())?;
+    let key = cells_of(
+        alloc,
+        spec.columns.as_slice(),
+        row,
+        foreign.columns.as_slice(),
+    )?;
     if has_null(key.as_slice()) {
         return Ok(false);
     }

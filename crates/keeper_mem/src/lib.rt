@@ -1,14 +1,16 @@
 //! A keeper of tables in memory.
 #![tactic(auto)]
 
+mod acting;
 mod cells;
 mod judging;
+mod keeper;
 mod rows;
+mod store;
 mod tables;
 mod writing;
 
-
+pub use keeper::{Attachment, MemKeeper};
 pub use rows::TableRows;
 pub use tables::TableMap;
 pub use writing::Unwritten;
-

@@ -1,6 +1,6 @@
 //! The rows of one table.
 
-ghost use Rattle.std.specs.Prelude.{◌≡◌, ◌+ℤ◌, pos, if◌then◌else◌, [], IfOk, IfSome, OnOk, OnErr};
+ghost use Rattle.std.specs.Prelude.{◌≡◌, ◌+ℤ◌, pos, if◌then◌else◌, map, [], IfOk, IfSome, OnOk, OnErr};
 ghost use Rattle.std.specs.Option.{option_copied};
 ghost use Rattle.std.specs.Ordering.{int_eq};
 ghost use Rattle.std.specs.Map.{keys_of};
@@ -10,7 +10,7 @@ ghost use Rattle.schema_core.specs.Apply.{key_after, next_key};
 ghost use Rattle.schema_core.specs.Tables.{row_under, with_row, without_row};
 ghost use Rattle.keeper_mem.specs.Held.{restored};
 
-use base_core::{Key, RowValues, Value};
+use base_core::{Copied, Key, ListOf, RowList, RowValues, Value};
 use std::alloc::{AllocError, Global};
 use std::collections::BTreeMap;
 use std::marker::Model;
@@ -92,6 +92,17 @@ impl TableRows {
         *place = row;
     }
 
+    /// Copies of the rows, rising by key.
+    pub fn list(&self, alloc: Global) -> Result<RowList, AllocError>
+        ensures { IfOk result (λ rows. rows ≡ map (λ entry. entry.1) self.now) }
+    {
+        let mut rows = Vec::new(alloc);
+        for (_, row) in &self.rows {
+            rows.push(row.copied()?)?;
+        }
+        Ok(ListOf::from_vec(rows))
+    }
+
     #[tactic(auto, using(crate::proofs::NextKey::next_keys))]
     /// One above the greatest key, 1 where there are no rows; none where the greatest key is the greatest integer.
     pub fn next_key(&self) -> Option<i64>
@@ -101,6 +112,23 @@ impl TableRows {
             return Some(1);
         };
         key_after(key.as_slice())
+    }
+}
+
+impl Copied for TableRows {
+    #[tactic(auto, using(crate::proofs::Copies::entries_copied))]
+    fn copied(&self) -> Result<TableRows, AllocError> {
+        Ok(TableRows {
+            rows: self.rows.clone()?,
+        })
+    }
+}
+
+impl Clone for TableRows {
+    ghost is_clone = { λ rows copy. copy ≡ rows };
+
+    fn clone(&self) -> Result<TableRows, AllocError> {
+        self.copied()
     }
 }
 

@@ -1,6 +1,6 @@
 //! Tables with scopes.
 
-ghost use Rattle.std.specs.Prelude.{◌≡◌, ◌-◌, ◌<◌, ◌≤◌, [], ◌∷◌, length, drop, slice_index_or, IfOk, OnOk, OnErr};
+ghost use Rattle.std.specs.Prelude.{◌≡◌, ◌-◌, ◌<◌, ◌≤◌, [], ◌∷◌, length, map, drop, slice_index_or, IfOk, OnOk, OnErr};
 ghost use Rattle.std.specs.Option.{option_map, option_copied};
 ghost use Rattle.schema_core.specs.Apply.{apply};
 ghost use Rattle.schema_core.specs.Tables.{rows_in};
@@ -9,8 +9,8 @@ ghost use Rattle.keeper_core.specs.Store.{Store, committed_of, created, dropped,
 ghost use Rattle.keeper_mem.specs.Held.{Did};
 
 use crate::writing::apply;
-use crate::{TableMap, TableRows, Unwritten};
-use base_core::{Copied, Key, ListOf, RowList, TableId};
+use crate::{TableMap, Unwritten};
+use base_core::{Copied, Key, RowList, TableId};
 use schema_core::{RowStmt, Schema};
 use std::alloc::{AllocError, Global};
 use std::marker::Model;
@@ -105,5 +105,43 @@ impl TableStore {
             self.tables = tables;
             self.scopes.clear();
         }
+    }
+
+    #[tactic(auto, using(crate::proofs::Scopes::scopes_left))]
+    /// Goes back to the tables at the start of the scope of this number, counted from the outermost, which is 0,
+    /// and ends it and all inside it.
+    pub(crate) fn go_back_to(&mut self, number: usize)
+        requires { number < length self.old.scopes }
+        ensures { self.new ≡ record { tables = slice_index_or self.old.scopes (length self.old.scopes - number - 1) self.old.tables; scopes = drop (length self.old.scopes - number) self.old.scopes } }
+    {
+        let inside = self.scopes.len() - number - 1;
+        for _done in 0..inside {
+            self.scopes.remove(0);
+        }
+        self.tables = self.scopes.remove(0);
+    }
+
+    /// Does a statement on one row.
+    pub(crate) fn write(
+        &mut self,
+        alloc: Global,
+        schema: &Schema,
+        statement: &RowStmt,
+    ) -> Result<Key, Unwritten>
+        requires { IsWellFormed schema.now statement.now }
+        ensures tables { Did (apply schema.now self.old.tables statement.now) self.old.tables result self.new.tables }
+        ensures scopes { self.new.scopes ≡ self.old.scopes }
+    {
+        apply(alloc, schema, &mut self.tables, statement)
+    }
+
+    /// The rows of a table, rising by key, or none where it is not created.
+    pub(crate) fn rows(&self, alloc: Global, table: TableId) -> Result<Option<RowList>, AllocError>
+        ensures { IfOk result (λ rows. rows ≡ option_map (λ rows. map (λ entry. entry.1) rows) (rows_in self.now.tables table)) }
+    {
+        let Some(rows) = self.tables.get(table) else {
+            return Ok(None);
+        };
+        Ok(Some(rows.list(alloc)?))
     }
 }

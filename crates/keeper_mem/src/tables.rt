@@ -7,7 +7,7 @@ ghost use Rattle.schema_core.specs.Tables.{rows_in, row_under, with_row, with_ro
 ghost use Rattle.keeper_mem.specs.Held.{AreSorted, rows_at, restored};
 
 use crate::TableRows;
-use base_core::{Key, RowValues, TableId};
+use base_core::{Copied, Key, RowValues, TableId};
 use std::alloc::{AllocError, Global};
 use std::collections::BTreeMap;
 use std::marker::Model;
@@ -114,5 +114,14 @@ impl TableMap {
             return;
         };
         rows.restore(key, before);
+    }
+}
+
+impl Copied for TableMap {
+    #[tactic(auto, using(crate::proofs::Copies::entries_copied))]
+    fn copied(&self) -> Result<TableMap, AllocError> {
+        Ok(TableMap {
+            tables: self.tables.clone()?,
+        })
     }
 }

@@ -1,6 +1,6 @@
 -- The last row's key is the greatest.
-use Rattle.std.proofs.Common.{◌≡◌, sym, ap, ◌∙◌}
-use Rattle.schema_core.specs.Apply.{key_after, next_key}
+use Rattle.std.proofs.Common.{sym, ap, ◌∙◌}
+use Rattle.schema_core.specs.Apply.{key_after}
 use Rattle.keeper_mem.proofs.NextKey.{next_key_last}
 use Rattle.keeper_mem.proofs.rows.TableRows.next_key.Goals as goal
 

@@ -1,0 +1,6 @@
+-- A fault ends the call.
+use Rattle.keeper_mem.proofs.Keeping.{faulted}
+use Rattle.keeper_mem.proofs.acting.MemKeeperKeeper.commit.Goals as goal
+
+pub returns-in_default-clause-step : goal.returns-in_default-clause-step
+returns-in_default-clause-step c = faulted c.requires.attached c.count_call.ensures.small.0 c.in_default.ensures.err.2

@@ -1,0 +1,11 @@
+-- A fault, or want of memory, ends the call.
+use Rattle.std.proofs.Common.{ap, ◌∙◌}
+use Rattle.keeper_mem.specs.Kept.{ended}
+use Rattle.keeper_mem.proofs.Keeping.{faulted, ran_out}
+use Rattle.keeper_mem.proofs.acting.MemKeeperKeeper.create.Goals as goal
+
+pub returns-in_default-clause-step : goal.returns-in_default-clause-step
+returns-in_default-clause-step c = faulted c.requires.attached c.count_call.ensures.small.0 c.in_default.ensures.err.2
+
+pub returns-in_default-create_table-clause-step : goal.returns-in_default-create_table-clause-step
+returns-in_default-create_table-clause-step c = ran_out c.requires.attached (c.give_up.ensures ∙ ap ended (c.in_default-create_table.ensures.err ∙ c.in-Ok.ensures.ok.1))
