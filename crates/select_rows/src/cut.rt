@@ -21,7 +21,7 @@ fn is_among(rows: &[RowValues], row: &RowValues) -> bool
 }
 
 // The row goes to the end unless an equal one is there.
-fn keep_first(kept: &mut Vec<RowValues>, row: RowValues) -> Result<(), AllocError>
+pub(crate) fn keep_first(kept: &mut Vec<RowValues>, row: RowValues) -> Result<(), AllocError>
     ensures { OnOk result (kept.new.items ≡ (if list_any (λ d. same_row_spec d row) kept.old.items then kept.old.items else kept.old.items ++ row ∷ [])) }
 {
     if !is_among(kept, &row) {
