@@ -31,7 +31,11 @@ pub(crate) fn keep_first(kept: &mut Vec<RowValues>, row: RowValues) -> Result<()
 }
 
 /// The first of equal rows is kept.
-pub(crate) fn distinct(alloc: Global, distinct: bool, rows: Vec<RowValues>) -> Result<Vec<RowValues>, AllocError>
+pub(crate) fn distinct(
+    alloc: Global,
+    distinct: bool,
+    rows: Vec<RowValues>,
+) -> Result<Vec<RowValues>, AllocError>
     ensures { IfOk result (λ kept. kept.items ≡ spec.distinct distinct rows.items) }
 {
     if !distinct {

@@ -1,6 +1,8 @@
 //! Groups.
 
 ghost use Rattle.std.specs.Prelude.{◌≡◌, [], ◌∷◌, map, IfOk};
+ghost use Rattle.std.specs.List.{list_any};
+ghost use Rattle.expr_types.specs.Level as level;
 ghost use Rattle.expr_typing.specs.Plain as plain;
 ghost use Rattle.expr_eval.specs.Checked.{Gives};
 ghost use Rattle.expr_eval.specs.Eval as eval;
@@ -12,7 +14,7 @@ use crate::cut::{keep_first, same_row};
 use crate::frame::scope_at;
 use crate::survey::has_aggregate;
 use crate::{Basis, Frame};
-use base_core::{Copied, ListOf, Refusal, RowList, RowValues};
+use base_core::{Copied, ListOf, Name, Refusal, RowList, RowValues};
 use expr_eval::{Scope, value_in};
 use expr_types::{Expr, ExprList, Select};
 use std::alloc::{AllocError, Global};
@@ -21,22 +23,46 @@ use std::alloc::{AllocError, Global};
 fn is_grouped(select: &Select) -> bool
     ensures { result ≡ plain.is_grouped select.now }
 {
-    !select.groups.is_empty()
-        || select.having.is_some()
-        || select
-            .items
-            .as_slice()
-            .iter()
-            .any(|item| has_aggregate(&item.0))
-        || select
-            .order
-            .as_slice()
-            .iter()
-            .any(|key| has_aggregate(&key.0))
+    let groups = select.groups.len();
+    groups > 0 || select.having.is_some() || has_aggregates(select)
+}
+
+#[tactic(auto, using(crate::proofs::Surveys::any_outputs))]
+fn has_aggregates(select: &Select) -> bool
+    ensures { result ≡ list_any level.has_aggregate (plain.outputs select.now) }
+{
+    in_items(&select.items) || in_order(&select.order)
+}
+
+fn in_items(items: &ListOf<(Expr, Option<Name>)>) -> bool
+    ensures { result ≡ list_any (λ i. level.has_aggregate i.0) items.now }
+{
+    for item in items.as_slice() {
+        if has_aggregate(&item.0) {
+            return true;
+        }
+    }
+    false
+}
+
+fn in_order(order: &ListOf<(Expr, bool)>) -> bool
+    ensures { result ≡ list_any (λ k. level.has_aggregate k.0) order.now }
+{
+    for key in order.as_slice() {
+        if has_aggregate(&key.0) {
+            return true;
+        }
+    }
+    false
 }
 
 /// The rows, or their groups where the select groups.
-pub(crate) fn bases(alloc: Global, frame: &Frame<'_>, select: &Select, rows: Vec<RowValues>) -> Result<Vec<Basis>, Refusal>
+pub(crate) fn bases(
+    alloc: Global,
+    frame: &Frame<'_>,
+    select: &Select,
+    rows: Vec<RowValues>,
+) -> Result<Vec<Basis>, Refusal>
     ensures { Gives (λ v. v.items) result (spec.bases (frame_of frame.now) select.now rows.items) }
 {
     if is_grouped(select) {
@@ -56,7 +82,12 @@ fn ungrouped(alloc: Global, rows: Vec<RowValues>) -> Result<Vec<Basis>, AllocErr
     Ok(bases)
 }
 
-fn grouped(alloc: Global, frame: &Frame<'_>, expressions: &ExprList, rows: Vec<RowValues>) -> Result<Vec<Basis>, Refusal>
+fn grouped(
+    alloc: Global,
+    frame: &Frame<'_>,
+    expressions: &ExprList,
+    rows: Vec<RowValues>,
+) -> Result<Vec<Basis>, Refusal>
     ensures { Gives (λ v. v.items) result (spec.grouped (frame_of frame.now) expressions.now rows.items) }
 {
     if expressions.is_empty() {
@@ -74,7 +105,12 @@ fn one_group(alloc: Global, rows: Vec<RowValues>) -> Result<Vec<Basis>, AllocErr
     Ok(bases)
 }
 
-fn keyed(alloc: Global, frame: &Frame<'_>, expressions: &ExprList, rows: Vec<RowValues>) -> Result<Vec<(RowValues, RowValues)>, Refusal>
+fn keyed(
+    alloc: Global,
+    frame: &Frame<'_>,
+    expressions: &ExprList,
+    rows: Vec<RowValues>,
+) -> Result<Vec<(RowValues, RowValues)>, Refusal>
     ensures { Gives (λ v. v.items) result (spec.mapped_from (spec.keyed (frame_of frame.now) expressions.now) [] rows.items) }
 {
     let mut all = Vec::with_capacity(alloc, rows.len())?;
@@ -118,7 +154,11 @@ fn keys(alloc: Global, all: &[(RowValues, RowValues)]) -> Result<Vec<RowValues>,
     Ok(keys)
 }
 
-fn rows_with(alloc: Global, all: &[(RowValues, RowValues)], key: &RowValues) -> Result<RowList, AllocError>
+fn rows_with(
+    alloc: Global,
+    all: &[(RowValues, RowValues)],
+    key: &RowValues,
+) -> Result<RowList, AllocError>
     ensures { IfOk result (λ rows. rows ≡ spec.rows_with all.now key.now) }
 {
     let mut rows = Vec::new(alloc);

@@ -16,7 +16,12 @@ use expr_types::{Expr, Select};
 use std::alloc::Global;
 
 /// For each row or group in turn, the items and then the order expressions.
-pub(crate) fn outputs(alloc: Global, frame: &Frame<'_>, select: &Select, bases: &[Basis]) -> Result<Vec<Output>, Refusal>
+pub(crate) fn outputs(
+    alloc: Global,
+    frame: &Frame<'_>,
+    select: &Select,
+    bases: &[Basis],
+) -> Result<Vec<Output>, Refusal>
     ensures { Gives (λ v. v.items) result (spec.mapped_from (spec.output (frame_of frame.now) select.now) [] bases.now) }
 {
     let mut outputs = Vec::with_capacity(alloc, bases.len())?;
@@ -35,7 +40,11 @@ fn output(alloc: Global, select: &Select, scope: &Scope<'_>) -> Result<Output, R
     Ok((keys, row))
 }
 
-fn values(alloc: Global, items: &ListOf<(Expr, Option<Name>)>, scope: &Scope<'_>) -> Result<RowValues, Refusal>
+fn values(
+    alloc: Global,
+    items: &ListOf<(Expr, Option<Name>)>,
+    scope: &Scope<'_>,
+) -> Result<RowValues, Refusal>
     ensures { Gives (λ x. x) result (eval.all_from (place_of scope.now) [] (map (λ i. eval.evaluated i.0) items.now)) }
 {
     let mut values = Vec::with_capacity(alloc, items.len())?;
@@ -45,7 +54,11 @@ fn values(alloc: Global, items: &ListOf<(Expr, Option<Name>)>, scope: &Scope<'_>
     Ok(ListOf::from_vec(values))
 }
 
-fn keys(alloc: Global, order: &ListOf<(Expr, bool)>, scope: &Scope<'_>) -> Result<ListOf<SortKey>, Refusal>
+fn keys(
+    alloc: Global,
+    order: &ListOf<(Expr, bool)>,
+    scope: &Scope<'_>,
+) -> Result<ListOf<SortKey>, Refusal>
     ensures { Gives (λ x. x) result (spec.keys_from (place_of scope.now) [] order.now) }
 {
     let mut keys = Vec::with_capacity(alloc, order.len())?;
