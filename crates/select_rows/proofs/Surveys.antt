@@ -1,5 +1,9 @@
 -- Aggregates in lists of operands; the rows that are kept.
-use Rattle.std.proofs.Common.{◌≡◌, ℕ, Bool, true, false, List, [], ◌∷◌, ◌++◌, ◌||◌, cond, map, refl, ap, sym, ◌∙◌, append_assoc, append-nil}
+use Rattle.std.proofs.Common.{◌≡◌, ℕ, Bool, true, false, List, [], ◌∷◌, ◌++◌, ◌||◌, cond, map, refl, ap, sym, ◌∙◌, append_assoc, append-nil, ◌<◌, ◌+◌, length, get_or, drop}
+use Rattle.std.proofs.lemmas.List.{drop_more}
+use Rattle.expr_eval.specs.Eval.{Row}
+use Rattle.select_rows.specs.Order.{same_row}
+use Rattle.select_rows.specs.Rows.{Keyed, firsts_from}
 use Rattle.std.specs.List.{list_any}
 use Rattle.expr_types.specs.declared.expr.Expr.{Expr}
 use Rattle.expr_types.specs.declared.expr.Expr.TheVariants.{And, Or, Call, rolls-And, rolls-Or, rolls-Call}
@@ -24,3 +28,14 @@ has_call f parts = ap (fold-Expr Bool step) (sym (rolls-Call f parts)) ∙ fold-
 
 pub ruleset aggregates_in = (has_and, has_or, has_call)
 
+either : (a b c : Bool) → (a || (b || c)) ≡ ((a || b) || c)
+either true b c = refl
+either false b c = refl
+
+pub any_outputs : {A B X : Type 0} (p : X → Bool) (f : A → X) (g : B → X) (xs : List A) (ys : List B) → list_any p (map f xs ++ map g ys) ≡ (list_any (λ x. p (f x)) xs || list_any (λ y. p (g y)) ys)
+any_outputs p f g [] [] = refl
+any_outputs p f g [] (y ∷ ys) = ap (λ b. p (g y) || b) (any_outputs p f g [] ys)
+any_outputs p f g (x ∷ xs) ys = ap (λ b. p (f x) || b) (any_outputs p f g xs ys) ∙ either (p (f x)) _ _
+
+pub keys_more : (done : List Row) (all : List Keyed) (i : ℕ) (k : Keyed) → i < length all → k ≡ get_or all i k → firsts_from (cond (list_any (λ d. same_row d k.0) done) done (done ++ k.0 ∷ [])) (map (λ k. k.0) (drop (i + 1) all)) ≡ firsts_from done (map (λ k. k.0) (drop i all))
+keys_more done all i k l e = ap (λ ks. firsts_from done (map (λ k. k.0) ks)) (ap (λ y. y ∷ drop (i + 1) all) e ∙ sym (drop_more all i k l))

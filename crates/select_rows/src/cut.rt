@@ -21,7 +21,7 @@ fn is_among(rows: &[RowValues], row: &RowValues) -> bool
 }
 
 // The row goes to the end unless an equal one is there.
-fn keep_first(kept: &mut Vec<RowValues>, row: RowValues) -> Result<(), AllocError>
+pub(crate) fn keep_first(kept: &mut Vec<RowValues>, row: RowValues) -> Result<(), AllocError>
     ensures { OnOk result (kept.new.items ≡ (if list_any (λ d. same_row_spec d row) kept.old.items then kept.old.items else kept.old.items ++ row ∷ [])) }
 {
     if !is_among(kept, &row) {
@@ -31,7 +31,11 @@ fn keep_first(kept: &mut Vec<RowValues>, row: RowValues) -> Result<(), AllocErro
 }
 
 /// The first of equal rows is kept.
-pub(crate) fn distinct(alloc: Global, distinct: bool, rows: Vec<RowValues>) -> Result<Vec<RowValues>, AllocError>
+pub(crate) fn distinct(
+    alloc: Global,
+    distinct: bool,
+    rows: Vec<RowValues>,
+) -> Result<Vec<RowValues>, AllocError>
     ensures { IfOk result (λ kept. kept.items ≡ spec.distinct distinct rows.items) }
 {
     if !distinct {

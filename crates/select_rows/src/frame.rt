@@ -16,7 +16,11 @@ pub struct Frame<'a> {
 }
 
 /// The scope of a row.
-pub(crate) fn scope_at<'x>(starts: &'x [u32], tables: &'x [(TableId, RowList)], row: &'x [Value]) -> Scope<'x>
+pub(crate) fn scope_at<'x>(
+    starts: &'x [u32],
+    tables: &'x [(TableId, RowList)],
+    row: &'x [Value],
+) -> Scope<'x>
     ensures { place_of result ≡ spec.at (record { starts = starts.now; tables = tables.now }) row.now }
 {
     Scope {
@@ -28,7 +32,11 @@ pub(crate) fn scope_at<'x>(starts: &'x [u32], tables: &'x [(TableId, RowList)], 
 }
 
 /// The scope of a row or a group.
-pub(crate) fn scope_of<'x>(starts: &'x [u32], tables: &'x [(TableId, RowList)], basis: &'x Basis) -> Scope<'x>
+pub(crate) fn scope_of<'x>(
+    starts: &'x [u32],
+    tables: &'x [(TableId, RowList)],
+    basis: &'x Basis,
+) -> Scope<'x>
     ensures { place_of result ≡ spec.at_basis (record { starts = starts.now; tables = tables.now }) basis.now }
 {
     match basis {

@@ -98,7 +98,7 @@ pub(crate) fn in_order(alloc: Global, outputs: Vec<Output>) -> Result<Vec<RowVal
     ensures { IfOk result (λ rows. rows.items ≡ spec.in_order outputs.items) }
 {
     let ranked = ranked(alloc, outputs)?;
-    ranked.into_values().collect(alloc)
+    Ok(ranked.into_values().collect(alloc)?)
 }
 
 fn ranked(alloc: Global, outputs: Vec<Output>) -> Result<Ranked, AllocError>

@@ -10,7 +10,11 @@ use expr_types::{Expr, Joined, Select};
 use std::alloc::{AllocError, Global};
 
 /// The first table of the select's text that was not created is refused.
-pub(crate) fn all_created(alloc: Global, tables: &[(TableId, RowList)], select: &Select) -> Result<(), Refusal>
+pub(crate) fn all_created(
+    alloc: Global,
+    tables: &[(TableId, RowList)],
+    select: &Select,
+) -> Result<(), Refusal>
     ensures { Gives (λ x. x) result (spec.created tables.now (spec.tables_of select.now)) }
 {
     let named = tables_of(alloc, select)?;

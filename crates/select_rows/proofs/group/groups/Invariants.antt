@@ -1,0 +1,7 @@
+use Rattle.std.proofs.Common.{◌≡◌, ◌++◌, drop, map}
+use Rattle.select_rows.specs.declared.basis.Basis.TheVariants.{Group}
+use Rattle.select_rows.specs.Rows as spec
+use Rattle.select_rows.proofs.group.groups.Given as goal
+
+abbrev pub invariant-loop-key : goal.invariant-loop-key
+invariant-loop-key l = l.bases.items ++ map (λ key. Group (spec.rows_with l.all key)) (drop l.key-index l.key-items) ≡ map (λ key. Group (spec.rows_with l.all key)) l.key-items

@@ -1,0 +1,6 @@
+use Rattle.std.proofs.Common.{◌≡◌, [], drop, map}
+use Rattle.select_rows.specs.Rows as spec
+use Rattle.select_rows.proofs.group.keys.Given as goal
+
+abbrev pub invariant-loop-keyed : goal.invariant-loop-keyed
+invariant-loop-keyed l = spec.firsts_from l.keys.items (map (λ k. k.0) (drop l.keyed-index l.all)) ≡ spec.firsts_from [] (map (λ k. k.0) l.all)
