@@ -13,7 +13,7 @@ use Rattle.expr_types.specs.declared.expr.Expr.TheOpen.{Expr-F}
 use Rattle.expr_types.specs.declared.expr.Expr.TheVariants as expr
 use Rattle.expr_types.specs.declared.expr.Expr.TheViews.{roll-out-Expr, size-Expr, sized-Not}
 use Rattle.expr_types.specs.declared.expr.Expr.TheFolds.{ind-Expr, map-Expr}
-use Rattle.expr_types.specs.declared.expr.Func.TheVariants.{Lower, Count, Sum, Min, Max, Upper, Length, Coalesce}
+use Rattle.expr_types.specs.declared.expr.Func.TheVariants.{Lower}
 use Rattle.expr_types.specs.Normal.{normal, negated, negated_at, liked, like_by, lowered, lowered_at, lowered_by, joined_parts, and_parts, and_parts_at, or_parts, or_parts_at, opposite}
 use Rattle.expr_normal.proofs.Steps.{normal-Column, normal-Lit, normal-Compare, normal-IsNull, normal-And, normal-Or, normal-Not, normal-Arith, normal-Neg, normal-Concat, normal-Like, normal-Ilike, normal-InList, normal-Between, normal-Distinct, normal-Call, normal-CountAll, normal-Exists}
 
@@ -153,43 +153,43 @@ level_again n m x is same e = ap out-Expr (sym e ∙ same) ∙ is
 below-Compare : (n : Expr) (op : CompareOp) (a : Expr) (b : Expr) → out-Expr n ≡ Expr-F.Compare op a b → normal n ≡ n → (normal a ≡ a) × (normal b ≡ b)
 below-Compare n op a b is same =
     let e : Expr-F.Compare op (normal a) (normal b) ≡ Expr-F.Compare op a b =
-        sym (expr.outs-Compare op (normal a) (normal b)) ∙ level_again n (expr.Compare op (normal a) (normal b)) (Expr-F.Compare op a b) is same (ap normal (sym (sym (expr.rolls-Compare op a b) ∙ whole_is n (Expr-F.Compare op a b) is)) ∙ normal-Compare op a b) in
+    sym (expr.outs-Compare op (normal a) (normal b)) ∙ level_again n (expr.Compare op (normal a) (normal b)) (Expr-F.Compare op a b) is same (ap normal (sym (sym (expr.rolls-Compare op a b) ∙ whole_is n (Expr-F.Compare op a b) is)) ∙ normal-Compare op a b) in
     (cc, cc)
 
 below-IsNull : (n : Expr) (g : Bool) (a : Expr) → out-Expr n ≡ Expr-F.IsNull g a → normal n ≡ n → (normal a ≡ a)
 below-IsNull n g a is same =
     let e : Expr-F.IsNull g (normal a) ≡ Expr-F.IsNull g a =
-        sym (expr.outs-IsNull g (normal a)) ∙ level_again n (expr.IsNull g (normal a)) (Expr-F.IsNull g a) is same (ap normal (sym (sym (expr.rolls-IsNull g a) ∙ whole_is n (Expr-F.IsNull g a) is)) ∙ normal-IsNull g a) in
+    sym (expr.outs-IsNull g (normal a)) ∙ level_again n (expr.IsNull g (normal a)) (Expr-F.IsNull g a) is same (ap normal (sym (sym (expr.rolls-IsNull g a) ∙ whole_is n (Expr-F.IsNull g a) is)) ∙ normal-IsNull g a) in
     cc
 
 below-Ilike : (n : Expr) (g : Bool) (a : Expr) (b : Expr) → out-Expr n ≡ Expr-F.Ilike g a b → normal n ≡ n → (normal a ≡ a) × (normal b ≡ b)
 below-Ilike n g a b is same =
     let e : Expr-F.Ilike g (normal a) (normal b) ≡ Expr-F.Ilike g a b =
-        sym (expr.outs-Ilike g (normal a) (normal b)) ∙ level_again n (expr.Ilike g (normal a) (normal b)) (Expr-F.Ilike g a b) is same (ap normal (sym (sym (expr.rolls-Ilike g a b) ∙ whole_is n (Expr-F.Ilike g a b) is)) ∙ normal-Ilike g a b) in
+    sym (expr.outs-Ilike g (normal a) (normal b)) ∙ level_again n (expr.Ilike g (normal a) (normal b)) (Expr-F.Ilike g a b) is same (ap normal (sym (sym (expr.rolls-Ilike g a b) ∙ whole_is n (Expr-F.Ilike g a b) is)) ∙ normal-Ilike g a b) in
     (cc, cc)
 
 below-InList : (n : Expr) (g : Bool) (a : Expr) (vs : List Value) → out-Expr n ≡ Expr-F.InList g a vs → normal n ≡ n → (normal a ≡ a)
 below-InList n g a vs is same =
     let e : Expr-F.InList g (normal a) vs ≡ Expr-F.InList g a vs =
-        sym (expr.outs-InList g (normal a) vs) ∙ level_again n (expr.InList g (normal a) vs) (Expr-F.InList g a vs) is same (ap normal (sym (sym (expr.rolls-InList g a vs) ∙ whole_is n (Expr-F.InList g a vs) is)) ∙ normal-InList g a vs) in
+    sym (expr.outs-InList g (normal a) vs) ∙ level_again n (expr.InList g (normal a) vs) (Expr-F.InList g a vs) is same (ap normal (sym (sym (expr.rolls-InList g a vs) ∙ whole_is n (Expr-F.InList g a vs) is)) ∙ normal-InList g a vs) in
     cc
 
 below-Between : (n : Expr) (g : Bool) (a : Expr) (low : Expr) (high : Expr) → out-Expr n ≡ Expr-F.Between g a low high → normal n ≡ n → (normal a ≡ a) × (normal low ≡ low) × (normal high ≡ high)
 below-Between n g a low high is same =
     let e : Expr-F.Between g (normal a) (normal low) (normal high) ≡ Expr-F.Between g a low high =
-        sym (expr.outs-Between g (normal a) (normal low) (normal high)) ∙ level_again n (expr.Between g (normal a) (normal low) (normal high)) (Expr-F.Between g a low high) is same (ap normal (sym (sym (expr.rolls-Between g a low high) ∙ whole_is n (Expr-F.Between g a low high) is)) ∙ normal-Between g a low high) in
+    sym (expr.outs-Between g (normal a) (normal low) (normal high)) ∙ level_again n (expr.Between g (normal a) (normal low) (normal high)) (Expr-F.Between g a low high) is same (ap normal (sym (sym (expr.rolls-Between g a low high) ∙ whole_is n (Expr-F.Between g a low high) is)) ∙ normal-Between g a low high) in
     (cc, cc, cc)
 
 below-Distinct : (n : Expr) (g : Bool) (a : Expr) (b : Expr) → out-Expr n ≡ Expr-F.Distinct g a b → normal n ≡ n → (normal a ≡ a) × (normal b ≡ b)
 below-Distinct n g a b is same =
     let e : Expr-F.Distinct g (normal a) (normal b) ≡ Expr-F.Distinct g a b =
-        sym (expr.outs-Distinct g (normal a) (normal b)) ∙ level_again n (expr.Distinct g (normal a) (normal b)) (Expr-F.Distinct g a b) is same (ap normal (sym (sym (expr.rolls-Distinct g a b) ∙ whole_is n (Expr-F.Distinct g a b) is)) ∙ normal-Distinct g a b) in
+    sym (expr.outs-Distinct g (normal a) (normal b)) ∙ level_again n (expr.Distinct g (normal a) (normal b)) (Expr-F.Distinct g a b) is same (ap normal (sym (sym (expr.rolls-Distinct g a b) ∙ whole_is n (Expr-F.Distinct g a b) is)) ∙ normal-Distinct g a b) in
     (cc, cc)
 
 below-Exists : (n : Expr) (g : Bool) (o : Origin) (a : Expr) → out-Expr n ≡ Expr-F.Exists g o a → normal n ≡ n → (normal a ≡ a)
 below-Exists n g o a is same =
     let e : Expr-F.Exists g o (normal a) ≡ Expr-F.Exists g o a =
-        sym (expr.outs-Exists g o (normal a)) ∙ level_again n (expr.Exists g o (normal a)) (Expr-F.Exists g o a) is same (ap normal (sym (sym (expr.rolls-Exists g o a) ∙ whole_is n (Expr-F.Exists g o a) is)) ∙ normal-Exists g o a) in
+    sym (expr.outs-Exists g o (normal a)) ∙ level_again n (expr.Exists g o (normal a)) (Expr-F.Exists g o a) is same (ap normal (sym (sym (expr.rolls-Exists g o a) ∙ whole_is n (Expr-F.Exists g o a) is)) ∙ normal-Exists g o a) in
     cc
 
 -- ---- `like`
@@ -249,7 +249,7 @@ like_negated : (n : Expr) (g : Bool) (a b : Expr) → out-Expr n ≡ Expr-F.Like
 like_negated n g a b is same =
     let n_is : expr.Like g a b ≡ n = sym (expr.rolls-Like g a b) ∙ whole_is n (Expr-F.Like g a b) is in
     let e : like_by g (normal a) (normal b) (lowered (normal a)) (lowered (normal b)) ≡ expr.Like g a b =
-        sym (liked_by g (normal a) (normal b) (lowered (normal a)) (lowered (normal b)) refl refl) ∙ sym (normal-Like g a b) ∙ ap normal n_is ∙ same ∙ sym n_is in
+    sym (liked_by g (normal a) (normal b) (lowered (normal a)) (lowered (normal b)) refl refl) ∙ sym (normal-Like g a b) ∙ ap normal n_is ∙ same ∙ sym n_is in
     let below : (normal a ≡ a) × (normal b ≡ b) × (liked (not g) a b ≡ expr.Like (not g) a b) = like_below_by g a b (lowered (normal a)) (lowered (normal b)) refl refl e in
     like_stays (not g) a b below.0 below.1 below.2
 
@@ -307,3 +307,9 @@ fixed = ind-Expr (λ e. Fixed (normal e)) (λ x y is. subst (λ z. Fixed (normal
 
 pub normal_again : (e : Expr) → normal (normal e) ≡ normal e
 normal_again e = (fixed e).again
+
+-- in a normal form no `not` stands over a `not`
+pub not_below : (e b c : Expr) → out-Expr (normal e) ≡ Expr-F.Not b → out-Expr b ≡ Expr-F.Not c → ⊥
+not_below e b c is below =
+    let over : OverNot (Expr-F.Not b) = subst OverNot is (fixed e).below in
+    not_endless c (sym (negated_by b (Expr-F.Not c) below) ∙ over.1 ∙ ap expr.Not (sym (sym (expr.rolls-Not c) ∙ whole_is b (Expr-F.Not c) below)))

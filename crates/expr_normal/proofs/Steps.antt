@@ -6,8 +6,7 @@ use Rattle.base_core.specs.declared.value.ArithOp.{ArithOp}
 use Rattle.expr_types.specs.declared.expr.CompareOp.{CompareOp}
 use Rattle.expr_types.specs.declared.expr.Func.{Func}
 use Rattle.expr_types.specs.declared.expr.Origin.{Origin}
-use Rattle.expr_types.specs.declared.expr.Expr.{Expr, out-Expr, roll-Expr}
-use Rattle.expr_types.specs.declared.expr.Expr.TheOpen.{Expr-F}
+use Rattle.expr_types.specs.declared.expr.Expr.{Expr}
 use Rattle.expr_types.specs.declared.expr.Expr.TheVariants as expr
 use Rattle.expr_types.specs.Normal.{normal, normal_level, negated, liked, joined_parts, and_parts, or_parts}
 use Rattle.expr_types.proofs.Folds.{fold-Column, fold-Lit, fold-Compare, fold-IsNull, fold-And, fold-Or, fold-Not, fold-Arith, fold-Neg, fold-Concat, fold-Like, fold-Ilike, fold-InList, fold-Between, fold-Distinct, fold-Call, fold-CountAll, fold-Exists}

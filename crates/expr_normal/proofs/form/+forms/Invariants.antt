@@ -1,4 +1,4 @@
-use Rattle.std.proofs.Common.{◌≡◌, ◌++◌, map, reverse, length, ◌*◌, ◌+◌}
+use Rattle.std.proofs.Common.{◌≡◌, ◌++◌, map, reverse, length}
 use Rattle.expr_types.specs.Normal as spec
 use Rattle.expr_normal.proofs.form.+forms.Given as goal
 

@@ -1,0 +1,22 @@
+//! Laws of the normal form.
+#![tactic(auto)]
+
+ghost use Rattle.std.specs.Prelude.{◌≡◌, IsTrue, is_ok};
+ghost use Rattle.expr_types.specs.Normal.{normal};
+ghost use Rattle.expr_typing.specs.Kinds.{judged};
+ghost use Rattle.expr_typing.specs.Plain.{fits};
+ghost use Rattle.expr_eval.specs.Eval.{Place, evaluated};
+ghost use Rattle.normal_laws.specs.Places.{FitsPlace};
+
+use base_core::TableId;
+use expr_types::Expr;
+use schema_core::Schema;
+
+/// In every row the normal form of a typed expression has the same value, or the same first `DataError`. It does
+/// nothing when it runs.
+#[tactic(auto, using(crate::proofs::Meaning::in_every_row))]
+pub fn same_in_every_row(schema: &Schema, scope: &[TableId], e: &Expr)
+    requires fitting { IsTrue (fits schema.now e.now scope.now) }
+    requires typed { IsTrue (is_ok (judged schema.now e.now scope.now)) }
+    ensures { (p : Place) → FitsPlace schema.now scope.now p → evaluated (normal e.now) p ≡ evaluated e.now p }
+{}
