@@ -33,13 +33,22 @@ fn referring(alloc: Global, own: &str, target: &str) -> Result<TableSpec, Refusa
     })
 }
 
+// Declares a table where a number is left for it.
+fn declare(schema: &mut Schema, spec: TableSpec) -> Result<(), Refusal> {
+    if schema.count() < u32::MAX {
+        schema.declare_table(spec)?;
+    }
+    Ok(())
+}
+
 // Table a refers to b, b to d, c to itself and d to c.
+#[tactic(auto, unfolding(crate::specs::Declaration::resolve))]
 #[test]
 fn tables_are_created_before_those_that_refer_to_them(rt: HostRuntime) -> Result<(), Fail> {
     let alloc = rt.alloc();
     let mut schema = Schema::new(alloc);
     for (own, target) in [("a", "b"), ("b", "d"), ("c", "c"), ("d", "c")] {
-        schema.declare_table(referring(alloc, own, target)?)?;
+        declare(&mut schema, referring(alloc, own, target)?)?;
     }
     schema.resolve()?;
     let order = schema.tables_in_order(alloc)?;
@@ -47,6 +56,7 @@ fn tables_are_created_before_those_that_refer_to_them(rt: HostRuntime) -> Result
         order.as_slice(),
         [TableId(2), TableId(3), TableId(1), TableId(0)].as_slice()
     );
+    assert!(rt; schema.count() == 4);
     assert!(rt; schema.generated(TableId(0)));
     let mut row = ListOf::new(alloc);
     row.push(Value::Null)?;
