@@ -1,0 +1,2 @@
+pub mod ShellState
+pub mod Causes

@@ -1,0 +1,56 @@
+//! The names of what refusals have by number.
+
+ghost use Rattle.std.specs.Prelude.{◌≡◌};
+
+use base_core::{AttrNo, ClassId, ColumnNo, ObjId, RelNo, TableId};
+use mapper_core::Mapping;
+use printing::Naming;
+
+/// The names of a mapping's tables. Refusals have nothing else by number yet, and every other number gets the empty name.
+#[derive(Clone, Copy)]
+pub struct TableNames<'a> {
+    pub mapping: &'a Mapping,
+}
+
+impl<'a> Naming for TableNames<'a> {
+    ghost use Rattle.std.specs.Prelude.{[]};
+    ghost use Rattle.schema_core.specs.Catalog.{spec_of};
+
+    ghost names = { λ n. record {
+      table = λ table. (spec_of n.mapping.now.schema table).name;
+      column = λ table column. [];
+      class = λ class. [];
+      attribute = λ class attribute. [];
+      relation = λ class relation. [];
+      class_of = λ object. [];
+    } };
+
+    fn table_name(&self, table: TableId) -> &str {
+        let schema = self.mapping.schema();
+        if table.0 < schema.count() {
+            schema.spec(table).name.get()
+        } else {
+            ""
+        }
+    }
+
+    fn column_name(&self, _table: TableId, _column: ColumnNo) -> &str {
+        ""
+    }
+
+    fn class_name(&self, _class: ClassId) -> &str {
+        ""
+    }
+
+    fn attribute_name(&self, _class: ClassId, _attribute: AttrNo) -> &str {
+        ""
+    }
+
+    fn relation_name(&self, _class: ClassId, _relation: RelNo) -> &str {
+        ""
+    }
+
+    fn class_of(&self, _object: ObjId) -> &str {
+        ""
+    }
+}
