@@ -11,6 +11,3 @@ mod tables;
 mod writing;
 
 pub use keeper::{Attachment, MemKeeper};
-pub use rows::TableRows;
-pub use tables::TableMap;
-pub use writing::Unwritten;

@@ -9,9 +9,9 @@ ghost use Rattle.schema_core.specs.WellFormed.{IsWellFormed};
 ghost use Rattle.keeper_mem.specs.Held.{Did, rows_at};
 ghost use Rattle.keeper_mem.specs.declared.writing.Unwritten.TheVariants as unwritten;
 
-use crate::TableMap;
 use crate::cells::{has_null, key_of, lacks_given, lacks_value, with_cells, with_key};
 use crate::judging::{has_dangling, repeats_unique};
+use crate::tables::TableMap;
 use base_core::{ColumnNo, Copied, Key, ListOf, RowValues, TableId, Value};
 use keeper_core::calls::table_of;
 use schema_core::{Breach, RowStmt, Schema};
