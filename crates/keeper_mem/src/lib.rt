@@ -8,6 +8,8 @@ mod keeper;
 mod rows;
 mod store;
 mod tables;
+#[cfg(test)]
+mod tests;
 mod writing;
 
 pub use keeper::{Attachment, MemKeeper};

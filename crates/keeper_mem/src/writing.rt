@@ -174,7 +174,7 @@ fn lacks_demanded(schema: &Schema, table: TableId, row: &[Value]) -> bool
 
 #[tactic(auto, using(crate::proofs::WriteSteps::inserted_steps))]
 /// Puts in a new row.
-fn inserted(
+pub(crate) fn inserted(
     alloc: Global,
     schema: &Schema,
     tables: &mut TableMap,
@@ -201,7 +201,7 @@ fn inserted(
 
 #[tactic(auto, using(crate::proofs::WriteSteps::updated_steps))]
 /// Writes cells of the row of a key.
-fn updated(
+pub(crate) fn updated(
     alloc: Global,
     schema: &Schema,
     tables: &mut TableMap,
@@ -225,7 +225,7 @@ fn updated(
 
 #[tactic(auto, using(crate::proofs::WriteSteps::deleted_steps))]
 /// Takes out the row of a key, which may be absent.
-fn deleted(
+pub(crate) fn deleted(
     alloc: Global,
     schema: &Schema,
     tables: &mut TableMap,
