@@ -206,15 +206,23 @@ sides_steady : (many : Bool) → IsSteady (l.sides many)
 unfolding l.sides
 sides_steady many =
     both name_steady (λ called. both name_steady (λ target. both (secondary_steady many) (λ through. both back_steady (λ backref. both name_steady (λ partner.
-        made (called, target, through, backref, partner))))))
+    made (called, target, through, backref, partner))))))
 
 relation_steady : (many : Bool) → IsSteady (l.relation many)
 unfolding l.relation
 relation_steady many =
     both (sides_steady many) (λ found. both (names_after_steady k.Using) (λ using. both cascade_if_any_steady (λ cascade. both (post_update_steady many) (λ post.
-        made (c.RelationLine (record {
-            many = many; name = found.0; target = found.1; secondary = found.2; partner = found.4; backref = found.3; using = using; cascade = cascade;
-            post_update = post }))))))
+    made (c.RelationLine (record {
+      many = many;
+      name = found.0;
+      target = found.1;
+      secondary = found.2;
+      partner = found.4;
+      backref = found.3;
+      using = using;
+      cascade = cascade;
+      post_update = post;
+    }))))))
 
 validate_steady : IsSteady l.validate
 unfolding l.validate
