@@ -11,6 +11,9 @@ use Rattle.schema_core.specs.declared.statement.Breach.TheVariants as breaches
 use Rattle.schema_core.specs.declared.statement.RowStmt.{RowStmt}
 use Rattle.schema_core.specs.Apply.{apply, table_of}
 use Rattle.schema_core.specs.Catalog.{Catalog}
+use Rattle.keeper_core.specs.declared.keeper.KeeperStop.{KeeperStop}
+use Rattle.keeper_core.specs.declared.keeper.KeeperStop.TheVariants as stops
+use Rattle.keeper_core.specs.declared.keeper.Target.TheVariants as targets
 use Rattle.keeper_core.specs.declared.keeper.WriteRefusal.{WriteRefusal}
 use Rattle.keeper_core.specs.declared.keeper.WriteRefusal.TheVariants as refusals
 use Rattle.keeper_core.specs.declared.sent.Sent.TheVariants.{Write}
@@ -83,6 +86,23 @@ is_listed number numbers = list_any (λ other. nat_eq other number) numbers
 -- the next call is to fail
 abbrev pub is_failing : Kept → Bool
 is_failing kept = is_listed (one_more kept.calls) kept.failing
+
+-- the call was ended by a fault
+abbrev pub is_fault : {A : Type 0} → Result A KeeperStop → Bool
+is_fault (Err stops.Fault) = true
+is_fault r = false
+
+abbrev pub is_write_fault : {A : Type 0} → Result A WriteRefusal → Bool
+is_write_fault (Err refusals.Fault) = true
+is_write_fault r = false
+
+abbrev pub is_file : Target → Bool
+is_file targets.Memory = false
+is_file (targets.File name) = true
+
+-- the call was counted, and ended by a fault exactly where its number is in the list
+abbrev pub IsNumbered : Kept → Bool → Kept → Type 0
+IsNumbered old fault new = (fault ≡ is_failing old) × (new.calls ≡ one_more old.calls) × (new.failing ≡ old.failing)
 
 -- ---- what calls make of a keeper
 

@@ -1,9 +1,18 @@
 //! The calls of a keeper, done in memory.
 
-ghost use Rattle.keeper_mem.specs.Kept.{coherent, moment_of};
+ghost use Rattle.std.specs.Prelude.{◌≡◌, ◌+◌, ◌-◌, ◌<◌, ◌≤◌, ◌||◌, None, true, IfErr, IfOk};
+ghost use Rattle.schema_core.specs.Apply.{table_of};
+ghost use Rattle.schema_core.specs.Catalog.{IsTable};
+ghost use Rattle.schema_core.specs.WellFormed.{IsKeyFor, IsWellFormed};
+ghost use Rattle.keeper_core.specs.declared.keeper.KeeperStop.TheVariants as stops;
+ghost use Rattle.keeper_core.specs.Calls as call;
+ghost use Rattle.keeper_core.specs.Calls.{as_refusal, depth_after, depth_after_write, stop_refusal, write_refusal, CanRefuse};
+ghost use Rattle.keeper_core.specs.Moment.{IsAttached, Runs};
+ghost use Rattle.keeper_mem.specs.Kept.{IsNumbered, coherent, is_failing, is_fault, is_file, is_write_fault, moment_of};
 
+use crate::MemKeeper;
 use crate::keeper::broken;
-use crate::{MemKeeper, Unwritten};
+use crate::writing::Unwritten;
 use base_core::{Key, RowList, TableId};
 use keeper_core::{Keeper, KeeperStop, Sent, Target, WriteRefusal};
 use schema_core::{RowStmt, Schema};
@@ -15,7 +24,12 @@ impl Keeper for MemKeeper {
     ghost coherent = { coherent };
 
     #[tactic(auto, using(crate::proofs::Keeping::attaching))]
-    fn attach(&mut self, alloc: Global, target: Target) -> Result<(), KeeperStop> {
+    fn attach(&mut self, alloc: Global, target: Target) -> Result<(), KeeperStop>
+        requires { (moment_of self.old).target ≡ None }
+        ensures kept { IsAttached (moment_of self.old) target (as_refusal stop_refusal result) (moment_of self.new) }
+        ensures faults { is_fault result ≡ (is_failing self.old || is_file target) }
+        ensures calm { IfErr result (λ e. e ≡ stops.Fault) }
+    {
         let Ok(()) = self.count_call() else {
             self.leave_target(target);
             return Err(KeeperStop::Fault);
@@ -30,12 +44,14 @@ impl Keeper for MemKeeper {
     }
 
     #[tactic(auto, using(crate::proofs::Keeping::creating))]
-    fn create(
-        &mut self,
-        alloc: Global,
-        _schema: &Schema,
-        table: TableId,
-    ) -> Result<bool, KeeperStop> {
+    fn create(&mut self, alloc: Global, schema: &Schema, table: TableId) -> Result<bool, KeeperStop>
+        requires attached { (moment_of self.old).attached ≡ true }
+        requires outside { (moment_of self.old).depth ≡ 0 }
+        requires declared { IsTable schema.now table }
+        ensures step { Runs moment_of (λ b. b) (call.create table) self.old (as_refusal stop_refusal result) self.new }
+        ensures depth { (moment_of self.new).depth ≡ 0 }
+        ensures numbered { IsNumbered self.old (is_fault result) self.new }
+    {
         let Ok(()) = self.count_call() else {
             return Err(KeeperStop::Fault);
         };
@@ -53,9 +69,16 @@ impl Keeper for MemKeeper {
     fn drop_table(
         &mut self,
         _alloc: Global,
-        _schema: &Schema,
+        schema: &Schema,
         table: TableId,
-    ) -> Result<bool, KeeperStop> {
+    ) -> Result<bool, KeeperStop>
+        requires attached { (moment_of self.old).attached ≡ true }
+        requires outside { (moment_of self.old).depth ≡ 0 }
+        requires declared { IsTable schema.now table }
+        ensures step { Runs moment_of (λ b. b) (call.drop_table table) self.old (as_refusal stop_refusal result) self.new }
+        ensures depth { (moment_of self.new).depth ≡ 0 }
+        ensures numbered { IsNumbered self.old (is_fault result) self.new }
+    {
         let Ok(()) = self.count_call() else {
             return Err(KeeperStop::Fault);
         };
@@ -70,7 +93,13 @@ impl Keeper for MemKeeper {
     }
 
     #[tactic(auto, using(crate::proofs::Keeping::beginning))]
-    fn begin(&mut self, _alloc: Global) -> Result<(), KeeperStop> {
+    fn begin(&mut self, _alloc: Global) -> Result<(), KeeperStop>
+        requires attached { (moment_of self.old).attached ≡ true }
+        requires outside { (moment_of self.old).depth ≡ 0 }
+        ensures step { Runs moment_of (λ u. u) call.begin self.old (as_refusal stop_refusal result) self.new }
+        ensures depth { (moment_of self.new).depth ≡ depth_after result 1 }
+        ensures numbered { IsNumbered self.old (is_fault result) self.new }
+    {
         let Ok(()) = self.count_call() else {
             return Err(KeeperStop::Fault);
         };
@@ -82,7 +111,13 @@ impl Keeper for MemKeeper {
     }
 
     #[tactic(auto, using(crate::proofs::Keeping::saving))]
-    fn savepoint(&mut self, _alloc: Global) -> Result<(), KeeperStop> {
+    fn savepoint(&mut self, _alloc: Global) -> Result<(), KeeperStop>
+        requires attached { (moment_of self.old).attached ≡ true }
+        requires inside { 1 ≤ (moment_of self.old).depth }
+        ensures step { Runs moment_of (λ u. u) call.savepoint self.old (as_refusal stop_refusal result) self.new }
+        ensures depth { (moment_of self.new).depth ≡ depth_after result ((moment_of self.old).depth + 1) }
+        ensures numbered { IsNumbered self.old (is_fault result) self.new }
+    {
         let Ok(()) = self.count_call() else {
             return Err(KeeperStop::Fault);
         };
@@ -95,7 +130,14 @@ impl Keeper for MemKeeper {
     }
 
     #[tactic(auto, using(crate::proofs::Keeping::releasing))]
-    fn release(&mut self) -> Result<(), KeeperStop> {
+    fn release(&mut self) -> Result<(), KeeperStop>
+        requires attached { (moment_of self.old).attached ≡ true }
+        requires inside { 2 ≤ (moment_of self.old).depth }
+        ensures step { Runs moment_of (λ u. u) call.release self.old (as_refusal stop_refusal result) self.new }
+        ensures depth { (moment_of self.new).depth ≡ depth_after result ((moment_of self.old).depth - 1) }
+        ensures numbered { IsNumbered self.old (is_fault result) self.new }
+        ensures calm { IfErr result (λ e. e ≡ stops.Fault) }
+    {
         let Ok(()) = self.count_call() else {
             return Err(KeeperStop::Fault);
         };
@@ -104,7 +146,15 @@ impl Keeper for MemKeeper {
     }
 
     #[tactic(auto, using(crate::proofs::Keeping::going_back))]
-    fn rollback_to(&mut self, depth: u32) -> Result<(), KeeperStop> {
+    fn rollback_to(&mut self, depth: u32) -> Result<(), KeeperStop>
+        requires attached { (moment_of self.old).attached ≡ true }
+        requires numbered { 1 ≤ depth }
+        requires inside { depth < (moment_of self.old).depth }
+        ensures step { Runs moment_of (λ u. u) (call.rollback_to depth) self.old (as_refusal stop_refusal result) self.new }
+        ensures depth { (moment_of self.new).depth ≡ depth_after result depth }
+        ensures numbered { IsNumbered self.old (is_fault result) self.new }
+        ensures calm { IfErr result (λ e. e ≡ stops.Fault) }
+    {
         let Ok(()) = self.count_call() else {
             return Err(KeeperStop::Fault);
         };
@@ -113,7 +163,14 @@ impl Keeper for MemKeeper {
     }
 
     #[tactic(auto, using(crate::proofs::Keeping::rolling_back))]
-    fn rollback(&mut self) -> Result<(), KeeperStop> {
+    fn rollback(&mut self) -> Result<(), KeeperStop>
+        requires attached { (moment_of self.old).attached ≡ true }
+        requires inside { 1 ≤ (moment_of self.old).depth }
+        ensures step { Runs moment_of (λ u. u) call.rollback self.old (as_refusal stop_refusal result) self.new }
+        ensures depth { (moment_of self.new).depth ≡ 0 }
+        ensures numbered { IsNumbered self.old (is_fault result) self.new }
+        ensures calm { IfErr result (λ e. e ≡ stops.Fault) }
+    {
         let Ok(()) = self.count_call() else {
             return Err(KeeperStop::Fault);
         };
@@ -122,7 +179,14 @@ impl Keeper for MemKeeper {
     }
 
     #[tactic(auto, using(crate::proofs::Keeping::committing))]
-    fn commit(&mut self) -> Result<(), KeeperStop> {
+    fn commit(&mut self) -> Result<(), KeeperStop>
+        requires attached { (moment_of self.old).attached ≡ true }
+        requires inside { 1 ≤ (moment_of self.old).depth }
+        ensures step { Runs moment_of (λ u. u) call.commit self.old (as_refusal stop_refusal result) self.new }
+        ensures depth { (moment_of self.new).depth ≡ 0 }
+        ensures numbered { IsNumbered self.old (is_fault result) self.new }
+        ensures calm { IfErr result (λ e. e ≡ stops.Fault) }
+    {
         let Ok(()) = self.count_call() else {
             return Err(KeeperStop::Fault);
         };
@@ -136,7 +200,16 @@ impl Keeper for MemKeeper {
         alloc: Global,
         schema: &Schema,
         statement: &RowStmt,
-    ) -> Result<Key, WriteRefusal> {
+    ) -> Result<Key, WriteRefusal>
+        requires attached { (moment_of self.old).attached ≡ true }
+        requires inside { 1 ≤ (moment_of self.old).depth }
+        requires fits { IsWellFormed schema.now statement.now }
+        ensures step { Runs moment_of (λ key. key) (call.write schema.now statement.now) self.old (as_refusal (write_refusal (table_of statement.now)) result) self.new }
+        ensures depth { (moment_of self.new).depth ≡ depth_after_write result (moment_of self.old).depth }
+        ensures key { IfOk result (λ key. IsKeyFor schema.now statement.now key) }
+        ensures refuses { IfErr result (λ e. CanRefuse statement.now e) }
+        ensures numbered { IsNumbered self.old (is_write_fault result) self.new }
+    {
         let Ok(()) = self.count_call() else {
             return Err(WriteRefusal::Fault);
         };
@@ -154,9 +227,15 @@ impl Keeper for MemKeeper {
     fn scan(
         &mut self,
         alloc: Global,
-        _schema: &Schema,
+        schema: &Schema,
         table: TableId,
-    ) -> Result<Option<RowList>, KeeperStop> {
+    ) -> Result<Option<RowList>, KeeperStop>
+        requires attached { (moment_of self.old).attached ≡ true }
+        requires declared { IsTable schema.now table }
+        ensures step { Runs moment_of (λ rows. rows) (call.scan table) self.old (as_refusal stop_refusal result) self.new }
+        ensures depth { (moment_of self.new).depth ≡ depth_after result (moment_of self.old).depth }
+        ensures numbered { IsNumbered self.old (is_fault result) self.new }
+    {
         let Ok(()) = self.count_call() else {
             return Err(KeeperStop::Fault);
         };
@@ -167,7 +246,9 @@ impl Keeper for MemKeeper {
         Ok(rows)
     }
 
-    fn depth(&self) -> u32 {
+    fn depth(&self) -> u32
+        ensures { result ≡ (moment_of self.now).depth }
+    {
         self.depth_now()
     }
 }

@@ -6,7 +6,8 @@ ghost use Rattle.schema_core.specs.Catalog.{spec_of, IsTable};
 ghost use Rattle.schema_core.specs.Tables.{collide, dangles, has_dangling, names_row, repeats_unique, same_values, some_dangles};
 
 use crate::cells::{cells_of, has_null};
-use crate::{TableMap, TableRows};
+use crate::rows::TableRows;
+use crate::tables::TableMap;
 use base_core::{Key, ListOf, Name, TableId, Value};
 use schema_core::{ForeignSpec, Schema, TableSpec};
 use std::alloc::{AllocError, Global};

@@ -14,8 +14,8 @@ ghost use Rattle.keeper_core.specs.Calls.{breach_refusal};
 ghost use Rattle.schema_core.specs.Apply as applying;
 ghost use Rattle.keeper_mem.specs.Kept.{Wrote, broken, counted, depth_by, ended, failed, is_failing, is_listed, is_taken, new_keeper, refused_by, sent_by, taken_by, untaken_by};
 
-use crate::Unwritten;
 use crate::store::TableStore;
+use crate::writing::Unwritten;
 use base_core::{Copied, Key, Refusal, RowList, TableId};
 use keeper_core::calls::{refusal_of, table_of};
 use keeper_core::{KeeperStop, Sent, Target, WriteRefusal};
@@ -248,16 +248,16 @@ impl MemKeeper {
     pub(crate) fn keep_refusal(
         &mut self,
         statement: &RowStmt,
-        sent: RowStmt,
+        refused: RowStmt,
         refusal: Refusal,
     ) -> Result<(), AllocError>
-        requires same { sent ≡ statement.now }
+        requires same { refused ≡ statement.now }
         ensures ok { OnOk result (self.new ≡ refused_by self.old (statements.Write statement.now) refusal) }
         ensures err { IfErr result (λ _. self.new ≡ self.old) }
     {
         self.log.reserve(self.store.depth() + 1)?;
         let statement = Sent::Write(statement.copied()?);
-        self.log.push_reserved(Sent::Write(sent));
+        self.log.push_reserved(Sent::Write(refused));
         self.refusals = self.refusals.saturating_add(1);
         self.last = Some(Rejected { statement, refusal });
         Ok(())

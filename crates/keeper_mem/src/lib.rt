@@ -8,9 +8,8 @@ mod keeper;
 mod rows;
 mod store;
 mod tables;
+#[cfg(test)]
+mod tests;
 mod writing;
 
 pub use keeper::{Attachment, MemKeeper};
-pub use rows::TableRows;
-pub use tables::TableMap;
-pub use writing::Unwritten;

@@ -8,8 +8,8 @@ ghost use Rattle.schema_core.specs.WellFormed.{IsWellFormed};
 ghost use Rattle.keeper_core.specs.Store.{Store, committed_of, created, dropped, is_created};
 ghost use Rattle.keeper_mem.specs.Held.{Did};
 
-use crate::writing::apply;
-use crate::{TableMap, Unwritten};
+use crate::tables::TableMap;
+use crate::writing::{Unwritten, apply};
 use base_core::{Copied, Key, RowList, TableId};
 use schema_core::{RowStmt, Schema};
 use std::alloc::{AllocError, Global};

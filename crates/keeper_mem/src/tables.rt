@@ -6,7 +6,7 @@ ghost use Rattle.keeper_core.specs.Store.{created, dropped};
 ghost use Rattle.schema_core.specs.Tables.{rows_in, row_under, with_row, with_rows, without_row};
 ghost use Rattle.keeper_mem.specs.Held.{AreSorted, rows_at, restored};
 
-use crate::TableRows;
+use crate::rows::TableRows;
 use base_core::{Copied, Key, RowValues, TableId};
 use std::alloc::{AllocError, Global};
 use std::collections::BTreeMap;

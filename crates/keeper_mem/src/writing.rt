@@ -9,9 +9,9 @@ ghost use Rattle.schema_core.specs.WellFormed.{IsWellFormed};
 ghost use Rattle.keeper_mem.specs.Held.{Did, rows_at};
 ghost use Rattle.keeper_mem.specs.declared.writing.Unwritten.TheVariants as unwritten;
 
-use crate::TableMap;
 use crate::cells::{has_null, key_of, lacks_given, lacks_value, with_cells, with_key};
 use crate::judging::{has_dangling, repeats_unique};
+use crate::tables::TableMap;
 use base_core::{ColumnNo, Copied, Key, ListOf, RowValues, TableId, Value};
 use keeper_core::calls::table_of;
 use schema_core::{Breach, RowStmt, Schema};
@@ -174,7 +174,7 @@ fn lacks_demanded(schema: &Schema, table: TableId, row: &[Value]) -> bool
 
 #[tactic(auto, using(crate::proofs::WriteSteps::inserted_steps))]
 /// Puts in a new row.
-fn inserted(
+pub(crate) fn inserted(
     alloc: Global,
     schema: &Schema,
     tables: &mut TableMap,
@@ -201,7 +201,7 @@ fn inserted(
 
 #[tactic(auto, using(crate::proofs::WriteSteps::updated_steps))]
 /// Writes cells of the row of a key.
-fn updated(
+pub(crate) fn updated(
     alloc: Global,
     schema: &Schema,
     tables: &mut TableMap,
@@ -225,7 +225,7 @@ fn updated(
 
 #[tactic(auto, using(crate::proofs::WriteSteps::deleted_steps))]
 /// Takes out the row of a key, which may be absent.
-fn deleted(
+pub(crate) fn deleted(
     alloc: Global,
     schema: &Schema,
     tables: &mut TableMap,

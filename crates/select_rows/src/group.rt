@@ -12,11 +12,11 @@ ghost use Rattle.select_rows.specs.Rows as spec;
 
 use crate::cut::{keep_first, same_row};
 use crate::frame::scope_at;
-use crate::survey::has_aggregate;
 use crate::{Basis, Frame};
 use base_core::{Copied, ListOf, Name, Refusal, RowList, RowValues};
 use expr_eval::{Scope, value_in};
 use expr_types::{Expr, ExprList, Select};
+use expr_typing::has_aggregate;
 use std::alloc::{AllocError, Global};
 
 /// Whether the answer has a row for each group: the select groups, or has a condition on groups or an aggregate.

@@ -1,11 +1,9 @@
 //! What stands in an expression.
 
 ghost use Rattle.std.specs.Prelude.{◌≡◌, ◌++◌, map, OnOk};
-ghost use Rattle.std.specs.List.{list_any};
-ghost use Rattle.expr_types.specs.Level as level;
 ghost use Rattle.select_rows.specs.Rows as spec;
 
-use expr_types::{Expr, Func};
+use expr_types::Expr;
 use sqlite_items::Items;
 use std::alloc::AllocError;
 
@@ -50,52 +48,4 @@ pub(crate) fn named_all(parts: &Items<Expr>, found: &mut Vec<u32>) -> Result<(),
         named(part, found)?;
     }
     Ok(())
-}
-
-fn is_aggregate(function: Func) -> bool
-    ensures { result ≡ level.is_aggregate_function function }
-{
-    match function {
-        Func::Count | Func::Sum | Func::Min | Func::Max => true,
-        Func::Lower | Func::Upper | Func::Length | Func::Coalesce => false,
-    }
-}
-
-/// Whether an aggregate stands in the expression.
-#[tactic(auto, using(crate::proofs::Surveys::aggregates_in))]
-#[cycle(aggregate)]
-pub(crate) fn has_aggregate(e: &Expr) -> bool
-    ensures { result ≡ level.has_aggregate e.now }
-{
-    match e {
-        Expr::Column(_, _) | Expr::Lit(_) => false,
-        Expr::CountAll => true,
-        Expr::IsNull(_, a) | Expr::Not(a) | Expr::Neg(a) | Expr::InList(_, a, _) => {
-            has_aggregate(a.get())
-        }
-        Expr::Compare(_, a, b)
-        | Expr::Arith(_, a, b)
-        | Expr::Concat(a, b)
-        | Expr::Like(_, a, b)
-        | Expr::Ilike(_, a, b)
-        | Expr::Distinct(_, a, b) => has_aggregate(a.get()) || has_aggregate(b.get()),
-        Expr::Between(_, a, low, high) => {
-            has_aggregate(a.get()) || has_aggregate(low.get()) || has_aggregate(high.get())
-        }
-        Expr::And(parts) | Expr::Or(parts) => some_has(parts),
-        Expr::Call(function, parts) => is_aggregate(*function) || some_has(parts),
-        Expr::Exists(_, _, condition) => has_aggregate(condition.get()),
-    }
-}
-
-#[cycle(aggregate)]
-fn some_has(parts: &Items<Expr>) -> bool
-    ensures { result ≡ list_any (λ has. has) (map level.has_aggregate parts.now) }
-{
-    for part in parts.as_slice() {
-        if has_aggregate(part) {
-            return true;
-        }
-    }
-    false
 }

@@ -1,0 +1,594 @@
+//! Expressions.
+
+ghost use Rattle.std.specs.Prelude.{[], ◌∷◌, ◌≡◌, IfOk};
+ghost use Rattle.script_expr.specs.Input.{Reads, separated_from};
+ghost use Rattle.script_expr.specs.Expr as spec;
+ghost use Rattle.script_expr.specs.Nests.{Nests};
+ghost use Rattle.script_lex.specs.declared.kind.Kind.TheVariants as k;
+
+use crate::grammar::{Grammar, Level};
+use crate::literals::{begins_literal, literal, literals};
+use crate::names::name;
+use crate::{Fault, Tokens};
+use base_core::{ArithOp, Name, RowValues};
+use expr_types::{CompareOp, Func};
+use script_lex::Kind;
+use script_types::{Syn, SynSource};
+use sqlite_items::{Boxed, Items};
+use std::alloc::{AllocError, Global};
+
+/// What joins two operands.
+#[derive(Clone, Copy, Debug)]
+pub enum Joint {
+    Arith(ArithOp),
+    Concat,
+}
+
+/// What may follow the first operand of a comparison.
+#[derive(Clone, Copy, Debug)]
+pub enum Test {
+    Compare(CompareOp),
+    /// `is distinct from` or `is not distinct from`.
+    Distinct,
+    /// A test after `not`.
+    Negated,
+    /// A test with no `not`.
+    Plain,
+    /// No test.
+    Absent,
+}
+
+fn function(kind: Kind) -> Option<Func>
+    ensures { result ≡ spec.function kind }
+{
+    match kind {
+        Kind::Count => Some(Func::Count),
+        Kind::Sum => Some(Func::Sum),
+        Kind::Min => Some(Func::Min),
+        Kind::Max => Some(Func::Max),
+        Kind::Lower => Some(Func::Lower),
+        Kind::Upper => Some(Func::Upper),
+        Kind::Length => Some(Func::Length),
+        Kind::Coalesce => Some(Func::Coalesce),
+        _ => None,
+    }
+}
+
+fn test_kind(kind: Kind) -> Test
+    ensures { result ≡ spec.test_kind kind }
+{
+    match kind {
+        Kind::Equal => Test::Compare(CompareOp::Equal),
+        Kind::NotEqual => Test::Compare(CompareOp::NotEqual),
+        Kind::Less => Test::Compare(CompareOp::Less),
+        Kind::LessEqual => Test::Compare(CompareOp::LessEqual),
+        Kind::Greater => Test::Compare(CompareOp::Greater),
+        Kind::GreaterEqual => Test::Compare(CompareOp::GreaterEqual),
+        Kind::Is => Test::Distinct,
+        Kind::Not => Test::Negated,
+        Kind::Like | Kind::Ilike | Kind::Between | Kind::In => Test::Plain,
+        _ => Test::Absent,
+    }
+}
+
+fn sum_joint(kind: Kind) -> Option<Joint>
+    ensures { result ≡ spec.sum_joint kind }
+{
+    match kind {
+        Kind::Plus => Some(Joint::Arith(ArithOp::Add)),
+        Kind::Minus | Kind::Signed => Some(Joint::Arith(ArithOp::Sub)),
+        Kind::Concat => Some(Joint::Concat),
+        _ => None,
+    }
+}
+
+fn product_joint(kind: Kind) -> Option<Joint>
+    ensures { result ≡ spec.product_joint kind }
+{
+    match kind {
+        Kind::Star => Some(Joint::Arith(ArithOp::Mul)),
+        _ => None,
+    }
+}
+
+fn joined(alloc: Global, joint: Joint, left: Syn, right: Syn) -> Result<Syn, AllocError>
+    ensures { IfOk result (λ e. e ≡ spec.joined joint left right) }
+{
+    let left = Boxed::new(alloc, left)?;
+    let right = Boxed::new(alloc, right)?;
+    match joint {
+        Joint::Arith(op) => Ok(Syn::Arith(op, left, right)),
+        Joint::Concat => Ok(Syn::Concat(left, right)),
+    }
+}
+
+/// A table, and the name that it is given.
+#[tactic(auto, unfolding(crate::specs::Expr::source))]
+pub fn source(tokens: &mut Tokens<'_>) -> Result<SynSource, Fault>
+    ensures { Reads (spec.source tokens.old) result tokens.new }
+{
+    let table = name(tokens)?;
+    let alias = if tokens.eat(Kind::As) {
+        Some(name(tokens)?)
+    } else {
+        None
+    };
+    Ok(SynSource { table, alias })
+}
+
+#[tactic(auto, unfolding(crate::specs::Expr::null_after))]
+fn null_after(tokens: &mut Tokens<'_>, op: CompareOp) -> bool
+    ensures { spec.null_after op tokens.old ≡ Ok (result, tokens.new) }
+{
+    match op {
+        CompareOp::Equal | CompareOp::NotEqual => tokens.eat(Kind::Null),
+        _ => false,
+    }
+}
+
+fn is_unlike(op: CompareOp) -> bool
+    ensures { result ≡ spec.is_unlike op }
+{
+    matches!(op, CompareOp::NotEqual)
+}
+
+#[tactic(auto, unfolding(crate::specs::Expr::takes_all))]
+fn takes_all(tokens: &mut Tokens<'_>, f: Func) -> bool
+    ensures { spec.takes_all f tokens.old ≡ Ok (result, tokens.new) }
+{
+    match f {
+        Func::Count => tokens.eat(Kind::Star),
+        _ => false,
+    }
+}
+
+/// A list of one item.
+fn only(alloc: Global, item: Syn) -> Result<Items<Syn>, AllocError>
+    ensures { IfOk result (λ all. all ≡ item ∷ []) }
+{
+    let mut all = Items::new(alloc);
+    all.push(item)?;
+    Ok(all)
+}
+
+fn compare(alloc: Global, op: CompareOp, left: Syn, right: Syn) -> Result<Syn, AllocError>
+    ensures { IfOk result (λ e. e ≡ Syn.Compare op left right) }
+{
+    Ok(Syn::Compare(op, Boxed::new(alloc, left)?, Boxed::new(alloc, right)?))
+}
+
+fn is_null(alloc: Global, negated: bool, left: Syn) -> Result<Syn, AllocError>
+    ensures { IfOk result (λ e. e ≡ Syn.IsNull negated left) }
+{
+    Ok(Syn::IsNull(negated, Boxed::new(alloc, left)?))
+}
+
+fn like(alloc: Global, negated: bool, left: Syn, right: Syn) -> Result<Syn, AllocError>
+    ensures { IfOk result (λ e. e ≡ Syn.Like negated left right) }
+{
+    Ok(Syn::Like(negated, Boxed::new(alloc, left)?, Boxed::new(alloc, right)?))
+}
+
+fn ilike(alloc: Global, negated: bool, left: Syn, right: Syn) -> Result<Syn, AllocError>
+    ensures { IfOk result (λ e. e ≡ Syn.Ilike negated left right) }
+{
+    Ok(Syn::Ilike(negated, Boxed::new(alloc, left)?, Boxed::new(alloc, right)?))
+}
+
+fn in_list(alloc: Global, negated: bool, left: Syn, members: RowValues) -> Result<Syn, AllocError>
+    ensures { IfOk result (λ e. e ≡ Syn.InList negated left members) }
+{
+    Ok(Syn::InList(negated, Boxed::new(alloc, left)?, members))
+}
+
+fn between(alloc: Global, negated: bool, left: Syn, low: Syn, high: Syn) -> Result<Syn, AllocError>
+    ensures { IfOk result (λ e. e ≡ Syn.Between negated left low high) }
+{
+    Ok(Syn::Between(
+        negated,
+        Boxed::new(alloc, left)?,
+        Boxed::new(alloc, low)?,
+        Boxed::new(alloc, high)?,
+    ))
+}
+
+fn distinct(alloc: Global, negated: bool, left: Syn, right: Syn) -> Result<Syn, AllocError>
+    ensures { IfOk result (λ e. e ≡ Syn.Distinct negated left right) }
+{
+    Ok(Syn::Distinct(negated, Boxed::new(alloc, left)?, Boxed::new(alloc, right)?))
+}
+
+/// A source or class and its column or attribute, after the first name.
+fn path(tokens: &mut Tokens<'_>, first: Name) -> Result<Syn, Fault>
+    ensures { Reads (spec.path first tokens.old) result tokens.new }
+{
+    tokens.expect(Kind::Dot)?;
+    Ok(Syn::Path(first, name(tokens)?))
+}
+
+impl<F: Fn(Global, &mut Tokens<'_>, usize, Level) -> Result<Syn, Fault>> Grammar<F> {
+    #[tactic(auto, unfolding(crate::specs::Expr::deeper))]
+    fn deeper(&self, tokens: &mut Tokens<'_>, kind: Kind) -> Result<(), Fault>
+        requires { Nests self.now.depth (F.pre self.now.expr) (F.post self.now.expr) }
+        ensures { Reads (spec.deeper self.now.depth (spec.expr self.now.depth) kind tokens.old) result tokens.new }
+    {
+        if self.depth == 0 {
+            return Err(tokens.refuse());
+        }
+        tokens.expect(kind)
+    }
+
+    #[tactic(auto, unfolding(crate::specs::Expr::parenthesized))]
+    fn parenthesized(&self, tokens: &mut Tokens<'_>) -> Result<Syn, Fault>
+        requires { Nests self.now.depth (F.pre self.now.expr) (F.post self.now.expr) }
+        ensures { Reads (spec.parenthesized self.now.depth (spec.expr self.now.depth) tokens.old) result tokens.new }
+    {
+        self.deeper(tokens, Kind::LParen)?;
+        let inner = self.inner(tokens, Level::Whole)?;
+        tokens.expect(Kind::RParen)?;
+        Ok(inner)
+    }
+
+    #[tactic(auto, unfolding(crate::specs::Expr::exists))]
+    fn exists(&self, tokens: &mut Tokens<'_>) -> Result<Syn, Fault>
+        requires { Nests self.now.depth (F.pre self.now.expr) (F.post self.now.expr) }
+        ensures { Reads (spec.exists self.now.depth (spec.expr self.now.depth) tokens.old) result tokens.new }
+    {
+        self.deeper(tokens, Kind::LParen)?;
+        let from = source(tokens)?;
+        tokens.expect(Kind::Where)?;
+        let inner = self.inner(tokens, Level::Whole)?;
+        tokens.expect(Kind::RParen)?;
+        Ok(Syn::Exists(from, Boxed::new(self.alloc, inner)?))
+    }
+
+    fn arguments(&self, tokens: &mut Tokens<'_>) -> Result<Items<Syn>, Fault>
+        requires { Nests self.now.depth (F.pre self.now.expr) (F.post self.now.expr) }
+        ensures { Reads (spec.arguments self.now.depth (spec.expr self.now.depth) tokens.old) result tokens.new }
+    {
+        let mut found = Items::new(self.alloc);
+        for _turn in 0..tokens.left() {
+            let item = self.inner(tokens, Level::Whole)?;
+            found.push(item)?;
+            if !tokens.eat(Kind::Comma) {
+                return Ok(found);
+            }
+        }
+        Err(tokens.refuse())
+    }
+
+    #[tactic(auto, unfolding(crate::specs::Expr::call))]
+    fn call(&self, tokens: &mut Tokens<'_>, f: Func) -> Result<Syn, Fault>
+        requires { Nests self.now.depth (F.pre self.now.expr) (F.post self.now.expr) }
+        ensures { Reads (spec.call self.now.depth (spec.expr self.now.depth) f tokens.old) result tokens.new }
+    {
+        self.deeper(tokens, Kind::LParen)?;
+        if takes_all(tokens, f) {
+            tokens.expect(Kind::RParen)?;
+            return Ok(Syn::CountAll);
+        }
+        let found = self.arguments(tokens)?;
+        tokens.expect(Kind::RParen)?;
+        Ok(Syn::Call(f, found))
+    }
+
+    #[tactic(auto, unfolding(crate::specs::Expr::called))]
+    fn called(&self, tokens: &mut Tokens<'_>, f: Func, first: Name) -> Result<Syn, Fault>
+        requires { Nests self.now.depth (F.pre self.now.expr) (F.post self.now.expr) }
+        ensures { Reads (spec.called self.now.depth (spec.expr self.now.depth) f first tokens.old) result tokens.new }
+    {
+        if tokens.sees(Kind::LParen) {
+            self.call(tokens, f)
+        } else {
+            path(tokens, first)
+        }
+    }
+
+    #[tactic(auto, unfolding(crate::specs::Expr::named))]
+    fn named(&self, tokens: &mut Tokens<'_>) -> Result<Syn, Fault>
+        requires { Nests self.now.depth (F.pre self.now.expr) (F.post self.now.expr) }
+        ensures { Reads (spec.named self.now.depth (spec.expr self.now.depth) tokens.old) result tokens.new }
+    {
+        let kind = tokens.kind();
+        let first = name(tokens)?;
+        match function(kind) {
+            Some(f) => self.called(tokens, f, first),
+            None => path(tokens, first),
+        }
+    }
+
+    #[tactic(auto, unfolding(crate::specs::Expr::atom))]
+    fn atom(&self, tokens: &mut Tokens<'_>) -> Result<Syn, Fault>
+        requires { Nests self.now.depth (F.pre self.now.expr) (F.post self.now.expr) }
+        ensures { Reads (spec.atom self.now.depth (spec.expr self.now.depth) tokens.old) result tokens.new }
+    {
+        match tokens.kind() {
+            Kind::LParen => self.parenthesized(tokens),
+            Kind::Exists => {
+                tokens.take();
+                self.exists(tokens)
+            }
+            kind if begins_literal(kind) => Ok(Syn::Lit(literal(tokens)?)),
+            _ => self.named(tokens),
+        }
+    }
+
+    #[tactic(auto, unfolding(crate::specs::Expr::unary))]
+    fn unary(&self, tokens: &mut Tokens<'_>) -> Result<Syn, Fault>
+        requires { Nests self.now.depth (F.pre self.now.expr) (F.post self.now.expr) }
+        ensures { Reads (spec.unary self.now.depth (spec.expr self.now.depth) tokens.old) result tokens.new }
+    {
+        match tokens.kind() {
+            Kind::Minus => {
+                self.deeper(tokens, Kind::Minus)?;
+                let inner = self.inner(tokens, Level::Unary)?;
+                Ok(Syn::Neg(Boxed::new(self.alloc, inner)?))
+            }
+            _ => self.atom(tokens),
+        }
+    }
+
+    fn factors(&self, tokens: &mut Tokens<'_>, mut left: Syn) -> Result<Syn, Fault>
+        requires { Nests self.now.depth (F.pre self.now.expr) (F.post self.now.expr) }
+        ensures { Reads (spec.factors self.now.depth (spec.expr self.now.depth) left tokens.old) result tokens.new }
+    {
+        for _turn in 0..tokens.left() {
+            let Some(joint) = product_joint(tokens.kind()) else {
+                return Ok(left);
+            };
+            tokens.operator()?;
+            let right = self.unary(tokens)?;
+            left = joined(self.alloc, joint, left, right)?;
+        }
+        Ok(left)
+    }
+
+    #[tactic(auto, unfolding(crate::specs::Expr::product))]
+    fn product(&self, tokens: &mut Tokens<'_>) -> Result<Syn, Fault>
+        requires { Nests self.now.depth (F.pre self.now.expr) (F.post self.now.expr) }
+        ensures { Reads (spec.product self.now.depth (spec.expr self.now.depth) tokens.old) result tokens.new }
+    {
+        let first = self.unary(tokens)?;
+        self.factors(tokens, first)
+    }
+
+    fn summands(&self, tokens: &mut Tokens<'_>, mut left: Syn) -> Result<Syn, Fault>
+        requires { Nests self.now.depth (F.pre self.now.expr) (F.post self.now.expr) }
+        ensures { Reads (spec.summands self.now.depth (spec.expr self.now.depth) left tokens.old) result tokens.new }
+    {
+        for _turn in 0..tokens.left() {
+            let Some(joint) = sum_joint(tokens.kind()) else {
+                return Ok(left);
+            };
+            tokens.operator()?;
+            let right = self.product(tokens)?;
+            left = joined(self.alloc, joint, left, right)?;
+        }
+        Ok(left)
+    }
+
+    #[tactic(auto, unfolding(crate::specs::Expr::sum))]
+    fn sum(&self, tokens: &mut Tokens<'_>) -> Result<Syn, Fault>
+        requires { Nests self.now.depth (F.pre self.now.expr) (F.post self.now.expr) }
+        ensures { Reads (spec.sum self.now.depth (spec.expr self.now.depth) tokens.old) result tokens.new }
+    {
+        let first = self.product(tokens)?;
+        self.summands(tokens, first)
+    }
+
+    #[tactic(auto, unfolding(crate::specs::Expr::compared))]
+    fn compared(&self, tokens: &mut Tokens<'_>, op: CompareOp, left: Syn) -> Result<Syn, Fault>
+        requires { Nests self.now.depth (F.pre self.now.expr) (F.post self.now.expr) }
+        ensures { Reads (spec.compared self.now.depth (spec.expr self.now.depth) op left tokens.old) result tokens.new }
+    {
+        if null_after(tokens, op) {
+            return Ok(is_null(self.alloc, is_unlike(op), left)?);
+        }
+        let right = self.sum(tokens)?;
+        Ok(compare(self.alloc, op, left, right)?)
+    }
+
+    #[tactic(auto, unfolding(crate::specs::Expr::distinct))]
+    fn distinct(&self, tokens: &mut Tokens<'_>, left: Syn) -> Result<Syn, Fault>
+        requires { Nests self.now.depth (F.pre self.now.expr) (F.post self.now.expr) }
+        ensures { Reads (spec.distinct self.now.depth (spec.expr self.now.depth) left tokens.old) result tokens.new }
+    {
+        let negated = tokens.eat(Kind::Not);
+        tokens.expect(Kind::Distinct)?;
+        tokens.expect(Kind::From)?;
+        let right = self.sum(tokens)?;
+        Ok(distinct(self.alloc, negated, left, right)?)
+    }
+
+    #[tactic(auto, unfolding(crate::specs::Expr::members))]
+    fn members(&self, tokens: &mut Tokens<'_>) -> Result<RowValues, Fault>
+        requires { Nests self.now.depth (F.pre self.now.expr) (F.post self.now.expr) }
+        ensures { Reads (spec.members self.now.depth (spec.expr self.now.depth) tokens.old) result tokens.new }
+    {
+        self.deeper(tokens, Kind::LParen)?;
+        if tokens.eat(Kind::RParen) {
+            return Ok(RowValues::new(self.alloc));
+        }
+        let found = literals(self.alloc, tokens)?;
+        tokens.expect(Kind::RParen)?;
+        Ok(found)
+    }
+
+    #[tactic(auto, unfolding(crate::specs::Expr::between))]
+    fn between(&self, tokens: &mut Tokens<'_>, negated: bool, left: Syn) -> Result<Syn, Fault>
+        requires { Nests self.now.depth (F.pre self.now.expr) (F.post self.now.expr) }
+        ensures { Reads (spec.between self.now.depth (spec.expr self.now.depth) negated left tokens.old) result tokens.new }
+    {
+        let low = self.sum(tokens)?;
+        tokens.expect(Kind::And)?;
+        let high = self.sum(tokens)?;
+        Ok(between(self.alloc, negated, left, low, high)?)
+    }
+
+    #[tactic(auto, unfolding(crate::specs::Expr::liked))]
+    fn liked(&self, tokens: &mut Tokens<'_>, negated: bool, left: Syn) -> Result<Syn, Fault>
+        requires { Nests self.now.depth (F.pre self.now.expr) (F.post self.now.expr) }
+        ensures { Reads (spec.liked self.now.depth (spec.expr self.now.depth) negated left tokens.old) result tokens.new }
+    {
+        let right = self.sum(tokens)?;
+        Ok(like(self.alloc, negated, left, right)?)
+    }
+
+    #[tactic(auto, unfolding(crate::specs::Expr::iliked))]
+    fn iliked(&self, tokens: &mut Tokens<'_>, negated: bool, left: Syn) -> Result<Syn, Fault>
+        requires { Nests self.now.depth (F.pre self.now.expr) (F.post self.now.expr) }
+        ensures { Reads (spec.iliked self.now.depth (spec.expr self.now.depth) negated left tokens.old) result tokens.new }
+    {
+        let right = self.sum(tokens)?;
+        Ok(ilike(self.alloc, negated, left, right)?)
+    }
+
+    #[tactic(auto, unfolding(crate::specs::Expr::among))]
+    fn among(&self, tokens: &mut Tokens<'_>, negated: bool, left: Syn) -> Result<Syn, Fault>
+        requires { Nests self.now.depth (F.pre self.now.expr) (F.post self.now.expr) }
+        ensures { Reads (spec.among self.now.depth (spec.expr self.now.depth) negated left tokens.old) result tokens.new }
+    {
+        let found = self.members(tokens)?;
+        Ok(in_list(self.alloc, negated, left, found)?)
+    }
+
+    #[tactic(auto, unfolding(crate::specs::Expr::tested))]
+    fn tested(&self, tokens: &mut Tokens<'_>, negated: bool, left: Syn) -> Result<Syn, Fault>
+        requires { Nests self.now.depth (F.pre self.now.expr) (F.post self.now.expr) }
+        ensures { Reads (spec.tested self.now.depth (spec.expr self.now.depth) negated left tokens.old) result tokens.new }
+    {
+        match tokens.kind() {
+            Kind::Like => {
+                tokens.take();
+                self.liked(tokens, negated, left)
+            }
+            Kind::Ilike => {
+                tokens.take();
+                self.iliked(tokens, negated, left)
+            }
+            Kind::Between => {
+                tokens.take();
+                self.between(tokens, negated, left)
+            }
+            Kind::In => {
+                tokens.take();
+                self.among(tokens, negated, left)
+            }
+            _ => Err(tokens.refuse()),
+        }
+    }
+
+    #[tactic(auto, unfolding(crate::specs::Expr::follow))]
+    fn follow(&self, tokens: &mut Tokens<'_>, left: Syn) -> Result<Syn, Fault>
+        requires { Nests self.now.depth (F.pre self.now.expr) (F.post self.now.expr) }
+        ensures { Reads (spec.follow self.now.depth (spec.expr self.now.depth) left tokens.old) result tokens.new }
+    {
+        match test_kind(tokens.kind()) {
+            Test::Compare(op) => {
+                tokens.take();
+                self.compared(tokens, op, left)
+            }
+            Test::Distinct => {
+                tokens.take();
+                self.distinct(tokens, left)
+            }
+            Test::Negated => {
+                tokens.take();
+                self.tested(tokens, true, left)
+            }
+            Test::Plain => self.tested(tokens, false, left),
+            Test::Absent => Ok(left),
+        }
+    }
+
+    #[tactic(auto, unfolding(crate::specs::Expr::comparison))]
+    fn comparison(&self, tokens: &mut Tokens<'_>) -> Result<Syn, Fault>
+        requires { Nests self.now.depth (F.pre self.now.expr) (F.post self.now.expr) }
+        ensures { Reads (spec.comparison self.now.depth (spec.expr self.now.depth) tokens.old) result tokens.new }
+    {
+        let left = self.sum(tokens)?;
+        self.follow(tokens, left)
+    }
+
+    #[tactic(auto, unfolding(crate::specs::Expr::negation))]
+    fn negation(&self, tokens: &mut Tokens<'_>) -> Result<Syn, Fault>
+        requires { Nests self.now.depth (F.pre self.now.expr) (F.post self.now.expr) }
+        ensures { Reads (spec.negation self.now.depth (spec.expr self.now.depth) tokens.old) result tokens.new }
+    {
+        match tokens.kind() {
+            Kind::Not => {
+                self.deeper(tokens, Kind::Not)?;
+                let inner = self.inner(tokens, Level::Negation)?;
+                Ok(Syn::Not(Boxed::new(self.alloc, inner)?))
+            }
+            _ => self.comparison(tokens),
+        }
+    }
+
+    fn conjuncts(&self, tokens: &mut Tokens<'_>, first: Syn) -> Result<Items<Syn>, Fault>
+        requires { Nests self.now.depth (F.pre self.now.expr) (F.post self.now.expr) }
+        ensures { Reads (spec.conjuncts self.now.depth (spec.expr self.now.depth) first tokens.old) result tokens.new }
+    {
+        let mut found = only(self.alloc, first)?;
+        for _turn in 0..tokens.left() {
+            let item = self.negation(tokens)?;
+            found.push(item)?;
+            if !tokens.eat(Kind::And) {
+                return Ok(found);
+            }
+        }
+        Err(tokens.refuse())
+    }
+
+    #[tactic(auto, unfolding(crate::specs::Expr::conjunction))]
+    fn conjunction(&self, tokens: &mut Tokens<'_>) -> Result<Syn, Fault>
+        requires { Nests self.now.depth (F.pre self.now.expr) (F.post self.now.expr) }
+        ensures { Reads (spec.conjunction self.now.depth (spec.expr self.now.depth) tokens.old) result tokens.new }
+    {
+        let first = self.negation(tokens)?;
+        if tokens.eat(Kind::And) {
+            Ok(Syn::And(self.conjuncts(tokens, first)?))
+        } else {
+            Ok(first)
+        }
+    }
+
+    fn disjuncts(&self, tokens: &mut Tokens<'_>, first: Syn) -> Result<Items<Syn>, Fault>
+        requires { Nests self.now.depth (F.pre self.now.expr) (F.post self.now.expr) }
+        ensures { Reads (spec.disjuncts self.now.depth (spec.expr self.now.depth) first tokens.old) result tokens.new }
+    {
+        let mut found = only(self.alloc, first)?;
+        for _turn in 0..tokens.left() {
+            let item = self.conjunction(tokens)?;
+            found.push(item)?;
+            if !tokens.eat(Kind::Or) {
+                return Ok(found);
+            }
+        }
+        Err(tokens.refuse())
+    }
+
+    #[tactic(auto, unfolding(crate::specs::Expr::disjunction))]
+    fn disjunction(&self, tokens: &mut Tokens<'_>) -> Result<Syn, Fault>
+        requires { Nests self.now.depth (F.pre self.now.expr) (F.post self.now.expr) }
+        ensures { Reads (spec.disjunction self.now.depth (spec.expr self.now.depth) tokens.old) result tokens.new }
+    {
+        let first = self.conjunction(tokens)?;
+        if tokens.eat(Kind::Or) {
+            Ok(Syn::Or(self.disjuncts(tokens, first)?))
+        } else {
+            Ok(first)
+        }
+    }
+
+    pub fn at_level(&self, tokens: &mut Tokens<'_>, level: Level) -> Result<Syn, Fault>
+        requires { Nests self.now.depth (F.pre self.now.expr) (F.post self.now.expr) }
+        ensures { Reads (spec.at_level self.now.depth (spec.expr self.now.depth) level tokens.old) result tokens.new }
+    {
+        match level {
+            Level::Whole => self.disjunction(tokens),
+            Level::Negation => self.negation(tokens),
+            Level::Unary => self.unary(tokens),
+        }
+    }
+}

@@ -1,0 +1,35 @@
+use Rattle.std.proofs.Common.{rules, arith}
+use Rattle.std.proofs.lemmas.Grind.{common_steps}
+use Rattle.script_lex.specs.declared.kind.Kind.TheVariants as k
+use Rattle.script_expr.specs.Input.{separated_from}
+use Rattle.script_read.specs.Bindings.{cell, cells}
+use Rattle.script_expr.proofs.Turns.{one_more, no_more}
+use Rattle.script_read.proofs.bindings.cells.Goals as goal
+
+pub loop-turn-init : goal.loop-turn-init
+unfolding cells
+loop-turn-init c = first_of (search rules, grind (arith, common_steps))
+
+pub returns-in_err-item : goal.returns-in_err-item
+unfolding cells separated_from
+returns-in_err-item c =
+    let e = one_more (λ n. separated_from k.Comma cell n c.loop-turn.found.items c.loop-turn.tokens) _ c.loop-turn._turn c.loop-turn-test.true c.loop-turn.invariant in
+    first_of (search rules, grind (arith, common_steps))
+
+pub returns-then-not-eat : goal.returns-then-not-eat
+unfolding cells separated_from
+returns-then-not-eat c =
+    let e = one_more (λ n. separated_from k.Comma cell n c.loop-turn.found.items c.loop-turn.tokens) _ c.loop-turn._turn c.loop-turn-test.true c.loop-turn.invariant in
+    first_of (search rules, grind (arith, common_steps))
+
+pub loop-turn-preserved : goal.loop-turn-preserved
+unfolding cells separated_from
+loop-turn-preserved c =
+    let e = one_more (λ n. separated_from k.Comma cell n c.loop-turn.found.items c.loop-turn.tokens) _ c.loop-turn._turn c.loop-turn-test.true c.loop-turn.invariant in
+    first_of (search rules, grind (arith, common_steps))
+
+pub returns : goal.returns
+unfolding cells separated_from
+returns c =
+    let e = no_more (λ n. separated_from k.Comma cell n c.loop-turn.found.items c.loop-turn.tokens) _ c.loop-turn._turn c.loop-turn-test.false c.loop-turn.invariant in
+    first_of (search rules, grind (arith, common_steps))

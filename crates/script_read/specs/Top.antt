@@ -1,0 +1,136 @@
+-- Lines outside every block that bind nothing.
+use Rattle.std.specs.Prelude.{ℕ, Bool, true, false, if◌then◌else◌, List, [], ◌∷◌, Option, Some, None, Ok, Err}
+use Rattle.script_types.specs.declared.command.Command.{Command}
+use Rattle.script_types.specs.declared.command.Command.TheVariants as c
+use Rattle.script_lex.specs.declared.kind.Kind.{Kind}
+use Rattle.script_lex.specs.declared.kind.Kind.TheVariants as k
+use Rattle.script_expr.specs.Input.{Reader, ◌>>=◌, ◌>>◌, ◌<$>◌, pure, refuse, peek, take_token, eat, expect, clause, sees, separated}
+use Rattle.script_expr.specs.Names.{name, names}
+use Rattle.std.specs.Prelude.{◌||◌}
+use Rattle.script_types.specs.declared.command.Dialect.{Dialect}
+use Rattle.script_types.specs.declared.command.Dialect.TheVariants.{Sqlite, Postgresql, Mysql}
+use Rattle.script_types.specs.declared.command.Term.{Term}
+use Rattle.script_lex.specs.Lex.{same_kind}
+use Rattle.script_expr.specs.Literals.{value, begins_literal}
+use Rattle.script_expr.specs.Select.{select}
+use Rattle.script_expr.specs.Query.{query}
+use Rattle.script_expr.specs.Bulk.{bulk}
+use Rattle.script_read.specs.Terms.{term, member, two, linked}
+use Rattle.script_read.specs.Classes.{class_head}
+
+-- after `set term.name =`
+unfoldable pub set_to : Term → List ℕ → Reader Command
+set_to owner called = do
+  kind ← peek
+  if same_kind kind k.Null || begins_literal kind then c.SetValue owner called <$> value else c.SetTerm owner called <$> term
+
+-- after `set`
+unfoldable pub set : Reader Command
+set = do
+  owner ← member
+  expect k.Assign
+  set_to owner.0 owner.1
+
+-- after `append`
+unfoldable pub append : Reader Command
+append = do
+  found ← linked
+  pure (c.Append found.0.0 found.0.1 found.1)
+
+-- after `remove`
+unfoldable pub remove : Reader Command
+remove = do
+  found ← linked
+  pure (c.Remove found.0.0 found.0.1 found.1)
+
+-- after `show`
+unfoldable pub show : Reader Command
+show = do
+  owner ← term
+  dotted ← eat k.Dot
+  if dotted then c.ShowMember owner <$> name else pure (c.Show owner)
+
+-- after `is`
+unfoldable pub same : Reader Command
+same = do
+  found ← two
+  pure (c.Same found.0 found.1)
+
+-- a name, or none where the line ends
+unfoldable pub name_if_any : Reader (Option (List ℕ))
+name_if_any = λ i. if sees k.LineEnd i then Ok (None, i) else (Some <$> name) i
+
+abbrev pub dialect_by : Kind → Reader Dialect
+dialect_by k.Sqlite = take_token >> pure Sqlite
+dialect_by k.Postgresql = take_token >> pure Postgresql
+dialect_by k.Mysql = take_token >> pure Mysql
+dialect_by _ = refuse
+
+unfoldable pub dialect : Reader Dialect
+dialect = peek >>= dialect_by
+
+abbrev pub compiled_by : Dialect → Kind → Reader Command
+compiled_by d k.Rows = take_token >> c.CompileRows d <$> select
+compiled_by d k.Objects = take_token >> c.CompileObjects d <$> query
+compiled_by d k.Bulk = take_token >> c.CompileBulk d <$> bulk
+compiled_by d k.Table = take_token >> c.CompileTable d <$> name
+compiled_by d _ = refuse
+
+-- after `compile` and a dialect
+unfoldable pub compiled : Dialect → Reader Command
+compiled d = peek >>= compiled_by d
+
+-- after `compile`
+unfoldable pub compile : Reader Command
+compile = dialect >>= compiled
+
+-- a line of one word
+abbrev pub bare_by : Kind → Reader Command
+bare_by k.Configure = take_token >> pure c.Configure
+bare_by k.CreateAll = take_token >> pure c.CreateAll
+bare_by k.DropAll = take_token >> pure c.DropAll
+bare_by k.Dump = take_token >> pure c.Dump
+bare_by k.Flush = take_token >> pure c.Flush
+bare_by k.Close = take_token >> pure c.Close
+bare_by _ = refuse
+
+unfoldable pub bare : Reader Command
+bare = peek >>= bare_by
+
+-- a line of a word and a term, or of one word
+abbrev pub termed_by : Kind → Reader Command
+termed_by k.Add = take_token >> c.Add <$> term
+termed_by k.Delete = take_token >> c.Delete <$> term
+termed_by k.Expunge = take_token >> c.Expunge <$> term
+termed_by k.Expire = take_token >> c.Expire <$> term
+termed_by k.Refresh = take_token >> c.Refresh <$> term
+termed_by k.State = take_token >> c.State <$> term
+termed_by _ = bare
+
+unfoldable pub termed : Reader Command
+termed = peek >>= termed_by
+
+-- lines that change links or show, and those of terms
+abbrev pub acting_by : Kind → Reader Command
+acting_by k.Set = take_token >> set
+acting_by k.Append = take_token >> append
+acting_by k.Remove = take_token >> remove
+acting_by k.Show = take_token >> show
+acting_by k.Is = take_token >> same
+acting_by k.Commit = take_token >> c.Commit <$> name_if_any
+acting_by k.Rollback = take_token >> c.Rollback <$> name_if_any
+acting_by _ = termed
+
+unfoldable pub acting : Reader Command
+acting = peek >>= acting_by
+
+abbrev pub top_by : Kind → Reader Command
+top_by k.Table = take_token >> c.TableHead <$> name
+top_by k.Class = take_token >> class_head
+top_by k.Rows = take_token >> c.Rows <$> select
+top_by k.Bulk = take_token >> c.Bulk <$> bulk
+top_by k.Compile = take_token >> compile
+top_by _ = acting
+
+unfoldable pub top : Reader Command
+top = peek >>= top_by

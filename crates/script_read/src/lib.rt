@@ -1,0 +1,13 @@
+//! Reads lines of the script.
+#![tactic(auto)]
+
+mod bindings;
+mod blocks;
+mod classes;
+mod line;
+mod terms;
+#[cfg(test)]
+mod tests;
+mod top;
+
+pub use line::read_line;
