@@ -1,0 +1,5 @@
+//! Whole scripts against the answers worked out for them.
+#![tactic(auto)]
+
+#[cfg(test)]
+mod tests;
