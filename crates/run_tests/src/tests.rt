@@ -82,6 +82,16 @@ const CASES: &[Case] = &[
         status: Status::Refused,
     },
     Case {
+        shows: "a symbol is no name",
+        prelude: true,
+        script: "add .\nu = new User == = 1\n",
+        failing_reads: &[],
+        failing_writes: &[],
+        failing_calls: &[],
+        output: "error 9: NotBuilt\nerror 10: NotBuilt\n",
+        status: Status::Refused,
+    },
+    Case {
         shows: "a block that is not ended is refused at its first line",
         prelude: false,
         script: "table t",

@@ -151,9 +151,38 @@ impl<'a> Cursor<'a> {
     }
 }
 
-/// Whether a token of the kind may be a name.
+/// Whether a token of the kind may be a name: a quoted name, or a word that is not reserved.
 fn is_name(kind: Kind) -> bool {
-    !matches!(
+    !is_symbol(kind) && !is_reserved(kind)
+}
+
+/// A symbol.
+fn is_symbol(kind: Kind) -> bool {
+    matches!(
+        kind,
+        Kind::LParen
+            | Kind::RParen
+            | Kind::LBracket
+            | Kind::RBracket
+            | Kind::Comma
+            | Kind::Dot
+            | Kind::Assign
+            | Kind::Equal
+            | Kind::NotEqual
+            | Kind::Less
+            | Kind::LessEqual
+            | Kind::Greater
+            | Kind::GreaterEqual
+            | Kind::Plus
+            | Kind::Minus
+            | Kind::Star
+            | Kind::Concat
+    )
+}
+
+/// A word that is no name.
+fn is_reserved(kind: Kind) -> bool {
+    matches!(
         kind,
         Kind::And
             | Kind::Or
