@@ -1,2 +1,1 @@
-pub mod ShellState
 pub mod Causes

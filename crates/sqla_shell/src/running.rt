@@ -4,17 +4,15 @@ ghost use Rattle.std.specs.Prelude.{◌≡◌, ◌≢◌, ◌≤◌, ℕ, [], No
 ghost use Rattle.base_core.specs.Counts.{Rose};
 ghost use Rattle.keeper_core.specs.Moment.{Acts};
 ghost use Rattle.sqla_shell.specs.Causes.{IsShownBy};
-ghost use Rattle.sqla_shell.specs.ShellState.{IsReady};
+ghost use Rattle.shell_steps.specs.ShellState.{IsReady};
 ghost use Rattle.script_lines.specs.Cutting.{FitsSource};
 
-use crate::reply::Reply;
-use crate::shell::{Shell, Stage};
 use crate::status::Status;
 use crate::stop::Stop;
-use base_core::Refusal;
 use byte_streams::{Sink, Source};
-use keeper_core::{Keeper, KeeperStop, Target, calls};
+use keeper_core::{Keeper, KeeperStop, Target};
 use script_lines::{LineBuffer, NextLine};
+use shell_steps::Shell;
 use std::alloc::Global;
 
 /// What a run with other words writes.
@@ -85,8 +83,8 @@ fn run_script<S: Source, O: Sink, K: Keeper>(
     ensures keeper { result ≡ Status.KeeperFault → Rose (K.moment keeper.old).faults (K.moment keeper.new).faults }
 {
     let mut shell = Shell::new(alloc);
-    match shell.do_script(source, sink, keeper) {
-        Ok(()) => shell.status(),
+    match do_script(alloc, &mut shell, source, sink, keeper) {
+        Ok(()) => end_status(&shell),
         Err(stop) => {
             roll_back(keeper);
             status_of(stop)
@@ -120,130 +118,89 @@ fn status_of(stop: Stop) -> Status
     }
 }
 
-impl Shell {
-    /// The status of a run that came to its script's end.
-    fn status(&self) -> Status
-        ensures usage { result ≢ Status.Usage }
-        ensures read { result ≢ Status.ReadFault }
-        ensures write { result ≢ Status.WriteFault }
-        ensures keeper { result ≢ Status.KeeperFault }
-    {
-        if self.refused {
-            Status::Refused
-        } else {
-            Status::Done
+/// The status of a run that came to its script's end.
+fn end_status(shell: &Shell) -> Status
+    ensures usage { result ≢ Status.Usage }
+    ensures read { result ≢ Status.ReadFault }
+    ensures write { result ≢ Status.WriteFault }
+    ensures keeper { result ≢ Status.KeeperFault }
+{
+    if shell.has_refused() {
+        Status::Refused
+    } else {
+        Status::Done
+    }
+}
+
+#[tactic(auto, using(crate::proofs::RunLemmas::runs))]
+/// Does the lines of a script to its end.
+fn do_script<S: Source, O: Sink, K: Keeper>(
+    alloc: Global,
+    shell: &mut Shell,
+    source: &mut S,
+    sink: &mut O,
+    keeper: &mut K,
+) -> Result<(), Stop>
+    requires ready { IsReady shell.old.stage (K.moment keeper.old) }
+    requires attached { (K.moment keeper.old).attached ≡ true }
+    ensures faults { (K.moment keeper.old).faults ≤ (K.moment keeper.new).faults }
+    ensures attached { (K.moment keeper.new).attached ≡ true }
+    ensures cause { IfErr result (λ stop. IsShownBy stop (Rose (S.faults source.old) (S.faults source.new)) (Rose (O.faults sink.old) (O.faults sink.new)) (Rose (K.moment keeper.old).faults (K.moment keeper.new).faults)) }
+{
+    let mut lines = LineBuffer::new(alloc);
+    for _turn in 0..u64::MAX {
+        match lines.next_line(source)? {
+            NextLine::End => return finish(shell, sink, keeper),
+            NextLine::TooLong => return Err(Stop::TooLong),
+            NextLine::Line(line) => answer_line(shell, sink, keeper, line.as_slice())?,
         }
     }
+    Err(Stop::TooLong)
+}
 
-    #[tactic(auto, using(crate::proofs::RunLemmas::runs))]
-    /// Does the lines of a script to its end.
-    fn do_script<S: Source, O: Sink, K: Keeper>(
-        &mut self,
-        source: &mut S,
-        sink: &mut O,
-        keeper: &mut K,
-    ) -> Result<(), Stop>
-        requires ready { IsReady self.old.stage (K.moment keeper.old) }
-        requires attached { (K.moment keeper.old).attached ≡ true }
-        ensures faults { (K.moment keeper.old).faults ≤ (K.moment keeper.new).faults }
-        ensures attached { (K.moment keeper.new).attached ≡ true }
-        ensures cause { IfErr result (λ stop. IsShownBy stop (Rose (S.faults source.old) (S.faults source.new)) (Rose (O.faults sink.old) (O.faults sink.new)) (Rose (K.moment keeper.old).faults (K.moment keeper.new).faults)) }
-    {
-        let mut lines = LineBuffer::new(self.alloc);
-        for _turn in 0..u64::MAX {
-            match lines.next_line(source)? {
-                NextLine::End => return self.finish(sink, keeper),
-                NextLine::TooLong => return Err(Stop::TooLong),
-                NextLine::Line(line) => self.answer_line(sink, keeper, line.as_slice())?,
-            }
-        }
-        Err(Stop::TooLong)
-    }
+#[tactic(auto, using(crate::proofs::RunLemmas::runs))]
+/// Does a line, and answers it.
+fn answer_line<O: Sink, K: Keeper>(
+    shell: &mut Shell,
+    sink: &mut O,
+    keeper: &mut K,
+    line: &[u8],
+) -> Result<(), Stop>
+    requires { IsReady shell.old.stage (K.moment keeper.old) }
+    ensures ready { OnOk result (IsReady shell.new.stage (K.moment keeper.new)) }
+    ensures sink_faults { O.faults sink.old ≤ O.faults sink.new }
+    ensures faults { (K.moment keeper.old).faults ≤ (K.moment keeper.new).faults }
+    ensures attached { (K.moment keeper.new).attached ≡ true }
+    ensures cause { IfErr result (λ stop. IsShownBy stop ⊥ (Rose (O.faults sink.old) (O.faults sink.new)) (Rose (K.moment keeper.old).faults (K.moment keeper.new).faults)) }
+{
+    let reply = shell.answer(keeper, line)?;
+    write_all(sink, reply.bytes())
+}
 
-    #[tactic(auto, using(crate::proofs::RunLemmas::runs))]
-    /// Does a line, and answers it.
-    fn answer_line<O: Sink, K: Keeper>(
-        &mut self,
-        sink: &mut O,
-        keeper: &mut K,
-        line: &[u8],
-    ) -> Result<(), Stop>
-        requires { IsReady self.old.stage (K.moment keeper.old) }
-        ensures ready { OnOk result (IsReady self.new.stage (K.moment keeper.new)) }
-        ensures sink_faults { O.faults sink.old ≤ O.faults sink.new }
-        ensures faults { (K.moment keeper.old).faults ≤ (K.moment keeper.new).faults }
-        ensures attached { (K.moment keeper.new).attached ≡ true }
-        ensures cause { IfErr result (λ stop. IsShownBy stop ⊥ (Rose (O.faults sink.old) (O.faults sink.new)) (Rose (K.moment keeper.old).faults (K.moment keeper.new).faults)) }
-    {
-        let mut reply = Reply::new(self.alloc);
-        self.reply_to(keeper, line, &mut reply)?;
-        write_all(sink, reply.bytes())
-    }
+#[tactic(auto, using(crate::proofs::RunLemmas::runs))]
+/// Ends a script: a block that is open is refused, and the session is closed.
+fn finish<O: Sink, K: Keeper>(
+    shell: &mut Shell,
+    sink: &mut O,
+    keeper: &mut K,
+) -> Result<(), Stop>
+    requires { IsReady shell.old.stage (K.moment keeper.old) }
+    ensures sink_faults { O.faults sink.old ≤ O.faults sink.new }
+    ensures faults { (K.moment keeper.old).faults ≤ (K.moment keeper.new).faults }
+    ensures attached { (K.moment keeper.new).attached ≡ true }
+    ensures cause { IfErr result (λ stop. IsShownBy stop ⊥ (Rose (O.faults sink.old) (O.faults sink.new)) (Rose (K.moment keeper.old).faults (K.moment keeper.new).faults)) }
+{
+    answer_end(shell, sink)?;
+    shell.close(keeper)?;
+    Ok(())
+}
 
-    #[tactic(auto, using(crate::proofs::RunLemmas::runs))]
-    /// Does a line; the reply is what it answers, or why it is refused.
-    fn reply_to<K: Keeper>(
-        &mut self,
-        keeper: &mut K,
-        line: &[u8],
-        reply: &mut Reply,
-    ) -> Result<(), Refusal>
-        requires { IsReady self.old.stage (K.moment keeper.old) }
-        ensures acts { Acts (K.moment keeper.old) result (K.moment keeper.new) }
-        ensures ready { OnOk result (IsReady self.new.stage (K.moment keeper.new)) }
-    {
-        self.line = self.line.saturating_add(1);
-        match self.do_line(keeper, line, reply) {
-            Ok(()) => Ok(()),
-            Err(refusal) => {
-                if calls::ends_early(&refusal) {
-                    return Err(refusal);
-                }
-                self.refused = true;
-                reply.put_error(self.line, &refusal, self.mapping())
-            }
-        }
-    }
-
-    #[tactic(auto, using(crate::proofs::RunLemmas::runs))]
-    /// Ends a script: a block that is open is refused, and the session is closed.
-    fn finish<O: Sink, K: Keeper>(&mut self, sink: &mut O, keeper: &mut K) -> Result<(), Stop>
-        requires { IsReady self.old.stage (K.moment keeper.old) }
-        ensures sink_faults { O.faults sink.old ≤ O.faults sink.new }
-        ensures faults { (K.moment keeper.old).faults ≤ (K.moment keeper.new).faults }
-        ensures attached { (K.moment keeper.new).attached ≡ true }
-        ensures cause { IfErr result (λ stop. IsShownBy stop ⊥ (Rose (O.faults sink.old) (O.faults sink.new)) (Rose (K.moment keeper.old).faults (K.moment keeper.new).faults)) }
-    {
-        self.answer_open_block(sink)?;
-        self.close(keeper)?;
-        Ok(())
-    }
-
-    /// A block that is open at the script's end is refused at its first line.
-    fn answer_open_block<O: Sink>(&mut self, sink: &mut O) -> Result<(), Stop>
-        ensures stage { self.new.stage ≡ self.old.stage }
-        ensures sink_faults { O.faults sink.old ≤ O.faults sink.new }
-        ensures cause { IfErr result (λ stop. IsShownBy stop ⊥ (Rose (O.faults sink.old) (O.faults sink.new)) ⊥) }
-    {
-        let Some(block) = &self.block else {
-            return Ok(());
-        };
-        let first = block.first();
-        self.refused = true;
-        let mut reply = Reply::new(self.alloc);
-        reply.put_error(first, &Refusal::ScriptError(first, 1), self.mapping())?;
-        write_all(sink, reply.bytes())
-    }
-
-    #[tactic(auto, using(crate::proofs::RunLemmas::runs))]
-    /// Closes the session, where there is one.
-    fn close<K: Keeper>(&mut self, keeper: &mut K) -> Result<(), Refusal>
-        requires { IsReady self.old.stage (K.moment keeper.old) }
-        ensures { Acts (K.moment keeper.old) result (K.moment keeper.new) }
-    {
-        match &mut self.stage {
-            Stage::Declaring(_) => Ok(()),
-            Stage::Configured(session) => session.close(keeper),
-        }
-    }
+/// A block that is open at the script's end is refused at its first line.
+fn answer_end<O: Sink>(shell: &mut Shell, sink: &mut O) -> Result<(), Stop>
+    ensures stage { shell.new.stage ≡ shell.old.stage }
+    ensures sink_faults { O.faults sink.old ≤ O.faults sink.new }
+    ensures cause { IfErr result (λ stop. IsShownBy stop ⊥ (Rose (O.faults sink.old) (O.faults sink.new)) ⊥) }
+{
+    let reply = shell.answer_end()?;
+    write_all(sink, reply.bytes())
 }

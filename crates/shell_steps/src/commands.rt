@@ -7,10 +7,8 @@ ghost use Rattle.schema_core.specs.Catalog.{IsTable};
 ghost use Rattle.mapper_core.specs.Mapped.{IsClass};
 ghost use Rattle.object_arena.specs.Graph.{IsObject};
 ghost use Rattle.session_core.specs.SessionState.{IsInStep, StaysInStep};
-ghost use Rattle.sqla_shell.specs.ShellState.{DepthStays, IsOpened, IsReady, IsSameScopes, StaysReady};
+ghost use Rattle.shell_steps.specs.ShellState.{DepthStays, IsOpened, IsReady, IsSameScopes, StaysReady};
 
-use crate::names::{Bound, Names};
-use crate::reply::Reply;
 use crate::shell::Stage;
 use base_core::{
     AttrNo, ClassId, Copied, ListOf, Name, ObjId, Refusal, RequestKind, TableId, Value,
@@ -19,6 +17,7 @@ use keeper_core::{Keeper, calls};
 use mapper_core::Mapping;
 use script_types::Term;
 use session_core::Session;
+use shell_parts::{Bound, Names, Reply};
 use std::alloc::Global;
 use std::mem;
 

@@ -5,8 +5,8 @@ use Rattle.base_core.specs.declared.refusal.Refusal.{Refusal}
 use Rattle.keeper_core.specs.Acting.{ends_early}
 use Rattle.keeper_core.specs.Moment.{Moment}
 use Rattle.session_core.specs.SessionState.{IsInStep}
-use Rattle.sqla_shell.specs.declared.shell.Stage.{Stage}
-use Rattle.sqla_shell.specs.declared.shell.Stage.TheVariants.{Declaring, Configured}
+use Rattle.shell_steps.specs.declared.shell.Stage.{Stage}
+use Rattle.shell_steps.specs.declared.shell.Stage.TheVariants.{Declaring, Configured}
 
 -- no session is open yet
 abbrev pub IsDeclaring : Stage → Type 0

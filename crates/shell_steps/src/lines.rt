@@ -3,15 +3,14 @@
 ghost use Rattle.std.specs.Prelude.{◌≡◌, ◌≢◌, false, IfErr, Err};
 ghost use Rattle.keeper_core.specs.Acting.{ends_early};
 ghost use Rattle.keeper_core.specs.Moment.{Acts};
-ghost use Rattle.sqla_shell.specs.ShellState.{IsReady, StaysReady};
+ghost use Rattle.shell_steps.specs.ShellState.{IsReady, IsSameStage, StaysReady};
 
-use crate::block::Block;
 use crate::commands;
-use crate::reply::Reply;
 use crate::shell::{Shell, Stage};
-use base_core::Refusal;
+use base_core::{Refusal, RequestKind};
 use keeper_core::Keeper;
 use script_types::{Command, Inside};
+use shell_parts::{Block, Reply};
 use std::alloc::Global;
 use std::mem;
 use thin_read::read_line;
@@ -76,7 +75,7 @@ impl Shell {
         ensures ready { StaysReady result self.new.stage (K.moment _keeper.new) }
     {
         if let Command::End = command {
-            return block.declare(&mut self.stage);
+            return declare(&mut self.stage, block);
         }
         let mut block = block;
         block.take(command)?;
@@ -118,6 +117,23 @@ impl Shell {
                 Ok(())
             }
         }
+    }
+}
+
+/// Declares what a block says.
+///
+/// # Errors
+/// `NotBuilt` where its form is not built; `Configured` where the mapping is; then the declaration's own refusals.
+fn declare(stage: &mut Stage, block: Block) -> Result<(), Refusal>
+    ensures cause { IfErr result (λ e. e ≢ Refusal.KeeperFault) }
+    ensures stage { IsSameStage stage.old stage.new }
+{
+    if !block.is_built() {
+        return Err(Refusal::NotBuilt);
+    }
+    match stage {
+        Stage::Declaring(mapping) => block.declare(mapping),
+        Stage::Configured(_) => Err(Refusal::InvalidRequestError(RequestKind::Configured)),
     }
 }
 

@@ -1,11 +1,8 @@
 //! Blocks of lines that declare a table or a class.
 
-ghost use Rattle.std.specs.Prelude.{◌≡◌, ◌≢◌, false, IfErr};
-ghost use Rattle.keeper_core.specs.Acting.{ends_early};
-ghost use Rattle.sqla_shell.specs.ShellState.{IsSameStage};
+ghost use Rattle.std.specs.Prelude.{◌≡◌, ◌≢◌, IfErr};
 
-use crate::shell::Stage;
-use base_core::{ListOf, Refusal, RequestKind};
+use base_core::{ListOf, Refusal};
 use mapper_core::Mapping;
 use mapper_types::ClassSpec;
 use schema_core::{ColumnKind, ColumnSpec, TableSpec};
@@ -35,7 +32,7 @@ impl Block {
     /// # Errors
     /// `NotBuilt` for a line that is no head.
     pub fn opened(alloc: Global, command: Command, first: u32) -> Result<Block, Refusal>
-        ensures { IfErr result (λ e. ends_early e ≡ false) }
+        ensures { IfErr result (λ e. e ≡ Refusal.NotBuilt) }
     {
         let declared = match command {
             Command::TableHead(name) => Declared::Table(TableSpec {
@@ -111,61 +108,46 @@ impl Block {
         }
     }
 
-    /// Declares what the block says.
+    /// Whether the block's form is built: a table of columns with one integer key, or a root class without lines.
+    pub fn is_built(&self) -> bool {
+        match &self.declared {
+            Declared::Table(spec) => {
+                spec.uniques.is_empty()
+                    && spec.foreigns.is_empty()
+                    && has_one_integer_key(spec.columns.as_slice())
+            }
+            Declared::Class(spec) => is_plain_root(spec),
+        }
+    }
+
+    /// Declares what the block says in a mapping.
     ///
     /// # Errors
-    /// `NotBuilt` where a line or the block's form is not built; `Configured` where the mapping is; then the
-    /// declaration's own refusals. A refused block declares nothing.
-    pub fn declare(self, stage: &mut Stage) -> Result<(), Refusal>
-        ensures cause { IfErr result (λ e. e ≢ Refusal.KeeperFault) }
-        ensures stage { IsSameStage stage.old stage.new }
+    /// The declaration's own refusals. A refused block declares nothing.
+    pub fn declare(self, mapping: &mut Mapping) -> Result<(), Refusal>
+        ensures { IfErr result (λ e. e ≢ Refusal.KeeperFault) }
     {
         let Block { declared, .. } = self;
-        if !is_built(&declared) {
-            return Err(Refusal::NotBuilt);
-        }
-        match stage {
-            Stage::Declaring(mapping) => declare_in(mapping, declared),
-            Stage::Configured(_) => Err(Refusal::InvalidRequestError(RequestKind::Configured)),
-        }
-    }
-}
-
-/// Declares a table or a class in a mapping.
-fn declare_in(mapping: &mut Mapping, declared: Declared) -> Result<(), Refusal>
-    ensures { IfErr result (λ e. e ≢ Refusal.KeeperFault) }
-{
-    let refused = match declared {
-        Declared::Table(spec) => {
-            if mapping.schema().count() == u32::MAX {
-                return Err(Refusal::Memory);
+        let refused = match declared {
+            Declared::Table(spec) => {
+                if mapping.schema().count() == u32::MAX {
+                    return Err(Refusal::Memory);
+                }
+                mapping.declare_table(spec).err()
             }
-            mapping.declare_table(spec).err()
-        }
-        Declared::Class(spec) => {
-            if mapping.count() == u32::MAX {
-                return Err(Refusal::Memory);
+            Declared::Class(spec) => {
+                if mapping.count() == u32::MAX {
+                    return Err(Refusal::Memory);
+                }
+                mapping.declare_class(spec).err()
             }
-            mapping.declare_class(spec).err()
+        };
+        match refused {
+            None => Ok(()),
+            Some(Refusal::ArgumentError(kind)) => Err(Refusal::ArgumentError(kind)),
+            Some(Refusal::NotBuilt) => Err(Refusal::NotBuilt),
+            Some(_) => Err(Refusal::Memory),
         }
-    };
-    match refused {
-        None => Ok(()),
-        Some(Refusal::ArgumentError(kind)) => Err(Refusal::ArgumentError(kind)),
-        Some(Refusal::NotBuilt) => Err(Refusal::NotBuilt),
-        Some(_) => Err(Refusal::Memory),
-    }
-}
-
-/// Whether a block's form is built: a table of columns with one integer key, or a root class without lines.
-fn is_built(declared: &Declared) -> bool {
-    match declared {
-        Declared::Table(spec) => {
-            spec.uniques.is_empty()
-                && spec.foreigns.is_empty()
-                && has_one_integer_key(spec.columns.as_slice())
-        }
-        Declared::Class(spec) => is_plain_root(spec),
     }
 }
 
