@@ -1,0 +1,4 @@
+pub mod Bindings
+pub mod Blocks
+pub mod TableNames
+pub mod Replies

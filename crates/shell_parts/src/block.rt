@@ -1,6 +1,10 @@
 //! Blocks of lines that declare a table or a class.
 
-ghost use Rattle.std.specs.Prelude.{◌≡◌, ◌≢◌, IfErr};
+ghost use Rattle.std.specs.Prelude.{◌≡◌, ◌&&◌, ◌==◌, true, IfErr, OnErr, OnOk};
+ghost use Rattle.std.specs.List.{count_by, list_any};
+ghost use Rattle.base_core.specs.Answers.{Gives, Takes};
+ghost use Rattle.mapper_core.specs.Declaring.{declare_class as classes_then, declare_table as tables_then, is_plain_root};
+ghost use Rattle.shell_parts.specs.Blocks.{IsOfDeclaring, declare, forms_of, has_one_integer_key, is_built_block, is_integer, opened, with_line, without_number};
 
 use base_core::{ListOf, Refusal};
 use mapper_core::Mapping;
@@ -11,7 +15,7 @@ use std::alloc::Global;
 
 /// What a block has declared so far.
 #[derive(Debug, Drop)]
-enum Declared {
+pub enum Declared {
     Table(TableSpec),
     Class(ClassSpec),
 }
@@ -27,14 +31,14 @@ pub struct Block {
 }
 
 impl Block {
-    /// The block that a head line opens.
+    /// The block, without lines yet, that a head line of this number opens.
     ///
     /// # Errors
     /// `NotBuilt` for a line that is no head.
-    pub fn opened(alloc: Global, command: Command, first: u32) -> Result<Block, Refusal>
-        ensures { IfErr result (λ e. e ≡ Refusal.NotBuilt) }
+    pub fn opened(alloc: Global, head: Command, first: u32) -> Result<Block, Refusal>
+        ensures { Gives (λ block. block) (opened head first) result }
     {
-        let declared = match command {
+        let declared = match head {
             Command::TableHead(name) => Declared::Table(TableSpec {
                 name,
                 columns: ListOf::new(alloc),
@@ -68,7 +72,9 @@ impl Block {
     }
 
     /// Against which forms its lines are read.
-    pub fn inside(&self) -> Inside {
+    pub fn inside(&self) -> Inside
+        ensures { result ≡ forms_of self.now.declared }
+    {
         match self.declared {
             Declared::Table(_) => Inside::Table,
             Declared::Class(_) => Inside::Class,
@@ -76,23 +82,31 @@ impl Block {
     }
 
     /// The number of its first line.
-    pub fn first(&self) -> u32 {
+    pub fn first(&self) -> u32
+        ensures { result ≡ self.now.first }
+    {
         self.first
     }
 
     /// Whether its lines are skipped.
-    pub fn is_skipping(&self) -> bool {
+    pub fn is_skipping(&self) -> bool
+        ensures { result ≡ self.now.skipping }
+    {
         self.skipping
     }
 
     /// From here on its lines are skipped.
-    pub fn skip(&mut self) {
+    pub fn skip(&mut self)
+        ensures { self.new ≡ record self.old { skipping = true } }
+    {
         self.skipping = true;
     }
 
-    /// Takes a line of the block. The only refusal is want of memory.
+    /// Takes a line of the block. The only refusal is want of memory, and it leaves the block as it was.
     pub fn take(&mut self, line: Command) -> Result<(), Refusal>
-        ensures { IfErr result (λ e. e ≡ Refusal.Memory) }
+        ensures ok { OnOk result (self.new ≡ record self.old { declared = with_line self.old.declared line }) }
+        ensures err { OnErr result (self.new ≡ self.old) }
+        ensures cause { IfErr result (λ e. e ≡ Refusal.Memory) }
     {
         match (&mut self.declared, line) {
             (Declared::Table(spec), Command::ColumnLine(column)) => spec.columns.push(column),
@@ -108,8 +122,10 @@ impl Block {
         }
     }
 
-    /// Whether the block's form is built: a table of columns with one integer key, or a root class without lines.
-    pub fn is_built(&self) -> bool {
+    /// Whether the block's form is built: a table of columns alone with one integer key, or a root class without lines.
+    pub fn is_built(&self) -> bool
+        ensures { result ≡ is_built_block self.now.declared }
+    {
         match &self.declared {
             Declared::Table(spec) => {
                 spec.uniques.is_empty()
@@ -125,47 +141,76 @@ impl Block {
     /// # Errors
     /// The declaration's own refusals. A refused block declares nothing.
     pub fn declare(self, mapping: &mut Mapping) -> Result<(), Refusal>
-        ensures { IfErr result (λ e. e ≢ Refusal.KeeperFault) }
+        ensures step { Takes (λ _. tt) (declare self.declared mapping.old) mapping.old result mapping.new }
+        ensures cause { IfErr result IsOfDeclaring }
     {
-        let Block { declared, .. } = self;
-        let refused = match declared {
-            Declared::Table(spec) => {
-                if mapping.schema().count() == u32::MAX {
-                    return Err(Refusal::Memory);
-                }
-                mapping.declare_table(spec).err()
-            }
-            Declared::Class(spec) => {
-                if mapping.count() == u32::MAX {
-                    return Err(Refusal::Memory);
-                }
-                mapping.declare_class(spec).err()
-            }
-        };
-        match refused {
-            None => Ok(()),
-            Some(Refusal::ArgumentError(kind)) => Err(Refusal::ArgumentError(kind)),
-            Some(Refusal::NotBuilt) => Err(Refusal::NotBuilt),
-            Some(_) => Err(Refusal::Memory),
+        match self.declared {
+            Declared::Table(spec) => declare_table(spec, mapping),
+            Declared::Class(spec) => declare_class(spec, mapping),
         }
     }
 }
 
-/// Whether exactly one column is a key, and that one an integer.
-fn has_one_integer_key(columns: &[ColumnSpec]) -> bool {
-    let mut keys = 0u32;
-    let mut integer = false;
-    for column in columns {
-        if column.key {
-            keys = keys.saturating_add(1);
-            integer = matches!(column.kind, ColumnKind::Integer);
-        }
+/// Declares a table in a mapping.
+fn declare_table(spec: TableSpec, mapping: &mut Mapping) -> Result<(), Refusal>
+    ensures step { Takes (λ _. tt) (without_number (tables_then mapping.old spec)) mapping.old result mapping.new }
+    ensures cause { IfErr result IsOfDeclaring }
+{
+    if mapping.schema().count() == u32::MAX {
+        return Err(Refusal::Memory);
     }
-    keys == 1 && integer
+    mapping.declare_table(spec)?;
+    Ok(())
+}
+
+/// Declares a class in a mapping.
+fn declare_class(spec: ClassSpec, mapping: &mut Mapping) -> Result<(), Refusal>
+    ensures step { Takes (λ _. tt) (without_number (classes_then mapping.old spec)) mapping.old result mapping.new }
+    ensures cause { IfErr result IsOfDeclaring }
+{
+    if mapping.count() == u32::MAX {
+        return Err(Refusal::Memory);
+    }
+    mapping.declare_class(spec)?;
+    Ok(())
+}
+
+fn is_integer(kind: ColumnKind) -> bool
+    ensures { result ≡ is_integer kind }
+{
+    match kind {
+        ColumnKind::Integer => true,
+        _ => false,
+    }
+}
+
+/// How many columns are flagged as the key.
+fn count_keys(columns: &[ColumnSpec]) -> usize
+    ensures { result ≡ count_by (λ column. column.key) columns.now }
+{
+    columns.iter().filter(|column| column.key).count()
+}
+
+/// Whether a column that is flagged as the key is an integer.
+fn some_integer_key(columns: &[ColumnSpec]) -> bool
+    ensures { result ≡ list_any (λ column. column.key && is_integer column.kind) columns.now }
+{
+    columns
+        .iter()
+        .any(|column| column.key && is_integer(column.kind))
+}
+
+/// Whether one column is flagged as the key, and one that is an integer.
+fn has_one_integer_key(columns: &[ColumnSpec]) -> bool
+    ensures { result ≡ has_one_integer_key columns.now }
+{
+    count_keys(columns) == 1 && some_integer_key(columns)
 }
 
 /// Whether a class is a root over a table, without a discriminator and without lines.
-fn is_plain_root(spec: &ClassSpec) -> bool {
+fn is_plain_root(spec: &ClassSpec) -> bool
+    ensures { result ≡ is_plain_root spec.now }
+{
     spec.base.is_none()
         && spec.table.is_some()
         && spec.discriminator.is_none()

@@ -6,7 +6,7 @@ mod names;
 mod naming;
 mod reply;
 
-pub use block::Block;
+pub use block::{Block, Declared};
 pub use names::{Bound, Names};
 pub use naming::TableNames;
 pub use reply::Reply;

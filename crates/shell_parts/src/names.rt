@@ -1,10 +1,13 @@
 //! The names that a script binds.
 
-ghost use Rattle.std.specs.Prelude.{◌≡◌, IfErr};
+ghost use Rattle.std.specs.Prelude.{◌≡◌, [], IfErr, OnErr, OnOk};
+ghost use Rattle.std.specs.Option.{option_copied};
+ghost use Rattle.shell_parts.specs.Bindings.{bind, bound_to};
 
 use base_core::{ClassId, ListOf, Name, ObjId, Refusal};
 use indexmap::IndexMap;
 use std::alloc::Global;
+use std::marker::Model;
 
 /// What a name of the script stands for.
 #[derive(Debug, Drop)]
@@ -17,33 +20,51 @@ pub enum Bound {
     Saved(u32),
 }
 
-/// The names that are bound, each to what it was bound to last.
+/// The names that are bound, in the order in which they were bound first, each with what it was bound to last.
 #[derive(Drop)]
 pub struct Names {
     alloc: Global,
     bound: IndexMap<String, Bound>,
 }
 
+impl Model for Names {
+    ghost use Rattle.std.specs.Prelude.{List, ℕ, map};
+    ghost use Rattle.shell_parts.specs.declared.names.Bound.{Bound};
+    ghost use Rattle.shell_parts.specs.Bindings.{by_bytes};
+
+    ghost Value = { List (List ℕ × Bound) };
+
+    ghost view = { λ n. map by_bytes n.bound.entries };
+}
+
 impl Names {
     /// No name is bound.
-    pub fn new(alloc: Global) -> Names {
+    pub fn new(alloc: Global) -> Names
+        ensures { result ≡ [] }
+    {
         Names {
             alloc,
             bound: IndexMap::new(alloc),
         }
     }
 
-    /// Binds a name in place of an earlier binding. The only refusal is want of memory.
+    #[tactic(auto, using(crate::proofs::BindingLemmas::entry_bound))]
+    /// Binds a name in place of an earlier binding. The only refusal is want of memory, and it leaves the names as they were.
     pub fn bind(&mut self, name: &Name, bound: Bound) -> Result<(), Refusal>
-        ensures { IfErr result (λ e. e ≡ Refusal.Memory) }
+        ensures ok { OnOk result (self.new ≡ bind self.old name.now bound) }
+        ensures err { OnErr result (self.new ≡ self.old) }
+        ensures cause { IfErr result (λ e. e ≡ Refusal.Memory) }
     {
         let name = String::from_str(self.alloc, name.get())?;
         self.bound.insert(name, bound)?;
         Ok(())
     }
 
+    #[tactic(auto, using(crate::proofs::BindingLemmas::entry_found))]
     /// What a name is bound to.
-    pub fn get(&self, name: &Name) -> Option<&Bound> {
+    pub fn get(&self, name: &Name) -> Option<&Bound>
+        ensures { option_copied result ≡ bound_to self.now name.now }
+    {
         self.bound.get(name.get())
     }
 }

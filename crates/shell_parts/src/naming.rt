@@ -1,6 +1,7 @@
 //! The names of what refusals have by number.
 
 ghost use Rattle.std.specs.Prelude.{◌≡◌};
+ghost use Rattle.shell_parts.specs.TableNames.{table_names};
 
 use base_core::{AttrNo, ClassId, ColumnNo, ObjId, RelNo, TableId};
 use mapper_core::Mapping;
@@ -13,17 +14,7 @@ pub struct TableNames<'a> {
 }
 
 impl<'a> Naming for TableNames<'a> {
-    ghost use Rattle.std.specs.Prelude.{[]};
-    ghost use Rattle.schema_core.specs.Catalog.{spec_of};
-
-    ghost names = { λ n. record {
-      table = λ table. (spec_of n.mapping.now.schema table).name;
-      column = λ table column. [];
-      class = λ class. [];
-      attribute = λ class attribute. [];
-      relation = λ class relation. [];
-      class_of = λ object. [];
-    } };
+    ghost names = { λ n. table_names n.mapping.now.schema };
 
     fn table_name(&self, table: TableId) -> &str {
         let schema = self.mapping.schema();

@@ -1,13 +1,18 @@
 //! What a command answers: the lines that go out once it has ended.
 
-ghost use Rattle.std.specs.Prelude.{◌≡◌, IfErr};
+ghost use Rattle.std.specs.Prelude.{◌≡◌, [], ◌++◌, IfErr, OnOk, codes};
+ghost use Rattle.std.specs.List.{flat_map};
+ghost use Rattle.printing.specs.Texts.{led};
+ghost use Rattle.shell_parts.specs.Replies.{columns_text, error_line, row_line, table_line, table_text};
+ghost use Rattle.shell_parts.specs.TableNames.{table_names};
 
 use crate::naming::TableNames;
-use base_core::{Refusal, RowList};
+use base_core::{Refusal, RowList, RowValues};
 use mapper_core::Mapping;
 use printing::{RefusalText, RowText};
-use schema_core::TableSpec;
+use schema_core::{ColumnSpec, TableSpec};
 use std::alloc::Global;
+use std::marker::Model;
 
 /// The bytes of a command's reply.
 #[derive(Drop)]
@@ -15,56 +20,127 @@ pub struct Reply {
     text: String,
 }
 
+impl Model for Reply {
+    ghost use Rattle.std.specs.Prelude.{List, ℕ, string_bytes};
+
+    ghost Value = { List ℕ };
+
+    ghost view = { λ r. string_bytes r.text };
+}
+
 impl Reply {
     /// No lines.
-    pub fn new(alloc: Global) -> Reply {
+    pub fn new(alloc: Global) -> Reply
+        ensures { result ≡ [] }
+    {
         Reply {
             text: String::new(alloc),
         }
     }
 
     /// The bytes.
-    pub fn bytes(&self) -> &[u8] {
+    pub fn bytes(&self) -> &[u8]
+        ensures { result.now ≡ self.now }
+    {
         self.text.as_bytes()
     }
 
-    /// The line that names a table and its columns, and one for each of its rows. The only refusal is want of memory.
-    pub fn put_table(&mut self, spec: &TableSpec, rows: &RowList) -> Result<(), Refusal>
-        ensures { IfErr result (λ e. e ≡ Refusal.Memory) }
+    /// The text goes behind the reply. The only refusal is want of memory.
+    fn put(&mut self, text: &str) -> Result<(), Refusal>
+        ensures ok { OnOk result (self.new ≡ self.old ++ text.now) }
+        ensures cause { IfErr result (λ e. e ≡ Refusal.Memory) }
     {
-        self.text.push_str("table ")?;
-        self.text.push_str(spec.name.get())?;
-        self.text.push_str(" (")?;
-        self.put_columns(spec)?;
-        self.text.push_str(")\n")?;
-        for row in rows.as_slice() {
-            let row = RowText(row);
-            write!(self.text, "  {row}\n")?;
-        }
+        self.text.push_str(text)?;
         Ok(())
+    }
+
+    /// The line that names a table and its columns, and one for each of its rows, go behind the reply. The only refusal is want of
+    /// memory.
+    pub fn put_table(&mut self, spec: &TableSpec, rows: &RowList) -> Result<(), Refusal>
+        ensures ok { OnOk result (self.new ≡ self.old ++ table_text spec.now rows.now) }
+        ensures cause { IfErr result (λ e. e ≡ Refusal.Memory) }
+    {
+        self.put_head(spec)?;
+        self.put_rows(rows.as_slice())
+    }
+
+    /// The line that names a table and its columns.
+    fn put_head(&mut self, spec: &TableSpec) -> Result<(), Refusal>
+        ensures ok { OnOk result (self.new ≡ self.old ++ table_line spec.now) }
+        ensures cause { IfErr result (λ e. e ≡ Refusal.Memory) }
+    {
+        self.put("table ")?;
+        self.put(spec.name.get())?;
+        self.put(" (")?;
+        self.put_columns(spec.columns.as_slice())?;
+        self.put(")\n")
     }
 
     /// The names of a table's columns, between commas.
-    fn put_columns(&mut self, spec: &TableSpec) -> Result<(), Refusal>
-        ensures { IfErr result (λ e. e ≡ Refusal.Memory) }
+    fn put_columns(&mut self, columns: &[ColumnSpec]) -> Result<(), Refusal>
+        ensures ok { OnOk result (self.new ≡ self.old ++ columns_text columns.now) }
+        ensures cause { IfErr result (λ e. e ≡ Refusal.Memory) }
     {
-        for (place, column) in spec.columns.as_slice().iter().enumerate() {
-            if place > 0 {
-                self.text.push_str(", ")?;
+        match columns.split_first() {
+            Some((first, rest)) => {
+                self.put(first.name.get())?;
+                self.put_led(rest)
             }
-            self.text.push_str(column.name.get())?;
+            None => Ok(()),
+        }
+    }
+
+    /// The names of columns, each behind a comma.
+    fn put_led(&mut self, columns: &[ColumnSpec]) -> Result<(), Refusal>
+        ensures ok { OnOk result (self.new ≡ self.old ++ led (codes ", ") (λ column. column.name) columns.now) }
+        ensures cause { IfErr result (λ e. e ≡ Refusal.Memory) }
+    {
+        for column in columns {
+            self.put_one_led(column)?;
         }
         Ok(())
     }
 
-    /// The line that says why the line of this number is refused, in place of what the reply had.
+    /// The name of a column, behind a comma.
+    fn put_one_led(&mut self, column: &ColumnSpec) -> Result<(), Refusal>
+        ensures ok { OnOk result (self.new ≡ self.old ++ (codes ", " ++ column.now.name)) }
+        ensures cause { IfErr result (λ e. e ≡ Refusal.Memory) }
+    {
+        self.put(", ")?;
+        self.put(column.name.get())
+    }
+
+    /// The lines of rows.
+    fn put_rows(&mut self, rows: &[RowValues]) -> Result<(), Refusal>
+        ensures ok { OnOk result (self.new ≡ self.old ++ flat_map row_line rows.now) }
+        ensures cause { IfErr result (λ e. e ≡ Refusal.Memory) }
+    {
+        for row in rows {
+            self.put_row(row)?;
+        }
+        Ok(())
+    }
+
+    /// The line of a row.
+    fn put_row(&mut self, row: &RowValues) -> Result<(), Refusal>
+        ensures ok { OnOk result (self.new ≡ self.old ++ row_line row.now) }
+        ensures cause { IfErr result (λ e. e ≡ Refusal.Memory) }
+    {
+        let row = RowText(row);
+        write!(self.text, "  {row}\n")?;
+        Ok(())
+    }
+
+    /// The line that says why the line of this number is refused, in place of what the reply had. The only refusal is want of
+    /// memory.
     pub fn put_error(
         &mut self,
         line: u32,
         refusal: &Refusal,
         mapping: &Mapping,
     ) -> Result<(), Refusal>
-        ensures { IfErr result (λ e. e ≡ Refusal.Memory) }
+        ensures ok { OnOk result (self.new ≡ error_line (table_names mapping.now.schema) line refusal.now) }
+        ensures cause { IfErr result (λ e. e ≡ Refusal.Memory) }
     {
         self.text.clear();
         let names = TableNames { mapping };

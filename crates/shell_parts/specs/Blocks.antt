@@ -1,0 +1,77 @@
+-- Blocks of lines: what their lines declare, and what becomes of a mapping at their end.
+use Rattle.std.specs.Prelude.{ℕ, Bool, true, false, ◌&&◌, List, [], ◌∷◌, ◌++◌, ◌==◌, Result, Ok, Err}
+use Rattle.std.specs.List.{count_by, list_any}
+use Rattle.base_core.specs.declared.refusal.Refusal.{Refusal}
+use Rattle.base_core.specs.declared.refusal.Refusal.TheVariants.{Memory, ArgumentError, NotBuilt}
+use Rattle.schema_core.specs.declared.table.ColumnKind.{ColumnKind}
+use Rattle.schema_core.specs.declared.table.ColumnKind.TheVariants.{Integer}
+use Rattle.schema_core.specs.declared.table.ColumnSpec.{ColumnSpec}
+use Rattle.schema_core.specs.declared.table.TableSpec.{TableSpec}
+use Rattle.mapper_types.specs.declared.declared.ClassSpec.{ClassSpec}
+use Rattle.mapper_core.specs.Mapped.{Mapped}
+use Rattle.mapper_core.specs.Declaring.{declare_class, declare_table, is_empty, is_plain_root}
+use Rattle.script_types.specs.declared.command.Command.{Command}
+use Rattle.script_types.specs.declared.command.Command.TheVariants as line
+use Rattle.script_types.specs.declared.command.Inside.{Inside}
+use Rattle.script_types.specs.declared.command.Inside.TheVariants as inside
+use Rattle.shell_parts.specs.declared.block.Block.{Block}
+use Rattle.shell_parts.specs.declared.block.Declared.{Declared}
+use Rattle.shell_parts.specs.declared.block.Declared.TheVariants.{Table, Class}
+
+-- the block, without lines yet, that the head of this number opens; every other line is not built
+abbrev pub opened : Command → ℕ → Result Block Refusal
+opened (line.TableHead name) first = Ok (record {
+  declared = Table (record { name = name; columns = []; uniques = []; foreigns = [] });
+  first = first;
+  skipping = false;
+})
+opened (line.ClassHead name base table discriminator identity owned) first = Ok (record {
+  declared = Class (record { name = name; base = base; table = table; discriminator = discriminator; identity = identity; owned = owned; relations = []; validators = [] });
+  first = first;
+  skipping = false;
+})
+opened other first = Err NotBuilt
+
+-- the forms of the block's lines
+abbrev pub forms_of : Declared → Inside
+forms_of (Table spec) = inside.Table
+forms_of (Class spec) = inside.Class
+
+-- what is declared with one more line; a line that is of no form of the block adds nothing
+abbrev pub with_line : Declared → Command → Declared
+with_line (Table spec) (line.ColumnLine column) = Table (record spec { columns = spec.columns ++ column ∷ [] })
+with_line (Table spec) (line.UniqueLine columns) = Table (record spec { uniques = spec.uniques ++ columns ∷ [] })
+with_line (Table spec) (line.ForeignLine foreign) = Table (record spec { foreigns = spec.foreigns ++ foreign ∷ [] })
+with_line (Class spec) (line.RelationLine relation) = Class (record spec { relations = spec.relations ++ relation ∷ [] })
+with_line (Class spec) (line.ValidateLine attribute hook) = Class (record spec { validators = spec.validators ++ (attribute, hook) ∷ [] })
+with_line declared other = declared
+
+abbrev pub is_integer : ColumnKind → Bool
+is_integer Integer = true
+is_integer other = false
+
+-- one column is flagged as the key, and one that is an integer
+abbrev pub has_one_integer_key : List ColumnSpec → Bool
+has_one_integer_key columns = (count_by (λ column. column.key) columns == 1) && list_any (λ column. column.key && is_integer column.kind) columns
+
+-- the block's form is built: a table of columns alone with one integer key, or a root class without lines
+abbrev pub is_built_block : Declared → Bool
+is_built_block (Table spec) = is_empty spec.uniques && is_empty spec.foreigns && has_one_integer_key spec.columns
+is_built_block (Class spec) = is_plain_root spec
+
+-- an answer without the number that was given
+abbrev pub without_number : {A : Type 0} → Result (A × Mapped) Refusal → Result (Unit {0} × Mapped) Refusal
+without_number (Ok p) = Ok (tt, p.1)
+without_number (Err e) = Err e
+
+-- the mapping's answer to what the block declares
+abbrev pub declare : Declared → Mapped → Result (Unit {0} × Mapped) Refusal
+declare (Table spec) mapped = without_number (declare_table mapped spec)
+declare (Class spec) mapped = without_number (declare_class mapped spec)
+
+-- a refusal of a declaration, or want of memory
+abbrev pub IsOfDeclaring : Refusal → Type 0
+IsOfDeclaring Memory = Unit {0}
+IsOfDeclaring (ArgumentError kind) = Unit {0}
+IsOfDeclaring NotBuilt = Unit {0}
+IsOfDeclaring e = ⊥
