@@ -6,8 +6,6 @@ use Rattle.base_core.specs.declared.refusal.Refusal.TheVariants.{Memory, Argumen
 use Rattle.schema_core.specs.declared.table.ColumnKind.{ColumnKind}
 use Rattle.schema_core.specs.declared.table.ColumnKind.TheVariants.{Integer}
 use Rattle.schema_core.specs.declared.table.ColumnSpec.{ColumnSpec}
-use Rattle.schema_core.specs.declared.table.TableSpec.{TableSpec}
-use Rattle.mapper_types.specs.declared.declared.ClassSpec.{ClassSpec}
 use Rattle.mapper_core.specs.Mapped.{Mapped}
 use Rattle.mapper_core.specs.Declaring.{declare_class, declare_table, is_empty, is_plain_root}
 use Rattle.script_types.specs.declared.command.Command.{Command}

@@ -159,8 +159,10 @@ fn declare_table(spec: TableSpec, mapping: &mut Mapping) -> Result<(), Refusal>
     if mapping.schema().count() == u32::MAX {
         return Err(Refusal::Memory);
     }
-    mapping.declare_table(spec)?;
-    Ok(())
+    match mapping.declare_table(spec) {
+        Ok(_) => Ok(()),
+        Err(refusal) => Err(refusal),
+    }
 }
 
 /// Declares a class in a mapping.
@@ -171,8 +173,10 @@ fn declare_class(spec: ClassSpec, mapping: &mut Mapping) -> Result<(), Refusal>
     if mapping.count() == u32::MAX {
         return Err(Refusal::Memory);
     }
-    mapping.declare_class(spec)?;
-    Ok(())
+    match mapping.declare_class(spec) {
+        Ok(_) => Ok(()),
+        Err(refusal) => Err(refusal),
+    }
 }
 
 fn is_integer(kind: ColumnKind) -> bool

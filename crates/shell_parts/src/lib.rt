@@ -10,3 +10,6 @@ pub use block::{Block, Declared};
 pub use names::{Bound, Names};
 pub use naming::TableNames;
 pub use reply::Reply;
+
+#[cfg(test)]
+mod tests;

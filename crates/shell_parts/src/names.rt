@@ -60,7 +60,6 @@ impl Names {
         Ok(())
     }
 
-    #[tactic(auto, using(crate::proofs::BindingLemmas::entry_found))]
     /// What a name is bound to.
     pub fn get(&self, name: &Name) -> Option<&Bound>
         ensures { option_copied result ≡ bound_to self.now name.now }
