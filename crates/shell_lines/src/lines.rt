@@ -16,7 +16,7 @@ use std::alloc::Global;
 /// # Errors
 /// `ScriptError` with the line's number and the column at which no line of the forms goes on, and want of memory.
 pub fn read(alloc: Global, line: &[u8], number: u32, inside: Inside) -> Result<Command, Refusal>
-    ensures command { Gives (λ command. command) (said_by line.now number inside) result }
+    ensures command { Gives (λ command. command) result (said_by line.now number inside) }
     ensures cause { IfErr result IsOfReading }
 {
     read_line(alloc, line, number, inside)

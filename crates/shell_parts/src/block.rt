@@ -36,7 +36,7 @@ impl Block {
     /// # Errors
     /// `NotBuilt` for a line that is no head.
     pub fn opened(alloc: Global, head: Command, first: u32) -> Result<Block, Refusal>
-        ensures { Gives (λ block. block) (opened head first) result }
+        ensures { Gives (λ block. block) result (opened head first) }
     {
         let declared = match head {
             Command::TableHead(name) => Declared::Table(TableSpec {

@@ -43,9 +43,9 @@ fn a_declared_table_a_refusal_and_a_name_are_told(rt: HostRuntime) -> Result<(),
     if mapping.schema().count() > 0 {
         reply.put_table(mapping.schema().spec(TableId(0)), &one_row(alloc)?)?;
     }
-    assert!(rt; reply.bytes() == b"table users (id)\n  (7)\n");
+    assert!(rt; reply.bytes() == b"table users (id)\n  (7)\n".as_slice());
     reply.put_error(5, &Refusal::NotBuilt, &mapping)?;
-    assert!(rt; reply.bytes() == b"error 5: NotBuilt\n");
+    assert!(rt; reply.bytes() == b"error 5: NotBuilt\n".as_slice());
     let mut names = Names::new(alloc);
     names.bind(&named(alloc, "u")?, Bound::Nothing)?;
     names.bind(&named(alloc, "u")?, Bound::Object(ObjId(1), ClassId(0)))?;
