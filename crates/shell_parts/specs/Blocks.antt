@@ -6,6 +6,8 @@ use Rattle.base_core.specs.declared.refusal.Refusal.TheVariants.{Memory, Argumen
 use Rattle.schema_core.specs.declared.table.ColumnKind.{ColumnKind}
 use Rattle.schema_core.specs.declared.table.ColumnKind.TheVariants.{Integer}
 use Rattle.schema_core.specs.declared.table.ColumnSpec.{ColumnSpec}
+use Rattle.schema_core.specs.declared.table.TableSpec.{TableSpec}
+use Rattle.mapper_types.specs.declared.declared.ClassSpec.{ClassSpec}
 use Rattle.mapper_core.specs.Mapped.{Mapped}
 use Rattle.mapper_core.specs.Declaring.{declare_class, declare_table, is_empty, is_plain_root}
 use Rattle.script_types.specs.declared.command.Command.{Command}
@@ -35,14 +37,23 @@ abbrev pub forms_of : Declared → Inside
 forms_of (Table spec) = inside.Table
 forms_of (Class spec) = inside.Class
 
--- what is declared with one more line; a line that is of no form of the block adds nothing
+-- the table with one more line of its block; a line of another form adds nothing
+abbrev pub with_table_line : TableSpec → Command → TableSpec
+with_table_line spec (line.ColumnLine column) = record spec { columns = spec.columns ++ column ∷ [] }
+with_table_line spec (line.UniqueLine columns) = record spec { uniques = spec.uniques ++ columns ∷ [] }
+with_table_line spec (line.ForeignLine foreign) = record spec { foreigns = spec.foreigns ++ foreign ∷ [] }
+with_table_line spec other = spec
+
+-- the class with one more line of its block; a line of another form adds nothing
+abbrev pub with_class_line : ClassSpec → Command → ClassSpec
+with_class_line spec (line.RelationLine relation) = record spec { relations = spec.relations ++ relation ∷ [] }
+with_class_line spec (line.ValidateLine attribute hook) = record spec { validators = spec.validators ++ (attribute, hook) ∷ [] }
+with_class_line spec other = spec
+
+-- what is declared with one more line
 abbrev pub with_line : Declared → Command → Declared
-with_line (Table spec) (line.ColumnLine column) = Table (record spec { columns = spec.columns ++ column ∷ [] })
-with_line (Table spec) (line.UniqueLine columns) = Table (record spec { uniques = spec.uniques ++ columns ∷ [] })
-with_line (Table spec) (line.ForeignLine foreign) = Table (record spec { foreigns = spec.foreigns ++ foreign ∷ [] })
-with_line (Class spec) (line.RelationLine relation) = Class (record spec { relations = spec.relations ++ relation ∷ [] })
-with_line (Class spec) (line.ValidateLine attribute hook) = Class (record spec { validators = spec.validators ++ (attribute, hook) ∷ [] })
-with_line declared other = declared
+with_line (Table spec) added = Table (with_table_line spec added)
+with_line (Class spec) added = Class (with_class_line spec added)
 
 abbrev pub is_integer : ColumnKind → Bool
 is_integer Integer = true

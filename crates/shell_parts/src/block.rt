@@ -4,7 +4,7 @@ ghost use Rattle.std.specs.Prelude.{◌≡◌, ◌&&◌, ◌==◌, true, IfErr, 
 ghost use Rattle.std.specs.List.{count_by, list_any};
 ghost use Rattle.base_core.specs.Answers.{Gives, Takes};
 ghost use Rattle.mapper_core.specs.Declaring.{declare_class as classes_then, declare_table as tables_then, is_plain_root};
-ghost use Rattle.shell_parts.specs.Blocks.{IsOfDeclaring, declare, forms_of, has_one_integer_key, is_built_block, is_integer, opened, with_line, without_number};
+ghost use Rattle.shell_parts.specs.Blocks.{IsOfDeclaring, declare, forms_of, has_one_integer_key, is_built_block, is_integer, opened, with_class_line, with_line, with_table_line, without_number};
 
 use base_core::{ListOf, Refusal};
 use mapper_core::Mapping;
@@ -108,17 +108,9 @@ impl Block {
         ensures err { OnErr result (self.new ≡ self.old) }
         ensures cause { IfErr result (λ e. e ≡ Refusal.Memory) }
     {
-        match (&mut self.declared, line) {
-            (Declared::Table(spec), Command::ColumnLine(column)) => spec.columns.push(column),
-            (Declared::Table(spec), Command::UniqueLine(columns)) => spec.uniques.push(columns),
-            (Declared::Table(spec), Command::ForeignLine(foreign)) => spec.foreigns.push(foreign),
-            (Declared::Class(spec), Command::RelationLine(relation)) => spec
-                .relations
-                .push(relation),
-            (Declared::Class(spec), Command::ValidateLine(attribute, hook)) => {
-                spec.validators.push((attribute, hook))
-            }
-            _ => Ok(()),
+        match &mut self.declared {
+            Declared::Table(spec) => take_table_line(spec, line),
+            Declared::Class(spec) => take_class_line(spec, line),
         }
     }
 
@@ -148,6 +140,33 @@ impl Block {
             Declared::Table(spec) => declare_table(spec, mapping),
             Declared::Class(spec) => declare_class(spec, mapping),
         }
+    }
+}
+
+/// Takes a line of a table's block. The only refusal is want of memory, and it leaves the table as it was.
+fn take_table_line(spec: &mut TableSpec, line: Command) -> Result<(), Refusal>
+    ensures ok { OnOk result (spec.new ≡ with_table_line spec.old line) }
+    ensures err { OnErr result (spec.new ≡ spec.old) }
+    ensures cause { IfErr result (λ e. e ≡ Refusal.Memory) }
+{
+    match line {
+        Command::ColumnLine(column) => spec.columns.push(column),
+        Command::UniqueLine(columns) => spec.uniques.push(columns),
+        Command::ForeignLine(foreign) => spec.foreigns.push(foreign),
+        _ => Ok(()),
+    }
+}
+
+/// Takes a line of a class's block. The only refusal is want of memory, and it leaves the class as it was.
+fn take_class_line(spec: &mut ClassSpec, line: Command) -> Result<(), Refusal>
+    ensures ok { OnOk result (spec.new ≡ with_class_line spec.old line) }
+    ensures err { OnErr result (spec.new ≡ spec.old) }
+    ensures cause { IfErr result (λ e. e ≡ Refusal.Memory) }
+{
+    match line {
+        Command::RelationLine(relation) => spec.relations.push(relation),
+        Command::ValidateLine(attribute, hook) => spec.validators.push((attribute, hook)),
+        _ => Ok(()),
     }
 }
 

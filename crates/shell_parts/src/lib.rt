@@ -10,6 +10,3 @@ pub use block::{Block, Declared};
 pub use names::{Bound, Names};
 pub use naming::TableNames;
 pub use reply::Reply;
-
-#[cfg(test)]
-mod tests;
