@@ -4,6 +4,7 @@ ghost use Rattle.std.specs.Prelude.{◌≡◌, IfErr};
 ghost use Rattle.base_core.specs.Answers.{Gives};
 ghost use Rattle.script_read.specs.Line.{line as said_by};
 ghost use Rattle.shell_lines.specs.Lines.{IsOfReading, is_built as is_built_line, is_end as is_end_line, is_end_text};
+ghost use Rattle.std.specs.List.{list_all};
 ghost use Rattle.script_lex.specs.Lex.{is_blank as blank};
 
 use base_core::Refusal;
@@ -62,12 +63,19 @@ pub fn is_end(mut line: &[u8]) -> bool
     false
 }
 
+/// Whether there are blanks alone.
+fn all_blank(text: &[u8]) -> bool
+    ensures { result ≡ list_all blank text.now }
+{
+    text.iter().all(|byte| is_blank(*byte))
+}
+
 /// Whether a text is the word `end`, and then blanks alone.
 fn is_end_word(text: &[u8]) -> bool
     ensures { result ≡ is_end_text text.now }
 {
     match text.strip_prefix(b"end") {
-        Some(rest) => rest.iter().all(|byte| is_blank(*byte)),
+        Some(rest) => all_blank(rest),
         None => false,
     }
 }
