@@ -20,7 +20,11 @@ pub fn read(alloc: Global, line: &[u8], number: u32, inside: Inside) -> Result<C
     ensures command { Gives (λ command. command) result (said_by line.now number inside) }
     ensures cause { IfErr result IsOfReading }
 {
-    read_line(alloc, line, number, inside)
+    match read_line(alloc, line, number, inside) {
+        Ok(command) => Ok(command),
+        Err(Refusal::ScriptError(line, column)) => Err(Refusal::ScriptError(line, column)),
+        Err(_) => Err(Refusal::Memory),
+    }
 }
 
 /// Whether the line's form is built. The head of a block is, and its end, whatever the block declares.
