@@ -126,9 +126,9 @@ pub record IsAttached (old : Moment Store) (target : Target) (result : Result (U
   pub given : new.target ≡ Some target
   pub attached : new.attached ≡ is_ok result
 
--- what a keeper tells fits its depth, and the tables that the outside saw committed are the store's
+-- what a keeper tells fits its depth, the tables that the outside saw committed are the store's, and a keeper writes no bytes
 abbrev pub IsCoherent : Moment Store → Type 0
-IsCoherent moment = IfSome moment.told (λ told. (moment.depth ≡ length told.world.scopes) × (told.log.committed ≡ committed_of told.world))
+IsCoherent moment = IfSome moment.told (λ told. (moment.depth ≡ length told.world.scopes) × (told.log.committed ≡ committed_of told.world) × (told.log.written ≡ []))
 
 -- What every acting call keeps, whatever it does: counts never fall, a failure of the store is told only where its count
 -- rose, and the keeper keeps its target.

@@ -160,10 +160,10 @@ Wrote schema statement old (Err (Breaks breach)) new =
     (apply schema old.store.tables statement ≡ Err breach) × (new ≡ refused_by old (Write statement) (write_refusal (table_of statement) (broken breach)))
 Wrote schema statement old (Err Memory) new = ended new ≡ ended old
 
-told_coherent : (attachment : Attachment) (kept : Kept) → (depth_by attachment kept ≡ length (told_by attachment kept).world.scopes) × ((told_by attachment kept).log.committed ≡ committed_of (told_by attachment kept).world)
-told_coherent Fresh kept = (refl, refl)
-told_coherent (Taken target) kept = (refl, refl)
-told_coherent (Untaken target) kept = (refl, refl)
+told_coherent : (attachment : Attachment) (kept : Kept) → (depth_by attachment kept ≡ length (told_by attachment kept).world.scopes) × ((told_by attachment kept).log.committed ≡ committed_of (told_by attachment kept).world) × ((told_by attachment kept).log.written ≡ [])
+told_coherent Fresh kept = (refl, refl, refl)
+told_coherent (Taken target) kept = (refl, refl, refl)
+told_coherent (Untaken target) kept = (refl, refl, refl)
 
 -- what is told fits the depth and the tables that were committed
 pub coherent : (kept : Kept) → IsCoherent (moment_of kept)
