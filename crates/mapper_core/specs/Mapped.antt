@@ -1,5 +1,5 @@
 -- A mapping: the tables, the classes over them, and what each class has.
-use Rattle.std.specs.Prelude.{ℕ, ◌<◌, Bool, List, [], ◌∷◌, length, map, filter, slice_index_or, ◌==◌, Option, None, Some}
+use Rattle.std.specs.Prelude.{ℕ, ◌<◌, Bool, false, List, [], ◌∷◌, length, map, filter, slice_index_or, ◌==◌, Option, None, Some}
 use Rattle.std.specs.Option.{option_map}
 use Rattle.std.specs.List.{list_any, position, enumerate_from}
 use Rattle.base_core.specs.declared.ids.TableId.{TableId}
@@ -7,8 +7,9 @@ use Rattle.base_core.specs.declared.ids.ClassId.{ClassId}
 use Rattle.base_core.specs.declared.ids.AttrNo.{AttrNo}
 use Rattle.base_core.specs.declared.value.Kind.TheVariants.{Integer}
 use Rattle.schema_core.specs.declared.table.ColumnSpec.{ColumnSpec}
+use Rattle.schema_core.specs.declared.table.ColumnKind.TheVariants as kinds
 use Rattle.schema_core.specs.declared.table.TableSpec.{TableSpec}
-use Rattle.schema_core.specs.Catalog.{Catalog, find_table, kind_of, no_table, same_name}
+use Rattle.schema_core.specs.Catalog.{Catalog, find_table, kind_of, no_table, same_name, spec_of}
 use Rattle.mapper_types.specs.declared.declared.ClassSpec.{ClassSpec}
 use Rattle.mapper_types.specs.declared.mapped.Attribute.{Attribute}
 use Rattle.mapper_types.specs.declared.mapped.Relation.{Relation}
@@ -64,12 +65,20 @@ parent_of mapped class = None
 abbrev pub root_table : Mapped → ClassId → TableId
 root_table mapped class = own_table mapped.schema.tables (class_spec mapped (root_of mapped class))
 
+-- the declaration of the table of the class's root
+abbrev pub root_spec : Mapped → ClassId → TableSpec
+root_spec mapped class = spec_of mapped.schema (root_table mapped class)
+
 -- the tables of a class, its root's first
 abbrev pub tables_of : Mapped → ClassId → List TableId
 tables_of mapped class = root_table mapped class ∷ []
 
 abbrev pub columns_in : List TableSpec → TableId → List ColumnSpec
 columns_in tables table = (slice_index_or tables table.0 no_table).columns
+
+-- a column that declares nothing
+abbrev pub no_column : ColumnSpec
+no_column = record { name = []; kind = kinds.Integer; key = false; not_null = false }
 
 -- the column at a place of a table, as an attribute
 abbrev pub attribute_at : TableId → ℕ × ColumnSpec → Attribute

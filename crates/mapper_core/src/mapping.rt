@@ -1,10 +1,12 @@
 //! A mapping: tables and the classes over them.
 
-ghost use Rattle.std.specs.Prelude.{◌≡◌, ◌<◌, ◌≤◌, [], length, true, false, IfSome, OnOk};
-ghost use Rattle.std.specs.List.{list_any, position};
+ghost use Rattle.std.specs.Prelude.{◌≡◌, ◌<◌, ◌≤◌, [], ◌∷◌, length, slice_index_or, true, false, IfSome, OnOk};
+ghost use Rattle.std.specs.List.{All, list_any, position};
+ghost use Rattle.base_core.specs.declared.ids.AttrNo.{AttrNo};
 ghost use Rattle.base_core.specs.Answers.{Takes};
-ghost use Rattle.schema_core.specs.Catalog.{IsTable, same_name};
-ghost use Rattle.mapper_core.specs.Mapped.{find_class, class_spec, IsClass, parent_of, tables_of, attributes_of, relations_of, key_attributes};
+ghost use Rattle.schema_core.specs.Catalog.{IsTable, key_columns, same_name};
+ghost use Rattle.mapper_core.specs.Mapped.{IsAttribute, IsClass, attribute_at, attribute_of, attributes_of, class_spec, find_class, key_attributes, no_column, parent_of, relations_of, root_of, root_spec, root_table, tables_of};
+ghost use Rattle.mapper_core.specs.Layouts.{layout_of};
 ghost use Rattle.mapper_core.specs.Declaring.{class_fault, closed, configure, declare_class, declare_table, is_named, is_plain_root, maps_name, with_class, with_table};
 
 use crate::layout::{Layout, layouts_of, named_table};
@@ -96,44 +98,76 @@ impl Mapping {
         None
     }
 
-    #[tactic(auto, using(crate::proofs::MappingLemmas::laid_out))]
+    #[tactic(auto, using(crate::proofs::MappingLemmas::layout_at))]
+    /// What is kept of a class.
+    fn layout(&self, class: ClassId) -> &Layout
+        requires declared { IsClass self.now class }
+        requires configured { self.now.configured ≡ true }
+        ensures layout { result.now ≡ layout_of self.now.schema.tables (class_spec self.now class) }
+        ensures exists { IsTable self.now.schema (root_table self.now class) }
+    {
+        self.layouts.at(class.0 as usize)
+    }
+
+    /// The class without a base at the head of a class's hierarchy.
+    pub fn root_of(&self, class: ClassId) -> ClassId
+        requires { IsClass self.now class }
+        ensures root { result ≡ root_of self.now class }
+        ensures declared { IsClass self.now result }
+    {
+        class
+    }
+
     /// The tables of a class, its root's first.
     pub fn tables_of(&self, class: ClassId) -> &[TableId]
         requires declared { IsClass self.now class }
         requires configured { self.now.configured ≡ true }
         ensures tables { result.now ≡ tables_of self.now class }
+        ensures one { result.now ≡ root_table self.now class ∷ [] }
+        ensures exists { IsTable self.now.schema (root_table self.now class) }
     {
-        self.layouts.at(class.0 as usize).tables.as_slice()
+        self.layout(class).tables.as_slice()
     }
 
-    #[tactic(auto, using(crate::proofs::MappingLemmas::laid_out))]
-    /// The attributes of a class: the columns of its tables in order.
+    /// The table of a class's root. It is declared.
+    pub fn root_table(&self, class: ClassId) -> TableId
+        requires declared { IsClass self.now class }
+        requires configured { self.now.configured ≡ true }
+        ensures table { result ≡ root_table self.now class }
+        ensures exists { IsTable self.now.schema result }
+    {
+        self.tables_of(class)[0]
+    }
+
+    /// The attributes of a class: the columns of its tables in order, with their names and kinds.
     pub fn attributes(&self, class: ClassId) -> &[Attribute]
         requires declared { IsClass self.now class }
         requires configured { self.now.configured ≡ true }
-        ensures { result.now ≡ attributes_of self.now class }
+        ensures attributes { result.now ≡ attributes_of self.now class }
+        ensures count { length result.now ≡ length (root_spec self.now class).columns }
+        ensures columns { (attr : AttrNo) → IsAttribute self.now class attr → attribute_of self.now class attr ≡ attribute_at (root_table self.now class) (attr.0, slice_index_or (root_spec self.now class).columns attr.0 no_column) }
     {
-        self.layouts.at(class.0 as usize).attributes.as_slice()
+        self.layout(class).attributes.as_slice()
     }
 
-    #[tactic(auto, using(crate::proofs::MappingLemmas::laid_out))]
     /// The relationships of a class.
     pub fn relations(&self, class: ClassId) -> &[Relation]
         requires declared { IsClass self.now class }
         requires configured { self.now.configured ≡ true }
         ensures { result.now ≡ relations_of self.now class }
     {
-        self.layouts.at(class.0 as usize).relations.as_slice()
+        self.layout(class).relations.as_slice()
     }
 
-    #[tactic(auto, using(crate::proofs::MappingLemmas::laid_out))]
     /// Which attributes of a class are the columns of its root table's primary key, in order.
     pub fn key_attributes(&self, class: ClassId) -> &[AttrNo]
         requires declared { IsClass self.now class }
         requires configured { self.now.configured ≡ true }
-        ensures { result.now ≡ key_attributes self.now class }
+        ensures keys { result.now ≡ key_attributes self.now class }
+        ensures count { length result.now ≡ length (key_columns (root_spec self.now class)) }
+        ensures inside { All (IsAttribute self.now class) result.now }
     {
-        self.layouts.at(class.0 as usize).keys.as_slice()
+        self.layout(class).keys.as_slice()
     }
 
     #[tactic(auto, unfolding(crate::specs::Declaring::declare_table))]
