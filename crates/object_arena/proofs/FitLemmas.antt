@@ -1,11 +1,11 @@
 -- What a change of one object keeps of a graph that fits its mapping.
-use Rattle.std.proofs.Common.{◌≡◌, ℕ, ◌<◌, ◌≤◌, Bool, true, false, List, [], ◌∷◌, ◌++◌, length, Option, None, Some, refl, sym, ap, ◌∙◌, arith}
+use Rattle.std.proofs.Common.{◌≡◌, ℕ, ◌<◌, ◌≤◌, Bool, true, false, List, [], ◌∷◌, ◌++◌, length, get_or, Option, None, Some, refl, sym, ap, ◌∙◌, arith}
 use Rattle.std.specs.Prelude.{slice_set, if◌then◌else◌}
 use Rattle.std.specs.Cmp.Lexicographic.{as_long}
 use Rattle.std.proofs.Math.Seq.{map-set_same}
 use Rattle.std.proofs.lemmas.Bool.{and_from, and_parts}
-use Rattle.std.proofs.lemmas.List.{length-map, length-set, map-append}
-use Rattle.std.proofs.lemmas.List.Elements.{All-push, All-set}
+use Rattle.std.proofs.lemmas.List.{get_or-map, length-map, length-set, map-append}
+use Rattle.std.proofs.lemmas.List.Elements.{All-nil, All-push, All-set}
 use Rattle.base_core.specs.declared.ids.AttrNo.{AttrNo}
 use Rattle.base_core.specs.declared.ids.ClassId.{ClassId}
 use Rattle.base_core.specs.declared.ids.ObjId.{ObjId}
@@ -24,7 +24,7 @@ use Rattle.object_arena.specs.declared.object.Cell.{Cell}
 use Rattle.object_arena.specs.declared.object.Link.{Link}
 use Rattle.object_arena.specs.declared.object.Link.TheVariants.{Unset, Unloaded}
 use Rattle.object_arena.specs.declared.object.Object.{Object}
-use Rattle.object_arena.specs.Graph.{Graph, IsCell, IsObject, cell_in, cell_put, either_fault, expired, expired_cell, fresh_object, kept_identity, key_fault, kind_fault, no_object, null_cell, object_at, place_of, put_back_object, settled, settled_cell, settled_link, settled_value, value_fault, with_cell, with_fresh, with_link, with_marks, with_object, with_state, with_value}
+use Rattle.object_arena.specs.Graph.{Graph, IsCell, IsObject, cell_in, cell_put, either_fault, empty_graph, expired, expired_cell, fresh_object, kept_identity, key_fault, kind_fault, no_object, null_cell, object_at, place_of, put_back_object, root_at, no_class_id, settled, settled_cell, settled_link, settled_value, value_fault, with_cell, with_fresh, with_link, with_marks, with_object, with_state, with_value}
 use Rattle.object_arena.specs.Identity.{registered}
 use Rattle.object_arena.specs.Fit.{IsFit, ObjectFits, cell_fits, identity_fits, is_of_kind, key_fits, value_fits}
 use Rattle.object_arena.proofs.PartLemmas.{pointwise_at, pointwise_made, pointwise_map, pointwise_set}
@@ -43,6 +43,14 @@ fit_class mapped graph object fit within = (fit_at mapped graph object fit withi
 -- it has one cell for each attribute
 pub fit_cells : (mapped : Mapped) (graph : Graph) (object : ObjId) → IsFit mapped graph → IsObject graph object → length (attributes_of mapped (object_at graph object).class) ≡ length (object_at graph object).cells
 fit_cells mapped graph object fit within = as_long cell_fits (attributes_of mapped (object_at graph object).class) (object_at graph object).cells (fit_at mapped graph object fit within).cells
+
+-- its root class is that of its class
+pub fit_root : (mapped : Mapped) (graph : Graph) (object : ObjId) → IsFit mapped graph → IsObject graph object → root_at graph object ≡ root_of mapped (object_at graph object).class
+fit_root mapped graph object fit within =
+    let above : 0 < object.0 = within.0 in
+    let inside : object.0 ≤ length graph.objects = within.1 in
+    ap (λ (roots : List ClassId). get_or roots (place_of object) no_class_id) fit.roots
+    ∙ get_or-map (λ (o : Object). root_of mapped o.class) graph.objects (place_of object) no_object no_class_id (omega arith)
 
 -- another record that fits, of the same class
 pub fit_set : (mapped : Mapped) (graph : Graph) (object : ObjId) (new : Object) → IsFit mapped graph → ObjectFits mapped new → new.class ≡ (object_at graph object).class → IsFit mapped (with_object graph object new)
@@ -214,3 +222,7 @@ fit_back mapped graph new_graph object state identity within is fit good =
     (fit_set mapped graph object (put_back_object old state identity) fit
     (settled_object_fits mapped state moved (record { class = fits.class; cells = fits.cells; identity = good; links = fits.links }))
     (settled_class state moved))
+
+-- no objects
+pub fit_empty : (mapped : Mapped) → IsFit mapped empty_graph
+fit_empty mapped = record { objects = All-nil (ObjectFits mapped); roots = refl }

@@ -1,3 +1,5 @@
-pub mod PartLemmas
-pub mod GraphLemmas
 pub mod FitLemmas
+pub mod GraphLemmas
+pub mod HolderLemmas
+pub mod PartLemmas
+pub mod RowLemmas

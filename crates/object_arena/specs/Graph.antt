@@ -212,3 +212,12 @@ settled state object = object
 -- the object in a state that it had, without a delete mark
 abbrev pub put_back_object : Object → State → Option (List Value) → Object
 put_back_object object state identity = settled state (record object { state = state; identity = identity; marked = false })
+
+-- the value that is known, or NULL
+abbrev pub value_or_null : Option Value → Value
+value_or_null None = Null
+value_or_null (Some value) = value
+
+-- the row of an object: the value of each cell, and NULL where it is not known
+abbrev pub row_of : Object → List Value
+row_of object = map (λ cell. value_or_null cell.value) object.cells

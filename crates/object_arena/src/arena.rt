@@ -1,12 +1,15 @@
 //! The arena of objects.
 
-ghost use Rattle.std.specs.Prelude.{◌≡◌, ◌<◌, ◌≤◌, ◌≢◌, ◌+◌, [], length, true, false, IfOk, IfErr, OnOk, OnErr, IfSome, is_some, ◌++◌, ◌∷◌};
+ghost use Rattle.std.specs.Prelude.{◌≡◌, ◌<◌, ◌≤◌, ◌≢◌, ◌+◌, [], List, None, Some, length, true, false, IfOk, IfErr, OnOk, OnErr, IfSome, is_some, ◌++◌, ◌∷◌};
 ghost use Rattle.std.specs.List.{position, zip};
 ghost use Rattle.base_core.specs.Answers.{Takes};
+ghost use Rattle.base_core.specs.declared.ids.ClassId.{ClassId};
 ghost use Rattle.base_core.specs.declared.refusal.Refusal.TheVariants.{Memory};
-ghost use Rattle.mapper_core.specs.Mapped.{IsAttribute, IsClass, Mapped, attribute_of, is_key_attribute};
+ghost use Rattle.base_core.specs.declared.value.Value.{Value};
+ghost use Rattle.schema_core.specs.WellFormed.{is_key, is_row};
+ghost use Rattle.mapper_core.specs.Mapped.{IsAttribute, IsClass, Mapped, attribute_of, attributes_of, is_key_attribute, root_of, root_spec};
 ghost use Rattle.object_arena.specs.declared.object.State.TheVariants.{Persistent};
-ghost use Rattle.object_arena.specs.Graph.{IsCell, IsLink, IsObject, cell_at, either_fault, empty_graph, expired, has_identity, is_persistent, key_fault, kind_fault, make, object_at, object_limit, put_back_object, root_at, set_cell, shown, value_fault, with_cell, with_fresh, with_link, with_marks, with_object, with_state, with_value};
+ghost use Rattle.object_arena.specs.Graph.{IsCell, IsLink, IsObject, cell_at, either_fault, empty_graph, expired, fresh_object, has_identity, is_persistent, key_fault, kind_fault, make, object_at, object_limit, put_back_object, root_at, row_of, set_cell, shown, value_fault, with_cell, with_fresh, with_link, with_marks, with_object, with_state, with_value};
 ghost use Rattle.object_arena.specs.Identity.{IsFree, IsOne, find_identity, has_key, holds, is_identified, is_other, is_taken, register, registered};
 ghost use Rattle.object_arena.specs.Fit.{IsFit, ObjectFits, cell_fits, identity_fits, key_fits};
 
@@ -22,6 +25,8 @@ use std::marker::Model;
 const OBJECT_LIMIT: usize = 1_000_000;
 
 /// Objects, numbered from 1 in the order in which they are made, and the identity map.
+///
+/// Objects that fit a mapping go on to fit it, whatever call is made; only a cell or a key that is put in must fit.
 #[derive(Debug, Drop)]
 pub struct Arena {
     alloc: Global,
@@ -42,9 +47,11 @@ impl Model for Arena {
 }
 
 impl Arena {
+    #[tactic(auto, using(crate::proofs::FitLemmas::fit_empty))]
     /// No objects.
     pub fn new(alloc: Global) -> Arena
-        ensures { result ≡ empty_graph }
+        ensures empty { result ≡ empty_graph }
+        ensures fits { (mapped : Mapped) → IsFit mapped result }
     {
         Arena {
             alloc,
@@ -63,20 +70,25 @@ impl Arena {
     }
 
     #[tactic(auto, using(crate::proofs::FitLemmas::fit_at))]
-    /// An object's record.
+    /// An object's record. Where the objects fit a mapping it has one cell for each attribute of its class, and they make
+    /// a row of the table of the class's root.
     pub fn object(&self, object: ObjId) -> &Object
         requires { IsObject self.now object }
         ensures is { result.now ≡ object_at self.now object }
         ensures identified { is_identified result.now ≡ true }
         ensures fits { (mapped : Mapped) → IsFit mapped self.now → ObjectFits mapped result.now }
+        ensures cells { (mapped : Mapped) → IsFit mapped self.now → length result.now.cells ≡ length (attributes_of mapped result.now.class) }
+        ensures row { (mapped : Mapped) → IsFit mapped self.now → is_row (root_spec mapped result.now.class) (row_of result.now) ≡ true }
     {
         &self.objects[object.0 as usize - 1]
     }
 
-    /// An object's class.
+    /// An object's class. Its keys are those of the table of its root.
     pub fn class_of(&self, object: ObjId) -> ClassId
         requires { IsObject self.now object }
-        ensures { result ≡ (object_at self.now object).class }
+        ensures class { result ≡ (object_at self.now object).class }
+        ensures root { (mapped : Mapped) → IsFit mapped self.now → root_at self.now object ≡ root_of mapped result }
+        ensures keys { (mapped : Mapped) (key : List Value) → key_fits mapped result key ≡ is_key (root_spec mapped result) key }
     {
         self.objects[object.0 as usize - 1].class
     }
@@ -106,6 +118,8 @@ impl Arena {
     pub fn find_identity(&self, root: ClassId, key: &Key) -> Option<ObjId>
         ensures found { result ≡ find_identity self.now root key.now }
         ensures made { IfSome result (λ object. IsObject self.now object) }
+        ensures holds { IfSome result (λ object. holds root key.now (object_at self.now object, root_at self.now object) ≡ true) }
+        ensures identified { IfSome result (λ object. is_some (object_at self.now object).identity ≡ true) }
     {
         match place_of(self.objects.as_slice(), self.roots.as_slice(), root, key) {
             Some(place) => Some(ObjId(place as u32 + 1)),
@@ -122,7 +136,7 @@ impl Arena {
     }
 
     /// The root class of an object's class.
-    fn root_at(&self, object: ObjId) -> ClassId
+    pub fn root_at(&self, object: ObjId) -> ClassId
         requires { IsObject self.now object }
         ensures { result ≡ root_at self.now object }
     {
@@ -139,6 +153,8 @@ impl Arena {
         requires configured { mapping.now.configured ≡ true }
         ensures step { Takes (λ object. object) (make self.old mapping.now class) self.old result self.new }
         ensures made { OnOk result (self.new ≡ with_fresh self.old mapping.now class) }
+        ensures exists { IfOk result (λ object. IsObject self.new object) }
+        ensures fresh { IfOk result (λ object. object_at self.new object ≡ fresh_object mapping.now class) }
         ensures fits { IsFit mapping.now self.old → IsFit mapping.now self.new }
     {
         if self.objects.len() >= OBJECT_LIMIT {
@@ -213,6 +229,7 @@ impl Arena {
         requires { IsObject self.old object }
         ensures step { Takes (λ _. tt) (register self.old object key) self.old result self.new }
         ensures registered { OnOk result (self.new ≡ registered self.old object key) }
+        ensures taken { OnErr result (is_taken self.old object key ≡ true) }
         ensures fits { (mapped : Mapped) → IsFit mapped self.old → key_fits mapped (object_at self.old object).class key ≡ true → IsFit mapped self.new }
     {
         if self.is_taken(object, &key) {
@@ -337,6 +354,7 @@ impl Arena {
         requires state { is_persistent state ≡ false }
         requires identity { has_identity state ≡ true → is_some (object_at self.old object).identity ≡ true }
         ensures ok { OnOk result (self.new ≡ with_state self.old object state) }
+        ensures frees { OnOk result ((root : ClassId) (key : List Value) → find_identity self.old root key ≡ Some object → find_identity self.new root key ≡ None) }
         ensures err { OnErr result (self.new ≡ self.old) }
         ensures cause { IfErr result (λ e. e ≡ Memory) }
         ensures fits { (mapped : Mapped) → IsFit mapped self.old → IsFit mapped self.new }
@@ -351,7 +369,8 @@ impl Arena {
         requires object { IsObject self.old object }
         requires state { is_persistent state ≡ false }
         requires identity { has_identity state ≡ true → is_some (object_at self.old object).identity ≡ true }
-        ensures { self.new ≡ with_state self.old object state }
+        ensures state { self.new ≡ with_state self.old object state }
+        ensures frees { (root : ClassId) (key : List Value) → find_identity self.old root key ≡ Some object → find_identity self.new root key ≡ None }
     {
         parts::put_state(&mut self.objects[object.0 as usize - 1], state);
     }
