@@ -1,1 +1,5 @@
-pub mod RowLemmas
+pub mod ObjectLemmas
+pub mod CellLemmas
+pub mod KeyLemmas
+pub mod WriteLemmas
+pub mod RunLemmas

@@ -1,1 +1,4 @@
 pub mod SessionState
+pub mod Making
+pub mod Flush
+pub mod Steps

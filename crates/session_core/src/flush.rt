@@ -1,211 +1,237 @@
 //! The flush: what is pending is written in the order in which it was added.
 
-ghost use Rattle.std.specs.Prelude.{◌≡◌, ◌<◌, ◌≤◌, ◌≢◌, true, false, length, IfOk, IfErr, IfSome, OnOk, OnErr};
-ghost use Rattle.schema_core.specs.Catalog.{IsTable};
+ghost use Rattle.std.specs.Prelude.{◌≡◌, ◌<◌, ◌≤◌, ◌≢◌, ℕ, [], true, false, length, IfOk, IfErr, IfSome, OnOk, OnErr, fold, drop};
 ghost use Rattle.schema_core.specs.WellFormed.{IsWellFormed};
-ghost use Rattle.object_arena.specs.Graph.{IsObject};
+ghost use Rattle.mapper_core.specs.Mapped.{Mapped, root_of};
+ghost use Rattle.object_arena.specs.Graph.{IsObject, object_at};
 ghost use Rattle.keeper_core.specs.Acting.{ends_early};
-ghost use Rattle.keeper_core.specs.Moment.{Acts};
+ghost use Rattle.keeper_core.specs.Beside.{moment_beside, on_store};
+ghost use Rattle.keeper_core.specs.Moment.{Acts, Runs};
 ghost use Rattle.session_core.specs.SessionState.{IsInStep, StaysInStep, SameObjects};
+ghost use Rattle.keeper_core.specs.Beside.{by_own};
+ghost use Rattle.keeper_core.specs.Calls as call;
+ghost use Rattle.object_arena.specs.Fit.{key_fits};
+ghost use Rattle.std.specs.List.{All, enumerate_from};
+ghost use Rattle.session_core.specs.Flush as spec;
+ghost use Rattle.session_core.specs.Steps as steps;
 
 use crate::Session;
-use crate::rows::row_for;
-use crate::session::{detach, take_out_pending};
-use base_core::{Key, ListOf, ObjId, Refusal, TableId};
+use crate::rows::row_of;
+use crate::settling::{restore_all, settle};
+use base_core::{Key, ListOf, ObjId, Refusal};
 use keeper_core::{Keeper, calls};
-use object_arena::{Arena, State};
+use object_arena::State;
 use schema_core::RowStmt;
 use std::collections::BTreeMap;
+
+/// The pending objects by add number, and then by number.
+type Queue = BTreeMap<(u64, u32), ObjId>;
+
+/// Objects whose rows were written, each with its row's key.
+pub(crate) type Written = ListOf<(ObjId, Key)>;
 
 impl Session {
     /// Writes the rows of the pending objects, and makes them persistent under their keys. Where that is refused the
     /// transaction is rolled back, its pending objects are transient again, and the session waits for a rollback.
-    #[tactic(auto, using(keeper_core::proofs::ActsLemmas::acting))]
+    #[tactic(auto, using(keeper_core::proofs::Sequence::sequence, keeper_core::proofs::Lifting::lifting), unfolding(crate::specs::Steps::flush))]
     pub(crate) fn flush<K: Keeper>(&mut self, keeper: &mut K) -> Result<(), Refusal>
         requires in_step { IsInStep self.old (K.moment keeper.old) }
         requires inside { self.old.in_transaction ≡ true }
-        ensures acts { Acts (K.moment keeper.old) result (K.moment keeper.new) }
+        ensures step { Runs (moment_beside K.moment) (λ u. u) steps.flush (self.old, keeper.old) result (self.new, keeper.new) }
         ensures in_step { StaysInStep result self.new (K.moment keeper.new) }
         ensures inside { OnOk result (self.new.in_transaction ≡ true) }
         ensures same { SameObjects self.old self.new }
     {
         let pending = self.pending_in_order()?;
-        let keys = self.insert_or_undo(keeper, &pending)?;
-        self.settle(&pending, keys)
+        let written = self.write_pending(keeper, &pending)?;
+        self.settle_all(written)
     }
 
     /// The pending objects in the order in which they were added. The only refusal is want of memory.
+    #[tactic(auto, unfolding(crate::specs::Flush::pending_in_order))]
     fn pending_in_order(&self) -> Result<ListOf<ObjId>, Refusal>
-        ensures { IfErr result (λ e. e ≡ Refusal.Memory) }
+        ensures order { IfOk result (λ objects. objects ≡ spec.pending_in_order self.now.graph) }
+        ensures cause { IfErr result (λ e. e ≡ Refusal.Memory) }
+    {
+        let queue = self.queue()?;
+        Ok(ListOf::from_vec(queue.into_values().collect(self.alloc)?))
+    }
+
+    /// The pending objects by their rank.
+    fn queue(&self) -> Result<Queue, Refusal>
+        ensures queue { IfOk result (λ queue. queue.entries ≡ fold spec.queued [] (enumerate_from 1 self.now.graph.objects)) }
+        ensures cause { IfErr result (λ e. e ≡ Refusal.Memory) }
     {
         let mut queue = BTreeMap::new(self.alloc);
         for number in 0..self.arena.count() {
             let object = ObjId(number + 1);
             if let State::Pending = self.arena.state_of(object) {
-                queue.insert(self.arena.object(object).added, object)?;
+                queue.insert((self.arena.object(object).added, object.0), object)?;
             }
         }
-        let mut objects = ListOf::new(self.alloc);
-        for object in queue.values() {
-            objects.push(*object)?;
-        }
-        Ok(objects)
+        Ok(queue)
     }
 
-    /// Writes rows, and where one is refused rolls all of them back.
-    #[tactic(auto, using(keeper_core::proofs::ActsLemmas::acting))]
-    fn insert_or_undo<K: Keeper>(
+    /// Writes rows, and where one is refused gives all of them up.
+    #[tactic(auto, using(keeper_core::proofs::Sequence::sequence, keeper_core::proofs::Lifting::lifting), unfolding(crate::specs::Steps::write_pending))]
+    fn write_pending<K: Keeper>(
         &mut self,
         keeper: &mut K,
         objects: &ListOf<ObjId>,
-    ) -> Result<ListOf<Key>, Refusal>
+    ) -> Result<Written, Refusal>
         requires in_step { IsInStep self.old (K.moment keeper.old) }
         requires inside { self.old.in_transaction ≡ true }
-        ensures acts { Acts (K.moment keeper.old) result (K.moment keeper.new) }
+        ensures step { Runs (moment_beside K.moment) (λ written. written) (steps.write_pending objects.now) (self.old, keeper.old) result (self.new, keeper.new) }
         ensures in_step { StaysInStep result self.new (K.moment keeper.new) }
         ensures inside { OnOk result (self.new.in_transaction ≡ true) }
         ensures same { SameObjects self.old self.new }
     {
-        match self.insert_all(keeper, objects) {
-            Ok(keys) => Ok(keys),
+        match self.write_all(keeper, objects) {
+            Ok(written) => Ok(written),
             Err(refusal) => {
                 if calls::ends_early(&refusal) {
                     return Err(refusal);
                 }
-                calls::rollback(keeper)?;
-                self.fail();
+                self.give_up(keeper)?;
                 Err(refusal)
             }
         }
     }
 
+    /// Rolls the transaction back; a rollback is awaited then.
+    #[tactic(auto, using(keeper_core::proofs::Sequence::sequence, keeper_core::proofs::Lifting::lifting), unfolding(crate::specs::Steps::give_up))]
+    fn give_up<K: Keeper>(&mut self, keeper: &mut K) -> Result<(), Refusal>
+        requires in_step { IsInStep self.old (K.moment keeper.old) }
+        requires inside { self.old.in_transaction ≡ true }
+        ensures step { Runs (moment_beside K.moment) (λ u. u) steps.give_up (self.old, keeper.old) result (self.new, keeper.new) }
+        ensures in_step { StaysInStep result self.new (K.moment keeper.new) }
+        ensures same { SameObjects self.old self.new }
+        ensures stops { IfErr result (λ e. ends_early e ≡ true) }
+    {
+        self.roll_back(keeper)?;
+        self.fail()
+    }
+
+    /// Rolls the transaction back, and leaves the session as it is.
+    #[tactic(auto, using(keeper_core::proofs::Lifting::lifting))]
+    pub(crate) fn roll_back<K: Keeper>(&self, keeper: &mut K) -> Result<(), Refusal>
+        requires in_step { IsInStep self.now (K.moment keeper.old) }
+        requires inside { self.now.in_transaction ≡ true }
+        ensures step { Runs (moment_beside K.moment) (λ u. u) (on_store call.rollback) (self.now, keeper.old) result (self.now, keeper.new) }
+        ensures ended { (K.moment keeper.new).depth ≡ 0 }
+        ensures attached { (K.moment keeper.new).attached ≡ true }
+        ensures stops { IfErr result (λ e. ends_early e ≡ true) }
+    {
+        calls::rollback(keeper)
+    }
+
+    /// A flush failed: the transaction has ended, its pending objects are transient, and a rollback is awaited.
+    fn fail(&mut self) -> Result<(), Refusal>
+        ensures ok { OnOk result (self.new ≡ steps.failed self.old) }
+        ensures cause { IfErr result (λ e. e ≡ Refusal.Memory) }
+        ensures same { SameObjects self.old self.new }
+    {
+        restore_all(&mut self.arena)?;
+        self.in_transaction = false;
+        self.failed = true;
+        Ok(())
+    }
+
+    /// Writes the rows of objects in order, beside the session as it is.
+    #[tactic(auto, using(keeper_core::proofs::Lifting::lifting))]
+    fn write_all<K: Keeper>(
+        &self,
+        keeper: &mut K,
+        objects: &ListOf<ObjId>,
+    ) -> Result<Written, Refusal>
+        requires in_step { IsInStep self.now (K.moment keeper.old) }
+        requires inside { self.now.in_transaction ≡ true }
+        requires objects { All (IsObject self.now.graph) objects.now }
+        ensures step { Runs (moment_beside K.moment) (λ written. written) (by_own (λ session. on_store (steps.insert_all session objects.now))) (self.now, keeper.old) result (self.now, keeper.new) }
+        ensures in_step { StaysInStep result self.now (K.moment keeper.new) }
+        ensures keys { IfOk result (All (spec.IsUnderKey self.now.mapping self.now.graph)) }
+    {
+        self.insert_all(keeper, objects)
+    }
+
     /// Writes the rows of objects in order, and answers their keys.
-    #[tactic(auto, using(keeper_core::proofs::ActsLemmas::acting))]
+    #[tactic(auto, using(keeper_core::proofs::Sequence::loops), unfolding(crate::specs::Steps::insert_all))]
     fn insert_all<K: Keeper>(
         &self,
         keeper: &mut K,
         objects: &ListOf<ObjId>,
-    ) -> Result<ListOf<Key>, Refusal>
+    ) -> Result<Written, Refusal>
         requires in_step { IsInStep self.now (K.moment keeper.old) }
         requires inside { self.now.in_transaction ≡ true }
-        ensures acts { Acts (K.moment keeper.old) result (K.moment keeper.new) }
+        requires objects { All (IsObject self.now.graph) objects.now }
+        ensures step { Runs K.moment (λ written. written) (steps.insert_all self.now objects.now) keeper.old result keeper.new }
         ensures in_step { StaysInStep result self.now (K.moment keeper.new) }
+        ensures keys { IfOk result (All (spec.IsUnderKey self.now.mapping self.now.graph)) }
     {
-        let mut keys = ListOf::new(self.alloc);
+        let mut written = ListOf::new(self.alloc);
         for object in objects.as_slice() {
-            let key = self.insert_one(keeper, *object)?;
-            keys.push(key)?;
+            self.insert_one(keeper, *object, &mut written)?;
         }
-        Ok(keys)
+        Ok(written)
+    }
+
+    /// Writes the row of an object, which is then one of those that were written.
+    #[tactic(auto, using(keeper_core::proofs::Sequence::sequence), unfolding(crate::specs::Steps::insert_one))]
+    fn insert_one<K: Keeper>(
+        &self,
+        keeper: &mut K,
+        object: ObjId,
+        written: &mut Written,
+    ) -> Result<(), Refusal>
+        requires in_step { IsInStep self.now (K.moment keeper.old) }
+        requires inside { self.now.in_transaction ≡ true }
+        requires object { IsObject self.now.graph object }
+        requires keys { All (spec.IsUnderKey self.now.mapping self.now.graph) written.old }
+        ensures step { Runs K.moment (λ _. written.new) (steps.insert_one self.now object written.old) keeper.old result keeper.new }
+        ensures in_step { StaysInStep result self.now (K.moment keeper.new) }
+        ensures keys { OnOk result (All (spec.IsUnderKey self.now.mapping self.now.graph) written.new) }
+    {
+        let key = self.write(keeper, object)?;
+        written.push((object, key))
     }
 
     /// Writes the row of an object, and answers its key.
-    #[tactic(auto, using(keeper_core::proofs::ActsLemmas::acting))]
-    fn insert_one<K: Keeper>(&self, keeper: &mut K, object: ObjId) -> Result<Key, Refusal>
+    fn write<K: Keeper>(&self, keeper: &mut K, object: ObjId) -> Result<Key, Refusal>
         requires in_step { IsInStep self.now (K.moment keeper.old) }
         requires inside { self.now.in_transaction ≡ true }
-        ensures acts { Acts (K.moment keeper.old) result (K.moment keeper.new) }
+        requires object { IsObject self.now.graph object }
+        ensures step { Runs K.moment (λ key. key) (call.write self.now.mapping.schema (spec.insert_of self.now.mapping (object_at self.now.graph object))) keeper.old result keeper.new }
         ensures in_step { StaysInStep result self.now (K.moment keeper.new) }
+        ensures key { IfOk result (λ key. key_fits self.now.mapping (object_at self.now.graph object).class key ≡ true) }
     {
         let statement = self.insert_of(object)?;
         calls::write(self.alloc, keeper, self.mapping.schema(), &statement)
     }
 
-    /// The INSERT of an object's row. An object, a class or a table that is not there is none of a session's.
+    /// The INSERT of an object's row. The only refusal is want of memory.
     fn insert_of(&self, object: ObjId) -> Result<RowStmt, Refusal>
+        requires object { IsObject self.now.graph object }
+        ensures statement { IfOk result (λ statement. statement ≡ spec.insert_of self.now.mapping (object_at self.now.graph object)) }
         ensures fits { IfOk result (IsWellFormed self.now.mapping.schema) }
-        ensures refuses { IfErr result (λ e. ends_early e ≡ true → e ≡ Refusal.Memory) }
+        ensures cause { IfErr result (λ e. e ≡ Refusal.Memory) }
     {
-        let schema = self.mapping.schema();
-        let Some(table) = self.table_of(object) else {
-            return Err(Refusal::OperationalError(TableId(0)));
-        };
         let record = self.arena.object(object);
-        let row = row_for(
-            self.alloc,
-            schema.spec(table).columns.as_slice(),
-            record.cells.as_slice(),
-        )?;
+        let table = self.mapping.tables_of(record.class)[0];
+        let row = row_of(self.alloc, record.cells.as_slice())?;
         Ok(RowStmt::Insert { table, row })
     }
 
-    /// The table of an object's class.
-    fn table_of(&self, object: ObjId) -> Option<TableId>
-        ensures { IfSome result (λ table. IsObject self.now.graph object × IsTable self.now.mapping.schema table) }
-    {
-        if object.0 == 0 || object.0 > self.arena.count() {
-            return None;
-        }
-        let class = self.arena.class_of(object);
-        if class.0 >= self.mapping.count() {
-            return None;
-        }
-        let table = *self.mapping.tables_of(class).first()?;
-        if table.0 < self.mapping.schema().count() {
-            Some(table)
-        } else {
-            None
-        }
-    }
-
-    /// A flush failed: the transaction has ended, its pending objects are transient, and a rollback is awaited.
-    fn fail(&mut self)
-        ensures scope { self.new.in_transaction ≡ false }
-        ensures same { SameObjects self.old self.new }
-    {
-        self.in_transaction = false;
-        self.failed = true;
-        take_out_pending(&mut self.arena);
-    }
-
-    /// The objects whose rows were written are persistent under their keys; one that had such a key is detached.
-    fn settle(&mut self, objects: &ListOf<ObjId>, keys: ListOf<Key>) -> Result<(), Refusal>
+    /// The objects whose rows were written are persistent under their keys. The only refusal is want of memory.
+    fn settle_all(&mut self, written: Written) -> Result<(), Refusal>
+        requires keys { All (spec.IsUnderKey self.old.mapping self.old.graph) written }
+        ensures ok { OnOk result (self.new ≡ steps.flushed written self.old) }
         ensures cause { IfErr result (λ e. e ≡ Refusal.Memory) }
         ensures scope { self.new.in_transaction ≡ self.old.in_transaction }
         ensures same { SameObjects self.old self.new }
     {
-        for (object, key) in objects.as_slice().iter().zip(keys.into_vec()) {
-            self.settle_one(*object, key)?;
+        for (object, key) in written.into_vec() {
+            settle(&mut self.arena, &self.mapping, object, key)?;
         }
         Ok(())
-    }
-
-    /// An object whose row was written is persistent under its key.
-    fn settle_one(&mut self, object: ObjId, key: Key) -> Result<(), Refusal>
-        ensures cause { IfErr result (λ e. e ≡ Refusal.Memory) }
-        ensures scope { self.new.in_transaction ≡ self.old.in_transaction }
-        ensures same { SameObjects self.old self.new }
-    {
-        settle_in(&mut self.arena, object, key)
-    }
-}
-
-/// An object whose row was written is persistent under its key; one that had the key is detached.
-fn settle_in(arena: &mut Arena, object: ObjId, key: Key) -> Result<(), Refusal>
-    ensures cause { IfErr result (λ e. e ≡ Refusal.Memory) }
-    ensures same { length arena.new.objects ≡ length arena.old.objects }
-{
-    if object.0 == 0 || object.0 > arena.count() {
-        return Ok(());
-    }
-    let class = arena.class_of(object);
-    if let Some(other) = arena.find_identity(class, &key) {
-        if other.0 == 0 || other.0 > arena.count() {
-            return Ok(());
-        }
-        detach(arena, other)?;
-    }
-    register(arena, object, key)
-}
-
-/// The object is persistent under the key. No other object has it.
-fn register(arena: &mut Arena, object: ObjId, key: Key) -> Result<(), Refusal>
-    requires { IsObject arena.old object }
-    ensures cause { IfErr result (λ e. e ≡ Refusal.Memory) }
-    ensures same { length arena.new.objects ≡ length arena.old.objects }
-{
-    match arena.register(object, key) {
-        Ok(()) => Ok(()),
-        Err(_) => Err(Refusal::Memory),
     }
 }

@@ -2,7 +2,9 @@
 #![tactic(auto)]
 
 mod flush;
+mod making;
 mod rows;
 mod session;
+mod settling;
 
 pub use session::Session;

@@ -1,48 +1,30 @@
 //! The rows that objects make.
 
-ghost use Rattle.std.specs.Prelude.{◌≡◌, ◌<◌, ◌≤◌, true, length, take, IfOk, IfErr};
-ghost use Rattle.std.specs.Cmp.Lexicographic.{pointwise};
-ghost use Rattle.schema_core.specs.WellFormed.{may_hold};
+ghost use Rattle.std.specs.Prelude.{◌≡◌, map, IfOk, IfErr};
+ghost use Rattle.session_core.specs.Flush.{value_or_null};
 
 use base_core::{Copied, ListOf, Refusal, RowValues, Value};
 use object_arena::Cell;
-use schema_core::{ColumnSpec, kind_of, kind_of_value, same_kind};
-use std::alloc::Global;
+use std::alloc::{AllocError, Global};
 
-/// Whether a column may hold a value: NULL, or a value of its kind.
-fn may_hold(column: &ColumnSpec, value: &Value) -> bool
-    ensures { result ≡ may_hold column.now value.now }
+/// The value of a cell, or NULL where it is not known.
+pub(crate) fn value_or_null(cell: &Cell) -> Result<Value, AllocError>
+    ensures { IfOk result (λ value. value ≡ value_or_null cell.now.value) }
 {
-    match kind_of_value(value) {
-        None => true,
-        Some(kind) => same_kind(kind_of(column.kind), kind),
+    match &cell.value {
+        Some(value) => value.copied(),
+        None => Ok(Value::Null),
     }
 }
 
-/// The value that a cell gives a column: its own, or NULL where it has none that the column may hold.
-fn value_for(column: &ColumnSpec, cell: Option<&Cell>) -> Result<Value, Refusal>
-    ensures fits { IfOk result (λ value. may_hold column.now value ≡ true) }
+/// The row that cells make. The only refusal is want of memory.
+pub(crate) fn row_of(alloc: Global, cells: &[Cell]) -> Result<RowValues, Refusal>
+    ensures row { IfOk result (λ row. row ≡ map (λ cell. value_or_null cell.value) cells.now) }
     ensures cause { IfErr result (λ e. e ≡ Refusal.Memory) }
 {
-    if let Some(cell) = cell {
-        if let Some(value) = &cell.value {
-            if may_hold(column, value) {
-                return Ok(value.copied()?);
-            }
-        }
+    let mut row = ListOf::new(alloc);
+    for cell in cells {
+        row.push(value_or_null(cell)?)?;
     }
-    Ok(Value::Null)
-}
-
-#[tactic(auto, using(crate::proofs::RowLemmas::row_more))]
-/// The row that cells make, column by column. The only refusal is want of memory.
-pub fn row_for(alloc: Global, columns: &[ColumnSpec], cells: &[Cell]) -> Result<RowValues, Refusal>
-    ensures fits { IfOk result (λ row. pointwise may_hold columns.now row ≡ true) }
-    ensures cause { IfErr result (λ e. e ≡ Refusal.Memory) }
-{
-    let mut row = Vec::new(alloc);
-    for (place, column) in columns.iter().enumerate() {
-        row.push(value_for(column, cells.get(place))?)?;
-    }
-    Ok(ListOf::from_vec(row))
+    Ok(row)
 }

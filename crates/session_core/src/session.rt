@@ -1,17 +1,24 @@
 //! The session and its calls.
 
-ghost use Rattle.std.specs.Prelude.{◌≡◌, ◌≢◌, ◌≤◌, ◌<◌, ℕ, true, false, length, if◌then◌else◌, OnOk, OnErr, IfOk, IfErr};
-ghost use Rattle.mapper_core.specs.Mapped.{IsClass};
-ghost use Rattle.object_arena.specs.Graph.{IsObject, object_at};
+ghost use Rattle.std.specs.Prelude.{◌≡◌, ◌≢◌, ◌≤◌, ◌<◌, ℕ, true, false, length, is_none, None, fold, if◌then◌else◌, OnOk, OnErr, IfOk, IfErr};
+ghost use Rattle.mapper_core.specs.Mapped.{IsClass, Mapped, attributes_of};
+ghost use Rattle.object_arena.specs.Graph.{IsObject, kind_fault, object_at, with_cell};
+ghost use Rattle.object_arena.specs.Fit.{IsFit};
 ghost use Rattle.keeper_core.specs.Acting.{ends_early};
-ghost use Rattle.keeper_core.specs.Moment.{Acts};
+ghost use Rattle.keeper_core.specs.Beside.{moment_beside, on_store};
+ghost use Rattle.keeper_core.specs.Calls as call;
+ghost use Rattle.keeper_core.specs.Moment.{Acts, Runs};
 ghost use Rattle.session_core.specs.SessionState.{IsInStep, StaysInStep, SameObjects, new_session};
+ghost use Rattle.session_core.specs.Making as making;
+ghost use Rattle.session_core.specs.Making.{IsQuiet};
+ghost use Rattle.session_core.specs.Steps as steps;
 
-use base_core::{AttrNo, ClassId, Copied, ObjId, Refusal, RequestKind, Value};
+use crate::making::{put_values, values_fault};
+use crate::settling::{commit_all, let_go_all, put_pending, unmark};
+use base_core::{AttrNo, ClassId, ObjId, Refusal, RequestKind, Value};
 use keeper_core::{Keeper, calls};
 use mapper_core::Mapping;
-use object_arena::{Arena, Cell, State};
-use schema_core::{kind_of_value, same_kind};
+use object_arena::{Arena, State};
 use std::alloc::Global;
 use std::marker::Model;
 
@@ -30,13 +37,14 @@ pub struct Session {
 
 impl Model for Session {
     ghost use Rattle.std.specs.Prelude.{◌≡◌, true};
+    ghost use Rattle.object_arena.specs.Fit.{IsFit};
     ghost use Rattle.session_core.specs.SessionState.{SessionState};
 
     ghost Value = { SessionState };
 
     ghost view = { λ s. record { mapping = s.mapping; graph = s.arena; in_transaction = s.in_transaction; failed = s.failed; added = s.added } };
 
-    ghost invariant = { λ s. s.mapping.configured ≡ true };
+    ghost invariant = { λ s. (s.mapping.configured ≡ true) × IsFit s.mapping s.arena };
 }
 
 impl Session {
@@ -97,23 +105,23 @@ impl Session {
         }
     }
 
-    /// Makes a transient object with these cells, each attribute once; the others are NULL.
+    /// Makes a transient object with these values, each attribute once; the others are NULL.
     ///
     /// # Errors
     /// `TypeMismatch` for the first value of another kind than its attribute's, then `LimitReached(Objects)`. A refusal
     /// changes nothing, unless memory ran out.
+    #[tactic(auto, unfolding(crate::specs::Making::made, object_arena::specs::Graph::make))]
     pub fn make(&mut self, class: ClassId, cells: &[(AttrNo, Value)]) -> Result<ObjId, Refusal>
         requires class { IsClass self.old.mapping class }
+        ensures step { IsQuiet (λ object. object) (making.made class cells.now self.old) result self.new }
         ensures scopes { self.new.in_transaction ≡ self.old.in_transaction }
         ensures mapping { self.new.mapping ≡ self.old.mapping }
         ensures cause { IfErr result (λ e. e ≢ Refusal.KeeperFault) }
     {
-        self.check_kinds(class, cells)?;
-        let object = match self.arena.make(&self.mapping, class) {
-            Ok(object) => object,
-            Err(Refusal::LimitReached(limit)) => return Err(Refusal::LimitReached(limit)),
-            Err(_) => return Err(Refusal::Memory),
-        };
+        if let Some(fault) = values_fault(self.mapping.attributes(class), cells) {
+            return Err(fault);
+        }
+        let object = self.arena.make(&self.mapping, class)?;
         put_values(&mut self.arena, object, cells)?;
         Ok(object)
     }
@@ -124,16 +132,16 @@ impl Session {
     /// # Errors
     /// `PendingRollbackError` where a flush failed that was not rolled back. Then, in the transaction,
     /// `InvalidRequestError(Deleted)` for a deleted object.
-    #[tactic(auto, using(keeper_core::proofs::ActsLemmas::acting))]
+    #[tactic(auto, using(keeper_core::proofs::Sequence::sequence, keeper_core::proofs::Lifting::lifting), unfolding(crate::specs::Steps::add))]
     pub fn add<K: Keeper>(&mut self, keeper: &mut K, object: ObjId) -> Result<(), Refusal>
         requires object { IsObject self.old.graph object }
         requires in_step { IsInStep self.old (K.moment keeper.old) }
-        ensures acts { Acts (K.moment keeper.old) result (K.moment keeper.new) }
+        ensures step { Runs (moment_beside K.moment) (λ u. u) (steps.add object) (self.old, keeper.old) result (self.new, keeper.new) }
         ensures in_step { StaysInStep result self.new (K.moment keeper.new) }
         ensures same { SameObjects self.old self.new }
     {
         self.enter(keeper)?;
-        self.take_added(object)
+        self.take_in(object)
     }
 
     /// Writes what is pending and commits. No transaction is in progress then, and every persistent object is expired.
@@ -141,61 +149,40 @@ impl Session {
     /// # Errors
     /// `PendingRollbackError` where a flush failed that was not rolled back; what the keeper refuses of the rows. Then
     /// the transaction is rolled back, and its pending objects are transient again.
-    #[tactic(auto, using(keeper_core::proofs::ActsLemmas::acting))]
+    #[tactic(auto, using(keeper_core::proofs::Sequence::sequence, keeper_core::proofs::Lifting::lifting), unfolding(crate::specs::Steps::commit))]
     pub fn commit<K: Keeper>(&mut self, keeper: &mut K) -> Result<(), Refusal>
         requires in_step { IsInStep self.old (K.moment keeper.old) }
-        ensures acts { Acts (K.moment keeper.old) result (K.moment keeper.new) }
+        ensures step { Runs (moment_beside K.moment) (λ u. u) steps.commit (self.old, keeper.old) result (self.new, keeper.new) }
         ensures in_step { StaysInStep result self.new (K.moment keeper.new) }
         ensures same { SameObjects self.old self.new }
     {
         self.enter(keeper)?;
         self.flush(keeper)?;
-        calls::commit(keeper)?;
-        self.end_transaction();
-        Ok(())
+        self.commit_store(keeper)?;
+        self.end_transaction()
     }
 
     /// Ends the transaction without its rows. Pending objects become transient, persistent and deleted ones detached.
     ///
     /// # Errors
     /// `KeeperFault` and want of memory alone.
-    #[tactic(auto, using(keeper_core::proofs::ActsLemmas::acting))]
+    #[tactic(auto, using(keeper_core::proofs::Sequence::sequence, keeper_core::proofs::Lifting::lifting), unfolding(crate::specs::Steps::close))]
     pub fn close<K: Keeper>(&mut self, keeper: &mut K) -> Result<(), Refusal>
         requires in_step { IsInStep self.old (K.moment keeper.old) }
-        ensures acts { Acts (K.moment keeper.old) result (K.moment keeper.new) }
+        ensures step { Runs (moment_beside K.moment) (λ u. u) steps.close (self.old, keeper.old) result (self.new, keeper.new) }
         ensures in_step { StaysInStep result self.new (K.moment keeper.new) }
+        ensures same { SameObjects self.old self.new }
         ensures stops { IfErr result (λ e. ends_early e ≡ true) }
     {
-        if self.in_transaction {
-            calls::rollback(keeper)?;
-        }
+        self.leave(keeper)?;
         self.let_go()
     }
 
-    /// The first value that is not of its attribute's kind is refused.
-    fn check_kinds(&self, class: ClassId, cells: &[(AttrNo, Value)]) -> Result<(), Refusal>
-        requires class { IsClass self.now.mapping class }
-        ensures cause { IfErr result (λ e. ends_early e ≡ false) }
-    {
-        let attributes = self.mapping.attributes(class);
-        for (attr, value) in cells {
-            if let (Some(attribute), Some(found)) = (
-                attributes.get(attr.0 as usize),
-                kind_of_value(value),
-            ) {
-                if !same_kind(attribute.kind, found) {
-                    return Err(Refusal::TypeMismatch(attribute.kind, found));
-                }
-            }
-        }
-        Ok(())
-    }
-
     /// A call is refused while a failed flush waits for its rollback; else a transaction begins where none is in progress.
-    #[tactic(auto, using(keeper_core::proofs::ActsLemmas::acting))]
+    #[tactic(auto, using(keeper_core::proofs::Sequence::sequence, keeper_core::proofs::Lifting::lifting), unfolding(crate::specs::Steps::enter))]
     fn enter<K: Keeper>(&mut self, keeper: &mut K) -> Result<(), Refusal>
         requires in_step { IsInStep self.old (K.moment keeper.old) }
-        ensures acts { Acts (K.moment keeper.old) result (K.moment keeper.new) }
+        ensures step { Runs (moment_beside K.moment) (λ u. u) steps.enter (self.old, keeper.old) result (self.new, keeper.new) }
         ensures in_step { StaysInStep result self.new (K.moment keeper.new) }
         ensures entered { OnOk result (self.new.in_transaction ≡ true) }
         ensures same { SameObjects self.old self.new }
@@ -206,131 +193,93 @@ impl Session {
         if self.in_transaction {
             return Ok(());
         }
-        calls::begin(self.alloc, keeper)?;
+        self.begin(keeper)?;
         self.in_transaction = true;
         Ok(())
     }
 
+    /// Begins a transaction of the store, and leaves the session as it is.
+    #[tactic(auto, using(keeper_core::proofs::Lifting::lifting))]
+    fn begin<K: Keeper>(&self, keeper: &mut K) -> Result<(), Refusal>
+        requires in_step { IsInStep self.now (K.moment keeper.old) }
+        requires outside { self.now.in_transaction ≡ false }
+        ensures step { Runs (moment_beside K.moment) (λ u. u) (on_store call.begin) (self.now, keeper.old) result (self.now, keeper.new) }
+        ensures depth { OnOk result ((K.moment keeper.new).depth ≡ 1) }
+        ensures attached { (K.moment keeper.new).attached ≡ true }
+        ensures stops { IfErr result (λ e. ends_early e ≡ true) }
+    {
+        calls::begin(self.alloc, keeper)
+    }
+
+    /// Commits the transaction of the store, and leaves the session as it is.
+    #[tactic(auto, using(keeper_core::proofs::Lifting::lifting))]
+    fn commit_store<K: Keeper>(&self, keeper: &mut K) -> Result<(), Refusal>
+        requires in_step { IsInStep self.now (K.moment keeper.old) }
+        requires inside { self.now.in_transaction ≡ true }
+        ensures step { Runs (moment_beside K.moment) (λ u. u) (on_store call.commit) (self.now, keeper.old) result (self.now, keeper.new) }
+        ensures ended { (K.moment keeper.new).depth ≡ 0 }
+        ensures attached { (K.moment keeper.new).attached ≡ true }
+        ensures stops { IfErr result (λ e. ends_early e ≡ true) }
+    {
+        calls::commit(keeper)
+    }
+
+    /// Rolls the transaction of the store back, where one is in progress.
+    #[tactic(auto, using(keeper_core::proofs::Sequence::sequence, keeper_core::proofs::Lifting::lifting))]
+    fn leave<K: Keeper>(&self, keeper: &mut K) -> Result<(), Refusal>
+        requires in_step { IsInStep self.now (K.moment keeper.old) }
+        ensures step { Runs (moment_beside K.moment) (λ u. u) (steps.leaving self.now.in_transaction) (self.now, keeper.old) result (self.now, keeper.new) }
+        ensures ended { (K.moment keeper.new).depth ≡ 0 }
+        ensures attached { (K.moment keeper.new).attached ≡ true }
+        ensures stops { IfErr result (λ e. ends_early e ≡ true) }
+    {
+        if self.in_transaction {
+            return self.roll_back(keeper);
+        }
+        Ok(())
+    }
+
     /// What `add` does of an object.
-    fn take_added(&mut self, object: ObjId) -> Result<(), Refusal>
+    #[tactic(auto, unfolding(crate::specs::Steps::take_in, keeper_core::specs::Acting::refuse, keeper_core::specs::Acting::change))]
+    fn take_in(&mut self, object: ObjId) -> Result<(), Refusal>
         requires object { IsObject self.old.graph object }
+        ensures step { IsQuiet (λ u. u) (steps.take_in object self.old) result self.new }
         ensures scopes { self.new.in_transaction ≡ self.old.in_transaction }
         ensures same { SameObjects self.old self.new }
-        ensures cause { IfErr result (λ e. e ≢ Refusal.KeeperFault) }
     {
-        let (state, orphan) = {
-            let record = self.arena.object(object);
-            (record.state, record.orphan)
-        };
-        match state {
+        match self.arena.state_of(object) {
             State::Deleted => Err(Refusal::InvalidRequestError(RequestKind::Deleted)),
             State::Detached => Err(Refusal::NotBuilt),
             State::Transient => {
-                self.added = self.added.saturating_add(1);
-                self.arena.put_marks(object, self.added, false, orphan)?;
-                self.arena.put_state(object, State::Pending)
+                let added = self.added.saturating_add(1);
+                put_pending(&mut self.arena, object, added)?;
+                self.added = added;
+                Ok(())
             }
-            State::Pending | State::Persistent => {
-                let added = self.arena.object(object).added;
-                self.arena.put_marks(object, added, false, orphan)
-            }
+            State::Pending | State::Persistent => unmark(&mut self.arena, object),
         }
     }
 
     /// The transaction was committed: every persistent object is expired.
-    fn end_transaction(&mut self)
-        ensures scope { self.new.in_transaction ≡ false }
+    fn end_transaction(&mut self) -> Result<(), Refusal>
+        ensures ok { OnOk result (self.new ≡ steps.ended self.old) }
+        ensures cause { IfErr result (λ e. e ≡ Refusal.Memory) }
         ensures same { SameObjects self.old self.new }
     {
+        commit_all(&mut self.arena)?;
         self.in_transaction = false;
-        expire_persistent(&mut self.arena);
+        Ok(())
     }
 
     /// No transaction is in progress, and every object leaves the session. The only refusal is want of memory.
     fn let_go(&mut self) -> Result<(), Refusal>
-        ensures scope { self.new.in_transaction ≡ false }
+        ensures ok { OnOk result (self.new ≡ steps.closed self.old) }
         ensures cause { IfErr result (λ e. e ≡ Refusal.Memory) }
+        ensures same { SameObjects self.old self.new }
     {
+        let_go_all(&mut self.arena)?;
         self.in_transaction = false;
         self.failed = false;
-        let_go_all(&mut self.arena)
+        Ok(())
     }
-}
-
-/// Every persistent object is expired.
-fn expire_persistent(arena: &mut Arena)
-    ensures { length arena.new.objects ≡ length arena.old.objects }
-{
-    for number in 0..arena.count() {
-        let object = ObjId(number + 1);
-        if let State::Persistent = arena.state_of(object) {
-            arena.expire(object);
-        }
-    }
-}
-
-/// Pending objects become transient, persistent and deleted ones detached.
-fn let_go_all(arena: &mut Arena) -> Result<(), Refusal>
-    ensures { IfErr result (λ e. e ≡ Refusal.Memory) }
-{
-    for number in 0..arena.count() {
-        let object = ObjId(number + 1);
-        match arena.state_of(object) {
-            State::Pending => arena.put_state(object, State::Transient)?,
-            State::Persistent | State::Deleted => detach(arena, object)?,
-            State::Transient | State::Detached => {}
-        }
-    }
-    Ok(())
-}
-
-/// An object leaves the session; it keeps its identity.
-pub(crate) fn detach(arena: &mut Arena, object: ObjId) -> Result<(), Refusal>
-    requires { IsObject arena.old object }
-    ensures same { length arena.new.objects ≡ length arena.old.objects }
-    ensures cause { IfErr result (λ e. e ≡ Refusal.Memory) }
-{
-    if arena.object(object).identity.is_none() {
-        return Ok(());
-    }
-    arena.put_state(object, State::Detached)
-}
-
-/// Pending objects become transient again.
-pub(crate) fn take_out_pending(arena: &mut Arena)
-    ensures { length arena.new.objects ≡ length arena.old.objects }
-{
-    for number in 0..arena.count() {
-        let object = ObjId(number + 1);
-        if let State::Pending = arena.state_of(object) {
-            arena.put_back(object, State::Transient, None);
-        }
-    }
-}
-
-/// Values go into cells of an object, which are then to be written.
-fn put_values(arena: &mut Arena, object: ObjId, cells: &[(AttrNo, Value)]) -> Result<(), Refusal>
-    ensures cause { IfErr result (λ e. e ≡ Refusal.Memory) }
-{
-    for (attr, value) in cells {
-        put_value(arena, object, *attr, value)?;
-    }
-    Ok(())
-}
-
-/// A value goes into a cell of an object, where the object has it.
-fn put_value(arena: &mut Arena, object: ObjId, attr: AttrNo, value: &Value) -> Result<(), Refusal>
-    ensures cause { IfErr result (λ e. e ≡ Refusal.Memory) }
-{
-    if object.0 == 0 || object.0 > arena.count() {
-        return Ok(());
-    }
-    if attr.0 as usize >= arena.object(object).cells.len() {
-        return Ok(());
-    }
-    let cell = Cell {
-        value: Some(value.copied()?),
-        base: None,
-    };
-    arena.put_cell(object, attr, cell)
 }

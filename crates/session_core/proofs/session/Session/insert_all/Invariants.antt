@@ -1,8 +1,14 @@
-use Rattle.std.proofs.Common.{◌≡◌, Ok}
-use Rattle.base_core.specs.declared.refusal.Refusal.{Refusal}
-use Rattle.keeper_core.specs.Moment.{Acts}
+use Rattle.std.proofs.Common.{[], drop}
+use Rattle.std.specs.List.{All}
+use Rattle.keeper_core.specs.Acting.{each}
+use Rattle.keeper_core.specs.Moment.{Reaches}
+use Rattle.session_core.specs.Flush.{IsUnderKey}
 use Rattle.session_core.specs.SessionState.{IsInStep}
+use Rattle.session_core.specs.Steps.{insert_all, insert_one}
 use Rattle.session_core.proofs.session.Session.insert_all.Given as goal
 
 abbrev pub invariant-loop-object : goal.invariant-loop-object
-invariant-loop-object g l = Acts {X = Unit {0}} (g.K.Keeper.moment l.fn.keeper) (Ok tt) (g.K.Keeper.moment l.keeper) × IsInStep l.self (g.K.Keeper.moment l.keeper)
+invariant-loop-object g l =
+    Reaches g.K.Keeper.moment (insert_all l.self l.objects) l.fn.keeper (each (insert_one l.self) l.written (drop l.object-index l.objects)) l.keeper
+    × IsInStep l.self (g.K.Keeper.moment l.keeper)
+    × All (IsUnderKey l.self.mapping l.self.graph) l.written

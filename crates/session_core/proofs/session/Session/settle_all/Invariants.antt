@@ -1,0 +1,15 @@
+use Rattle.std.proofs.Common.{◌≡◌, fold, length}
+use Rattle.std.specs.List.{All}
+use Rattle.std.specs.Vec.Iter.{into_iter_items}
+use Rattle.object_arena.specs.Graph.{Graph}
+use Rattle.session_core.specs.Flush.{IsUnderKey, settled}
+use Rattle.session_core.specs.SessionState.{SessionState, SameObjects}
+use Rattle.session_core.specs.Steps.{flushed}
+use Rattle.session_core.proofs.session.Session.settle_all.Given as goal
+
+abbrev pub invariant-loop-object : goal.invariant-loop-object
+invariant-loop-object l =
+    (goal.iterator-loop-object).can_next l.object-iterator × (goal.iterator-loop-object).is_finite l.object-iterator
+    × (flushed (into_iter_items l.object-iterator) l.self ≡ flushed l.fn.written l.fn.self)
+    × All (IsUnderKey l.self.mapping l.self.graph) (into_iter_items l.object-iterator)
+    × SameObjects l.fn.self l.self × (l.self.in_transaction ≡ l.fn.self.in_transaction)

@@ -1,0 +1,11 @@
+use Rattle.std.proofs.Common.{◌≡◌, length}
+use Rattle.mapper_core.specs.Mapped.{Mapped}
+use Rattle.object_arena.specs.Fit.{IsFit}
+use Rattle.session_core.specs.Flush.{restored}
+use Rattle.session_core.proofs.ObjectLemmas.{changed_before}
+use Rattle.session_core.proofs.settling.restore_all.Given as goal
+
+abbrev pub invariant-loop-number : goal.invariant-loop-number
+invariant-loop-number l =
+    (l.arena ≡ changed_before restored l.fn.arena l.number) × (length l.arena.objects ≡ length l.fn.arena.objects)
+    × ((mapped : Mapped) → IsFit mapped l.fn.arena → IsFit mapped l.arena)

@@ -1,0 +1,136 @@
+-- What a flush writes, and what becomes of the objects at its end and at the end of the transaction.
+use Rattle.std.specs.Prelude.{◌≡◌, ℕ, Bool, true, false, List, [], ◌∷◌, map, fold, slice_index_or, ◌==◌, Option, None, Some, if◌then◌else◌}
+use Rattle.std.specs.List.{enumerate_from, position}
+use Rattle.std.specs.declared.cmp.Ordering.{Ordering}
+use Rattle.std.specs.Ordering.{nat_cmp, ordering_then}
+use Rattle.std.specs.BTreeMap.{insert_entry}
+use Rattle.base_core.specs.declared.ids.AttrNo.{AttrNo}
+use Rattle.base_core.specs.declared.ids.ObjId.{ObjId}
+use Rattle.base_core.specs.declared.value.Value.{Value}
+use Rattle.base_core.specs.declared.value.Value.TheVariants.{Null}
+use Rattle.schema_core.specs.declared.statement.RowStmt.{RowStmt}
+use Rattle.schema_core.specs.declared.statement.RowStmt.TheVariants.{Insert}
+use Rattle.mapper_core.specs.Mapped.{Mapped, key_attributes, root_table}
+use Rattle.object_arena.specs.declared.object.Cell.{Cell}
+use Rattle.object_arena.specs.declared.object.Object.{Object}
+use Rattle.object_arena.specs.declared.object.State.{State}
+use Rattle.object_arena.specs.declared.object.State.TheVariants.{Transient, Pending, Persistent, Deleted, Detached}
+use Rattle.object_arena.specs.Graph.{Graph, IsObject, expired, kept_identity, object_at, put_back_object, root_at, with_object, with_state}
+use Rattle.object_arena.specs.Identity.{find_identity, registered}
+use Rattle.object_arena.specs.Fit.{key_fits}
+
+-- ---- what is written
+
+abbrev pub is_pending : State → Bool
+is_pending Pending = true
+is_pending state = false
+
+-- where a pending object stands among the others: by its add number, and then by its own number
+abbrev pub Rank : Type 0
+Rank = ℕ × ℕ
+
+abbrev pub rank_cmp : Rank → Rank → Ordering
+rank_cmp one other = ordering_then (nat_cmp one.0 other.0) (nat_cmp one.1 other.1)
+
+-- objects by their rank
+abbrev pub Queue : Type 0
+Queue = List (Rank × ObjId)
+
+-- the queue with the object of a number, where it is pending
+abbrev pub queued : Queue → ℕ × Object → Queue
+queued queue numbered = if is_pending numbered.1.state then insert_entry rank_cmp queue (numbered.1.added, numbered.0) (record { 0 = numbered.0 }) else queue
+
+-- the pending objects in the order in which they were added
+unfoldable pub pending_in_order : Graph → List ObjId
+pending_in_order graph = map (λ entry. entry.1) (fold queued [] (enumerate_from 1 graph.objects))
+
+abbrev pub value_or_null : Option Value → Value
+value_or_null None = Null
+value_or_null (Some value) = value
+
+-- the row of an object: the value of each cell, and NULL where it is not known
+abbrev pub row_of : Object → List Value
+row_of object = map (λ cell. value_or_null cell.value) object.cells
+
+-- the INSERT of an object's row
+abbrev pub insert_of : Mapped → Object → RowStmt
+insert_of mapped object = Insert (root_table mapped object.class) (row_of object)
+
+-- ---- after success
+
+-- an object whose row was written, and the row's key
+abbrev pub Written : Type 0
+Written = ObjId × List Value
+
+-- the object has been made, and the key fits its class
+abbrev pub IsUnderKey : Mapped → Graph → Written → Type 0
+IsUnderKey mapped graph written = IsObject graph written.0 × (key_fits mapped (object_at graph written.0).class written.1 ≡ true)
+
+-- the object that stood for the key until now is detached
+abbrev pub freed : Graph → Option ObjId → Graph
+freed graph None = graph
+freed graph (Some holder) = with_state graph holder Detached
+
+-- a cell that holds what was written
+abbrev pub held_cell : Value → Cell
+held_cell value = record { value = Some value; base = Some value }
+
+abbrev pub value_under : List Value → Option ℕ → Value → Value
+value_under key None value = value
+value_under key (Some place) value = slice_index_or key place value
+
+-- what was written of a cell: the key's value where it is a cell of the key, else its own
+abbrev pub written_value : List AttrNo → List Value → ℕ × Cell → Value
+written_value keys key placed = value_under key (position (λ attr. attr.0 == placed.0) keys) (value_or_null placed.1.value)
+
+-- the object as it was written under a key
+abbrev pub written_object : List AttrNo → List Value → Object → Object
+written_object keys key object = record object { cells = map (λ placed. held_cell (written_value keys key placed)) (enumerate_from 0 object.cells) }
+
+-- the graph in which the object is persistent under its key, no other object is, and its cells hold what was written
+abbrev pub under_key : Graph → Written → Graph
+under_key graph written = registered (freed graph (find_identity graph (root_at graph written.0) written.1)) written.0 written.1
+
+abbrev pub with_written : Mapped → Graph → Written → Graph
+with_written mapped graph written =
+    with_object graph written.0 (written_object (key_attributes mapped (object_at graph written.0).class) written.1 (object_at graph written.0))
+
+abbrev pub settled : Mapped → Graph → Written → Graph
+settled mapped graph written = with_written mapped (under_key graph written) written
+
+-- ---- after failure, at a commit and at a close
+
+-- the graph with each object changed
+abbrev pub each_object : (Object → Object) → Graph → Graph
+each_object change graph = record { objects = map change graph.objects; roots = graph.roots }
+
+abbrev pub unmarked : Object → Object
+unmarked object = record object { marked = false }
+
+abbrev pub restored_in : State → Object → Object
+restored_in Pending object = put_back_object object Transient None
+restored_in Persistent object = expired (unmarked object)
+restored_in state object = unmarked object
+
+-- an object after its transaction was rolled back: no delete mark; a pending one is transient again, a persistent one expired
+abbrev pub restored : Object → Object
+restored object = restored_in object.state object
+
+abbrev pub committed_in : State → Object → Object
+committed_in Persistent object = expired object
+committed_in Deleted object = record object { state = Detached }
+committed_in state object = object
+
+-- an object after a commit: a persistent one is expired, a deleted one detached
+abbrev pub committed : Object → Object
+committed object = committed_in object.state object
+
+-- where an object stands once it has left the session
+abbrev pub left_state : State → State
+left_state Transient = Transient
+left_state Pending = Transient
+left_state state = Detached
+
+-- an object after the session was closed: a pending one is transient, a persistent or deleted one detached, with its cells and links as they are
+abbrev pub left : Object → Object
+left object = record object { state = left_state object.state; identity = kept_identity (left_state object.state) object.identity; marked = false }

@@ -1,0 +1,115 @@
+-- The session's calls, each as a program of the store and of the session beside it.
+use Rattle.std.specs.Prelude.{Bool, true, false, List, [], ◌∷◌, ◌++◌, fold, if◌then◌else◌}
+use Rattle.base_core.specs.Counts.{one_more}
+use Rattle.base_core.specs.declared.ids.AttrNo.{AttrNo}
+use Rattle.base_core.specs.declared.ids.ClassId.{ClassId}
+use Rattle.base_core.specs.declared.ids.ObjId.{ObjId}
+use Rattle.base_core.specs.declared.value.Value.{Value}
+use Rattle.base_core.specs.declared.refusal.RequestKind.TheVariants as requests
+use Rattle.base_core.specs.declared.refusal.Refusal.TheVariants.{InvalidRequestError, NotBuilt, PendingRollbackError}
+use Rattle.keeper_core.specs.Store.{Store}
+use Rattle.keeper_core.specs.Acting.{Run, ◌>>=◌, change, each, give, guarded, refuse}
+use Rattle.keeper_core.specs.Beside.{Beside, by_own, changes, on_own, on_store}
+use Rattle.keeper_core.specs.Calls as call
+use Rattle.object_arena.specs.declared.object.State.{State}
+use Rattle.object_arena.specs.declared.object.State.TheVariants.{Transient, Pending, Persistent, Deleted, Detached}
+use Rattle.object_arena.specs.Graph.{object_at, with_marks, with_state}
+use Rattle.session_core.specs.SessionState.{SessionState}
+use Rattle.session_core.specs.Flush.{Written, committed, each_object, insert_of, left, pending_in_order, restored, settled}
+use Rattle.session_core.specs.Making.{made}
+
+-- the world of a session's calls
+abbrev pub World : Type 0
+World = Beside SessionState
+
+-- ---- what becomes of the session
+
+-- a transaction has begun
+abbrev pub begun : SessionState → SessionState
+begun session = record session { in_transaction = true }
+
+-- the objects whose rows were written are persistent under their keys
+abbrev pub flushed : List Written → SessionState → SessionState
+flushed written session = record session { graph = fold (settled session.mapping) session.graph written }
+
+-- the transaction was rolled back for a flush that failed, and a rollback is awaited
+abbrev pub failed : SessionState → SessionState
+failed session = record session { graph = each_object restored session.graph; in_transaction = false; failed = true }
+
+-- the transaction was committed
+abbrev pub ended : SessionState → SessionState
+ended session = record session { graph = each_object committed session.graph; in_transaction = false }
+
+-- the session has no transaction and no objects in it
+abbrev pub closed : SessionState → SessionState
+closed session = record session { graph = each_object left session.graph; in_transaction = false; failed = false }
+
+-- ---- the transaction
+
+abbrev pub entering : Bool → Bool → World → Run World (Unit {0})
+entering true begun_before = refuse PendingRollbackError
+entering false true = give tt
+entering false false = on_store call.begin >>= λ _. changes begun
+
+-- refused while a failed flush waits for its rollback; else a transaction begins where none is in progress
+unfoldable pub enter : World → Run World (Unit {0})
+enter = by_own (λ session. entering session.failed session.in_transaction)
+
+-- ---- the flush
+
+-- the row of an object is written, and its key is known then
+unfoldable pub insert_one : SessionState → ObjId → List Written → Store → Run Store (List Written)
+insert_one session object written =
+    call.write session.mapping.schema (insert_of session.mapping (object_at session.graph object)) >>= λ key. give (written ++ (object, key) ∷ [])
+
+-- the rows of objects are written in order
+unfoldable pub insert_all : SessionState → List ObjId → Store → Run Store (List Written)
+insert_all session objects = each (insert_one session) [] objects
+
+-- the transaction is rolled back, and its pending objects are transient again
+unfoldable pub give_up : World → Run World (Unit {0})
+give_up = on_store call.rollback >>= λ _. changes failed
+
+-- the rows are written, and where one is refused all of them are given up
+unfoldable pub write_pending : List ObjId → World → Run World (List Written)
+write_pending objects = guarded (by_own (λ session. on_store (insert_all session objects))) give_up
+
+-- the rows of the pending objects are written in the order of adding, and the objects are persistent then
+unfoldable pub flush : World → Run World (Unit {0})
+flush = by_own (λ session. write_pending (pending_in_order session.graph) >>= λ written. changes (flushed written))
+
+-- ---- the calls
+
+-- a transient object with these values is made
+unfoldable pub make : ClassId → List (AttrNo × Value) → World → Run World ObjId
+make class values = on_own (made class values)
+
+abbrev pub added_in : State → ObjId → SessionState → SessionState
+added_in Transient object session =
+    record session { graph = with_state (with_marks session.graph object (one_more session.added) false (object_at session.graph object).orphan) object Pending; added = one_more session.added }
+added_in state object session =
+    record session { graph = with_marks session.graph object (object_at session.graph object).added false (object_at session.graph object).orphan }
+
+abbrev pub taken_in : State → ObjId → SessionState → Run SessionState (Unit {0})
+taken_in Deleted object session = refuse (InvalidRequestError requests.Deleted) session
+taken_in Detached object session = refuse NotBuilt session
+taken_in state object session = change (added_in state object) session
+
+-- a transient object becomes pending under the next add number; of the others a delete mark is taken away
+unfoldable pub take_in : ObjId → SessionState → Run SessionState (Unit {0})
+take_in object session = taken_in (object_at session.graph object).state object session
+
+unfoldable pub add : ObjId → World → Run World (Unit {0})
+add object = enter >>= λ _. on_own (take_in object)
+
+-- what is pending is written, and the transaction committed
+unfoldable pub commit : World → Run World (Unit {0})
+commit = enter >>= λ _. (flush >>= λ _. (on_store call.commit >>= λ _. changes ended))
+
+abbrev pub leaving : Bool → World → Run World (Unit {0})
+leaving true = on_store call.rollback
+leaving false = give tt
+
+-- the transaction ends without its rows, and all objects leave the session
+unfoldable pub close : World → Run World (Unit {0})
+close = by_own (λ session. leaving session.in_transaction >>= λ _. changes closed)

@@ -1,0 +1,291 @@
+//! What becomes of objects whose rows were written, and at the end of a transaction.
+
+ghost use Rattle.std.specs.Prelude.{◌≡◌, ◌<◌, ◌≤◌, true, false, length, is_some, IfOk, IfErr, OnOk};
+ghost use Rattle.mapper_core.specs.Mapped.{Mapped};
+ghost use Rattle.object_arena.specs.Graph.{IsCell, IsObject, object_at, root_at, with_cell, with_marks, with_object, with_state, cell_at};
+ghost use Rattle.object_arena.specs.declared.object.State.TheVariants.{Pending};
+ghost use Rattle.object_arena.specs.Identity.{find_identity, is_taken, registered};
+ghost use Rattle.object_arena.specs.Fit.{IsFit, key_fits};
+ghost use Rattle.session_core.specs.Flush as spec;
+ghost use Rattle.mapper_core.specs.Mapped.{key_attributes};
+
+use crate::rows::value_or_null;
+use base_core::{AttrNo, Copied, Key, ObjId, Refusal, Value};
+use mapper_core::Mapping;
+use object_arena::{Arena, Cell, State};
+use std::alloc::AllocError;
+
+/// The object whose row was written is persistent under its key, and its cells hold what was written. An object that
+/// stood for the key until now is detached. The only refusal is want of memory.
+pub(crate) fn settle(
+    arena: &mut Arena,
+    mapping: &Mapping,
+    object: ObjId,
+    key: Key,
+) -> Result<(), Refusal>
+    requires configured { mapping.now.configured ≡ true }
+    requires fit { IsFit mapping.now arena.old }
+    requires object { IsObject arena.old object }
+    requires key { key_fits mapping.now (object_at arena.old object).class key ≡ true }
+    ensures ok { OnOk result (arena.new ≡ spec.settled mapping.now arena.old (object, key)) }
+    ensures cause { IfErr result (λ e. e ≡ Refusal.Memory) }
+    ensures fit { IsFit mapping.now arena.new }
+    ensures same { length arena.new.objects ≡ length arena.old.objects }
+{
+    let written = key.copied()?;
+    put_under_key(arena, mapping, object, key)?;
+    write_cells(arena, mapping, object, &written)
+}
+
+/// The object is persistent under the key. An object that stood for it until now is detached.
+fn put_under_key(
+    arena: &mut Arena,
+    mapping: &Mapping,
+    object: ObjId,
+    key: Key,
+) -> Result<(), Refusal>
+    requires fit { IsFit mapping.now arena.old }
+    requires object { IsObject arena.old object }
+    requires key { key_fits mapping.now (object_at arena.old object).class key ≡ true }
+    ensures ok { OnOk result (arena.new ≡ spec.under_key arena.old (object, key)) }
+    ensures cause { IfErr result (λ e. e ≡ Refusal.Memory) }
+    ensures fit { IsFit mapping.now arena.new }
+    ensures same { length arena.new.objects ≡ length arena.old.objects }
+    ensures class { (object_at arena.new object).class ≡ (object_at arena.old object).class }
+{
+    free(arena, mapping, object, &key)?;
+    match arena.register(object, key) {
+        Ok(()) => Ok(()),
+        Err(_taken) => Err(Refusal::Memory),
+    }
+}
+
+/// An object that stands for a key is detached. The only refusal is want of memory.
+fn free(
+    arena: &mut Arena,
+    mapping: &Mapping,
+    object: ObjId,
+    key: &Key,
+) -> Result<(), Refusal>
+    requires fit { IsFit mapping.now arena.old }
+    requires object { IsObject arena.old object }
+    ensures ok { OnOk result (arena.new ≡ spec.freed arena.old (find_identity arena.old (root_at arena.old object) key.now)) }
+    ensures cause { IfErr result (λ e. e ≡ Refusal.Memory) }
+    ensures fit { IsFit mapping.now arena.new }
+    ensures same { length arena.new.objects ≡ length arena.old.objects }
+    ensures class { (object_at arena.new object).class ≡ (object_at arena.old object).class }
+{
+    let root = arena.class_of(object);
+    match arena.find_identity(root, key) {
+        None => Ok(()),
+        Some(holder) => arena.put_state(holder, State::Detached),
+    }
+}
+
+#[tactic(auto, using(crate::proofs::CellLemmas::cells))]
+/// The cells of an object hold what was written under a key. The only refusal is want of memory.
+fn write_cells(
+    arena: &mut Arena,
+    mapping: &Mapping,
+    object: ObjId,
+    key: &Key,
+) -> Result<(), Refusal>
+    requires configured { mapping.now.configured ≡ true }
+    requires fit { IsFit mapping.now arena.old }
+    requires object { IsObject arena.old object }
+    requires key { key_fits mapping.now (object_at arena.old object).class key.now ≡ true }
+    ensures ok { OnOk result (arena.new ≡ spec.with_written mapping.now arena.old (object, key.now)) }
+    ensures cause { IfErr result (λ e. e ≡ Refusal.Memory) }
+    ensures fit { IsFit mapping.now arena.new }
+    ensures same { length arena.new.objects ≡ length arena.old.objects }
+{
+    for place in 0..arena.object(object).cells.len() {
+        let Ok(attr) = u32::try_from(place) else {
+            return Err(Refusal::Memory);
+        };
+        write_cell(arena, mapping, object, AttrNo(attr), key)?;
+    }
+    Ok(())
+}
+
+/// A cell of an object holds what was written. The only refusal is want of memory.
+fn write_cell(
+    arena: &mut Arena,
+    mapping: &Mapping,
+    object: ObjId,
+    attr: AttrNo,
+    key: &Key,
+) -> Result<(), Refusal>
+    requires configured { mapping.now.configured ≡ true }
+    requires fit { IsFit mapping.now arena.old }
+    requires object { IsObject arena.old object }
+    requires attr { IsCell arena.old object attr }
+    requires key { key_fits mapping.now (object_at arena.old object).class key.now ≡ true }
+    ensures ok { OnOk result (arena.new ≡ with_cell arena.old object attr (spec.held_cell (spec.written_value (key_attributes mapping.now (object_at arena.old object).class) key.now (attr.0, cell_at arena.old object attr)))) }
+    ensures cause { IfErr result (λ e. e ≡ Refusal.Memory) }
+    ensures fit { IsFit mapping.now arena.new }
+    ensures same { length arena.new.objects ≡ length arena.old.objects }
+    ensures class { (object_at arena.new object).class ≡ (object_at arena.old object).class }
+    ensures width { length (object_at arena.new object).cells ≡ length (object_at arena.old object).cells }
+{
+    let record = arena.object(object);
+    let value = written_value(
+        mapping.key_attributes(record.class),
+        key,
+        attr,
+        record.cells.at(attr.0 as usize),
+    )?;
+    let base = value.copied()?;
+    arena.put_cell(
+        object,
+        attr,
+        Cell {
+            value: Some(value),
+            base: Some(base),
+        },
+    )
+}
+
+/// What was written of a cell: the key's value where it is a cell of the key, else its own.
+fn written_value(
+    keys: &[AttrNo],
+    key: &Key,
+    attr: AttrNo,
+    cell: &Cell,
+) -> Result<Value, AllocError>
+    ensures { IfOk result (λ value. value ≡ spec.written_value keys.now key.now (attr.0, cell.now)) }
+{
+    if let Some(place) = keys.iter().position(|other| other.0 == attr.0) {
+        if let Some(value) = key.get(place) {
+            return value.copied();
+        }
+    }
+    value_or_null(cell)
+}
+
+#[tactic(auto, using(crate::proofs::ObjectLemmas::turns))]
+/// Every object is as it is after a rollback. The only refusal is want of memory.
+pub(crate) fn restore_all(arena: &mut Arena) -> Result<(), Refusal>
+    ensures ok { OnOk result (arena.new ≡ spec.each_object spec.restored arena.old) }
+    ensures cause { IfErr result (λ e. e ≡ Refusal.Memory) }
+    ensures fits { (mapped : Mapped) → IsFit mapped arena.old → IsFit mapped arena.new }
+    ensures same { length arena.new.objects ≡ length arena.old.objects }
+{
+    for number in 0..arena.count() {
+        restore(arena, ObjId(number + 1))?;
+    }
+    Ok(())
+}
+
+/// A pending object is transient again, a persistent one expired, and no delete mark stays.
+fn restore(arena: &mut Arena, object: ObjId) -> Result<(), Refusal>
+    requires { IsObject arena.old object }
+    ensures ok { OnOk result (arena.new ≡ with_object arena.old object (spec.restored (object_at arena.old object))) }
+    ensures cause { IfErr result (λ e. e ≡ Refusal.Memory) }
+    ensures fits { (mapped : Mapped) → IsFit mapped arena.old → IsFit mapped arena.new }
+    ensures same { length arena.new.objects ≡ length arena.old.objects }
+{
+    unmark(arena, object)?;
+    match arena.state_of(object) {
+        State::Pending => arena.put_back(object, State::Transient, None),
+        State::Persistent => arena.expire(object),
+        State::Transient | State::Deleted | State::Detached => {}
+    }
+    Ok(())
+}
+
+/// A delete mark is taken away. The only refusal is want of memory.
+pub(crate) fn unmark(arena: &mut Arena, object: ObjId) -> Result<(), Refusal>
+    requires { IsObject arena.old object }
+    ensures ok { OnOk result (arena.new ≡ with_object arena.old object (spec.unmarked (object_at arena.old object))) }
+    ensures cause { IfErr result (λ e. e ≡ Refusal.Memory) }
+    ensures fits { (mapped : Mapped) → IsFit mapped arena.old → IsFit mapped arena.new }
+    ensures same { length arena.new.objects ≡ length arena.old.objects }
+{
+    let (added, orphan) = {
+        let record = arena.object(object);
+        (record.added, record.orphan)
+    };
+    arena.put_marks(object, added, false, orphan)
+}
+
+#[tactic(auto, using(crate::proofs::ObjectLemmas::turns))]
+/// Every object is as it is after a commit. The only refusal is want of memory.
+pub(crate) fn commit_all(arena: &mut Arena) -> Result<(), Refusal>
+    ensures ok { OnOk result (arena.new ≡ spec.each_object spec.committed arena.old) }
+    ensures cause { IfErr result (λ e. e ≡ Refusal.Memory) }
+    ensures fits { (mapped : Mapped) → IsFit mapped arena.old → IsFit mapped arena.new }
+    ensures same { length arena.new.objects ≡ length arena.old.objects }
+{
+    for number in 0..arena.count() {
+        commit_one(arena, ObjId(number + 1))?;
+    }
+    Ok(())
+}
+
+/// A persistent object is expired, and a deleted one detached.
+fn commit_one(arena: &mut Arena, object: ObjId) -> Result<(), Refusal>
+    requires { IsObject arena.old object }
+    ensures ok { OnOk result (arena.new ≡ with_object arena.old object (spec.committed (object_at arena.old object))) }
+    ensures cause { IfErr result (λ e. e ≡ Refusal.Memory) }
+    ensures fits { (mapped : Mapped) → IsFit mapped arena.old → IsFit mapped arena.new }
+    ensures same { length arena.new.objects ≡ length arena.old.objects }
+{
+    match arena.object(object).state {
+        State::Persistent => {
+            arena.expire(object);
+            Ok(())
+        }
+        State::Deleted => arena.put_state(object, State::Detached),
+        State::Transient | State::Pending | State::Detached => Ok(()),
+    }
+}
+
+#[tactic(auto, using(crate::proofs::ObjectLemmas::turns))]
+/// Every object leaves the session. The only refusal is want of memory.
+pub(crate) fn let_go_all(arena: &mut Arena) -> Result<(), Refusal>
+    ensures ok { OnOk result (arena.new ≡ spec.each_object spec.left arena.old) }
+    ensures cause { IfErr result (λ e. e ≡ Refusal.Memory) }
+    ensures fits { (mapped : Mapped) → IsFit mapped arena.old → IsFit mapped arena.new }
+    ensures same { length arena.new.objects ≡ length arena.old.objects }
+{
+    for number in 0..arena.count() {
+        let_go(arena, ObjId(number + 1))?;
+    }
+    Ok(())
+}
+
+/// A pending object is transient, a persistent or deleted one detached, and no delete mark stays.
+fn let_go(arena: &mut Arena, object: ObjId) -> Result<(), Refusal>
+    requires { IsObject arena.old object }
+    ensures ok { OnOk result (arena.new ≡ with_object arena.old object (spec.left (object_at arena.old object))) }
+    ensures cause { IfErr result (λ e. e ≡ Refusal.Memory) }
+    ensures fits { (mapped : Mapped) → IsFit mapped arena.old → IsFit mapped arena.new }
+    ensures same { length arena.new.objects ≡ length arena.old.objects }
+{
+    unmark(arena, object)?;
+    arena.put_state(object, left_state(arena.object(object).state))
+}
+
+/// Where an object stands once it has left the session.
+fn left_state(state: State) -> State
+    ensures { result ≡ spec.left_state state }
+{
+    match state {
+        State::Transient | State::Pending => State::Transient,
+        State::Persistent | State::Deleted | State::Detached => State::Detached,
+    }
+}
+
+/// A transient object becomes pending under an add number. The only refusal is want of memory.
+pub(crate) fn put_pending(arena: &mut Arena, object: ObjId, added: u64) -> Result<(), Refusal>
+    requires { IsObject arena.old object }
+    ensures ok { OnOk result (arena.new ≡ with_state (with_marks arena.old object added false (object_at arena.old object).orphan) object Pending) }
+    ensures cause { IfErr result (λ e. e ≡ Refusal.Memory) }
+    ensures fits { (mapped : Mapped) → IsFit mapped arena.old → IsFit mapped arena.new }
+    ensures same { length arena.new.objects ≡ length arena.old.objects }
+{
+    let orphan = arena.object(object).orphan;
+    arena.put_marks(object, added, false, orphan)?;
+    arena.put_state(object, State::Pending)
+}
