@@ -1,48 +1,18 @@
--- The cells of an object: what its row is, and what a flush writes into them.
-use Rattle.std.proofs.Common.{◌≡◌, ℕ, ◌+◌, ◌<◌, ◌≤◌, Bool, true, false, ◌&&◌, ◌||◌, List, [], ◌∷◌, ◌++◌, length, map, get_or, take, drop, zero, suc, Option, None, Some, refl, sym, ap, ◌∙◌, subst, arith, add-one}
-use Rattle.std.specs.Prelude.{slice_set, not}
+-- What a flush writes into the cells of an object.
+use Rattle.std.proofs.Common.{◌≡◌, ℕ, ◌+◌, ◌<◌, ◌≤◌, List, [], ◌∷◌, ◌++◌, length, map, get_or, take, drop, zero, suc, refl, sym, ap, ◌∙◌, subst, arith, add-one}
+use Rattle.std.specs.Prelude.{slice_set}
 use Rattle.std.specs.List.{enumerate_from}
-use Rattle.std.specs.Cmp.Lexicographic.{pointwise}
-use Rattle.std.proofs.lemmas.Bool.{and_from, and_parts}
 use Rattle.std.proofs.lemmas.List.{append-nil, drop_all, take_all}
 use Rattle.base_core.specs.declared.ids.AttrNo.{AttrNo}
 use Rattle.base_core.specs.declared.ids.ClassId.{ClassId}
 use Rattle.base_core.specs.declared.ids.ObjId.{ObjId}
-use Rattle.base_core.specs.declared.ids.TableId.{TableId}
-use Rattle.base_core.specs.declared.value.Kind.{Kind}
 use Rattle.base_core.specs.declared.value.Value.{Value}
-use Rattle.base_core.specs.declared.value.Value.TheVariants as value
-use Rattle.schema_core.specs.declared.table.ColumnSpec.{ColumnSpec}
-use Rattle.schema_core.specs.Catalog.{kind_of, same_kind}
-use Rattle.schema_core.specs.Tables.{is_null, fits, kind_of_value}
-use Rattle.schema_core.specs.WellFormed.{may_hold}
-use Rattle.mapper_core.specs.Mapped.{Mapped, attribute_at, key_attributes}
+use Rattle.mapper_core.specs.Mapped.{Mapped, key_attributes}
 use Rattle.object_arena.specs.declared.object.Cell.{Cell}
 use Rattle.object_arena.specs.declared.object.Object.{Object}
 use Rattle.object_arena.specs.Graph.{Graph, IsObject, cell_at, cell_in, cell_put, expired_cell, object_at, with_cell, with_object}
-use Rattle.object_arena.specs.Fit.{cell_fits, value_fits, is_of_kind}
-use Rattle.session_core.specs.Flush.{held_cell, row_of, value_or_null, with_written, written_object, written_value}
+use Rattle.session_core.specs.Flush.{held_cell, with_written, written_value}
 use Rattle.session_core.proofs.ObjectLemmas.{at_with, with_same, with_twice}
-
--- ---- the row
-
-value_held : (table : TableId) (n : ℕ) (column : ColumnSpec) (known : Option Value) (base : Option Value) → cell_fits (attribute_at table (n, column)) (record { value = known; base = base }) ≡ true → may_hold column (value_or_null known) ≡ true
-value_held table n column None base h = refl
-value_held table n column (Some value.Null) base h = refl
-value_held table n column (Some (value.Bool b)) base h = (and_parts (value_fits (attribute_at table (n, column)) (Some (value.Bool b))) _ h).0
-value_held table n column (Some (value.Int z)) base h = (and_parts (value_fits (attribute_at table (n, column)) (Some (value.Int z))) _ h).0
-value_held table n column (Some (value.Text t)) base h = (and_parts (value_fits (attribute_at table (n, column)) (Some (value.Text t))) _ h).0
-value_held table n column (Some (value.Bytes b)) base h = (and_parts (value_fits (attribute_at table (n, column)) (Some (value.Bytes b))) _ h).0
-
--- the row of cells that fit a table's attributes fits the table's columns
-pub row_fits : (table : TableId) (n : ℕ) (columns : List ColumnSpec) (cells : List Cell) → pointwise cell_fits (map (attribute_at table) (enumerate_from n columns)) cells ≡ true → pointwise may_hold columns (map (λ cell. value_or_null cell.value) cells) ≡ true
-row_fits table n [] [] h = refl
-row_fits table n [] (cell ∷ cells) h = absurd cc
-row_fits table n (column ∷ columns) [] h = absurd cc
-row_fits table n (column ∷ columns) (cell ∷ cells) h =
-    let parts = and_parts (cell_fits (attribute_at table (n, column)) cell) (pointwise cell_fits (map (attribute_at table) (enumerate_from (n + 1) columns)) cells) h in
-    and_from (may_hold column (value_or_null cell.value)) (pointwise may_hold columns (map (λ c. value_or_null c.value) cells))
-    (value_held table n column cell.value cell.base parts.0) (row_fits table (n + 1) columns cells parts.1)
 
 -- ---- what is written into the cells
 

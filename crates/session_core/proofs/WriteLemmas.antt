@@ -1,30 +1,25 @@
--- What a flush writes into an object fits its mapping, and who stood for its key before.
+-- What a flush writes into an object fits its mapping.
 use Rattle.std.proofs.Common.{◌≡◌, ◌≢◌, ℕ, ◌+◌, ◌<◌, ◌≤◌, Bool, true, false, ◌&&◌, List, [], ◌∷◌, length, map, get_or, Option, None, Some, is_some, refl, sym, ap, ◌∙◌, subst, ⊎_elim, arith}
 use Rattle.std.specs.Prelude.{◌==◌, slice_set}
-use Rattle.std.specs.Option.{option_map}
-use Rattle.std.specs.List.{position, zip}
-use Rattle.std.specs.Cmp.Lexicographic.{as_long, pointwise}
+use Rattle.std.specs.List.{position}
 use Rattle.std.proofs.lemmas.Bool.{and_from, and_parts, cases_eq, eqb-true}
-use Rattle.std.proofs.lemmas.List.{get_or-map, get_or-set_same, get_or-set_other, get_or_default}
+use Rattle.std.proofs.lemmas.List.{get_or-set_same, get_or-set_other}
 use Rattle.std.proofs.lemmas.List.Quantifiers.{position-Some}
-use Rattle.std.proofs.lemmas.Slice.Zip.{get_or-zip, length-zip}
 use Rattle.base_core.specs.declared.ids.AttrNo.{AttrNo}
 use Rattle.base_core.specs.declared.ids.ClassId.{ClassId}
 use Rattle.base_core.specs.declared.ids.ObjId.{ObjId}
 use Rattle.base_core.specs.declared.value.Kind.{Kind}
 use Rattle.base_core.specs.declared.value.Value.{Value}
-use Rattle.base_core.specs.declared.value.Value.TheVariants.{Null}
 use Rattle.schema_core.specs.Tables.{kind_of_value}
 use Rattle.mapper_types.specs.declared.mapped.Attribute.{Attribute}
-use Rattle.mapper_core.specs.Mapped.{Mapped, attribute_of, attributes_of, key_attributes, no_attribute, root_of}
+use Rattle.mapper_core.specs.Mapped.{Mapped, attribute_of, attributes_of, key_attributes, no_attribute}
 use Rattle.object_arena.specs.declared.object.Cell.{Cell}
 use Rattle.object_arena.specs.declared.object.Object.{Object}
-use Rattle.object_arena.specs.Graph.{Graph, IsCell, IsObject, cell_at, expired_cell, no_class_id, no_object, object_at, place_of, root_at, with_object}
-use Rattle.object_arena.specs.Identity.{find_identity, has_key, holds, numbered}
+use Rattle.object_arena.specs.Graph.{Graph, IsCell, IsObject, cell_at, expired_cell, no_object, object_at, place_of, value_or_null, with_object}
 use Rattle.object_arena.specs.Fit.{IsFit, cell_fits, is_just_of_kind, is_of_kind, key_fits, key_value_fits, value_fits}
 use Rattle.object_arena.proofs.FitLemmas.{fit_at, fit_cells}
 use Rattle.object_arena.proofs.PartLemmas.{pointwise_at}
-use Rattle.session_core.specs.Flush.{held_cell, value_or_null, value_under, written_value}
+use Rattle.session_core.specs.Flush.{held_cell, value_under, written_value}
 
 -- ---- the cells
 
@@ -72,35 +67,7 @@ cell_is_fit mapped graph object attr fit made inside =
     let less : attr.0 < length (attributes_of mapped class) = rw (fit_cells mapped graph object fit made) inside in
     pointwise_at cell_fits (attributes_of mapped class) (object_at graph object).cells attr.0 no_attribute expired_cell (fit_at mapped graph object fit made).cells less
 
--- ---- who stands for a key
-
--- the root class of an object's class in a graph that fits
-pub root_is : (mapped : Mapped) (graph : Graph) (object : ObjId) → IsFit mapped graph → IsObject graph object → root_at graph object ≡ (object_at graph object).class
-root_is mapped graph object fit made =
-    ap (λ (roots : List ClassId). get_or roots (place_of object) no_class_id) fit.roots
-    ∙ get_or-map (λ (o : Object). root_of mapped o.class) graph.objects (place_of object) no_object no_class_id (omega (arith, made.0, made.1))
-
-key_some : (key : List Value) (identity : Option (List Value)) → has_key key identity ≡ true → is_some identity ≡ true
-key_some key None h = cc
-key_some key (Some own) h = refl
-
-found_at : (objects : List Object) (roots : List ClassId) (root : ClassId) (key : List Value) (holder : ObjId) (found : Option ℕ) → position (holds root key) (zip objects roots) ≡ found → option_map numbered found ≡ Some holder → is_some (get_or objects (place_of holder) no_object).identity ≡ true
-found_at objects roots root key holder None at is = absurd cc
-found_at objects roots root key holder (Some place) at is =
-    let there = position-Some (holds root key) (zip objects roots) place (no_object, no_class_id) at in
-    let number : holder.0 ≡ place + 1 = cc in
-    let same : place_of holder ≡ place = omega arith in
-    let inside : place < length (zip objects roots) = there.0 in
-    let less : place < length objects = omega (arith, length-zip objects roots, inside) in
-    let rooted : place < length roots = omega (arith, length-zip objects roots, inside) in
-    let held : holds root key (get_or objects place no_object, get_or roots place no_class_id) ≡ true = ap (holds root key) (sym (get_or-zip objects roots place (no_object, no_class_id) less rooted)) ∙ there.1 in
-    let object : Object = get_or objects place no_object in
-    let named = and_parts ((get_or roots place no_class_id).0 == root.0) (has_key key object.identity) (and_parts _ _ held).1 in
-    ap (λ (p : ℕ). is_some (get_or objects p no_object).identity) same ∙ key_some key object.identity named.1
-
--- the object that stands for a key has an identity
-pub found_identified : (graph : Graph) (root : ClassId) (key : List Value) (holder : ObjId) → find_identity graph root key ≡ Some holder → is_some (object_at graph holder).identity ≡ true
-found_identified graph root key holder is = found_at graph.objects graph.roots root key holder (position (holds root key) (zip graph.objects graph.roots)) refl is
+-- ---- classes
 
 -- a write of a record of the same class leaves every object's class
 pub class_kept : (graph : Graph) (object other : ObjId) (new : Object) → IsObject graph other → new.class ≡ (object_at graph object).class → (object_at (with_object graph object new) other).class ≡ (object_at graph other).class

@@ -7,7 +7,6 @@ use Rattle.std.specs.BTreeMap.{insert_entry}
 use Rattle.base_core.specs.declared.ids.AttrNo.{AttrNo}
 use Rattle.base_core.specs.declared.ids.ObjId.{ObjId}
 use Rattle.base_core.specs.declared.value.Value.{Value}
-use Rattle.base_core.specs.declared.value.Value.TheVariants.{Null}
 use Rattle.schema_core.specs.declared.statement.RowStmt.{RowStmt}
 use Rattle.schema_core.specs.declared.statement.RowStmt.TheVariants.{Insert}
 use Rattle.mapper_core.specs.Mapped.{Mapped, key_attributes, root_table}
@@ -15,7 +14,7 @@ use Rattle.object_arena.specs.declared.object.Cell.{Cell}
 use Rattle.object_arena.specs.declared.object.Object.{Object}
 use Rattle.object_arena.specs.declared.object.State.{State}
 use Rattle.object_arena.specs.declared.object.State.TheVariants.{Transient, Pending, Persistent, Deleted, Detached}
-use Rattle.object_arena.specs.Graph.{Graph, IsObject, expired, kept_identity, object_at, put_back_object, root_at, with_object, with_state}
+use Rattle.object_arena.specs.Graph.{Graph, IsObject, expired, kept_identity, object_at, put_back_object, root_at, row_of, value_or_null, with_object, with_state}
 use Rattle.object_arena.specs.Identity.{find_identity, registered}
 use Rattle.object_arena.specs.Fit.{key_fits}
 
@@ -43,14 +42,6 @@ queued queue numbered = if is_pending numbered.1.state then insert_entry rank_cm
 -- the pending objects in the order in which they were added
 unfoldable pub pending_in_order : Graph → List ObjId
 pending_in_order graph = map (λ entry. entry.1) (fold queued [] (enumerate_from 1 graph.objects))
-
-abbrev pub value_or_null : Option Value → Value
-value_or_null None = Null
-value_or_null (Some value) = value
-
--- the row of an object: the value of each cell, and NULL where it is not known
-abbrev pub row_of : Object → List Value
-row_of object = map (λ cell. value_or_null cell.value) object.cells
 
 -- the INSERT of an object's row
 abbrev pub insert_of : Mapped → Object → RowStmt

@@ -1,8 +1,10 @@
 //! The flush: what is pending is written in the order in which it was added.
 
-ghost use Rattle.std.specs.Prelude.{◌≡◌, ◌<◌, ◌≤◌, ◌≢◌, ℕ, [], true, false, length, IfOk, IfErr, IfSome, OnOk, OnErr, fold, drop};
+ghost use Rattle.std.specs.Prelude.{◌≡◌, ◌<◌, ◌≤◌, ◌≢◌, ℕ, [], true, false, length, IfOk, IfErr, OnOk, OnErr, List, fold};
 ghost use Rattle.schema_core.specs.WellFormed.{IsWellFormed};
-ghost use Rattle.mapper_core.specs.Mapped.{Mapped, root_of};
+ghost use Rattle.base_core.specs.declared.value.Value.{Value};
+ghost use Rattle.mapper_core.specs.Mapped.{root_spec};
+ghost use Rattle.schema_core.specs.WellFormed.{is_key};
 ghost use Rattle.object_arena.specs.Graph.{IsObject, object_at};
 ghost use Rattle.keeper_core.specs.Acting.{ends_early};
 ghost use Rattle.keeper_core.specs.Beside.{moment_beside, on_store};
@@ -214,9 +216,10 @@ impl Session {
         ensures statement { IfOk result (λ statement. statement ≡ spec.insert_of self.now.mapping (object_at self.now.graph object)) }
         ensures fits { IfOk result (IsWellFormed self.now.mapping.schema) }
         ensures cause { IfErr result (λ e. e ≡ Refusal.Memory) }
+        ensures keys { (key : List Value) → key_fits self.now.mapping (object_at self.now.graph object).class key ≡ is_key (root_spec self.now.mapping (object_at self.now.graph object).class) key }
     {
         let record = self.arena.object(object);
-        let table = self.mapping.tables_of(record.class)[0];
+        let table = self.mapping.root_table(self.arena.class_of(object));
         let row = row_of(self.alloc, record.cells.as_slice())?;
         Ok(RowStmt::Insert { table, row })
     }

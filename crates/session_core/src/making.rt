@@ -6,7 +6,6 @@ ghost use Rattle.object_arena.specs.Graph.{IsObject, object_at, with_cell};
 ghost use Rattle.object_arena.specs.Fit.{IsFit};
 ghost use Rattle.session_core.specs.Making as spec;
 ghost use Rattle.schema_core.specs.Tables.{kind_of_value};
-ghost use Rattle.std.specs.Option.{option_copied};
 
 use base_core::{AttrNo, Copied, ObjId, Refusal, Value};
 use mapper_core::Attribute;
@@ -21,18 +20,18 @@ pub(crate) fn values_fault(
     ensures { result ≡ spec.values_fault attributes.now cells.now }
 {
     for (attr, value) in cells {
-        if let Some(fault) = fault_at(attributes.get(attr.0 as usize), value) {
+        if let Some(fault) = fault_at(attributes, *attr, value) {
             return Some(fault);
         }
     }
     None
 }
 
-/// Why a value is not taken for an attribute.
-fn fault_at(attribute: Option<&Attribute>, value: &Value) -> Option<Refusal>
-    ensures { result ≡ spec.fault_at (option_copied attribute) (kind_of_value value.now) }
+/// Why a value is not taken for an attribute, where there is one of this number.
+fn fault_at(attributes: &[Attribute], attr: AttrNo, value: &Value) -> Option<Refusal>
+    ensures { result ≡ spec.fault_at (slice_get attributes.now attr.0) (kind_of_value value.now) }
 {
-    let wanted = attribute?.kind;
+    let wanted = attributes.get(attr.0 as usize)?.kind;
     let found = kind_of_value(value)?;
     if same_kind(wanted, found) {
         return None;

@@ -54,10 +54,7 @@ fn put_under_key(
     ensures class { (object_at arena.new object).class ≡ (object_at arena.old object).class }
 {
     free(arena, mapping, object, &key)?;
-    match arena.register(object, key) {
-        Ok(()) => Ok(()),
-        Err(_taken) => Err(Refusal::Memory),
-    }
+    arena.register(object, key)
 }
 
 /// An object that stands for a key is detached. The only refusal is want of memory.
@@ -70,6 +67,7 @@ fn free(
     requires fit { IsFit mapping.now arena.old }
     requires object { IsObject arena.old object }
     ensures ok { OnOk result (arena.new ≡ spec.freed arena.old (find_identity arena.old (root_at arena.old object) key.now)) }
+    ensures free { OnOk result (is_taken arena.new object key.now ≡ false) }
     ensures cause { IfErr result (λ e. e ≡ Refusal.Memory) }
     ensures fit { IsFit mapping.now arena.new }
     ensures same { length arena.new.objects ≡ length arena.old.objects }
