@@ -1,5 +1,5 @@
 -- What a flush writes into the cells of an object.
-use Rattle.std.proofs.Common.{◌≡◌, ℕ, ◌+◌, ◌<◌, ◌≤◌, List, [], ◌∷◌, ◌++◌, length, map, get_or, take, drop, zero, suc, refl, sym, ap, ◌∙◌, subst, arith, add-one}
+use Rattle.std.proofs.Common.{◌≡◌, ℕ, ◌+◌, ◌<◌, ◌≤◌, List, [], ◌∷◌, ◌++◌, length, map, get_or, take, drop, zero, suc, sym, ap, ◌∙◌, arith, add-one}
 use Rattle.std.specs.Prelude.{slice_set}
 use Rattle.std.specs.List.{enumerate_from}
 use Rattle.std.proofs.lemmas.List.{append-nil, drop_all, take_all}
@@ -51,11 +51,11 @@ more value graph now new object attr i made less number so_far write =
     let here : object_at now object ≡ mid = ap (λ (g : Graph). object_at g object) so_far ∙ at_with graph object mid made in
     let put : Graph → Object → Graph = λ g o. with_object g object (cell_put o attr (held_cell (value (attr.0, cell_in o attr)))) in
     let step : new ≡ with_object graph object (cell_put mid attr (held_cell (value (attr.0, cell_in mid attr)))) =
-        write ∙ ap (put now) here ∙ ap (λ (g : Graph). put g mid) so_far ∙ with_twice graph object mid (cell_put mid attr (held_cell (value (attr.0, cell_in mid attr)))) in
+    write ∙ ap (put now) here ∙ ap (λ (g : Graph). put g mid) so_far ∙ with_twice graph object mid (cell_put mid attr (held_cell (value (attr.0, cell_in mid attr)))) in
     let cells : slice_set mid.cells attr.0 (held_cell (value (attr.0, cell_in mid attr))) ≡ cells_before value (i + 1) old.cells =
-        ap (λ (p : ℕ). slice_set mid.cells p (held_cell (value (p, get_or mid.cells p expired_cell)))) number
-        ∙ indexed_write (λ placed. held_cell (value placed)) 0 old.cells i i expired_cell less (omega arith)
-        ∙ ap (λ (p : ℕ). cells_before value p old.cells) (sym (add-one i)) in
+    ap (λ (p : ℕ). slice_set mid.cells p (held_cell (value (p, get_or mid.cells p expired_cell)))) number
+    ∙ indexed_write (λ placed. held_cell (value placed)) 0 old.cells i i expired_cell less (omega arith)
+    ∙ ap (λ (p : ℕ). cells_before value p old.cells) (sym (add-one i)) in
     step ∙ ap (λ (written : List Cell). with_object graph object (record old { cells = written })) cells
 
 -- one cell more

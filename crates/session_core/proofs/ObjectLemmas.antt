@@ -1,17 +1,15 @@
 -- Writes of one object after another, and of every object in turn.
-use Rattle.std.proofs.Common.{◌≡◌, ℕ, ◌+◌, ◌<◌, ◌≤◌, Bool, true, false, List, [], ◌∷◌, ◌++◌, length, map, get_or, take, drop, Option, None, Some, is_some, refl, sym, ap, ◌∙◌, subst, arith}
+use Rattle.std.proofs.Common.{◌≡◌, ℕ, ◌+◌, ◌<◌, ◌≤◌, List, ◌++◌, length, map, get_or, take, drop, None, Result, Ok, Err, IfOk, OnOk, refl, sym, ap, ◌∙◌, subst, arith}
 use Rattle.std.specs.Prelude.{slice_set}
-use Rattle.std.proofs.lemmas.List.{get_or-set_same, set-get_or, take_all, drop_all, append-nil, length-set}
+use Rattle.std.proofs.lemmas.List.{get_or-set_same, get_or_default, set-get_or, take_all, drop_all, append-nil}
 use Rattle.std.proofs.lemmas.Option.{slice_get-get_or}
 use Rattle.base_core.specs.declared.ids.ObjId.{ObjId}
-use Rattle.base_core.specs.declared.value.Value.{Value}
 use Rattle.object_arena.specs.declared.object.Object.{Object}
 use Rattle.object_arena.specs.declared.object.State.{State}
-use Rattle.object_arena.specs.declared.object.State.TheVariants.{Transient, Pending, Persistent, Deleted, Detached}
-use Rattle.object_arena.specs.Graph.{Graph, IsObject, expired, has_identity, is_persistent, no_object, object_at, place_of, put_back_object, with_marks, with_object, with_state}
-use Rattle.object_arena.specs.Identity.{is_identified}
+use Rattle.object_arena.specs.declared.object.State.TheVariants.{Transient, Pending, Persistent}
+use Rattle.object_arena.specs.Graph.{Graph, IsObject, expired, kept_identity, no_object, object_at, place_of, put_back_object, with_object, with_state}
 use Rattle.object_arena.proofs.PartLemmas.{set_twice, write_over}
-use Rattle.session_core.specs.Flush.{committed, each_object, left, left_state, restored, unmarked}
+use Rattle.session_core.specs.Flush.{each_object, left, left_state, restored, restored_in, unmarked}
 
 -- the record that was put in is read again
 pub at_with : (graph : Graph) (object : ObjId) (new : Object) → IsObject graph object → object_at (with_object graph object new) object ≡ new
@@ -51,11 +49,11 @@ changed_more change graph now new i n less same so_far number write =
     let within : i < length now.objects = omega (arith, less, same) in
     let here : object_at now object ≡ get_or now.objects i no_object = ap (λ (p : ℕ). get_or now.objects p no_object) place in
     let put : new.objects ≡ slice_set now.objects i (change (get_or now.objects i no_object)) =
-        ap (λ (g : Graph). g.objects) write
-        ∙ ap (λ (p : ℕ). slice_set now.objects p (change (object_at now object))) place
-        ∙ ap (λ (o : Object). slice_set now.objects i (change o)) here in
+    ap (λ (g : Graph). g.objects) write
+    ∙ ap (λ (p : ℕ). slice_set now.objects p (change (object_at now object))) place
+    ∙ ap (λ (o : Object). slice_set now.objects i (change o)) here in
     let objects : new.objects ≡ map change (take (i + 1) graph.objects) ++ drop (i + 1) graph.objects =
-        write_over change graph.objects now.objects new.objects i (get_or now.objects i no_object) less (ap (λ (g : Graph). g.objects) so_far) (slice_get-get_or now.objects i no_object within) put in
+    write_over change graph.objects now.objects new.objects i (get_or now.objects i no_object) less (ap (λ (g : Graph). g.objects) so_far) (slice_get-get_or now.objects i no_object within) put in
     let roots : new.roots ≡ graph.roots = ap (λ (g : Graph). g.roots) write ∙ ap (λ (g : Graph). g.roots) so_far in
     cc
 
@@ -75,19 +73,51 @@ pub ruleset turns = (changed_more, changed_none, changed_all)
 
 -- ---- by state
 
--- where an object stands once it has left is not in the session
-pub left_apart : (state : State) → is_persistent (left_state state) ≡ false
-left_apart Transient = refl
-left_apart Pending = refl
-left_apart Persistent = refl
-left_apart Deleted = refl
-left_apart Detached = refl
+-- an item that was read of a list
+pub read_same : {A : Type 0} (xs ys : List A) (i : ℕ) (d : A) → xs ≡ ys → i < length xs → get_or xs i d ≡ get_or ys i (get_or xs i d)
+read_same {A = A} xs ys i d same less = get_or_default xs i d (get_or xs i d) less ∙ ap (λ (l : List A). get_or l i (get_or xs i d)) same
 
+-- what holds at Ok holds of what follows of it
+pub on_ok : {A E P Q : Type 0} (r : Result A E) → (P → Q) → OnOk r P → OnOk r Q
+on_ok (Ok x) f p = f p
+on_ok (Err e) f p = tt
 
--- an object that keeps an identity when it leaves had one
-pub left_identified : (object : Object) (state : State) → object.state ≡ state → is_identified object ≡ true → has_identity (left_state state) ≡ true → is_some object.identity ≡ true
-left_identified object Transient is identified left = absurd cc
-left_identified object Pending is identified left = absurd cc
-left_identified object Persistent is identified left = rw is at identified
-left_identified object Deleted is identified left = rw is at identified
-left_identified object Detached is identified left = rw is at identified
+pub if_ok : {A E : Type 0} {P Q : A → Type 0} (r : Result A E) → ((x : A) → P x → Q x) → IfOk r P → IfOk r Q
+if_ok (Ok x) f p = f x p
+if_ok (Err e) f p = tt
+
+pub on_both : {A E P Q R : Type 0} (r : Result A E) → (P → Q → R) → OnOk r P → OnOk r Q → OnOk r R
+on_both (Ok x) f p q = f p q
+on_both (Err e) f p q = tt
+
+state_before : (graph mid : Graph) (object : ObjId) (state : State) → IsObject graph object → mid ≡ with_object graph object (unmarked (object_at graph object)) → (object_at mid object).state ≡ state → (object_at graph object).state ≡ state
+state_before graph mid object state made first is =
+    sym (ap (λ (o : Object). o.state) (ap (λ (g : Graph). object_at g object) first ∙ at_with graph object (unmarked (object_at graph object)) made)) ∙ is
+
+-- a pending object after a rollback
+pub restored_pending : (graph mid new : Graph) (object : ObjId) → IsObject graph object → mid ≡ with_object graph object (unmarked (object_at graph object)) → (object_at mid object).state ≡ Pending
+    → new ≡ with_object mid object (put_back_object (object_at mid object) Transient None) → new ≡ with_object graph object (restored (object_at graph object))
+restored_pending graph mid new object made first is second =
+    written_twice (λ o. put_back_object o Transient None) graph mid new object (unmarked (object_at graph object)) made first second
+    ∙ sym (ap (λ (s : State). with_object graph object (restored_in s (object_at graph object))) (state_before graph mid object Pending made first is))
+
+-- a persistent object after a rollback
+pub restored_persistent : (graph mid new : Graph) (object : ObjId) → IsObject graph object → mid ≡ with_object graph object (unmarked (object_at graph object)) → (object_at mid object).state ≡ Persistent
+    → new ≡ with_object mid object (expired (object_at mid object)) → new ≡ with_object graph object (restored (object_at graph object))
+restored_persistent graph mid new object made first is second =
+    written_twice expired graph mid new object (unmarked (object_at graph object)) made first second
+    ∙ sym (ap (λ (s : State). with_object graph object (restored_in s (object_at graph object))) (state_before graph mid object Persistent made first is))
+
+-- any other object after a rollback
+pub restored_other : (graph mid : Graph) (object : ObjId) (state : State) → IsObject graph object → mid ≡ with_object graph object (unmarked (object_at graph object)) → (object_at mid object).state ≡ state
+    → restored_in state (object_at graph object) ≡ unmarked (object_at graph object) → mid ≡ with_object graph object (restored (object_at graph object))
+restored_other graph mid object state made first is same =
+    first ∙ ap (with_object graph object) (sym same)
+    ∙ sym (ap (λ (s : State). with_object graph object (restored_in s (object_at graph object))) (state_before graph mid object state made first is))
+
+-- an object that has left the session
+pub left_is : (graph mid new : Graph) (object : ObjId) (read : Object) (state : State) → IsObject graph object → mid ≡ with_object graph object (unmarked (object_at graph object)) → read ≡ object_at mid object → state ≡ left_state read.state
+    → new ≡ with_state mid object state → new ≡ with_object graph object (left (object_at graph object))
+left_is graph mid new object read state made first is to second =
+    written_twice (λ o. record o { state = left_state o.state; identity = kept_identity (left_state o.state) o.identity }) graph mid new object (unmarked (object_at graph object)) made first
+    (second ∙ ap (with_state mid object) (to ∙ ap (λ (o : Object). left_state o.state) is))

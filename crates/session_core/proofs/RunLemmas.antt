@@ -1,13 +1,13 @@
 -- Changes of the session as the ends of runs.
-use Rattle.std.proofs.Common.{◌≡◌, List, Result, Ok, Err, OnOk, IfErr, refl, sym, subst}
+use Rattle.std.proofs.Common.{◌≡◌, Result, Ok, Err, OnOk, IfErr, sym, subst}
 use Rattle.base_core.specs.declared.refusal.Refusal.{Refusal}
 use Rattle.base_core.specs.declared.refusal.Refusal.TheVariants.{Memory}
 use Rattle.keeper_core.specs.Store.{Store}
 use Rattle.keeper_core.specs.Acting.{Run, ◌>>=◌}
 use Rattle.keeper_core.specs.Moment.{Moment, Runs}
-use Rattle.keeper_core.specs.Beside.{Beside, by_own, changes, moment_beside, on_own, on_store}
-use Rattle.keeper_core.proofs.Sequence.{then_ok}
-use Rattle.keeper_core.proofs.Lifting.{changed, chosen, on_keeper, on_own_err, on_own_ok, spoiled}
+use Rattle.keeper_core.specs.Beside.{Beside, changes, moment_beside, on_own}
+use Rattle.keeper_core.proofs.Sequence.{no_memory, then_ok}
+use Rattle.keeper_core.proofs.Lifting.{changed, on_own_err, on_own_ok, spoiled}
 use Rattle.session_core.specs.Making.{IsQuiet}
 
 -- a call that sends nothing is a run of the world that has the keeper too
@@ -22,6 +22,10 @@ pub lost : {S K A X : Type 0} (moment : K → Moment Store) {v : X → A} {m : B
     → e ≡ Memory → Runs (moment_beside moment) v m (own, keeper) (Err e) (now, keeper)
 lost moment {v = v} {m = m} {own = own} {now = now} {keeper = keeper} is =
     subst (λ (d : Refusal). Runs (moment_beside moment) v m (own, keeper) (Err d) (now, keeper)) (sym is) (spoiled moment)
+
+-- memory ran out before anything was done
+pub no_room : {W A X S : Type 0} {tell : S → Moment W} {v : X → A} {m : W → Run W A} {s : S} {e : Refusal} → e ≡ Memory → Runs tell v m s (Err e) s
+no_room {tell = tell} {v = v} {m = m} {s = s} is = subst (λ (d : Refusal). Runs tell v m s (Err d) s) (sym is) no_memory
 
 -- a change of what stands beside the keeper, unless memory ran out
 pub ends : {S K : Type 0} (moment : K → Moment Store) (f : S → S) {own now : S} {keeper : K} {r : Result (Unit {0}) Refusal}

@@ -1,9 +1,11 @@
 -- What a flush writes into an object fits its mapping.
-use Rattle.std.proofs.Common.{◌≡◌, ◌≢◌, ℕ, ◌+◌, ◌<◌, ◌≤◌, Bool, true, false, ◌&&◌, List, [], ◌∷◌, length, map, get_or, Option, None, Some, is_some, refl, sym, ap, ◌∙◌, subst, ⊎_elim, arith}
-use Rattle.std.specs.Prelude.{◌==◌, slice_set}
-use Rattle.std.specs.List.{position}
-use Rattle.std.proofs.lemmas.Bool.{and_from, and_parts, cases_eq, eqb-true}
-use Rattle.std.proofs.lemmas.List.{get_or-set_same, get_or-set_other}
+use Rattle.std.proofs.Common.{◌≡◌, ◌≢◌, ℕ, ◌<◌, ◌≤◌, true, false, List, ◌∷◌, length, get_or, Option, None, Some, refl, sym, ap, ◌∙◌, subst, ⊎_elim, arith}
+use Rattle.std.specs.Prelude.{◌==◌, slice_get, slice_set}
+use Rattle.std.specs.List.{All, position}
+use Rattle.std.proofs.lemmas.Bool.{and_from, and_parts, cases_eq, cases_lt, eqb-true}
+use Rattle.std.proofs.lemmas.List.{get_or-set_same, get_or-set_other, get_or_past, length-set}
+use Rattle.std.proofs.lemmas.List.Elements.{All-tail}
+use Rattle.std.proofs.lemmas.Option.{get_or_from_slice_get, slice_get-get_or}
 use Rattle.std.proofs.lemmas.List.Quantifiers.{position-Some}
 use Rattle.base_core.specs.declared.ids.AttrNo.{AttrNo}
 use Rattle.base_core.specs.declared.ids.ClassId.{ClassId}
@@ -15,11 +17,13 @@ use Rattle.mapper_types.specs.declared.mapped.Attribute.{Attribute}
 use Rattle.mapper_core.specs.Mapped.{Mapped, attribute_of, attributes_of, key_attributes, no_attribute}
 use Rattle.object_arena.specs.declared.object.Cell.{Cell}
 use Rattle.object_arena.specs.declared.object.Object.{Object}
-use Rattle.object_arena.specs.Graph.{Graph, IsCell, IsObject, cell_at, expired_cell, no_object, object_at, place_of, value_or_null, with_object}
+use Rattle.object_arena.specs.Graph.{Graph, IsCell, IsObject, cell_at, expired_cell, kept_identity, no_object, object_at, place_of, root_at, value_or_null, with_cell, with_object, with_state}
+use Rattle.object_arena.specs.Identity.{find_identity, is_other, is_taken}
+use Rattle.object_arena.specs.declared.object.State.TheVariants.{Detached, Persistent}
 use Rattle.object_arena.specs.Fit.{IsFit, cell_fits, is_just_of_kind, is_of_kind, key_fits, key_value_fits, value_fits}
 use Rattle.object_arena.proofs.FitLemmas.{fit_at, fit_cells}
 use Rattle.object_arena.proofs.PartLemmas.{pointwise_at}
-use Rattle.session_core.specs.Flush.{held_cell, value_under, written_value}
+use Rattle.session_core.specs.Flush.{IsUnderKey, Written, freed, held_cell, settled, value_under, written_object, written_value}
 
 -- ---- the cells
 
@@ -81,3 +85,86 @@ class_kept graph object other new made same =
     (λ (apart : place_of other ≢ place_of object).
     ap (λ (o : Object). o.class) (get_or-set_other graph.objects (place_of object) (place_of other) new no_object apart))
     (cases_eq (place_of other) (place_of object))
+
+-- ---- who stands for a key
+
+-- no one stood for the key
+pub freed_none : (graph : Graph) (object : ObjId) (root : ClassId) (key : List Value) → root_at graph object ≡ root → find_identity graph root key ≡ None
+    → graph ≡ freed graph (find_identity graph (root_at graph object) key)
+freed_none graph object root key same is = sym (ap (freed graph) (ap (λ (r : ClassId). find_identity graph r key) same ∙ is))
+
+-- another object did, and is detached
+pub freed_some : (graph new : Graph) (object holder : ObjId) (root : ClassId) (key : List Value) → root_at graph object ≡ root → find_identity graph root key ≡ Some holder → new ≡ with_state graph holder Detached
+    → new ≡ freed graph (find_identity graph (root_at graph object) key)
+freed_some graph new object holder root key same is write = write ∙ sym (ap (freed graph) (ap (λ (r : ClassId). find_identity graph r key) same ∙ is))
+
+-- no one stands for the key then
+pub not_taken : (graph : Graph) (object : ObjId) (root : ClassId) (key : List Value) → root_at graph object ≡ root → find_identity graph root key ≡ None → is_taken graph object key ≡ false
+not_taken graph object root key same is = ap (is_other object) (ap (λ (r : ClassId). find_identity graph r key) same ∙ is)
+
+-- what was copied is what was written
+pub cell_written : (graph new : Graph) (object : ObjId) (attr : AttrNo) (value base written : Value) → value ≡ written → base ≡ value → new ≡ with_cell graph object attr (record { value = Some value; base = Some base })
+    → new ≡ with_cell graph object attr (held_cell written)
+cell_written graph new object attr value base written is copy write =
+    write ∙ ap (λ (b : Value). with_cell graph object attr (record { value = Some value; base = Some b })) copy
+    ∙ ap (λ (v : Value). with_cell graph object attr (held_cell v)) is
+
+-- what was read and written of a cell
+pub value_is : (mapped : Mapped) (graph : Graph) (object : ObjId) (attr : AttrNo) (key : List Value) (read : Object) (keys : List AttrNo) (cell : Cell) (value : Value) → read ≡ object_at graph object → keys ≡ key_attributes mapped read.class
+    → slice_get read.cells attr.0 ≡ Some cell → value ≡ written_value keys key (attr.0, cell) → value ≡ written_value (key_attributes mapped (object_at graph object).class) key (attr.0, cell_at graph object attr)
+value_is mapped graph object attr key read keys cell value is own here written =
+    written ∙ ap (λ (ks : List AttrNo). written_value ks key (attr.0, cell)) (own ∙ ap (λ (o : Object). key_attributes mapped o.class) is)
+    ∙ ap (λ (c : Cell). written_value (key_attributes mapped (object_at graph object).class) key (attr.0, c))
+    (sym (ap (λ (o : Object). get_or o.cells attr.0 expired_cell) (sym is) ∙ get_or_from_slice_get read.cells attr.0 cell expired_cell here))
+
+-- a copy of what fits does
+pub copy_fits : (attribute : Attribute) (value base written : Value) → value ≡ written → base ≡ value → cell_fits attribute (held_cell written) ≡ true → cell_fits attribute (record { value = Some value; base = Some base }) ≡ true
+copy_fits attribute value base written is copy fits =
+    ap (λ (b : Value). cell_fits attribute (record { value = Some value; base = Some b })) copy ∙ ap (λ (v : Value). cell_fits attribute (held_cell v)) is ∙ fits
+
+past_key_at : (key : List Value) (place : ℕ) (own : Value) → None ≡ slice_get key place → own ≡ get_or key place own
+past_key_at key place own none =
+    ⊎_elim
+    (λ (less : place < length key). absurd (let clash : None ≡ Some (get_or key place own) = none ∙ slice_get-get_or key place own less in cc))
+    (λ (past : length key ≤ place). sym (get_or_past key place own past))
+    (cases_lt place (length key))
+
+-- a key that has no value at a place
+pub past_key : (key : List Value) (found : Option ℕ) (place : ℕ) (own : Value) → found ≡ Some place → None ≡ slice_get key place → own ≡ value_under key found own
+past_key key found place own is none = past_key_at key place own none ∙ sym (ap (λ (o : Option ℕ). value_under key o own) is)
+
+-- ---- classes after a flush
+
+kept_made : (graph : Graph) (object other : ObjId) (new : Object) → IsObject graph other → IsObject (with_object graph object new) other
+kept_made graph object other new made = (made.0, rw length-set made.1)
+
+freed_keeps : (graph : Graph) (found : Option ObjId) (other : ObjId) → IsObject graph other → IsObject (freed graph found) other × ((object_at (freed graph found) other).class ≡ (object_at graph other).class)
+freed_keeps graph None other made = (made, refl)
+freed_keeps graph (Some holder) other made =
+    let new : Object = record (object_at graph holder) { state = Detached; identity = kept_identity Detached (object_at graph holder).identity } in
+    (kept_made graph holder other new made, class_kept graph holder other new made refl)
+
+-- an object that becomes persistent leaves every object's class
+pub settled_keeps : (mapped : Mapped) (graph : Graph) (written : Written) (other : ObjId) → IsObject graph other
+    → IsObject (settled mapped graph written) other × ((object_at (settled mapped graph written) other).class ≡ (object_at graph other).class)
+settled_keeps mapped graph written other made =
+    let free : Graph = freed graph (find_identity graph (root_at graph written.0) written.1) in
+    let first = freed_keeps graph (find_identity graph (root_at graph written.0) written.1) other made in
+    let held : Object = record (object_at free written.0) { state = Persistent; identity = Some written.1 } in
+    let under : Graph = with_object free written.0 held in
+    let made_under : IsObject under other = kept_made free written.0 other held first.0 in
+    let last : Object = written_object (key_attributes mapped (object_at under written.0).class) written.1 (object_at under written.0) in (
+      kept_made under written.0 other last made_under,
+      class_kept under written.0 other last made_under refl ∙ class_kept free written.0 other held first.0 refl ∙ first.1,
+    )
+
+under_key_after : (mapped : Mapped) (graph : Graph) (first other : Written) → IsUnderKey mapped graph other → IsUnderKey mapped (settled mapped graph first) other
+under_key_after mapped graph first other under =
+    let kept = settled_keeps mapped graph first other.0 under.0 in
+    (kept.0, ap (λ (k : ClassId). key_fits mapped k other.1) kept.1 ∙ under.1)
+
+-- the objects that are still to become persistent
+pub rest_under_key : (mapped : Mapped) (graph new : Graph) (first : Written) (rest : List Written) → new ≡ settled mapped graph first → All (IsUnderKey mapped graph) (first ∷ rest) → All (IsUnderKey mapped new) rest
+rest_under_key mapped graph new first rest is all =
+    subst (λ (g : Graph). All (IsUnderKey mapped g) rest) (sym is)
+    (λ k d less. under_key_after mapped graph first (get_or rest k d) (All-tail (IsUnderKey mapped graph) first rest all k d less))

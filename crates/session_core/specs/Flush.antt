@@ -1,5 +1,5 @@
 -- What a flush writes, and what becomes of the objects at its end and at the end of the transaction.
-use Rattle.std.specs.Prelude.{◌≡◌, ℕ, Bool, true, false, List, [], ◌∷◌, map, fold, slice_index_or, ◌==◌, Option, None, Some, if◌then◌else◌}
+use Rattle.std.specs.Prelude.{◌≡◌, ℕ, Bool, true, false, List, [], map, fold, slice_index_or, ◌==◌, Option, None, Some, if◌then◌else◌}
 use Rattle.std.specs.List.{enumerate_from, position}
 use Rattle.std.specs.declared.cmp.Ordering.{Ordering}
 use Rattle.std.specs.Ordering.{nat_cmp, ordering_then}

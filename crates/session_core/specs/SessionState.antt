@@ -1,5 +1,5 @@
 -- What is seen of a session, and how a keeper stands beside it.
-use Rattle.std.specs.Prelude.{◌≡◌, ℕ, Bool, true, false, List, length, Result, Ok, Err, if◌then◌else◌}
+use Rattle.std.specs.Prelude.{◌≡◌, ℕ, Bool, true, false, length, Result, Ok, Err, if◌then◌else◌}
 use Rattle.base_core.specs.declared.refusal.Refusal.{Refusal}
 use Rattle.mapper_core.specs.Mapped.{Mapped}
 use Rattle.object_arena.specs.Graph.{Graph, empty_graph}

@@ -1,5 +1,5 @@
 -- The session's calls, each as a program of the store and of the session beside it.
-use Rattle.std.specs.Prelude.{Bool, true, false, List, [], ◌∷◌, ◌++◌, fold, if◌then◌else◌}
+use Rattle.std.specs.Prelude.{Bool, true, false, List, [], ◌∷◌, ◌++◌, fold}
 use Rattle.base_core.specs.Counts.{one_more}
 use Rattle.base_core.specs.declared.ids.AttrNo.{AttrNo}
 use Rattle.base_core.specs.declared.ids.ClassId.{ClassId}
@@ -12,7 +12,7 @@ use Rattle.keeper_core.specs.Acting.{Run, ◌>>=◌, change, each, give, guarded
 use Rattle.keeper_core.specs.Beside.{Beside, by_own, changes, on_own, on_store}
 use Rattle.keeper_core.specs.Calls as call
 use Rattle.object_arena.specs.declared.object.State.{State}
-use Rattle.object_arena.specs.declared.object.State.TheVariants.{Transient, Pending, Persistent, Deleted, Detached}
+use Rattle.object_arena.specs.declared.object.State.TheVariants.{Transient, Pending, Deleted, Detached}
 use Rattle.object_arena.specs.Graph.{object_at, with_marks, with_state}
 use Rattle.session_core.specs.SessionState.{SessionState}
 use Rattle.session_core.specs.Flush.{Written, committed, each_object, insert_of, left, pending_in_order, restored, settled}
@@ -27,6 +27,10 @@ World = Beside SessionState
 -- a transaction has begun
 abbrev pub begun : SessionState → SessionState
 begun session = record session { in_transaction = true }
+
+-- an object whose row was written is persistent under its key
+abbrev pub settled_one : Written → SessionState → SessionState
+settled_one written session = record session { graph = settled session.mapping session.graph written }
 
 -- the objects whose rows were written are persistent under their keys
 abbrev pub flushed : List Written → SessionState → SessionState

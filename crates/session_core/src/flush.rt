@@ -66,12 +66,25 @@ impl Session {
     {
         let mut queue = BTreeMap::new(self.alloc);
         for number in 0..self.arena.count() {
-            let object = ObjId(number + 1);
-            if let State::Pending = self.arena.state_of(object) {
-                queue.insert((self.arena.object(object).added, object.0), object)?;
-            }
+            self.put_in_queue(&mut queue, ObjId(number + 1))?;
         }
         Ok(queue)
+    }
+
+    /// An object goes to its place in the queue, where it is pending. The only refusal is want of memory.
+    fn put_in_queue(&self, queue: &mut Queue, object: ObjId) -> Result<(), Refusal>
+        requires { IsObject self.now.graph object }
+        ensures put { OnOk result (queue.new.entries ≡ spec.queued queue.old.entries (object.0, object_at self.now.graph object)) }
+        ensures cause { IfErr result (λ e. e ≡ Refusal.Memory) }
+    {
+        let record = self.arena.object(object);
+        match record.state {
+            State::Pending => {
+                queue.insert((record.added, object.0), object)?;
+                Ok(())
+            }
+            State::Transient | State::Persistent | State::Deleted | State::Detached => Ok(()),
+        }
     }
 
     /// Writes rows, and where one is refused gives all of them up.
@@ -83,7 +96,9 @@ impl Session {
     ) -> Result<Written, Refusal>
         requires in_step { IsInStep self.old (K.moment keeper.old) }
         requires inside { self.old.in_transaction ≡ true }
+        requires objects { All (IsObject self.old.graph) objects.now }
         ensures step { Runs (moment_beside K.moment) (λ written. written) (steps.write_pending objects.now) (self.old, keeper.old) result (self.new, keeper.new) }
+        ensures keys { IfOk result (All (spec.IsUnderKey self.new.mapping self.new.graph)) }
         ensures in_step { StaysInStep result self.new (K.moment keeper.new) }
         ensures inside { OnOk result (self.new.in_transaction ≡ true) }
         ensures same { SameObjects self.old self.new }
@@ -233,8 +248,19 @@ impl Session {
         ensures same { SameObjects self.old self.new }
     {
         for (object, key) in written.into_vec() {
-            settle(&mut self.arena, &self.mapping, object, key)?;
+            self.settle_one(object, key)?;
         }
         Ok(())
+    }
+
+    /// An object whose row was written is persistent under its key. The only refusal is want of memory.
+    fn settle_one(&mut self, object: ObjId, key: Key) -> Result<(), Refusal>
+        requires key { spec.IsUnderKey self.old.mapping self.old.graph (object, key) }
+        ensures ok { OnOk result (self.new ≡ steps.settled_one (object, key) self.old) }
+        ensures cause { IfErr result (λ e. e ≡ Refusal.Memory) }
+        ensures scope { self.new.in_transaction ≡ self.old.in_transaction }
+        ensures same { SameObjects self.old self.new }
+    {
+        settle(&mut self.arena, &self.mapping, object, key)
     }
 }

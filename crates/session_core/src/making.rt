@@ -5,38 +5,34 @@ ghost use Rattle.mapper_core.specs.Mapped.{Mapped, attributes_of};
 ghost use Rattle.object_arena.specs.Graph.{IsObject, object_at, with_cell};
 ghost use Rattle.object_arena.specs.Fit.{IsFit};
 ghost use Rattle.session_core.specs.Making as spec;
-ghost use Rattle.schema_core.specs.Tables.{kind_of_value};
 
-use base_core::{AttrNo, Copied, ObjId, Refusal, Value};
+use base_core::{AttrNo, Copied, Kind, ObjId, Refusal, Value};
 use mapper_core::Attribute;
 use object_arena::{Arena, Cell};
 use schema_core::{kind_of_value, same_kind};
 
-/// Why the first value that is not of its attribute's kind is not taken.
-pub(crate) fn values_fault(
-    attributes: &[Attribute],
-    cells: &[(AttrNo, Value)],
-) -> Option<Refusal>
-    ensures { result ≡ spec.values_fault attributes.now cells.now }
+/// The kind that is wanted and the one that is found of the first value that is not of its attribute's kind.
+pub(crate) fn mismatch(attributes: &[Attribute], cells: &[(AttrNo, Value)]) -> Option<(Kind, Kind)>
+    ensures { result ≡ spec.mismatch attributes.now cells.now }
 {
     for (attr, value) in cells {
-        if let Some(fault) = fault_at(attributes, *attr, value) {
-            return Some(fault);
+        if let Some(kinds) = mismatch_at(attributes, *attr, value) {
+            return Some(kinds);
         }
     }
     None
 }
 
-/// Why a value is not taken for an attribute, where there is one of this number.
-fn fault_at(attributes: &[Attribute], attr: AttrNo, value: &Value) -> Option<Refusal>
-    ensures { result ≡ spec.fault_at (slice_get attributes.now attr.0) (kind_of_value value.now) }
+/// The kind that is wanted and the one that is found, where a value is not of its attribute's kind.
+fn mismatch_at(attributes: &[Attribute], attr: AttrNo, value: &Value) -> Option<(Kind, Kind)>
+    ensures { result ≡ spec.mismatch_at (slice_get attributes.now attr.0) value.now }
 {
     let wanted = attributes.get(attr.0 as usize)?.kind;
     let found = kind_of_value(value)?;
     if same_kind(wanted, found) {
         return None;
     }
-    Some(Refusal::TypeMismatch(wanted, found))
+    Some((wanted, found))
 }
 
 /// Values go into cells of an object, which are then to be written. The only refusal is want of memory.
@@ -48,7 +44,7 @@ pub(crate) fn put_values(
     requires object { IsObject arena.old object }
     ensures ok { OnOk result (arena.new ≡ spec.with_values arena.old object cells.now) }
     ensures cause { IfErr result (λ e. e ≡ Refusal.Memory) }
-    ensures fits { (mapped : Mapped) → IsFit mapped arena.old → spec.values_fault (attributes_of mapped (object_at arena.old object).class) cells.now ≡ None → IsFit mapped arena.new }
+    ensures fits { (mapped : Mapped) → IsFit mapped arena.old → spec.mismatch (attributes_of mapped (object_at arena.old object).class) cells.now ≡ None → IsFit mapped arena.new }
 {
     for (attr, value) in cells {
         put_value(arena, object, *attr, value)?;
@@ -57,16 +53,11 @@ pub(crate) fn put_values(
 }
 
 /// A value goes into a cell of an object, where the object has it. The only refusal is want of memory.
-fn put_value(
-    arena: &mut Arena,
-    object: ObjId,
-    attr: AttrNo,
-    value: &Value,
-) -> Result<(), Refusal>
+fn put_value(arena: &mut Arena, object: ObjId, attr: AttrNo, value: &Value) -> Result<(), Refusal>
     requires object { IsObject arena.old object }
     ensures ok { OnOk result (arena.new ≡ with_cell arena.old object attr (record { value = Some value.now; base = None })) }
     ensures cause { IfErr result (λ e. e ≡ Refusal.Memory) }
-    ensures fits { (mapped : Mapped) → IsFit mapped arena.old → spec.fault_at (slice_get (attributes_of mapped (object_at arena.old object).class) attr.0) (kind_of_value value.now) ≡ None → IsFit mapped arena.new }
+    ensures fits { (mapped : Mapped) → IsFit mapped arena.old → spec.mismatch_at (slice_get (attributes_of mapped (object_at arena.old object).class) attr.0) value.now ≡ None → IsFit mapped arena.new }
     ensures same { length arena.new.objects ≡ length arena.old.objects }
     ensures class { (object_at arena.new object).class ≡ (object_at arena.old object).class }
 {

@@ -13,7 +13,7 @@ ghost use Rattle.session_core.specs.Making as making;
 ghost use Rattle.session_core.specs.Making.{IsQuiet};
 ghost use Rattle.session_core.specs.Steps as steps;
 
-use crate::making::{put_values, values_fault};
+use crate::making::{mismatch, put_values};
 use crate::settling::{commit_all, let_go_all, put_pending, unmark};
 use base_core::{AttrNo, ClassId, ObjId, Refusal, RequestKind, Value};
 use keeper_core::{Keeper, calls};
@@ -118,8 +118,8 @@ impl Session {
         ensures mapping { self.new.mapping ≡ self.old.mapping }
         ensures cause { IfErr result (λ e. e ≢ Refusal.KeeperFault) }
     {
-        if let Some(fault) = values_fault(self.mapping.attributes(class), cells) {
-            return Err(fault);
+        if let Some((wanted, found)) = mismatch(self.mapping.attributes(class), cells) {
+            return Err(Refusal::TypeMismatch(wanted, found));
         }
         let object = self.arena.make(&self.mapping, class)?;
         put_values(&mut self.arena, object, cells)?;
@@ -172,6 +172,7 @@ impl Session {
         ensures step { Runs (moment_beside K.moment) (λ u. u) steps.close (self.old, keeper.old) result (self.new, keeper.new) }
         ensures in_step { StaysInStep result self.new (K.moment keeper.new) }
         ensures same { SameObjects self.old self.new }
+        ensures outside { OnOk result (self.new.in_transaction ≡ false) }
         ensures stops { IfErr result (λ e. ends_early e ≡ true) }
     {
         self.leave(keeper)?;

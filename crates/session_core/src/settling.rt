@@ -1,8 +1,10 @@
 //! What becomes of objects whose rows were written, and at the end of a transaction.
 
 ghost use Rattle.std.specs.Prelude.{◌≡◌, ◌<◌, ◌≤◌, true, false, length, is_some, IfOk, IfErr, OnOk};
+ghost use Rattle.std.specs.Prelude.{◌==◌};
+ghost use Rattle.std.specs.List.{position};
 ghost use Rattle.mapper_core.specs.Mapped.{Mapped};
-ghost use Rattle.object_arena.specs.Graph.{IsCell, IsObject, object_at, root_at, with_cell, with_marks, with_object, with_state, cell_at};
+ghost use Rattle.object_arena.specs.Graph.{IsCell, IsObject, object_at, root_at, value_or_null, with_cell, with_marks, with_object, with_state, cell_at};
 ghost use Rattle.object_arena.specs.declared.object.State.TheVariants.{Pending};
 ghost use Rattle.object_arena.specs.Identity.{find_identity, is_taken, registered};
 ghost use Rattle.object_arena.specs.Fit.{IsFit, key_fits};
@@ -58,12 +60,7 @@ fn put_under_key(
 }
 
 /// An object that stands for a key is detached. The only refusal is want of memory.
-fn free(
-    arena: &mut Arena,
-    mapping: &Mapping,
-    object: ObjId,
-    key: &Key,
-) -> Result<(), Refusal>
+fn free(arena: &mut Arena, mapping: &Mapping, object: ObjId, key: &Key) -> Result<(), Refusal>
     requires fit { IsFit mapping.now arena.old }
     requires object { IsObject arena.old object }
     ensures ok { OnOk result (arena.new ≡ spec.freed arena.old (find_identity arena.old (root_at arena.old object) key.now)) }
@@ -145,20 +142,30 @@ fn write_cell(
 }
 
 /// What was written of a cell: the key's value where it is a cell of the key, else its own.
-fn written_value(
-    keys: &[AttrNo],
-    key: &Key,
-    attr: AttrNo,
-    cell: &Cell,
-) -> Result<Value, AllocError>
+fn written_value(keys: &[AttrNo], key: &Key, attr: AttrNo, cell: &Cell) -> Result<Value, AllocError>
     ensures { IfOk result (λ value. value ≡ spec.written_value keys.now key.now (attr.0, cell.now)) }
 {
-    if let Some(place) = keys.iter().position(|other| other.0 == attr.0) {
-        if let Some(value) = key.get(place) {
-            return value.copied();
-        }
+    value_under(key, place_in(keys, attr), cell)
+}
+
+/// The place of an attribute among those of the key.
+fn place_in(keys: &[AttrNo], attr: AttrNo) -> Option<usize>
+    ensures { result ≡ position (λ other. other.0 == attr.0) keys.now }
+{
+    keys.iter().position(|other| other.0 == attr.0)
+}
+
+/// The key's value at a place, or where there is none the cell's own.
+fn value_under(key: &Key, found: Option<usize>, cell: &Cell) -> Result<Value, AllocError>
+    ensures { IfOk result (λ value. value ≡ spec.value_under key.now found (value_or_null cell.now.value)) }
+{
+    match found {
+        None => value_or_null(cell),
+        Some(place) => match key.get(place) {
+            Some(value) => value.copied(),
+            None => value_or_null(cell),
+        },
     }
-    value_or_null(cell)
 }
 
 #[tactic(auto, using(crate::proofs::ObjectLemmas::turns))]
@@ -185,11 +192,16 @@ fn restore(arena: &mut Arena, object: ObjId) -> Result<(), Refusal>
 {
     unmark(arena, object)?;
     match arena.state_of(object) {
-        State::Pending => arena.put_back(object, State::Transient, None),
-        State::Persistent => arena.expire(object),
-        State::Transient | State::Deleted | State::Detached => {}
+        State::Pending => {
+            arena.put_back(object, State::Transient, None);
+            Ok(())
+        }
+        State::Persistent => {
+            arena.expire(object);
+            Ok(())
+        }
+        State::Transient | State::Deleted | State::Detached => Ok(()),
     }
-    Ok(())
 }
 
 /// A delete mark is taken away. The only refusal is want of memory.

@@ -1,7 +1,5 @@
-use Rattle.std.proofs.Common.{◌≡◌, ◌++◌, map, take, drop, length}
-use Rattle.std.specs.List.{enumerate_from}
-use Rattle.mapper_core.specs.Mapped.{key_attributes}
-use Rattle.object_arena.specs.Graph.{object_at, with_object}
+use Rattle.std.proofs.Common.{◌≡◌, length}
+use Rattle.object_arena.specs.Graph.{object_at}
 use Rattle.object_arena.specs.Fit.{IsFit}
 use Rattle.session_core.proofs.CellLemmas.{written_before}
 use Rattle.session_core.proofs.settling.write_cells.Given as goal

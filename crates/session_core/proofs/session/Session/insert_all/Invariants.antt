@@ -1,4 +1,4 @@
-use Rattle.std.proofs.Common.{[], drop}
+use Rattle.std.proofs.Common.{drop}
 use Rattle.std.specs.List.{All}
 use Rattle.keeper_core.specs.Acting.{each}
 use Rattle.keeper_core.specs.Moment.{Reaches}

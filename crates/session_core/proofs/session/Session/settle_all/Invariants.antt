@@ -1,9 +1,8 @@
-use Rattle.std.proofs.Common.{◌≡◌, fold, length}
+use Rattle.std.proofs.Common.{◌≡◌}
 use Rattle.std.specs.List.{All}
 use Rattle.std.specs.Vec.Iter.{into_iter_items}
-use Rattle.object_arena.specs.Graph.{Graph}
-use Rattle.session_core.specs.Flush.{IsUnderKey, settled}
-use Rattle.session_core.specs.SessionState.{SessionState, SameObjects}
+use Rattle.session_core.specs.Flush.{IsUnderKey}
+use Rattle.session_core.specs.SessionState.{SameObjects}
 use Rattle.session_core.specs.Steps.{flushed}
 use Rattle.session_core.proofs.session.Session.settle_all.Given as goal
 

@@ -1,0 +1,94 @@
+-- Values that are taken for an object, and the cells that hold them.
+use Rattle.std.proofs.Common.{◌≡◌, ℕ, ◌+◌, ◌<◌, ◌≤◌, Bool, true, false, List, [], ◌∷◌, length, get_or, take, drop, zero, suc, Option, None, Some, refl, sym, ap, ◌∙◌, arith}
+use Rattle.std.specs.Prelude.{slice_get, if◌then◌else◌}
+use Rattle.std.proofs.lemmas.List.{drop_all, drop_more, set_past}
+use Rattle.std.proofs.lemmas.List.Sums.{fold_more}
+use Rattle.std.proofs.lemmas.Option.{slice_get-get_or}
+use Rattle.std.proofs.lemmas.Bool.{and_from}
+use Rattle.base_core.specs.declared.ids.AttrNo.{AttrNo}
+use Rattle.base_core.specs.declared.ids.ObjId.{ObjId}
+use Rattle.base_core.specs.declared.value.Kind.{Kind}
+use Rattle.base_core.specs.declared.value.Value.{Value}
+use Rattle.base_core.specs.declared.value.Value.TheVariants.{Null}
+use Rattle.schema_core.specs.Catalog.{same_kind}
+use Rattle.schema_core.specs.Tables.{kind_of_value}
+use Rattle.mapper_types.specs.declared.mapped.Attribute.{Attribute}
+use Rattle.mapper_core.specs.Mapped.{Mapped, attribute_of, attributes_of, no_attribute}
+use Rattle.object_arena.specs.declared.object.Cell.{Cell}
+use Rattle.object_arena.specs.Graph.{Graph, IsCell, IsObject, object_at, with_cell, with_object}
+use Rattle.object_arena.specs.Fit.{IsFit, cell_fits, is_of_kind, value_fits}
+use Rattle.object_arena.proofs.FitLemmas.{fit_cells}
+use Rattle.session_core.specs.Making.{first_of_two, kinds_apart, mismatch, mismatch_at, with_values}
+use Rattle.session_core.proofs.ObjectLemmas.{with_same}
+
+-- ---- the first mismatch
+
+abbrev no_cell : AttrNo × Value
+no_cell = (record { 0 = 0 }, Null)
+
+mismatch_next : (attributes : List Attribute) (cells : List (AttrNo × Value)) (i : ℕ) (d : AttrNo × Value) → i < length cells
+    → mismatch attributes (drop i cells) ≡ first_of_two (mismatch_at (slice_get attributes (get_or cells i d).0.0) (get_or cells i d).1) (mismatch attributes (drop (i + 1) cells))
+mismatch_next attributes cells i d less = ap (mismatch attributes) (drop_more cells i d less)
+
+-- a value that is taken, and then the others
+pub mismatch_passed : (attributes : List Attribute) (cells : List (AttrNo × Value)) (i : ℕ) (cell : AttrNo × Value) (whole : Option (Kind × Kind)) → i < length cells → cell ≡ get_or cells i cell
+    → mismatch_at (slice_get attributes cell.0.0) cell.1 ≡ None → mismatch attributes (drop i cells) ≡ whole → mismatch attributes (drop (i + 1) cells) ≡ whole
+mismatch_passed attributes cells i cell whole less is taken so_far =
+    let here : mismatch_at (slice_get attributes (get_or cells i cell).0.0) (get_or cells i cell).1 ≡ None = ap (λ (c : AttrNo × Value). mismatch_at (slice_get attributes c.0.0) c.1) (sym is) ∙ taken in
+    sym (mismatch_next attributes cells i cell less ∙ ap (λ (o : Option (Kind × Kind)). first_of_two o (mismatch attributes (drop (i + 1) cells))) here) ∙ so_far
+
+-- a value that is not taken is the first
+pub mismatch_found : (attributes : List Attribute) (cells : List (AttrNo × Value)) (i : ℕ) (cell : AttrNo × Value) (whole : Option (Kind × Kind)) (kinds : Kind × Kind) → i < length cells → cell ≡ get_or cells i cell
+    → mismatch_at (slice_get attributes cell.0.0) cell.1 ≡ Some kinds → mismatch attributes (drop i cells) ≡ whole → Some kinds ≡ whole
+mismatch_found attributes cells i cell whole kinds less is found so_far =
+    let here : mismatch_at (slice_get attributes (get_or cells i cell).0.0) (get_or cells i cell).1 ≡ Some kinds = ap (λ (c : AttrNo × Value). mismatch_at (slice_get attributes c.0.0) c.1) (sym is) ∙ found in
+    sym (mismatch_next attributes cells i cell less ∙ ap (λ (o : Option (Kind × Kind)). first_of_two o (mismatch attributes (drop (i + 1) cells))) here) ∙ so_far
+
+-- all are taken
+pub mismatch_none : (attributes : List Attribute) (cells : List (AttrNo × Value)) (i : ℕ) (whole : Option (Kind × Kind)) → length cells ≤ i → mismatch attributes (drop i cells) ≡ whole → None ≡ whole
+mismatch_none attributes cells i whole ended so_far = sym (ap (mismatch attributes) (drop_all i cells ended)) ∙ so_far
+
+two_none : (first second : Option (Kind × Kind)) → first_of_two first second ≡ None → (first ≡ None) × (second ≡ None)
+two_none None second h = (refl, h)
+two_none (Some kinds) second h = absurd cc
+
+-- where none is refused, each is taken
+pub taken_at : (attributes : List Attribute) (cells : List (AttrNo × Value)) (i : ℕ) (cell : AttrNo × Value) → mismatch attributes cells ≡ None → i < length cells → cell ≡ get_or cells i cell → mismatch_at (slice_get attributes cell.0.0) cell.1 ≡ None
+taken_at attributes [] i cell h less is = absurd (omega arith)
+taken_at attributes (c ∷ cells) zero cell h less is =
+    ap (λ (x : AttrNo × Value). mismatch_at (slice_get attributes x.0.0) x.1) is ∙ (two_none (mismatch_at (slice_get attributes c.0.0) c.1) (mismatch attributes cells) h).0
+taken_at attributes (c ∷ cells) (suc i) cell h less is =
+    taken_at attributes cells i cell (two_none (mismatch_at (slice_get attributes c.0.0) c.1) (mismatch attributes cells) h).1 (omega arith) is
+
+-- ---- a value in a cell
+
+apart_none : (same : Bool) (kinds : Kind × Kind) → (if same then None else Some kinds) ≡ None → same ≡ true
+apart_none true kinds h = refl
+apart_none false kinds h = absurd cc
+
+of_kind : (wanted : Kind) (found : Option Kind) → kinds_apart wanted found ≡ None → is_of_kind wanted found ≡ true
+of_kind wanted None h = refl
+of_kind wanted (Some found) h = apart_none (same_kind wanted found) (wanted, found) h
+
+-- a value that is taken fits its cell
+pub taken_fits : (mapped : Mapped) (graph : Graph) (object : ObjId) (attr : AttrNo) (value : Value) → IsFit mapped graph → IsObject graph object → IsCell graph object attr
+    → mismatch_at (slice_get (attributes_of mapped (object_at graph object).class) attr.0) value ≡ None → cell_fits (attribute_of mapped (object_at graph object).class attr) (record { value = Some value; base = None }) ≡ true
+taken_fits mapped graph object attr value fit made inside taken =
+    let attributes : List Attribute = attributes_of mapped (object_at graph object).class in
+    let less : attr.0 < length attributes = rw (fit_cells mapped graph object fit made) inside in
+    let here : kinds_apart (get_or attributes attr.0 no_attribute).kind (kind_of_value value) ≡ None = sym (ap (λ (o : Option Attribute). mismatch_at o value) (slice_get-get_or attributes attr.0 no_attribute less)) ∙ taken in
+    and_from (value_fits (get_or attributes attr.0 no_attribute) (Some value)) true (of_kind (get_or attributes attr.0 no_attribute).kind (kind_of_value value) here) refl
+
+-- a cell that the object does not have is not written
+pub past_cell : (graph : Graph) (object : ObjId) (attr : AttrNo) (cell : Cell) → length (object_at graph object).cells ≤ attr.0 → graph ≡ with_cell graph object attr cell
+past_cell graph object attr cell past =
+    sym (ap (λ (cells : List Cell). with_object graph object (record (object_at graph object) { cells = cells })) (set_past (object_at graph object).cells attr.0 cell past) ∙ with_same graph object)
+
+-- one value more
+pub values_more : (graph now new : Graph) (object : ObjId) (cells : List (AttrNo × Value)) (i : ℕ) (cell : AttrNo × Value) → i < length cells → cell ≡ get_or cells i cell → now ≡ with_values graph object (take i cells)
+    → new ≡ with_cell now object cell.0 (record { value = Some cell.1; base = None }) → new ≡ with_values graph object (take (i + 1) cells)
+values_more graph now new object cells i cell less is so_far write =
+    let put : Graph → AttrNo × Value → Graph = λ g c. with_cell g object c.0 (record { value = Some c.1; base = None }) in
+    write ∙ ap (λ (g : Graph). put g cell) so_far ∙ ap (put (with_values graph object (take i cells))) is ∙ sym (fold_more put graph cells i cell less)
+
+pub ruleset mismatches = (mismatch_passed, mismatch_found, mismatch_none)
