@@ -4,7 +4,7 @@ use Rattle.base_core.specs.declared.refusal.Refusal.{Refusal}
 use Rattle.base_core.specs.declared.refusal.Refusal.TheVariants.{Memory}
 use Rattle.keeper_core.specs.Store.{Store}
 use Rattle.keeper_core.specs.Acting.{Run, ◌>>=◌}
-use Rattle.keeper_core.specs.Moment.{Moment, Runs}
+use Rattle.keeper_core.specs.Moment.{Acted, Acts, Moment, Ran, Runs}
 use Rattle.keeper_core.specs.Beside.{Beside, changes, moment_beside, on_own}
 use Rattle.keeper_core.proofs.Sequence.{no_memory, then_ok}
 use Rattle.keeper_core.proofs.Lifting.{changed, on_own_err, on_own_ok, spoiled}
@@ -38,3 +38,9 @@ pub then_ends : {S K A X : Type 0} (moment : K → Moment Store) {v : X → A} {
     → Runs (moment_beside moment) v m (own, old) (Ok x) (mid, keeper) → OnOk r (now ≡ f (v x) mid) → IfErr r (λ e. e ≡ Memory)
     → Runs (moment_beside moment) (λ u. u) (m >>= λ a. changes (f a)) (own, old) r (now, keeper)
 then_ends moment {v = v} f {x = x} p is cause = then_ok (λ a. changes (f a)) p (ends moment (f (v x)) is cause)
+
+-- what such a run keeps of the keeper
+pub acts_beside : {S K A X : Type 0} (moment : K → Moment Store) {v : X → A} {m : Beside S → Run (Beside S) A} {own now : S} {old new : K} {r : Result X Refusal}
+    → Runs (moment_beside moment) v m (own, old) r (now, new) → Acts (moment old) r (moment new)
+unfolding moment_beside
+acts_beside moment (Ran p) = Acted (record { faults = p.faults; fault = p.fault; kept = p.target; attached = p.attached })

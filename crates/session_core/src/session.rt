@@ -137,6 +137,7 @@ impl Session {
         requires object { IsObject self.old.graph object }
         requires in_step { IsInStep self.old (K.moment keeper.old) }
         ensures step { Runs (moment_beside K.moment) (λ u. u) (steps.add object) (self.old, keeper.old) result (self.new, keeper.new) }
+        ensures acts { Acts (K.moment keeper.old) result (K.moment keeper.new) }
         ensures in_step { StaysInStep result self.new (K.moment keeper.new) }
         ensures same { SameObjects self.old self.new }
     {
@@ -153,6 +154,7 @@ impl Session {
     pub fn commit<K: Keeper>(&mut self, keeper: &mut K) -> Result<(), Refusal>
         requires in_step { IsInStep self.old (K.moment keeper.old) }
         ensures step { Runs (moment_beside K.moment) (λ u. u) steps.commit (self.old, keeper.old) result (self.new, keeper.new) }
+        ensures acts { Acts (K.moment keeper.old) result (K.moment keeper.new) }
         ensures in_step { StaysInStep result self.new (K.moment keeper.new) }
         ensures same { SameObjects self.old self.new }
     {
@@ -170,6 +172,7 @@ impl Session {
     pub fn close<K: Keeper>(&mut self, keeper: &mut K) -> Result<(), Refusal>
         requires in_step { IsInStep self.old (K.moment keeper.old) }
         ensures step { Runs (moment_beside K.moment) (λ u. u) steps.close (self.old, keeper.old) result (self.new, keeper.new) }
+        ensures acts { Acts (K.moment keeper.old) result (K.moment keeper.new) }
         ensures in_step { StaysInStep result self.new (K.moment keeper.new) }
         ensures same { SameObjects self.old self.new }
         ensures outside { OnOk result (self.new.in_transaction ≡ false) }
