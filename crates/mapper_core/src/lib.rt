@@ -3,6 +3,8 @@
 
 mod layout;
 mod mapping;
+#[cfg(test)]
+mod tests;
 
 pub use mapper_types::{Attribute, Cascade, ClassSpec, Relation, RelationSpec};
 pub use mapping::Mapping;

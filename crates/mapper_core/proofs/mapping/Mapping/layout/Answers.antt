@@ -1,4 +1,4 @@
-use Rattle.std.proofs.Common.{◌≡◌, ◌<◌, ◌∙◌, true, length, ap, sym}
+use Rattle.std.proofs.Common.{◌≡◌, ◌<◌, ◌∙◌, true, length, ap}
 use Rattle.std.proofs.lemmas.List.{length-map}
 use Rattle.mapper_core.specs.Mapped.{Mapped, class_spec}
 use Rattle.mapper_core.specs.Layouts.{layout_of}
