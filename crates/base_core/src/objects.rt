@@ -1,6 +1,6 @@
 //! Lists and sets of objects.
 
-ghost use Rattle.std.specs.Prelude.{◌≡◌, ◌<◌, ℕ, [], ◌∷◌, ◌++◌, length, slice_get, Some, OnOk, OnErr, IfErr};
+ghost use Rattle.std.specs.Prelude.{◌≡◌, ◌<◌, ℕ, [], ◌∷◌, ◌++◌, ◌↔◌, IsTrue, length, slice_get, Some, OnOk, OnErr, IfErr};
 ghost use Rattle.base_core.specs.declared.refusal.Refusal.TheVariants.{Memory};
 
 use crate::{ListOf, ObjId, Refusal};
@@ -66,7 +66,9 @@ impl ObjSet {
         self.members.len()
     }
 
-    pub fn is_empty(&self) -> bool {
+    pub fn is_empty(&self) -> bool
+        ensures { IsTrue result ↔ (self.now ≡ []) }
+    {
         self.members.is_empty()
     }
 
