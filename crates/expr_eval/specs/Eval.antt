@@ -1,8 +1,8 @@
 -- The value of an expression at a row, by cases on the expression: three-valued, operands from left to right, with no short cut.
-use Rattle.std.specs.Prelude.{ℕ, ◌+◌, ◌^◌, ℤ, pos, negsuc, ◌+ℤ◌, ◌-ℤ◌, ◌*ℤ◌, nat_lt, Bool, true, false, not, ◌&&◌, ◌||◌, if◌then◌else◌, ◌==◌, List, [], ◌∷◌, ◌++◌, length, map, filter, slice_get, Option, Some, None, Ok, Err}
+use Rattle.std.specs.Prelude.{ℕ, ◌+◌, ◌^◌, ℤ, pos, negsuc, ◌+ℤ◌, ◌-ℤ◌, ◌*ℤ◌, nat_lt, Bool, true, false, not, ◌||◌, if◌then◌else◌, ◌==◌, List, [], ◌∷◌, ◌++◌, length, map, filter, slice_get, Option, Some, None, Ok, Err}
 use Rattle.std.specs.Str.{chars}
 use Rattle.std.specs.Char.{to_ascii_lowercase, to_ascii_uppercase}
-use Rattle.std.specs.Ordering.{is_eq, is_lt, is_le}
+use Rattle.std.specs.Ordering.{is_eq, is_lt}
 use Rattle.base_core.specs.declared.value.Value.{Value}
 use Rattle.base_core.specs.declared.value.Value.TheVariants as value
 use Rattle.base_core.specs.declared.value.ArithOp.{ArithOp}
@@ -13,6 +13,7 @@ use Rattle.base_core.specs.Order.{value_cmp}
 use Rattle.expr_types.specs.declared.expr.Expr.{Expr}
 use Rattle.expr_types.specs.declared.expr.Expr.TheOpen.{Expr-F}
 use Rattle.expr_types.specs.declared.expr.Expr.TheFolds.{fold-Expr}
+use Rattle.expr_types.specs.declared.expr.Origin.{Origin}
 use Rattle.expr_types.specs.declared.expr.CompareOp.{CompareOp}
 use Rattle.expr_types.specs.declared.expr.CompareOp.TheVariants.{Equal, NotEqual, Less, LessEqual, Greater, GreaterEqual}
 use Rattle.expr_types.specs.declared.expr.Func.{Func}
@@ -177,6 +178,9 @@ pair a b p = a p >>= λ x. b p >>= λ y. Ok (x, y)
 abbrev pub two : Meaning → Meaning → (Value → Value → Checked Value) → Meaning
 two a b f p = pair a b p >>= λ v. f v.0 v.1
 
+abbrev pub three : Meaning → Meaning → Meaning → (Value → Value → Value → Checked Value) → Meaning
+three a b c f p = a p >>= λ x. pair b c p >>= λ v. f x v.0 v.1
+
 -- the values of several operands, behind those so far
 abbrev pub all_from : Place → List Value → List Meaning → Checked (List Value)
 all_from p done [] = Ok done
@@ -256,6 +260,10 @@ some_from p m found (r ∷ rs) = m (inside p r) >>= λ v. some_from p m (found |
 abbrev pub truth : Option Bool → Checked Value
 truth t = Ok (value_of t)
 
+-- whether a row of the source meets the condition
+abbrev pub existence : Bool → Origin → Meaning → Meaning
+existence neg origin condition p = some_from p condition false (rows_in p.tables origin.table.0) >>= λ found. truth (signed neg (Some found))
+
 -- one level of an expression, with the meanings of its operands
 abbrev pub meaning : Expr-F Meaning → Meaning
 meaning (Expr-F.Column s c) = λ p. Ok (column p s c.0)
@@ -271,11 +279,11 @@ meaning (Expr-F.Concat a b) = two a b (λ x y. Ok (concatenated x y))
 meaning (Expr-F.Like neg a b) = two a b (λ x y. truth (signed neg (is_like x y)))
 meaning (Expr-F.Ilike neg a b) = two a b (λ x y. truth (signed neg (is_like x y)))
 meaning (Expr-F.InList neg a vs) = one a (λ x. truth (signed neg (among x vs)))
-meaning (Expr-F.Between neg a b c) = λ p. a p >>= λ x. pair b c p >>= λ v. truth (signed neg (between x v.0 v.1))
+meaning (Expr-F.Between neg a b c) = three a b c (λ x y z. truth (signed neg (between x y z)))
 meaning (Expr-F.Distinct neg a b) = two a b (λ x y. truth (signed neg (Some (not (same x y)))))
 meaning (Expr-F.Call f operands) = called f operands
 meaning Expr-F.CountAll = λ p. Ok (count_of p.group)
-meaning (Expr-F.Exists neg origin condition) = λ p. some_from p condition false (rows_in p.tables origin.table.0) >>= λ found. truth (signed neg (Some found))
+meaning (Expr-F.Exists neg origin condition) = existence neg origin condition
 
 -- the meaning of an expression
 unfoldable pub evaluated : Expr → Meaning

@@ -1,12 +1,13 @@
 //! The value of an expression.
 
-ghost use Rattle.std.specs.Prelude.{◌≡◌, [], false, map};
+ghost use Rattle.std.specs.Prelude.{◌≡◌, [], false, not, map, Some, Ok};
 ghost use Rattle.std.specs.Option.{option_map, option_copied};
 ghost use Rattle.base_core.specs.Answers as base;
 ghost use Rattle.expr_eval.specs.Checked.{Gives};
 ghost use Rattle.expr_eval.specs.Eval as spec;
 ghost use Rattle.expr_eval.specs.Eval.{evaluated};
 ghost use Rattle.expr_eval.specs.Place.{place_of};
+ghost use Rattle.expr_eval.specs.Truth as truth;
 
 use crate::aggregate::{aggregated, known};
 use crate::compare::{among, between, compared, is_null, same};
@@ -15,8 +16,8 @@ use crate::number::{arithmetic, negated};
 use crate::scope::{Scope, counted, joined, more_starts, rows_in};
 use crate::text::{concatenated, is_like};
 use crate::truth::{all3, any3, not3, passes, signed, truth_of, value_of};
-use base_core::{Copied, Refusal, RowValues, Value};
-use expr_types::{Expr, Func};
+use base_core::{ArithOp, Copied, Refusal, RowValues, Value};
+use expr_types::{CompareOp, Expr, Func, Origin};
 use sqlite_items::{Boxed, Items};
 use std::alloc::Global;
 
@@ -29,61 +30,23 @@ pub fn value_in(alloc: Global, e: &Expr, scope: &Scope<'_>) -> Result<Value, Ref
     match e {
         Expr::Column(source, column) => Ok(scope.column(*source, *column)?),
         Expr::Lit(value) => Ok(value.copied()?),
-        Expr::Compare(op, a, b) => {
-            let (x, y) = both(alloc, a, b, scope)?;
-            Ok(value_of(compared(*op, &x, &y)))
-        }
-        Expr::IsNull(negated, a) => {
-            let x = value_in(alloc, a.get(), scope)?;
-            Ok(value_of(signed(*negated, Some(is_null(&x)))))
-        }
-        Expr::And(parts) => {
-            let values = several(alloc, parts, scope)?;
-            Ok(value_of(all3(&values)))
-        }
-        Expr::Or(parts) => {
-            let values = several(alloc, parts, scope)?;
-            Ok(value_of(any3(&values)))
-        }
-        Expr::Not(a) => {
-            let x = value_in(alloc, a.get(), scope)?;
-            Ok(value_of(not3(truth_of(&x))))
-        }
-        Expr::Arith(op, a, b) => {
-            let (x, y) = both(alloc, a, b, scope)?;
-            arithmetic(*op, &x, &y)
-        }
-        Expr::Neg(a) => {
-            let x = value_in(alloc, a.get(), scope)?;
-            negated(&x)
-        }
-        Expr::Concat(a, b) => {
-            let (x, y) = both(alloc, a, b, scope)?;
-            Ok(concatenated(alloc, &x, &y)?)
-        }
-        Expr::Like(negated, a, b) | Expr::Ilike(negated, a, b) => {
-            let (x, y) = both(alloc, a, b, scope)?;
-            Ok(value_of(signed(*negated, is_like(alloc, &x, &y)?)))
-        }
-        Expr::InList(negated, a, list) => {
-            let x = value_in(alloc, a.get(), scope)?;
-            Ok(value_of(signed(*negated, among(&x, list.as_slice()))))
-        }
-        Expr::Between(negated, a, low, high) => {
-            let x = value_in(alloc, a.get(), scope)?;
-            let (y, z) = both(alloc, low, high, scope)?;
-            Ok(value_of(signed(*negated, between(&x, &y, &z))))
-        }
-        Expr::Distinct(negated, a, b) => {
-            let (x, y) = both(alloc, a, b, scope)?;
-            Ok(value_of(signed(*negated, Some(!same(&x, &y)))))
-        }
+        Expr::Compare(op, a, b) => comparison(alloc, *op, a, b, scope),
+        Expr::IsNull(negated, a) => null_test(alloc, *negated, a, scope),
+        Expr::And(parts) => conjunction(alloc, parts, scope),
+        Expr::Or(parts) => disjunction(alloc, parts, scope),
+        Expr::Not(a) => opposite(alloc, a, scope),
+        Expr::Arith(op, a, b) => calculation(alloc, *op, a, b, scope),
+        Expr::Neg(a) => minus(alloc, a, scope),
+        Expr::Concat(a, b) => concatenation(alloc, a, b, scope),
+        Expr::Like(negated, a, b) => likeness(alloc, *negated, a, b, scope),
+        Expr::Ilike(negated, a, b) => likeness(alloc, *negated, a, b, scope),
+        Expr::InList(negated, a, list) => membership(alloc, *negated, a, list, scope),
+        Expr::Between(negated, a, low, high) => range_test(alloc, *negated, a, low, high, scope),
+        Expr::Distinct(negated, a, b) => difference(alloc, *negated, a, b, scope),
         Expr::Call(function, operands) => called(alloc, *function, operands, scope),
         Expr::CountAll => Ok(counted(scope.group)),
         Expr::Exists(negated, origin, condition) => {
-            let rows = rows_in(scope.tables, origin.table);
-            let found = some_row(alloc, condition, rows, scope)?;
-            Ok(value_of(signed(*negated, Some(found))))
+            existence(alloc, *negated, origin, condition, scope)
         }
     }
 }
@@ -107,6 +70,165 @@ pub fn eval<'x>(
         group: None,
     };
     value_in(alloc, e, &scope)
+}
+
+#[cycle(eval)]
+fn comparison(
+    alloc: Global,
+    op: CompareOp,
+    a: &Boxed<Expr>,
+    b: &Boxed<Expr>,
+    scope: &Scope<'_>,
+) -> Result<Value, Refusal>
+    ensures { Gives (λ x. x) result (spec.two (evaluated a.now) (evaluated b.now) (λ x y. spec.truth (spec.compared op x y)) (place_of scope.now)) }
+{
+    let (x, y) = both(alloc, a, b, scope)?;
+    Ok(value_of(compared(op, &x, &y)))
+}
+
+#[cycle(eval)]
+fn null_test(
+    alloc: Global,
+    negated: bool,
+    a: &Boxed<Expr>,
+    scope: &Scope<'_>,
+) -> Result<Value, Refusal>
+    ensures { Gives (λ x. x) result (spec.one (evaluated a.now) (λ x. spec.truth (truth.signed negated (Some (spec.is_null x)))) (place_of scope.now)) }
+{
+    let x = value_in(alloc, a.get(), scope)?;
+    Ok(value_of(signed(negated, Some(is_null(&x)))))
+}
+
+#[cycle(eval)]
+fn conjunction(alloc: Global, parts: &Items<Expr>, scope: &Scope<'_>) -> Result<Value, Refusal>
+    ensures { Gives (λ x. x) result (spec.several (map evaluated parts.now) (λ vs. spec.truth (truth.all3 (map truth.truth_of vs))) (place_of scope.now)) }
+{
+    let values = several(alloc, parts, scope)?;
+    Ok(value_of(all3(&values)))
+}
+
+#[cycle(eval)]
+fn disjunction(alloc: Global, parts: &Items<Expr>, scope: &Scope<'_>) -> Result<Value, Refusal>
+    ensures { Gives (λ x. x) result (spec.several (map evaluated parts.now) (λ vs. spec.truth (truth.any3 (map truth.truth_of vs))) (place_of scope.now)) }
+{
+    let values = several(alloc, parts, scope)?;
+    Ok(value_of(any3(&values)))
+}
+
+#[cycle(eval)]
+fn opposite(alloc: Global, a: &Boxed<Expr>, scope: &Scope<'_>) -> Result<Value, Refusal>
+    ensures { Gives (λ x. x) result (spec.one (evaluated a.now) (λ x. spec.truth (truth.not3 (truth.truth_of x))) (place_of scope.now)) }
+{
+    let x = value_in(alloc, a.get(), scope)?;
+    Ok(value_of(not3(truth_of(&x))))
+}
+
+#[cycle(eval)]
+fn calculation(
+    alloc: Global,
+    op: ArithOp,
+    a: &Boxed<Expr>,
+    b: &Boxed<Expr>,
+    scope: &Scope<'_>,
+) -> Result<Value, Refusal>
+    ensures { Gives (λ x. x) result (spec.two (evaluated a.now) (evaluated b.now) (spec.arithmetic op) (place_of scope.now)) }
+{
+    let (x, y) = both(alloc, a, b, scope)?;
+    arithmetic(op, &x, &y)
+}
+
+#[cycle(eval)]
+fn minus(alloc: Global, a: &Boxed<Expr>, scope: &Scope<'_>) -> Result<Value, Refusal>
+    ensures { Gives (λ x. x) result (spec.one (evaluated a.now) spec.negated (place_of scope.now)) }
+{
+    let x = value_in(alloc, a.get(), scope)?;
+    negated(&x)
+}
+
+#[cycle(eval)]
+fn concatenation(
+    alloc: Global,
+    a: &Boxed<Expr>,
+    b: &Boxed<Expr>,
+    scope: &Scope<'_>,
+) -> Result<Value, Refusal>
+    ensures { Gives (λ x. x) result (spec.two (evaluated a.now) (evaluated b.now) (λ x y. Ok (spec.concatenated x y)) (place_of scope.now)) }
+{
+    let (x, y) = both(alloc, a, b, scope)?;
+    Ok(concatenated(alloc, &x, &y)?)
+}
+
+#[cycle(eval)]
+fn likeness(
+    alloc: Global,
+    negated: bool,
+    a: &Boxed<Expr>,
+    b: &Boxed<Expr>,
+    scope: &Scope<'_>,
+) -> Result<Value, Refusal>
+    ensures { Gives (λ x. x) result (spec.two (evaluated a.now) (evaluated b.now) (λ x y. spec.truth (truth.signed negated (spec.is_like x y))) (place_of scope.now)) }
+{
+    let (x, y) = both(alloc, a, b, scope)?;
+    Ok(value_of(signed(negated, is_like(alloc, &x, &y)?)))
+}
+
+#[cycle(eval)]
+fn membership(
+    alloc: Global,
+    negated: bool,
+    a: &Boxed<Expr>,
+    list: &RowValues,
+    scope: &Scope<'_>,
+) -> Result<Value, Refusal>
+    ensures { Gives (λ x. x) result (spec.one (evaluated a.now) (λ x. spec.truth (truth.signed negated (spec.among x list.now))) (place_of scope.now)) }
+{
+    let x = value_in(alloc, a.get(), scope)?;
+    Ok(value_of(signed(negated, among(&x, list.as_slice()))))
+}
+
+#[cycle(eval)]
+fn range_test(
+    alloc: Global,
+    negated: bool,
+    a: &Boxed<Expr>,
+    low: &Boxed<Expr>,
+    high: &Boxed<Expr>,
+    scope: &Scope<'_>,
+) -> Result<Value, Refusal>
+    ensures { Gives (λ x. x) result (spec.three (evaluated a.now) (evaluated low.now) (evaluated high.now) (λ x y z. spec.truth (truth.signed negated (spec.between x y z))) (place_of scope.now)) }
+{
+    let x = value_in(alloc, a.get(), scope)?;
+    let (y, z) = both(alloc, low, high, scope)?;
+    Ok(value_of(signed(negated, between(&x, &y, &z))))
+}
+
+#[cycle(eval)]
+fn difference(
+    alloc: Global,
+    negated: bool,
+    a: &Boxed<Expr>,
+    b: &Boxed<Expr>,
+    scope: &Scope<'_>,
+) -> Result<Value, Refusal>
+    ensures { Gives (λ x. x) result (spec.two (evaluated a.now) (evaluated b.now) (λ x y. spec.truth (truth.signed negated (Some (not (spec.same x y))))) (place_of scope.now)) }
+{
+    let (x, y) = both(alloc, a, b, scope)?;
+    Ok(value_of(signed(negated, Some(!same(&x, &y)))))
+}
+
+#[cycle(eval)]
+fn existence(
+    alloc: Global,
+    negated: bool,
+    origin: &Origin,
+    condition: &Boxed<Expr>,
+    scope: &Scope<'_>,
+) -> Result<Value, Refusal>
+    ensures { Gives (λ x. x) result (spec.existence negated origin.now (evaluated condition.now) (place_of scope.now)) }
+{
+    let rows = rows_in(scope.tables, origin.table);
+    let found = some_row(alloc, condition, rows, scope)?;
+    Ok(value_of(signed(negated, Some(found))))
 }
 
 #[cycle(eval)]

@@ -1,5 +1,4 @@
 use Rattle.std.proofs.Common.{◌≡◌, drop}
-use Rattle.base_core.specs.declared.value.Value.TheVariants as value
 use Rattle.expr_eval.specs.Eval as spec
 use Rattle.expr_eval.proofs.aggregate.greatest.Given as goal
 

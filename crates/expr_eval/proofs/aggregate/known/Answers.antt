@@ -1,4 +1,4 @@
-use Rattle.std.proofs.Common.{rules, not, refl, ◌≡◌, Bool, Bor}
+use Rattle.std.proofs.Common.{rules, not}
 use Rattle.std.proofs.lemmas.Fn.{filter_same}
 use Rattle.expr_eval.specs.Eval as spec
 use Rattle.expr_eval.proofs.aggregate.known.Goals as goal

@@ -1,4 +1,4 @@
-use Rattle.std.proofs.Common.{◌≡◌, [], ◌∷◌, ◌++◌, false, length, map, drop, ℕ, ◌+◌, ◌*◌, max, None}
+use Rattle.std.proofs.Common.{◌≡◌, [], ◌∷◌, ◌++◌, false, length, map, drop, ◌+◌, ◌*◌, max}
 use Rattle.expr_types.specs.declared.expr.Expr.{size-Expr}
 use Rattle.expr_eval.specs.Eval as spec
 use Rattle.expr_eval.specs.Eval.{evaluated}
@@ -37,3 +37,42 @@ decreases-some_row l = 5 * goal.size-some_row l + 1
 
 abbrev pub decreases-over : goal.decreases-over
 decreases-over l = 5 * goal.size-over l + 2
+
+abbrev pub decreases-comparison : goal.decreases-comparison
+decreases-comparison l = 5 * max (size-Expr l.a.now) (size-Expr l.b.now) + 2
+
+abbrev pub decreases-calculation : goal.decreases-calculation
+decreases-calculation l = 5 * max (size-Expr l.a.now) (size-Expr l.b.now) + 2
+
+abbrev pub decreases-concatenation : goal.decreases-concatenation
+decreases-concatenation l = 5 * max (size-Expr l.a.now) (size-Expr l.b.now) + 2
+
+abbrev pub decreases-likeness : goal.decreases-likeness
+decreases-likeness l = 5 * max (size-Expr l.a.now) (size-Expr l.b.now) + 2
+
+abbrev pub decreases-difference : goal.decreases-difference
+decreases-difference l = 5 * max (size-Expr l.a.now) (size-Expr l.b.now) + 2
+
+abbrev pub decreases-null_test : goal.decreases-null_test
+decreases-null_test l = 5 * goal.size-null_test l + 2
+
+abbrev pub decreases-opposite : goal.decreases-opposite
+decreases-opposite l = 5 * goal.size-opposite l + 2
+
+abbrev pub decreases-minus : goal.decreases-minus
+decreases-minus l = 5 * goal.size-minus l + 2
+
+abbrev pub decreases-membership : goal.decreases-membership
+decreases-membership l = 5 * goal.size-membership l + 2
+
+abbrev pub decreases-conjunction : goal.decreases-conjunction
+decreases-conjunction l = 5 * goal.size-conjunction l + 2
+
+abbrev pub decreases-disjunction : goal.decreases-disjunction
+decreases-disjunction l = 5 * goal.size-disjunction l + 2
+
+abbrev pub decreases-existence : goal.decreases-existence
+decreases-existence l = 5 * goal.size-existence l + 2
+
+abbrev pub decreases-range_test : goal.decreases-range_test
+decreases-range_test l = 5 * max (size-Expr l.a.now) (max (size-Expr l.low.now) (size-Expr l.high.now)) + 2

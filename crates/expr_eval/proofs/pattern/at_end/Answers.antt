@@ -1,4 +1,3 @@
-use Rattle.std.proofs.Common.{arith}
 use Rattle.expr_eval.proofs.Ends.{ends_none_more}
 use Rattle.expr_eval.proofs.pattern.at_end.Goals as goal
 

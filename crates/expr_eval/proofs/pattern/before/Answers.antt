@@ -1,7 +1,7 @@
-use Rattle.std.proofs.Common.{◌≡◌, length, arith, subst, List, ◌∷◌, length-append}
+use Rattle.std.proofs.Common.{◌≡◌, length, arith, subst, ◌∷◌}
 use Rattle.std.proofs.lemmas.Grind.{common_steps}
 use Rattle.expr_eval.specs.Ends.{AreEndsTo}
-use Rattle.expr_eval.proofs.Ends.{ends_more, ends_first}
+use Rattle.expr_eval.proofs.Ends.{ends_more}
 use Rattle.expr_eval.proofs.pattern.before.Goals as goal
 
 pub loop-i-preserved : goal.loop-i-preserved
