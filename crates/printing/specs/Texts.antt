@@ -158,22 +158,51 @@ row_name_text names row = numbered (names.table row.table) row.object
 abbrev pub told : List ℕ → List ℕ → List ℕ
 told name inside = name ++ 40 ∷ inside ++ 41 ∷ []
 
+-- a value of one kind was wanted, and one of another was found
+abbrev pub mismatch_text : Kind → Kind → List ℕ
+mismatch_text wanted found = told (codes "TypeMismatch") (kind_text wanted ++ codes ", " ++ kind_text found)
+
+-- a result is outside 64 bits
+abbrev pub outside_text : ArithOp → ℤ → ℤ → List ℕ
+outside_text op a b = told (codes "DataError") (signed_decimal a ++ 32 ∷ op_text op ++ 32 ∷ signed_decimal b)
+
+-- the generated keys of a table are spent
+abbrev pub spent_text : Names → TableId → List ℕ
+spent_text names table = told (codes "DataError") (codes "keys of " ++ names.table table)
+
+abbrev pub compile_text : Names → TableId → ColumnNo → List ℕ
+compile_text names table column = told (codes "CompileError") (names.table table ++ 46 ∷ names.column table column)
+
+-- a validator refused a value of an attribute
+abbrev pub validation_text : Names → ClassId → AttrNo → List ℕ → List ℕ
+validation_text names class attribute hook = told (codes "ValidationError") (names.class class ++ 46 ∷ names.attribute class attribute ++ codes ", " ++ hook)
+
+abbrev pub invalid_text : RequestKind → List ℕ
+invalid_text kind = told (codes "InvalidRequestError") (request_text kind)
+
+abbrev pub circular_text : Names → List RowName → List ℕ
+circular_text names rows = told (codes "CircularDependencyError") (joined (codes " -> ") (row_name_text names) rows)
+
+-- a constraint of a table is broken
+abbrev pub breach_text : Names → IntegrityKind → TableId → List ℕ
+breach_text names kind table = told (codes "IntegrityError") (integrity_text kind ++ codes ", " ++ names.table table)
+
 -- the text of a refusal, with the names of what it has by number
 abbrev pub refusal_text : Names → Refusal → List ℕ
 refusal_text names refusal.Memory = codes "Memory"
 refusal_text names (refusal.ArgumentError kind) = told (codes "ArgumentError") (argument_text kind)
-refusal_text names (refusal.TypeMismatch wanted found) = told (codes "TypeMismatch") (kind_text wanted ++ codes ", " ++ kind_text found)
-refusal_text names (refusal.DataError op a b) = told (codes "DataError") (signed_decimal a ++ 32 ∷ op_text op ++ 32 ∷ signed_decimal b)
-refusal_text names (refusal.KeysSpent table) = told (codes "DataError") (codes "keys of " ++ names.table table)
-refusal_text names (refusal.CompileError table column) = told (codes "CompileError") (names.table table ++ 46 ∷ names.column table column)
-refusal_text names (refusal.ValidationError class attribute hook) = told (codes "ValidationError") (names.class class ++ 46 ∷ names.attribute class attribute ++ codes ", " ++ hook)
-refusal_text names (refusal.InvalidRequestError kind) = told (codes "InvalidRequestError") (request_text kind)
+refusal_text names (refusal.TypeMismatch wanted found) = mismatch_text wanted found
+refusal_text names (refusal.DataError op a b) = outside_text op a b
+refusal_text names (refusal.KeysSpent table) = spent_text names table
+refusal_text names (refusal.CompileError table column) = compile_text names table column
+refusal_text names (refusal.ValidationError class attribute hook) = validation_text names class attribute hook
+refusal_text names (refusal.InvalidRequestError kind) = invalid_text kind
 refusal_text names (refusal.LimitReached kind) = told (codes "LimitReached") (limit_text kind)
 refusal_text names (refusal.ObjectDeletedError object) = told (codes "ObjectDeletedError") (object_text names object)
 refusal_text names (refusal.DetachedInstanceError object) = told (codes "DetachedInstanceError") (object_text names object)
-refusal_text names (refusal.CircularDependencyError rows) = told (codes "CircularDependencyError") (joined (codes " -> ") (row_name_text names) rows)
+refusal_text names (refusal.CircularDependencyError rows) = circular_text names rows
 refusal_text names refusal.ResourceClosedError = codes "ResourceClosedError"
-refusal_text names (refusal.IntegrityError kind table) = told (codes "IntegrityError") (integrity_text kind ++ codes ", " ++ names.table table)
+refusal_text names (refusal.IntegrityError kind table) = breach_text names kind table
 refusal_text names (refusal.StaleDataError table) = told (codes "StaleDataError") (names.table table)
 refusal_text names refusal.PendingRollbackError = codes "PendingRollbackError"
 refusal_text names (refusal.ScriptError line column) = told (codes "ScriptError") (decimal line ++ codes ", " ++ decimal column)
