@@ -1,0 +1,4 @@
+pub mod AnySteps
+pub mod ApplySteps
+pub mod CellLemmas
+pub mod NextKey

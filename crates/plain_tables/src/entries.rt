@@ -1,0 +1,108 @@
+//! Lists of keys with their values, rising by key.
+
+ghost use Rattle.std.specs.Prelude.{◌≡◌, ◌++◌, IfOk, OnOk};
+ghost use Rattle.std.specs.BTreeMap.{insert_entry, is_at};
+ghost use Rattle.std.specs.Map.{lookup, remove_entry};
+ghost use Rattle.std.specs.Option.{option_copied};
+
+use base_core::{Copied, ListOf};
+use std::alloc::{AllocError, Global};
+use std::cmp::Ordering;
+
+/// The value of a key.
+pub fn value_of<'a, K: Ord, V>(entries: &'a [(K, V)], key: &K) -> Option<&'a V>
+    ensures { option_copied result ≡ lookup (is_at (K.cmp key.now)) entries.now }
+{
+    let (entry, rest) = entries.split_first()?;
+    if key.cmp(&entry.0).is_eq() {
+        return Some(&entry.1);
+    }
+    value_of(rest, key)
+}
+
+/// The entries with a value under a key: in the place of what stands there, or before the first greater key.
+pub fn with_entry<K: Ord + Copied + Drop, V: Copied + Drop>(
+    alloc: Global,
+    entries: &[(K, V)],
+    key: K,
+    value: V,
+) -> Result<ListOf<(K, V)>, AllocError>
+    ensures { IfOk result (λ changed. changed ≡ insert_entry K.cmp entries.now key value) }
+{
+    let mut changed = Vec::new(alloc);
+    push_with(&mut changed, entries, key, value)?;
+    Ok(ListOf::from_vec(changed))
+}
+
+/// Puts the entries with a value under a key behind others.
+fn push_with<K: Ord + Copied + Drop, V: Copied + Drop>(
+    changed: &mut Vec<(K, V)>,
+    entries: &[(K, V)],
+    key: K,
+    value: V,
+) -> Result<(), AllocError>
+    ensures { OnOk result (changed.new.items ≡ changed.old.items ++ insert_entry K.cmp entries.now key value) }
+{
+    let Some((entry, rest)) = entries.split_first() else {
+        changed.push((key, value))?;
+        return Ok(());
+    };
+    match key.cmp(&entry.0) {
+        Ordering::Less => {
+            changed.push((key, value))?;
+            push_all(changed, entries)
+        }
+        Ordering::Equal => {
+            changed.push((entry.0.copied()?, value))?;
+            push_all(changed, rest)
+        }
+        Ordering::Greater => {
+            changed.push(entry.copied()?)?;
+            push_with(changed, rest, key, value)
+        }
+    }
+}
+
+/// The entries without that of a key.
+pub fn without_entry<K: Ord + Copied + Drop, V: Copied + Drop>(
+    alloc: Global,
+    entries: &[(K, V)],
+    key: &K,
+) -> Result<ListOf<(K, V)>, AllocError>
+    ensures { IfOk result (λ changed. changed ≡ remove_entry (is_at (K.cmp key.now)) entries.now) }
+{
+    let mut changed = Vec::new(alloc);
+    push_without(&mut changed, entries, key)?;
+    Ok(ListOf::from_vec(changed))
+}
+
+/// Puts the entries without that of a key behind others.
+fn push_without<K: Ord + Copied + Drop, V: Copied + Drop>(
+    changed: &mut Vec<(K, V)>,
+    entries: &[(K, V)],
+    key: &K,
+) -> Result<(), AllocError>
+    ensures { OnOk result (changed.new.items ≡ changed.old.items ++ remove_entry (is_at (K.cmp key.now)) entries.now) }
+{
+    let Some((entry, rest)) = entries.split_first() else {
+        return Ok(());
+    };
+    if key.cmp(&entry.0).is_eq() {
+        return push_all(changed, rest);
+    }
+    changed.push(entry.copied()?)?;
+    push_without(changed, rest, key)
+}
+
+/// Puts copies of entries behind others.
+fn push_all<K: Copied + Drop, V: Copied + Drop>(
+    changed: &mut Vec<(K, V)>,
+    entries: &[(K, V)],
+) -> Result<(), AllocError>
+    ensures { OnOk result (changed.new.items ≡ changed.old.items ++ entries.now) }
+{
+    for entry in entries {
+        changed.push(entry.copied()?)?;
+    }
+    Ok(())
+}

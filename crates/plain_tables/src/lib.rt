@@ -1,0 +1,13 @@
+//! What a statement on one row does to tables that are plain lists: the definition as a program, slow and without
+//! maps, indexes or invariants. It is there to try the definition.
+#![tactic(auto)]
+
+mod applying;
+mod cells;
+mod entries;
+mod judging;
+
+pub use applying::{PlainRows, PlainTables, Unapplied, apply};
+
+#[cfg(test)]
+mod tests;
