@@ -5,12 +5,6 @@ use Rattle.expr_eval.specs.Eval.{Row}
 use Rattle.select_rows.specs.Order.{same_row}
 use Rattle.select_rows.specs.Rows.{Keyed, firsts_from}
 use Rattle.std.specs.List.{list_any}
-use Rattle.expr_types.specs.declared.expr.Expr.{Expr}
-use Rattle.expr_types.specs.declared.expr.Expr.TheVariants.{And, Or, Call, rolls-And, rolls-Or, rolls-Call}
-use Rattle.expr_types.specs.declared.expr.Expr.TheOpen.{Expr-F}
-use Rattle.expr_types.specs.declared.expr.Expr.TheFolds.{fold-Expr, fold-roll-Expr}
-use Rattle.expr_types.specs.declared.expr.Func.{Func}
-use Rattle.expr_types.specs.Level.{is_aggregate, is_aggregate_function, operands, has_aggregate}
 
 pub ruleset all_named = (append_assoc, append-nil)
 
@@ -23,5 +17,5 @@ any_outputs p f g [] [] = refl
 any_outputs p f g [] (y ∷ ys) = ap (λ b. p (g y) || b) (any_outputs p f g [] ys)
 any_outputs p f g (x ∷ xs) ys = ap (λ b. p (f x) || b) (any_outputs p f g xs ys) ∙ either (p (f x)) _ _
 
-pub keys_more : (done : List Row) (all : List Keyed) (i : ℕ) (k : Keyed) → i < length all → k ≡ get_or all i k → firsts_from (cond (list_any (λ d. same_row d k.0) done) done (done ++ k.0 ∷ [])) (map (λ k. k.0) (drop (i + 1) all)) ≡ firsts_from done (map (λ k. k.0) (drop i all))
+pub keys_more : (done : List Row) (all : List Keyed) (i : ℕ) (k : Keyed) → i < length all → k ≡ get_or all i k → firsts_from (cond (list_any (same_row k.0) done) done (done ++ k.0 ∷ [])) (map (λ k. k.0) (drop (i + 1) all)) ≡ firsts_from done (map (λ k. k.0) (drop i all))
 keys_more done all i k l e = ap (λ ks. firsts_from done (map (λ k. k.0) ks)) (ap (λ y. y ∷ drop (i + 1) all) e ∙ sym (drop_more all i k l))

@@ -1,3 +1,4 @@
 pub mod Frames
 pub mod Order
 pub mod Rows
+pub mod Seen

@@ -1,5 +1,5 @@
 -- The order of a select's rows: by their keys, and rows with equal keys in the order in which they come.
-use Rattle.std.specs.Prelude.{ℕ, suc, Bool, true, false, List, [], ◌∷◌, ◌++◌, map, not, ◌&&◌}
+use Rattle.std.specs.Prelude.{ℕ, suc, Bool, true, false, List, [], ◌∷◌, map}
 use Rattle.std.specs.declared.cmp.Ordering.{Ordering}
 use Rattle.std.specs.Ordering.{nat_cmp, ordering_then, is_eq, then_cmp, on, flip_args}
 use Rattle.std.specs.Cmp.{IsTotalOrder, then_total, on_total, back_total}

@@ -10,14 +10,15 @@ ghost use Rattle.expr_eval.specs.Place.{place_of};
 ghost use Rattle.select_rows.specs.Frames.{frame_of};
 ghost use Rattle.select_rows.specs.Rows as spec;
 
-use crate::cut::{keep_first, same_row};
 use crate::frame::scope_at;
+use crate::seen::{Keyed, by_key, keep_first, rows_at};
 use crate::{Basis, Frame};
-use base_core::{Copied, ListOf, Name, Refusal, RowList, RowValues};
+use base_core::{Copied, ListOf, Name, Refusal, RowValues};
 use expr_eval::{Scope, value_in};
 use expr_types::{Expr, ExprList, Select};
 use expr_typing::has_aggregate;
 use std::alloc::{AllocError, Global};
+use std::collections::BTreeSet;
 
 /// Whether the answer has a row for each group: the select groups, or has a condition on groups or an aggregate.
 fn is_grouped(select: &Select) -> bool
@@ -110,7 +111,7 @@ fn keyed(
     frame: &Frame<'_>,
     expressions: &ExprList,
     rows: Vec<RowValues>,
-) -> Result<Vec<(RowValues, RowValues)>, Refusal>
+) -> Result<Vec<Keyed>, Refusal>
     ensures { Gives (λ v. v.items) result (spec.mapped_from (spec.keyed (frame_of frame.now) expressions.now) [] rows.items) }
 {
     let mut all = Vec::with_capacity(alloc, rows.len())?;
@@ -133,39 +134,25 @@ fn values(alloc: Global, expressions: &ExprList, scope: &Scope<'_>) -> Result<Ro
 }
 
 /// One group for each key, in the order in which keys come.
-fn groups(alloc: Global, all: &[(RowValues, RowValues)]) -> Result<Vec<Basis>, AllocError>
+fn groups(alloc: Global, all: &[Keyed]) -> Result<Vec<Basis>, AllocError>
     ensures { IfOk result (λ v. v.items ≡ spec.groups all.now) }
 {
     let keys = keys(alloc, all)?;
+    let index = by_key(alloc, all)?;
     let mut bases = Vec::with_capacity(alloc, keys.len())?;
     for key in &keys {
-        bases.push(Basis::Group(rows_with(alloc, all, key)?))?;
+        bases.push(Basis::Group(rows_at(alloc, &index, key)?))?;
     }
     Ok(bases)
 }
 
-fn keys(alloc: Global, all: &[(RowValues, RowValues)]) -> Result<Vec<RowValues>, AllocError>
+fn keys(alloc: Global, all: &[Keyed]) -> Result<Vec<RowValues>, AllocError>
     ensures { IfOk result (λ v. v.items ≡ spec.firsts_from [] (map (λ k. k.0) all.now)) }
 {
+    let mut seen = BTreeSet::new(alloc);
     let mut keys = Vec::new(alloc);
     for keyed in all {
-        keep_first(&mut keys, keyed.0.copied()?)?;
+        keep_first(&mut seen, &mut keys, keyed.0.copied()?)?;
     }
     Ok(keys)
-}
-
-fn rows_with(
-    alloc: Global,
-    all: &[(RowValues, RowValues)],
-    key: &RowValues,
-) -> Result<RowList, AllocError>
-    ensures { IfOk result (λ rows. rows ≡ spec.rows_with all.now key.now) }
-{
-    let mut rows = Vec::new(alloc);
-    for keyed in all {
-        if same_row(key, &keyed.0) {
-            rows.push(keyed.1.copied()?)?;
-        }
-    }
-    Ok(ListOf::from_vec(rows))
 }

@@ -9,6 +9,7 @@ mod group;
 mod order;
 mod output;
 mod rows;
+mod seen;
 mod source;
 mod survey;
 mod table;

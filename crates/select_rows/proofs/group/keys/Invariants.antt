@@ -1,6 +1,10 @@
 use Rattle.std.proofs.Common.{◌≡◌, [], drop, map}
 use Rattle.select_rows.specs.Rows as spec
+use Rattle.select_rows.specs.Seen.{HasSeen}
 use Rattle.select_rows.proofs.group.keys.Given as goal
 
 abbrev pub invariant-loop-keyed : goal.invariant-loop-keyed
-invariant-loop-keyed l = spec.firsts_from l.keys.items (map (λ k. k.0) (drop l.keyed-index l.all)) ≡ spec.firsts_from [] (map (λ k. k.0) l.all)
+invariant-loop-keyed l = record {
+  left : spec.firsts_from l.keys.items (map (λ k. k.0) (drop l.keyed-index l.all)) ≡ spec.firsts_from [] (map (λ k. k.0) l.all);
+  seen : HasSeen l.seen l.keys.items;
+}
