@@ -1,5 +1,5 @@
 -- What a keeper in memory makes of itself runs each call's program.
-use Rattle.std.proofs.Common.{◌≡◌, ℕ, ◌+◌, ◌-◌, ◌^◌, ◌<◌, ◌≤◌, min, Bool, true, false, not, List, [], ◌∷◌, ◌++◌, map, length, drop, slice_index_or, Option, None, Some, is_some, Result, Ok, Err, IfErr, OnOk, MatchBool, if◌then◌else◌, refl, sym, ap, ◌∙◌, subst, arith, length-drop}
+use Rattle.std.proofs.Common.{◌≡◌, ℕ, ◌-◌, ◌^◌, ◌<◌, ◌≤◌, Bool, true, false, List, [], ◌∷◌, map, length, drop, slice_index_or, Option, None, Some, Result, Ok, Err, MatchBool, if◌then◌else◌, refl, sym, ap, ◌∙◌, subst, arith, length-drop}
 use Rattle.std.proofs.lemmas.Bool.{false≢true}
 use Rattle.std.specs.Option.{option_map}
 use Rattle.base_core.specs.Counts.{Rose, one_more}
@@ -22,13 +22,13 @@ use Rattle.keeper_core.specs.declared.keeper.Target.{Target}
 use Rattle.keeper_core.specs.declared.keeper.Target.TheVariants as targets
 use Rattle.keeper_core.specs.Calls.{sends, breach_refusal, write_refusal, written}
 use Rattle.keeper_core.specs.Moment.{AsTold, IsAttached, IsToldAnew, new_store, IsCutOff, IsRun, Outcome, Ran, Refused, Runs, Stops, Told}
-use Rattle.keeper_core.specs.Store.{Store, committed_of, created, dropped, is_created, outermost}
-use Rattle.keeper_mem.proofs.KeyShapes.{can_refuse}
-use Rattle.keeper_mem.specs.declared.writing.Unwritten.{Unwritten}
-use Rattle.keeper_mem.specs.declared.writing.Unwritten.TheVariants as unwritten
+use Rattle.keeper_core.specs.Store.{Store, committed_of, created, dropped, is_created}
+use Rattle.table_store.specs.declared.writing.Unwritten.{Unwritten}
+use Rattle.table_store.specs.declared.writing.Unwritten.TheVariants as unwritten
 use Rattle.keeper_mem.specs.declared.keeper.Attachment.{Attachment}
 use Rattle.keeper_mem.specs.declared.keeper.Attachment.TheVariants.{Fresh, Taken, Untaken}
-use Rattle.keeper_mem.specs.Kept.{Kept, Wrote, broken, counted, depth_by, ended, failed, is_taken, moment_of, refused_by, sent_by, target_of, taken_by, told_by, told_of, untaken_by}
+use Rattle.table_store.specs.Written.{broken}
+use Rattle.keeper_mem.specs.Kept.{Kept, Wrote, counted, depth_by, ended, failed, is_taken, moment_of, refused_by, sent_by, target_of, taken_by, told_by, told_of, untaken_by}
 
 -- ---- a keeper that took its target tells what it has
 
@@ -264,16 +264,6 @@ not_written schema statement breach r old new taken small broke same is =
     (refused (λ (key : List Value). key) (call.write schema statement) (sent.Write statement) (breach_refusal (table_of statement) breach) old new taken small (own_breach (table_of statement) breach)
     (ap (λ outcome. written statement outcome old.store) broke) (is ∙ ap (refused_by (counted old) (sent.Write statement)) (sym (broken_is (table_of statement) breach))))
 
--- ---- what is left where memory runs out
-
-outermost_any : (a b : Tables) (scopes : List Tables) → 0 < length scopes → outermost a scopes ≡ outermost b scopes
-outermost_any a b [] inside = absurd (omega arith)
-outermost_any a b (s ∷ scopes) inside = refl
-
-pub same_end : (kept : Kept) (after : Store) → after.scopes ≡ kept.store.scopes → 0 < length kept.store.scopes → ended (record kept { store = after }) ≡ ended kept
-same_end kept after same inside =
-    ap (λ tables. record kept { store = record { tables = tables; scopes = [] } }) (ap (outermost after.tables) same ∙ outermost_any after.tables kept.store.tables kept.store.scopes inside)
-
 -- ---- depth
 
 pub depth_sent : (statement : Sent) (after : Store) (old new : Kept) → is_taken old.attachment ≡ true → new ≡ sent_by (counted old) statement after → depth_by new.attachment new ≡ length after.scopes
@@ -354,7 +344,7 @@ pub ruleset dropping = (removed, not_removed, ends)
 
 pub ruleset scanning = (scanned, ends)
 
-pub ruleset writing = (wrote, not_written, can_refuse, ends)
+pub ruleset writing = (wrote, not_written, ends)
 
 -- a keeper whose memory ran out in a statement gives up as it would have before it
 pub wrote_nothing : (schema : Catalog) (statement : RowStmt) (old new : Kept) (u : Unwritten) → u ≡ unwritten.Memory → Wrote schema statement old (Err u) new → ended new ≡ ended old

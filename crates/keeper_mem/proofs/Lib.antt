@@ -1,11 +1,1 @@
-mod AnySteps
-mod CellSteps
-mod Copies
-mod Entries
-mod KeyShapes
 mod Keeping
-mod Laws
-mod NewKeys
-mod NextKey
-mod Scopes
-mod WriteSteps

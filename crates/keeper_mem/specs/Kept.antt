@@ -6,8 +6,6 @@ use Rattle.base_core.specs.Counts.{one_more}
 use Rattle.keeper_core.specs.declared.keeper.Target.{Target}
 use Rattle.keeper_core.specs.declared.sent.Sent.{Sent}
 use Rattle.base_core.specs.declared.value.Value.{Value}
-use Rattle.schema_core.specs.declared.statement.Breach.{Breach}
-use Rattle.schema_core.specs.declared.statement.Breach.TheVariants as breaches
 use Rattle.schema_core.specs.declared.statement.RowStmt.{RowStmt}
 use Rattle.schema_core.specs.Apply.{apply, table_of}
 use Rattle.schema_core.specs.Catalog.{Catalog}
@@ -18,8 +16,9 @@ use Rattle.keeper_core.specs.declared.keeper.WriteRefusal.{WriteRefusal}
 use Rattle.keeper_core.specs.declared.keeper.WriteRefusal.TheVariants as refusals
 use Rattle.keeper_core.specs.declared.sent.Sent.TheVariants.{Write}
 use Rattle.keeper_core.specs.Calls.{write_refusal}
-use Rattle.keeper_mem.specs.declared.writing.Unwritten.{Unwritten}
-use Rattle.keeper_mem.specs.declared.writing.Unwritten.TheVariants.{Breaks, Memory}
+use Rattle.table_store.specs.declared.writing.Unwritten.{Unwritten}
+use Rattle.table_store.specs.declared.writing.Unwritten.TheVariants.{Breaks, Memory}
+use Rattle.table_store.specs.Written.{broken, given_up}
 use Rattle.keeper_core.specs.Moment.{IsCoherent, Moment, Refused, Told, new_store}
 use Rattle.keeper_core.specs.Store.{Store, committed_of}
 use Rattle.keeper_mem.specs.declared.keeper.Attachment.{Attachment}
@@ -100,6 +99,10 @@ abbrev pub is_file : Target → Bool
 is_file targets.Memory = false
 is_file (targets.File name) = true
 
+-- one call more was counted, and the same calls are to fail
+abbrev pub IsCounted : Kept → Kept → Type 0
+IsCounted old new = (new.calls ≡ one_more old.calls) × (new.failing ≡ old.failing)
+
 -- the call was counted, and ended by a fault exactly where its number is in the list
 abbrev pub IsNumbered : Kept → Bool → Kept → Type 0
 IsNumbered old fault new = (fault ≡ is_failing old) × (new.calls ≡ one_more old.calls) × (new.failing ≡ old.failing)
@@ -109,10 +112,6 @@ IsNumbered old fault new = (fault ≡ is_failing old) × (new.calls ≡ one_more
 -- one call more
 abbrev pub counted : Kept → Kept
 counted kept = record kept { calls = one_more kept.calls }
-
--- the tables that were committed last, and no scope
-abbrev pub given_up : Store → Store
-given_up store = record { tables = committed_of store; scopes = [] }
 
 -- the call was ended by want of memory
 abbrev pub ended : Kept → Kept
@@ -141,16 +140,6 @@ taken_by kept target = record kept { store = empty_store; sent = []; attachment 
 -- the target was given, and not taken
 abbrev pub untaken_by : Kept → Target → Kept
 untaken_by kept target = record kept { attachment = Untaken target }
-
--- the refusal of a statement that breaks a rule of its table
-abbrev pub broken : Breach → WriteRefusal
-broken (breaches.NoTable table) = refusals.NoTable table
-broken breaches.Missing = refusals.Missing
-broken breaches.NotNull = refusals.NotNull
-broken breaches.KeysSpent = refusals.KeysSpent
-broken breaches.PrimaryKey = refusals.PrimaryKey
-broken breaches.Unique = refusals.Unique
-broken breaches.Foreign = refusals.Foreign
 
 -- a statement on one row was done, or refused; where memory ran out, what a keeper that gives up is left with is the same
 abbrev pub Wrote : Catalog → RowStmt → Kept → Result (List Value) Unwritten → Kept → Type 0

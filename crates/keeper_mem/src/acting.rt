@@ -8,15 +8,15 @@ ghost use Rattle.keeper_core.specs.declared.keeper.KeeperStop.TheVariants as sto
 ghost use Rattle.keeper_core.specs.Calls as call;
 ghost use Rattle.keeper_core.specs.Calls.{as_refusal, depth_after, depth_after_write, stop_refusal, write_refusal, CanRefuse};
 ghost use Rattle.keeper_core.specs.Moment.{IsAttached, Runs};
-ghost use Rattle.keeper_mem.specs.Kept.{IsNumbered, coherent, is_failing, is_fault, is_file, is_write_fault, moment_of};
+ghost use Rattle.keeper_mem.specs.Kept.{IsCounted, IsNumbered, coherent, is_failing, is_fault, is_file, is_write_fault, moment_of};
 
 use crate::MemKeeper;
 use crate::keeper::broken;
-use crate::writing::Unwritten;
 use base_core::{Key, RowList, TableId};
 use keeper_core::{Keeper, KeeperStop, Sent, Target, WriteRefusal};
 use schema_core::{RowStmt, Schema};
 use std::alloc::Global;
+use table_store::Unwritten;
 
 impl Keeper for MemKeeper {
     ghost moment = { moment_of };
@@ -28,6 +28,7 @@ impl Keeper for MemKeeper {
         requires { (moment_of self.old).target ≡ None }
         ensures kept { IsAttached (moment_of self.old) target (as_refusal stop_refusal result) (moment_of self.new) }
         ensures faults { is_fault result ≡ (is_failing self.old || is_file target) }
+        ensures counted { IsCounted self.old self.new }
         ensures calm { IfErr result (λ e. e ≡ stops.Fault) }
     {
         let Ok(()) = self.count_call() else {

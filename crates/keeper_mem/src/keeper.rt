@@ -1,27 +1,24 @@
 //! The keeper in memory.
 
 ghost use Rattle.std.specs.Prelude.{◌≡◌, ◌+◌, ◌-◌, ◌^◌, ◌<◌, ◌≤◌, true, false, length, Result, Ok, Err, IfErr, IfOk, OnOk};
-ghost use Rattle.std.specs.Prelude.{map, drop, slice_index_or, is_some, [], ◌∷◌};
+ghost use Rattle.std.specs.Prelude.{map, drop, slice_index_or, [], ◌∷◌};
 ghost use Rattle.std.specs.Option.{option_map};
 ghost use Rattle.base_core.specs.declared.refusal.Refusal.TheVariants as refusals;
-ghost use Rattle.schema_core.specs.Apply.{apply};
 ghost use Rattle.schema_core.specs.Tables.{rows_in};
-ghost use Rattle.schema_core.specs.WellFormed.{IsWellFormed};
+ghost use Rattle.schema_core.specs.WellFormed.{IsKeyFor, IsWellFormed};
 ghost use Rattle.keeper_core.specs.declared.keeper.KeeperStop.TheVariants as stops;
 ghost use Rattle.keeper_core.specs.declared.sent.Sent.TheVariants as statements;
 ghost use Rattle.keeper_core.specs.Store.{committed_of, created, dropped, is_created};
-ghost use Rattle.keeper_core.specs.Calls.{breach_refusal};
-ghost use Rattle.schema_core.specs.Apply as applying;
-ghost use Rattle.keeper_mem.specs.Kept.{Wrote, broken, counted, depth_by, ended, failed, is_failing, is_listed, is_taken, new_keeper, refused_by, sent_by, taken_by, untaken_by};
+ghost use Rattle.table_store.specs.Written.{MayRefuse, broken};
+ghost use Rattle.keeper_mem.specs.Kept.{Wrote, counted, depth_by, ended, failed, is_failing, is_listed, is_taken, new_keeper, refused_by, sent_by, taken_by, untaken_by};
 
-use crate::store::TableStore;
-use crate::writing::Unwritten;
 use base_core::{Copied, Key, Refusal, RowList, TableId};
 use keeper_core::calls::{refusal_of, table_of};
 use keeper_core::{KeeperStop, Sent, Target, WriteRefusal};
 use schema_core::{Breach, RowStmt, Schema};
 use std::alloc::{AllocError, Global};
 use std::marker::Model;
+use table_store::{TableStore, Unwritten};
 
 /// Whether a keeper was given its target, and took it.
 #[derive(Debug, Drop)]
@@ -92,6 +89,13 @@ impl MemKeeper {
         ensures { result.now ≡ self.now.sent }
     {
         self.log.as_slice()
+    }
+
+    /// Whether it was given a target, and took it.
+    pub fn is_attached(&self) -> bool
+        ensures { result ≡ is_taken self.now.attachment }
+    {
+        matches!(&self.attachment, Attachment::Taken(_))
     }
 
     /// Counts a call, and ends it where its number is one of those that fail.
@@ -263,7 +267,6 @@ impl MemKeeper {
         Ok(())
     }
 
-    #[tactic(auto, using(crate::proofs::Keeping::same_end))]
     /// Does a statement on one row, and keeps it.
     pub(crate) fn write_row(
         &mut self,
@@ -273,10 +276,16 @@ impl MemKeeper {
     ) -> Result<Key, Unwritten>
         requires fits { IsWellFormed schema.now statement.now }
         requires inside { 0 < length self.old.store.scopes }
-        ensures { Wrote schema.now statement.now self.old result self.new }
+        ensures step { Wrote schema.now statement.now self.old result self.new }
+        ensures key { IfOk result (λ key. IsKeyFor schema.now statement.now key) }
+        ensures refuses { IfErr result (λ e. MayRefuse statement.now e) }
     {
-        let sent = statement.copied()?;
-        self.log.reserve(self.store.depth() + 1)?;
+        let Ok(sent) = statement.copied() else {
+            return Err(Unwritten::Memory);
+        };
+        let Ok(()) = self.log.reserve(self.store.depth() + 1) else {
+            return Err(Unwritten::Memory);
+        };
         match self.store.write(alloc, schema, statement) {
             Ok(key) => {
                 self.log.push_reserved(Sent::Write(sent));
@@ -284,7 +293,9 @@ impl MemKeeper {
             }
             Err(Unwritten::Breaks(breach)) => {
                 let refusal = refusal_of(table_of(statement), broken(breach));
-                self.keep_refusal(statement, sent, refusal)?;
+                let Ok(()) = self.keep_refusal(statement, sent, refusal) else {
+                    return Err(Unwritten::Memory);
+                };
                 return Err(Unwritten::Breaks(breach));
             }
             Err(Unwritten::Memory) => return Err(Unwritten::Memory),

@@ -2,7 +2,6 @@
 use Rattle.std.proofs.Common.{ap, ◌∙◌}
 use Rattle.keeper_mem.specs.Kept.{ended}
 use Rattle.keeper_mem.proofs.Keeping.{faulted, ran_out, wrote_nothing}
-use Rattle.keeper_mem.proofs.NewKeys.{key_for}
 use Rattle.keeper_mem.proofs.acting.MemKeeperKeeper.write.Goals as goal
 
 pub returns-in_default-clause-step : goal.returns-in_default-clause-step
@@ -11,8 +10,4 @@ returns-in_default-clause-step c = faulted c.requires.attached c.count_call.ensu
 pub returns-in-Err-Memory-clause-step : goal.returns-in-Err-Memory-clause-step
 returns-in-Err-Memory-clause-step c =
     ran_out c.requires.attached
-    (c.give_up.ensures ∙ wrote_nothing c.args.schema.now c.args.statement.now c.count_call.new.self c.write_row.new.self c.in-Err-Memory.field-0 c.in-Err-Memory.field-0-is c.in-Err-Memory.ensures ∙ ap ended c.in-Ok.ensures.ok.1)
-
-pub returns-in-Ok-write_row-clause-key : goal.returns-in-Ok-write_row-clause-key
-returns-in-Ok-write_row-clause-key c =
-    key_for c.args.schema.now c.count_call.new.self.store.tables c.args.statement.now c.in-Ok-write_row.key c.write_row.new.self.store.tables c.in-Ok-write_row.ensures.0 c.requires.fits
+    (c.give_up.ensures ∙ wrote_nothing c.args.schema.now c.args.statement.now c.count_call.new.self c.write_row.new.self c.in-Err-Memory.field-0 c.in-Err-Memory.field-0-is c.in-Err-Memory.ensures.step ∙ ap ended c.in-Ok.ensures.ok.1)

@@ -1,0 +1,11 @@
+mod AnySteps
+mod CellSteps
+mod Copies
+mod Entries
+mod KeyShapes
+mod Laws
+mod NewKeys
+mod NextKey
+mod Scopes
+mod Statements
+mod WriteSteps

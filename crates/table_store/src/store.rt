@@ -1,0 +1,157 @@
+//! Tables with scopes.
+
+ghost use Rattle.std.specs.Prelude.{◌≡◌, ◌-◌, ◌<◌, [], ◌∷◌, length, map, drop, slice_index_or, IfOk, IfErr, OnOk, OnErr};
+ghost use Rattle.std.specs.Option.{option_map, option_copied};
+ghost use Rattle.schema_core.specs.Tables.{rows_in};
+ghost use Rattle.schema_core.specs.WellFormed.{IsKeyFor, IsWellFormed};
+ghost use Rattle.keeper_core.specs.Store.{created, dropped, is_created};
+ghost use Rattle.table_store.specs.Written.{MayRefuse, Wrote, given_up};
+
+use crate::tables::TableMap;
+use crate::writing::{Unwritten, apply};
+use base_core::{Copied, Key, RowList, TableId};
+use schema_core::{RowStmt, Schema};
+use std::alloc::{AllocError, Global};
+use std::marker::Model;
+
+/// Tables, and those at the start of each scope.
+#[derive(Drop)]
+pub struct TableStore {
+    tables: TableMap,
+    /// The innermost scope first.
+    scopes: Vec<TableMap>,
+}
+
+impl Model for TableStore {
+    ghost use Rattle.keeper_core.specs.Store.{Store};
+
+    ghost Value = { Store };
+
+    ghost view = { λ s. record { tables = s.tables; scopes = s.scopes.items } };
+}
+
+impl TableStore {
+    /// No tables and no scope.
+    pub fn new(alloc: Global) -> TableStore
+        ensures { result ≡ record { tables = []; scopes = [] } }
+    {
+        TableStore {
+            tables: TableMap::new(alloc),
+            scopes: Vec::new(alloc),
+        }
+    }
+
+    /// How many scopes there are.
+    pub fn depth(&self) -> usize
+        ensures { result ≡ length self.now.scopes }
+    {
+        self.scopes.len()
+    }
+
+    /// Whether a table is created.
+    pub fn has(&self, table: TableId) -> bool
+        ensures { result ≡ is_created self.now.tables table }
+    {
+        self.tables.get(table).is_some()
+    }
+
+    /// Makes a table that has no rows. At an error nothing changes.
+    pub fn create(&mut self, alloc: Global, table: TableId) -> Result<(), AllocError>
+        ensures ok { OnOk result (self.new ≡ record { tables = created self.old.tables table; scopes = self.old.scopes }) }
+        ensures err { OnErr result (self.new ≡ self.old) }
+    {
+        self.tables.create(alloc, table)
+    }
+
+    /// Drops a table.
+    pub fn drop_table(&mut self, table: TableId)
+        ensures { self.new ≡ record { tables = dropped self.old.tables table; scopes = self.old.scopes } }
+    {
+        self.tables.drop_table(table);
+    }
+
+    /// Starts a scope. At an error nothing changes.
+    pub fn start(&mut self) -> Result<(), AllocError>
+        ensures ok { OnOk result (self.new ≡ record { tables = self.old.tables; scopes = self.old.tables ∷ self.old.scopes }) }
+        ensures err { OnErr result (self.new ≡ self.old) }
+    {
+        let copy = self.tables.copied()?;
+        self.scopes.insert(0, copy)?;
+        Ok(())
+    }
+
+    /// Ends the innermost scope, and keeps the tables.
+    pub fn end(&mut self)
+        requires { 0 < length self.old.scopes }
+        ensures { self.new ≡ record { tables = self.old.tables; scopes = drop 1 self.old.scopes } }
+    {
+        self.scopes.remove(0);
+    }
+
+    /// Ends all scopes, and keeps the tables.
+    pub fn keep(&mut self)
+        ensures { self.new ≡ record { tables = self.old.tables; scopes = [] } }
+    {
+        self.scopes.clear();
+    }
+
+    #[tactic(auto, using(crate::proofs::Scopes::outermost_scopes))]
+    /// Ends all scopes, and goes back to the tables at the start of the outermost.
+    pub fn go_back(&mut self)
+        ensures { self.new ≡ given_up self.old }
+    {
+        if let Some(tables) = self.scopes.pop() {
+            self.tables = tables;
+            self.keep();
+        }
+    }
+
+    #[tactic(auto, using(crate::proofs::Scopes::scopes_left))]
+    /// Goes back to the tables at the start of the scope of this number, counted from the outermost, which is 0,
+    /// and ends it and all inside it.
+    pub fn go_back_to(&mut self, number: usize)
+        requires { number < length self.old.scopes }
+        ensures { self.new ≡ record { tables = slice_index_or self.old.scopes (length self.old.scopes - number - 1) self.old.tables; scopes = drop (length self.old.scopes - number) self.old.scopes } }
+    {
+        let inside = self.scopes.len() - number - 1;
+        for _done in 0..inside {
+            self.scopes.remove(0);
+        }
+        self.tables = self.scopes.remove(0);
+    }
+
+    #[tactic(auto, using(crate::proofs::Statements::statements))]
+    /// Does a statement on one row. A refused one changes nothing; want of memory ends all scopes, and leaves the tables
+    /// at the start of the outermost.
+    pub fn write(
+        &mut self,
+        alloc: Global,
+        schema: &Schema,
+        statement: &RowStmt,
+    ) -> Result<Key, Unwritten>
+        requires fits { IsWellFormed schema.now statement.now }
+        requires inside { 0 < length self.old.scopes }
+        ensures step { Wrote schema.now statement.now self.old result self.new }
+        ensures key { IfOk result (λ key. IsKeyFor schema.now statement.now key) }
+        ensures refuses { IfErr result (λ e. MayRefuse statement.now e) }
+    {
+        match apply(alloc, schema, &mut self.tables, statement) {
+            Ok(key) => Ok(key),
+            Err(Unwritten::Breaks(breach)) => Err(Unwritten::Breaks(breach)),
+            Err(Unwritten::Memory) => {
+                self.go_back();
+                Err(Unwritten::Memory)
+            }
+        }
+    }
+
+    /// The rows of a table, rising by key, or none where it is not created.
+    pub fn rows(&self, alloc: Global, table: TableId) -> Result<Option<RowList>, AllocError>
+        ensures { IfOk result (λ rows. rows ≡ option_map (λ rows. map (λ entry. entry.1) rows) (rows_in self.now.tables table)) }
+    {
+        let Some(rows) = self.tables.get(table) else {
+            return Ok(None);
+        };
+        Ok(Some(rows.list(alloc)?))
+    }
+}
