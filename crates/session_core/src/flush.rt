@@ -1,16 +1,14 @@
 //! The flush: what is pending is written in the order in which it was added.
 
-ghost use Rattle.std.specs.Prelude.{◌≡◌, ◌<◌, ◌≤◌, ◌≢◌, ℕ, [], true, false, length, IfOk, IfErr, OnOk, OnErr, List, fold};
-ghost use Rattle.schema_core.specs.WellFormed.{IsWellFormed};
+ghost use Rattle.std.specs.Prelude.{◌≡◌, [], true, IfOk, IfErr, OnOk, List, fold};
+ghost use Rattle.schema_core.specs.WellFormed.{IsWellFormed, is_key};
 ghost use Rattle.base_core.specs.declared.value.Value.{Value};
 ghost use Rattle.mapper_core.specs.Mapped.{root_spec};
-ghost use Rattle.schema_core.specs.WellFormed.{is_key};
 ghost use Rattle.object_arena.specs.Graph.{IsObject, object_at};
 ghost use Rattle.keeper_core.specs.Acting.{ends_early};
-ghost use Rattle.keeper_core.specs.Beside.{moment_beside, on_store};
-ghost use Rattle.keeper_core.specs.Moment.{Acts, Runs};
+ghost use Rattle.keeper_core.specs.Beside.{moment_beside, on_store, by_own};
+ghost use Rattle.keeper_core.specs.Moment.{Runs};
 ghost use Rattle.session_core.specs.SessionState.{IsInStep, StaysInStep, SameObjects};
-ghost use Rattle.keeper_core.specs.Beside.{by_own};
 ghost use Rattle.keeper_core.specs.Calls as call;
 ghost use Rattle.object_arena.specs.Fit.{key_fits};
 ghost use Rattle.std.specs.List.{All, enumerate_from};

@@ -1,6 +1,6 @@
 //! The values with which an object is made.
 
-ghost use Rattle.std.specs.Prelude.{◌≡◌, ◌<◌, ◌≤◌, None, Some, length, slice_get, IfOk, IfErr, OnOk};
+ghost use Rattle.std.specs.Prelude.{◌≡◌, None, Some, length, slice_get, IfErr, OnOk};
 ghost use Rattle.mapper_core.specs.Mapped.{Mapped, attributes_of};
 ghost use Rattle.object_arena.specs.Graph.{IsObject, object_at, with_cell};
 ghost use Rattle.object_arena.specs.Fit.{IsFit};
@@ -44,6 +44,7 @@ pub(crate) fn put_values(
     requires object { IsObject arena.old object }
     ensures ok { OnOk result (arena.new ≡ spec.with_values arena.old object cells.now) }
     ensures cause { IfErr result (λ e. e ≡ Refusal.Memory) }
+    ensures same { length arena.new.objects ≡ length arena.old.objects }
     ensures fits { (mapped : Mapped) → IsFit mapped arena.old → spec.mismatch (attributes_of mapped (object_at arena.old object).class) cells.now ≡ None → IsFit mapped arena.new }
 {
     for (attr, value) in cells {

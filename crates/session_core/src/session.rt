@@ -1,8 +1,8 @@
 //! The session and its calls.
 
-ghost use Rattle.std.specs.Prelude.{◌≡◌, ◌≢◌, ◌≤◌, ◌<◌, ℕ, true, false, length, is_none, None, fold, if◌then◌else◌, OnOk, OnErr, IfOk, IfErr};
-ghost use Rattle.mapper_core.specs.Mapped.{IsClass, Mapped, attributes_of};
-ghost use Rattle.object_arena.specs.Graph.{IsObject, kind_fault, object_at, with_cell};
+ghost use Rattle.std.specs.Prelude.{◌≡◌, ◌≢◌, true, false, length, if◌then◌else◌, OnOk, IfOk, IfErr};
+ghost use Rattle.mapper_core.specs.Mapped.{IsClass};
+ghost use Rattle.object_arena.specs.Graph.{IsObject, object_at};
 ghost use Rattle.object_arena.specs.Fit.{IsFit};
 ghost use Rattle.keeper_core.specs.Acting.{ends_early};
 ghost use Rattle.keeper_core.specs.Beside.{moment_beside, on_store};
@@ -114,6 +114,7 @@ impl Session {
     pub fn make(&mut self, class: ClassId, cells: &[(AttrNo, Value)]) -> Result<ObjId, Refusal>
         requires class { IsClass self.old.mapping class }
         ensures step { IsQuiet (λ object. object) (making.made class cells.now self.old) result self.new }
+        ensures exists { IfOk result (λ object. IsObject self.new.graph object) }
         ensures scopes { self.new.in_transaction ≡ self.old.in_transaction }
         ensures mapping { self.new.mapping ≡ self.old.mapping }
         ensures cause { IfErr result (λ e. e ≢ Refusal.KeeperFault) }

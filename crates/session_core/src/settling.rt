@@ -1,15 +1,13 @@
 //! What becomes of objects whose rows were written, and at the end of a transaction.
 
-ghost use Rattle.std.specs.Prelude.{◌≡◌, ◌<◌, ◌≤◌, true, false, length, is_some, IfOk, IfErr, OnOk};
-ghost use Rattle.std.specs.Prelude.{◌==◌};
+ghost use Rattle.std.specs.Prelude.{◌≡◌, true, false, length, IfOk, IfErr, OnOk, ◌==◌};
 ghost use Rattle.std.specs.List.{position};
-ghost use Rattle.mapper_core.specs.Mapped.{Mapped};
+ghost use Rattle.mapper_core.specs.Mapped.{Mapped, key_attributes};
 ghost use Rattle.object_arena.specs.Graph.{IsCell, IsObject, object_at, root_at, value_or_null, with_cell, with_marks, with_object, with_state, cell_at};
 ghost use Rattle.object_arena.specs.declared.object.State.TheVariants.{Pending};
-ghost use Rattle.object_arena.specs.Identity.{find_identity, is_taken, registered};
+ghost use Rattle.object_arena.specs.Identity.{find_identity, is_taken};
 ghost use Rattle.object_arena.specs.Fit.{IsFit, key_fits};
 ghost use Rattle.session_core.specs.Flush as spec;
-ghost use Rattle.mapper_core.specs.Mapped.{key_attributes};
 
 use crate::rows::value_or_null;
 use base_core::{AttrNo, Copied, Key, ObjId, Refusal, Value};
