@@ -1,11 +1,14 @@
 //! Any reader as a source and any writer as a sink: the edge at which standard input and output are reached.
 
-ghost use Rattle.std.specs.Prelude.{◌≡◌, None};
+ghost use Rattle.std.specs.Prelude.{◌≡◌, ◌<◌, ◌≤◌, length, if◌then◌else◌, is_ok, IfOk, IsErr, IsErrOf};
+ghost use Rattle.std.specs.Io.{ReadsAtMost, WritesAtMost};
+ghost use Rattle.std.specs.Io.KnownBytes.{ReadConsumes, WriteAppends};
+ghost use Rattle.base_core.specs.Counts.{Rose, one_more};
 
 use crate::{ReadFault, Sink, SinkStop, Source};
 use std::io::{Read, Write};
 
-/// A source over a reader. It counts each failure, and tells no bytes.
+/// A source over a reader. It counts each failure, and tells the bytes that the reader tells: of standard input none.
 #[derive(Drop)]
 pub struct StdSource<R: Read + Drop> {
     reader: R,
@@ -13,17 +16,26 @@ pub struct StdSource<R: Read + Drop> {
 }
 
 impl<R: Read + Drop> StdSource<R> {
-    pub fn new(reader: R) -> StdSource<R> {
+    /// A source over this reader, which did not fail yet.
+    pub fn new(reader: R) -> StdSource<R>
+        ensures { result ≡ record { reader = reader; faults = 0 } }
+    {
         StdSource { reader, faults: 0 }
     }
 }
 
 impl<R: Read + Drop> Source for StdSource<R> {
-    ghost left = { λ _. None };
+    ghost left = { λ s. R.remaining s.reader };
 
     ghost faults = { λ s. s.faults };
 
-    fn read(&mut self, buffer: &mut [u8]) -> Result<usize, ReadFault> {
+    fn read(&mut self, buffer: &mut [u8]) -> Result<usize, ReadFault>
+        ensures bound { ReadsAtMost result buffer.new }
+        ensures bytes { ReadConsumes (R.remaining self.old.reader) (R.remaining self.new.reader) result buffer.new }
+        ensures later { self.old.faults ≤ self.new.faults }
+        ensures cause { IsErr result → Rose self.old.faults self.new.faults }
+        ensures counted { self.new.faults ≡ (if is_ok result then self.old.faults else one_more self.old.faults) }
+    {
         match self.reader.read(buffer) {
             Ok(count) => Ok(count),
             Err(_) => {
@@ -34,7 +46,8 @@ impl<R: Read + Drop> Source for StdSource<R> {
     }
 }
 
-/// A sink over a writer. It counts each failure, a write that takes no byte among them, and tells no bytes.
+/// A sink over a writer. It counts each failure, a write that takes no byte among them, and tells the bytes that the
+/// writer tells: of standard output none.
 #[derive(Drop)]
 pub struct StdSink<W: Write + Drop> {
     writer: W,
@@ -42,17 +55,27 @@ pub struct StdSink<W: Write + Drop> {
 }
 
 impl<W: Write + Drop> StdSink<W> {
-    pub fn new(writer: W) -> StdSink<W> {
+    /// A sink over this writer, which did not fail yet.
+    pub fn new(writer: W) -> StdSink<W>
+        ensures { result ≡ record { writer = writer; faults = 0 } }
+    {
         StdSink { writer, faults: 0 }
     }
 }
 
 impl<W: Write + Drop> Sink for StdSink<W> {
-    ghost written = { λ _. None };
+    ghost written = { λ s. W.contents s.writer };
 
     ghost faults = { λ s. s.faults };
 
-    fn write(&mut self, piece: &[u8]) -> Result<usize, SinkStop> {
+    fn write(&mut self, piece: &[u8]) -> Result<usize, SinkStop>
+        ensures bound { WritesAtMost result piece.now }
+        ensures takes { IfOk result (λ n. 0 < length piece.now → 0 < n) }
+        ensures bytes { WriteAppends (W.contents self.old.writer) (W.contents self.new.writer) result piece.now }
+        ensures later { self.old.faults ≤ self.new.faults }
+        ensures cause { IsErrOf result SinkStop.Fault → Rose self.old.faults self.new.faults }
+        ensures counted { self.new.faults ≡ (if is_ok result then self.old.faults else one_more self.old.faults) }
+    {
         match self.writer.write(piece) {
             Ok(count) if count > 0 || piece.is_empty() => Ok(count),
             _ => {

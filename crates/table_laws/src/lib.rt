@@ -1,4 +1,5 @@
-//! What follows from the definitions of tables: each law is the contract of a function that does nothing.
+//! What follows from the definitions of tables: each law is the contract of a function that does nothing. So there is no
+//! body that could be turned into a wrong one.
 #![tactic(auto)]
 
 mod legal;
