@@ -3,5 +3,7 @@
 
 mod acting;
 mod keeper;
+#[cfg(test)]
+mod tests;
 
 pub use keeper::{Attachment, MemKeeper};
