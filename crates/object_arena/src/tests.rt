@@ -1,0 +1,172 @@
+ghost use Rattle.std.specs.Prelude.{IsTrue};
+ghost use Rattle.object_arena.specs.Graph.{IsObject};
+
+use super::*;
+use base_core::{AttrNo, ClassId, Key, Kind, ListOf, Name, ObjId, Refusal, RequestKind, Value};
+use mapper_core::{ClassSpec, Mapping};
+use schema_core::{ColumnKind, ColumnSpec, TableSpec};
+use std::alloc::{AllocError, Global};
+use std::test::Fail;
+
+fn name(alloc: Global, text: &str) -> Result<Name, AllocError> {
+    Ok(Name::new(String::from_str(alloc, text)?))
+}
+
+// A table with an integer key alone, and a class over it.
+fn declared(alloc: Global) -> Result<Mapping, Refusal> {
+    let mut mapping = Mapping::new(alloc);
+    let mut columns = ListOf::new(alloc);
+    columns.push(ColumnSpec {
+        name: name(alloc, "id")?,
+        kind: ColumnKind::Integer,
+        key: true,
+        not_null: true,
+    })?;
+    if mapping.schema().count() < u32::MAX {
+        mapping.declare_table(TableSpec {
+            name: name(alloc, "users")?,
+            columns,
+            uniques: ListOf::new(alloc),
+            foreigns: ListOf::new(alloc),
+        })?;
+    }
+    if mapping.count() < u32::MAX {
+        mapping.declare_class(ClassSpec {
+            name: name(alloc, "User")?,
+            base: None,
+            table: Some(name(alloc, "users")?),
+            discriminator: None,
+            identity: None,
+            owned: ListOf::new(alloc),
+            relations: ListOf::new(alloc),
+            validators: ListOf::new(alloc),
+        })?;
+    }
+    mapping.configure()?;
+    Ok(mapping)
+}
+
+fn key(alloc: Global, number: i64) -> Result<Key, Refusal> {
+    let mut key = ListOf::new(alloc);
+    key.push(Value::Int(number))?;
+    Ok(key)
+}
+
+fn is_made(arena: &Arena, object: ObjId) -> bool
+    ensures { IsTrue result → IsObject arena.now object }
+{
+    0 < object.0 && object.0 <= arena.count()
+}
+
+// Whether the key's cell of a new object gives a value this answer, and holds this then.
+fn answers(
+    alloc: Global,
+    value: Value,
+    answer: Result<(), Refusal>,
+    held: Value,
+) -> Result<bool, Refusal> {
+    let mapping = declared(alloc)?;
+    if mapping.count() == 0 || !mapping.is_configured() {
+        return Ok(false);
+    }
+    if mapping.attributes(ClassId(0)).is_empty() {
+        return Ok(false);
+    }
+    let mut arena = Arena::new(alloc);
+    let object = arena.make(&mapping, ClassId(0))?;
+    let given = arena.set_cell(&mapping, object, AttrNo(0), value);
+    Ok(given == answer && shows(&arena, object, held))
+}
+
+// Whether the first cell of an object shows a value.
+fn shows(arena: &Arena, object: ObjId, wanted: Value) -> bool {
+    if !is_made(arena, object) || arena.object(object).cells.is_empty() {
+        return false;
+    }
+    match arena.get_cell(object, AttrNo(0)) {
+        CellRead::Held(value) => *value == wanted,
+        CellRead::Expired => false,
+    }
+}
+
+fn register(alloc: Global, arena: &mut Arena, object: ObjId, number: i64) -> Result<(), Refusal> {
+    if !is_made(arena, object) {
+        return Err(Refusal::NotBuilt);
+    }
+    arena.register(object, key(alloc, number)?)
+}
+
+fn detach(arena: &mut Arena, object: ObjId) -> Result<(), Refusal> {
+    if !is_made(arena, object) || arena.object(object).identity.is_none() {
+        return Err(Refusal::NotBuilt);
+    }
+    arena.put_state(object, State::Detached)
+}
+
+fn expire(arena: &mut Arena, object: ObjId) {
+    if is_made(arena, object) {
+        if let State::Persistent = arena.state_of(object) {
+            arena.expire(object);
+        }
+    }
+}
+
+fn put_back(arena: &mut Arena, object: ObjId) {
+    if is_made(arena, object) {
+        arena.put_back(object, State::Transient, None);
+    }
+}
+
+// Two objects of the class, and no more.
+fn two(alloc: Global, mapping: &Mapping) -> Result<Arena, Refusal> {
+    let mut arena = Arena::new(alloc);
+    if mapping.count() == 0 || !mapping.is_configured() {
+        return Ok(arena);
+    }
+    arena.make(mapping, ClassId(0))?;
+    arena.make(mapping, ClassId(0))?;
+    Ok(arena)
+}
+
+// Whether the object stands for the key 7.
+fn stands(alloc: Global, arena: &Arena, object: ObjId) -> Result<bool, Refusal> {
+    Ok(arena.find_identity(ClassId(0), &key(alloc, 7)?) == Some(object))
+}
+
+#[test]
+fn a_cell_takes_values_of_its_kind(rt: HostRuntime) -> Result<(), Fail> {
+    let alloc = rt.alloc();
+    let mismatch = Refusal::TypeMismatch(Kind::Integer, Kind::Boolean);
+    assert!(rt; answers(alloc, Value::Int(7), Ok(()), Value::Int(7))?);
+    assert!(rt; answers(alloc, Value::Bool(true), Err(mismatch), Value::Null)?);
+    Ok(())
+}
+
+// The first object takes a key, and the second is refused it.
+fn first_stands(alloc: Global, arena: &mut Arena) -> Result<bool, Refusal> {
+    register(alloc, arena, ObjId(1), 7)?;
+    let taken = register(alloc, arena, ObjId(2), 7);
+    let conflict = Err(Refusal::InvalidRequestError(RequestKind::IdentityConflict));
+    Ok(taken == conflict && stands(alloc, arena, ObjId(1))?)
+}
+
+// The first object leaves, and the second takes the key.
+fn second_stands(alloc: Global, arena: &mut Arena) -> Result<bool, Refusal> {
+    expire(arena, ObjId(1));
+    detach(arena, ObjId(1))?;
+    register(alloc, arena, ObjId(2), 7)?;
+    stands(alloc, arena, ObjId(2))
+}
+
+#[test]
+fn one_object_stands_for_a_key_until_it_leaves(rt: HostRuntime) -> Result<(), Fail> {
+    let alloc = rt.alloc();
+    let mapping = declared(alloc)?;
+    let mut arena = two(alloc, &mapping)?;
+    assert!(rt; arena.count() == 2);
+    assert!(rt; first_stands(alloc, &mut arena)?);
+    assert!(rt; second_stands(alloc, &mut arena)?);
+    put_back(&mut arena, ObjId(2));
+    assert!(rt; !stands(alloc, &arena, ObjId(2))?);
+    Ok(())
+}
