@@ -1,9 +1,10 @@
 //! A source and a sink in memory, with lists of the calls that fail.
 
-ghost use Rattle.std.specs.Prelude.{min, take, ◌≡◌, ◌<◌, ◌≤◌, ◌↔◌, ℕ, [], length, IfOk, IsErr, IsErrOf, Contains, Some};
+ghost use Rattle.std.specs.Prelude.{min, take, ◌≡◌, ◌<◌, ◌≤◌, ◌↔◌, ℕ, [], length, IfErr, IfOk, IsErr, IsErrOf, Contains, Some};
 ghost use Rattle.std.specs.Io.{ReadsAtMost, WritesAtMost};
 ghost use Rattle.std.specs.Io.KnownBytes.{ReadConsumes, WriteAppends};
 ghost use Rattle.base_core.specs.Counts.{Rose, one_more};
+ghost use Rattle.base_core.specs.declared.refusal.Refusal.TheVariants.{Memory};
 
 use crate::{ReadFault, Sink, SinkStop, Source};
 use base_core::Refusal;
@@ -35,7 +36,8 @@ impl Model for MemSource {
 impl MemSource {
     /// A source of these bytes; its reads of these numbers, from 1, fail. The only refusal is want of memory.
     pub fn new(alloc: Global, bytes: &[u8], failing: &[u64]) -> Result<MemSource, Refusal>
-        ensures { IfOk result (λ s. s ≡ record { left = bytes.now; calls = 0; failing = failing.now; faults = 0 }) }
+        ensures cause { IfErr result (λ e. e ≡ Memory) }
+        ensures made { IfOk result (λ s. s ≡ record { left = bytes.now; calls = 0; failing = failing.now; faults = 0 }) }
     {
         Ok(MemSource {
             bytes: Vec::from_slice(alloc, bytes)?,
@@ -104,7 +106,8 @@ impl Model for MemSink {
 impl MemSink {
     /// An empty sink; its writes of these numbers, from 1, fail. The only refusal is want of memory.
     pub fn new(alloc: Global, failing: &[u64]) -> Result<MemSink, Refusal>
-        ensures { IfOk result (λ s. s ≡ record { written = []; calls = 0; failing = failing.now; faults = 0 }) }
+        ensures cause { IfErr result (λ e. e ≡ Memory) }
+        ensures made { IfOk result (λ s. s ≡ record { written = []; calls = 0; failing = failing.now; faults = 0 }) }
     {
         Ok(MemSink {
             bytes: Vec::new(alloc),
