@@ -1,1 +1,5 @@
+pub mod Alone
+pub mod Naming
+pub mod Replies
 pub mod ShellState
+pub mod Step

@@ -1,45 +1,67 @@
--- What holds of a shell and a keeper between two lines.
-use Rattle.std.specs.Prelude.{◌≡◌, ◌≢◌, ℕ, ◌≤◌, true, false, Result, Ok, Err, IfErr}
-use Rattle.base_core.specs.Counts.{Rose}
+-- What is seen of a shell between two lines, and how a keeper stands beside it.
+use Rattle.std.specs.Prelude.{◌≡◌, ℕ, Bool, true, false, List, [], Option, None, Result, Ok, Err}
 use Rattle.base_core.specs.declared.refusal.Refusal.{Refusal}
+use Rattle.base_core.specs.declared.ids.ClassId.{ClassId}
+use Rattle.base_core.specs.declared.ids.ObjId.{ObjId}
+use Rattle.mapper_core.specs.Mapped.{IsClass, Mapped}
+use Rattle.object_arena.specs.Graph.{IsObject}
 use Rattle.keeper_core.specs.Acting.{ends_early}
 use Rattle.keeper_core.specs.Moment.{Moment}
 use Rattle.session_core.specs.SessionState.{IsInStep}
-use Rattle.shell_steps.specs.declared.shell.Stage.{Stage}
-use Rattle.shell_steps.specs.declared.shell.Stage.TheVariants.{Declaring, Configured}
+use Rattle.shell_parts.specs.declared.block.Block.{Block}
+use Rattle.shell_parts.specs.declared.names.Bound.{Bound}
+use Rattle.shell_steps.specs.declared.stage.Stage.{Stage}
+use Rattle.shell_steps.specs.declared.stage.Stage.TheVariants.{Declaring, Configured}
 
--- no session is open yet
-abbrev pub IsDeclaring : Stage → Type 0
-IsDeclaring (Declaring mapping) = Unit {0}
-IsDeclaring (Configured session) = ⊥
+-- a shell: what is declared or the session, the names that are bound, the block that is open, the number of the last
+-- line, and whether some command was refused
+pub record ShellState : Type 0 where
+  pub stage : Stage
+  pub names : List (List ℕ × Bound)
+  pub block : Option Block
+  pub line : ℕ
+  pub refused : Bool
 
--- the keeper took its target and is in step with the session; before there is one it has no scope
+-- a mapping that declares nothing
+abbrev pub new_mapping : Mapped
+new_mapping = record { schema = record { tables = []; resolved = false }; classes = []; configured = false }
+
+-- a shell before the first line
+abbrev pub new_shell : ShellState
+new_shell = record { stage = Declaring new_mapping; names = []; block = None; line = 0; refused = false }
+
+-- the mapping that is declared, or that of the session
+abbrev pub mapping_of : Stage → Mapped
+mapping_of (Declaring mapping) = mapping
+mapping_of (Configured session) = session.mapping
+
+-- the keeper took its target and is in step with the session, whose tables have their targets; before there is a session it
+-- has no scope
 abbrev pub IsReady : {W : Type 0} → Stage → Moment W → Type 0
 IsReady (Declaring mapping) moment = (moment.attached ≡ true) × (moment.depth ≡ 0)
-IsReady (Configured session) moment = IsInStep session moment
+IsReady (Configured session) moment = (session.mapping.schema.resolved ≡ true) × IsInStep session moment
 
 -- a line keeps it so, unless memory or the store ended it early
 abbrev pub StaysReady : {A W : Type 0} → Result A Refusal → Stage → Moment W → Type 0
 StaysReady (Ok x) stage moment = IsReady stage moment
 StaysReady (Err e) stage moment = ends_early e ≡ false → IsReady stage moment
 
--- the same session is open, or none
-abbrev pub IsSameStage : Stage → Stage → Type 0
-IsSameStage (Declaring old) (Declaring new) = Unit {0}
-IsSameStage (Configured old) new = new ≡ Configured old
-IsSameStage (Declaring old) (Configured new) = ⊥
+-- a keeper that was ready is so still: a session that opened has no transaction, and one that was open has the same mapping
+-- and scopes
+abbrev pub IsKept : Stage → Stage → Type 0
+IsKept (Declaring old) (Declaring new) = Unit {0}
+IsKept (Declaring old) (Configured new) = (new.mapping.schema.resolved ≡ true) × (new.in_transaction ≡ false)
+IsKept (Configured old) (Declaring new) = ⊥
+IsKept (Configured old) (Configured new) = (new.mapping ≡ old.mapping) × (new.in_transaction ≡ old.in_transaction)
 
--- no session was open, and now one without a transaction may be; one that was open stays
-abbrev pub IsOpened : Stage → Stage → Type 0
-IsOpened (Declaring old) (Declaring new) = Unit {0}
-IsOpened (Declaring old) (Configured new) = new.in_transaction ≡ false
-IsOpened (Configured old) new = new ≡ Configured old
+-- the object is one of the session's
+abbrev pub HasObject : Stage → ObjId → Type 0
+HasObject (Declaring mapping) object = Unit {0}
+HasObject (Configured session) object = IsObject session.graph object
 
--- the same scopes are open
-abbrev pub IsSameScopes : Stage → Stage → Type 0
-IsSameScopes (Declaring old) new = new ≡ Declaring old
-IsSameScopes (Configured old) (Declaring new) = ⊥
-IsSameScopes (Configured old) (Configured new) = new.in_transaction ≡ old.in_transaction
+-- the class is one of the session's, which is open
+abbrev pub HasClass : Stage → ClassId → Type 0
+HasClass stage class = IsClass (mapping_of stage) class × ((mapping_of stage).configured ≡ true)
 
 -- the depth stays, unless memory or the store ended the call early
 abbrev pub DepthStays : {A W : Type 0} → Result A Refusal → Moment W → Moment W → Type 0

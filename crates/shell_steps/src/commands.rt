@@ -1,31 +1,194 @@
-//! The commands that are done over the mapping and the session.
+//! The commands that are done over the mapping, the session and the keeper.
 
-ghost use Rattle.std.specs.Prelude.{◌≡◌, ◌≢◌, ◌≤◌, ◌<◌, true, false, IfOk, IfErr, Err};
-ghost use Rattle.keeper_core.specs.Acting.{ends_early};
-ghost use Rattle.keeper_core.specs.Moment.{Acts};
+ghost use Rattle.std.specs.Prelude.{◌≡◌, ◌≤◌, ◌<◌, ◌++◌, true, false, length, IfErr, IfOk, OnOk};
+ghost use Rattle.keeper_core.specs.Acting.{change, each, ends_early};
+ghost use Rattle.keeper_core.specs.Beside.{moment_beside};
+ghost use Rattle.keeper_core.specs.Moment.{Runs};
+ghost use Rattle.std.specs.List.{All};
 ghost use Rattle.schema_core.specs.Catalog.{IsTable};
-ghost use Rattle.mapper_core.specs.Mapped.{IsClass};
-ghost use Rattle.object_arena.specs.Graph.{IsObject};
+ghost use Rattle.schema_core.specs.DependencyOrder.{dependency_order};
 ghost use Rattle.session_core.specs.SessionState.{IsInStep, StaysInStep};
-ghost use Rattle.shell_steps.specs.ShellState.{DepthStays, IsOpened, IsReady, IsSameScopes, StaysReady};
+ghost use Rattle.session_core.specs.Making.{made};
+ghost use Rattle.session_core.specs.Steps as session;
+ghost use Rattle.shell_steps.specs.Alone.{Turns, alone};
+ghost use Rattle.shell_steps.specs.ShellState.{DepthStays, HasClass, HasObject, IsKept, IsReady, StaysReady};
+ghost use Rattle.shell_steps.specs.Step as step;
 
-use crate::shell::Stage;
+use crate::shell::Shell;
+use crate::stage::Stage;
 use base_core::{
-    AttrNo, ClassId, Copied, ListOf, Name, ObjId, Refusal, RequestKind, TableId, Value,
+    AttrNo, ClassId, ListOf, Name, ObjId, Refusal, RequestKind, RowList, TableId, Value,
 };
 use keeper_core::{Keeper, calls};
 use mapper_core::Mapping;
-use script_types::Term;
+use schema_core::Schema;
 use session_core::Session;
-use shell_parts::{Bound, Names, Reply};
+use shell_parts::{Bound, Reply};
 use std::alloc::Global;
 use std::mem;
 
+impl Shell {
+    /// Checks all declarations, closes the mapping and opens the session.
+    ///
+    /// # Errors
+    /// `Configured` where that was done, and `ArgumentError` for the first wrong declaration.
+    #[tactic(auto, using(crate::proofs::Shells::acting), unfolding(crate::specs::Step::configure))]
+    pub(crate) fn configure(&mut self) -> Result<Reply, Refusal>
+        ensures step { Runs alone (λ reply. reply) step.configure self.old result self.new }
+        ensures kept { IsKept self.old.stage self.new.stage }
+    {
+        self.open_session()?;
+        Ok(Reply::new(self.alloc))
+    }
+
+    /// The stage after `configure`.
+    #[tactic(auto, using(crate::proofs::Shells::acting))]
+    fn open_session(&mut self) -> Result<(), Refusal>
+        ensures step { Runs alone (λ u. u) (step.goes step.configured) self.old result self.new }
+        ensures kept { IsKept self.old.stage self.new.stage }
+    {
+        open_session(self.alloc, &mut self.stage)
+    }
+
+    /// Makes the tables that are not there, in the order of their dependencies.
+    ///
+    /// # Errors
+    /// `NotConfigured`, and `InTransaction`.
+    #[tactic(auto, using(crate::proofs::Shells::tables), unfolding(crate::specs::Step::create_all))]
+    pub(crate) fn create_all<K: Keeper>(&mut self, keeper: &mut K) -> Result<Reply, Refusal>
+        requires { IsReady self.old.stage (K.moment keeper.old) }
+        ensures step { Runs (moment_beside K.moment) (λ reply. reply) step.create_all (self.old, keeper.old) result (self.new, keeper.new) }
+        ensures ready { StaysReady result self.new.stage (K.moment keeper.new) }
+    {
+        let Stage::Configured(session) = &self.stage else {
+            return Err(Refusal::InvalidRequestError(RequestKind::NotConfigured));
+        };
+        create_all(self.alloc, session, keeper)
+    }
+
+    /// Answers the created tables with their rows, in the order of declaration.
+    ///
+    /// # Errors
+    /// `NotConfigured`.
+    #[tactic(auto, using(crate::proofs::Shells::tables), unfolding(crate::specs::Step::dump))]
+    pub(crate) fn dump<K: Keeper>(&mut self, keeper: &mut K) -> Result<Reply, Refusal>
+        requires { IsReady self.old.stage (K.moment keeper.old) }
+        ensures step { Runs (moment_beside K.moment) (λ reply. reply) step.dump (self.old, keeper.old) result (self.new, keeper.new) }
+        ensures ready { StaysReady result self.new.stage (K.moment keeper.new) }
+    {
+        let Stage::Configured(session) = &self.stage else {
+            return Err(Refusal::InvalidRequestError(RequestKind::NotConfigured));
+        };
+        dump_all(self.alloc, session, keeper)
+    }
+
+    /// Makes a transient object of a class with values for its attributes, and binds it to a name.
+    ///
+    /// # Errors
+    /// `NotConfigured`; `Unknown` for a class or an attribute that is not there, and `WrongKind` for an attribute that is
+    /// given twice, in the order of the line; then what the session refuses.
+    #[tactic(auto, using(crate::proofs::Shells::acting), unfolding(crate::specs::Step::make))]
+    pub(crate) fn make(
+        &mut self,
+        name: &Name,
+        class: &Name,
+        given: &ListOf<(Name, Value)>,
+    ) -> Result<Reply, Refusal>
+        ensures step { Runs alone (λ reply. reply) (step.make name.now class.now given.now) self.old result self.new }
+        ensures kept { IsKept self.old.stage self.new.stage }
+    {
+        let class = self.class_named(class)?;
+        let cells = self.cells_named(class, given.as_slice())?;
+        let object = self.make_object(class, cells.as_slice())?;
+        self.bind(name, class, object)?;
+        Ok(Reply::new(self.alloc))
+    }
+
+    /// Makes a transient object of a class with these values.
+    #[tactic(auto, using(crate::proofs::Shells::acting))]
+    fn make_object(&mut self, class: ClassId, cells: &[(AttrNo, Value)]) -> Result<ObjId, Refusal>
+        requires { HasClass self.old.stage class }
+        ensures step { Runs alone (λ object. object) (step.in_session_alone (made class cells.now)) self.old result self.new }
+        ensures kept { IsKept self.old.stage self.new.stage }
+    {
+        match &mut self.stage {
+            Stage::Declaring(_) => { Err(Refusal::InvalidRequestError(RequestKind::NotConfigured)) }
+            Stage::Configured(session) => session.make(class, cells),
+        }
+    }
+
+    /// The name stands for the object.
+    #[tactic(auto, using(crate::proofs::Shells::acting))]
+    fn bind(&mut self, name: &Name, class: ClassId, object: ObjId) -> Result<(), Refusal>
+        ensures step { Runs alone (λ u. u) (change (step.with_bound name.now class object)) self.old result self.new }
+        ensures stage { self.new.stage ≡ self.old.stage }
+    {
+        self.names.bind(name, Bound::Object(object, class))?;
+        Ok(())
+    }
+
+    /// Adds the object of a name to the session.
+    ///
+    /// # Errors
+    /// `NotConfigured`, `Unknown` and `WrongKind`; then what the session refuses.
+    #[tactic(auto, using(crate::proofs::Shells::acting), unfolding(crate::specs::Step::add))]
+    pub(crate) fn add<K: Keeper>(&mut self, keeper: &mut K, name: &Name) -> Result<Reply, Refusal>
+        requires { IsReady self.old.stage (K.moment keeper.old) }
+        ensures step { Runs (moment_beside K.moment) (λ reply. reply) (step.add name.now) (self.old, keeper.old) result (self.new, keeper.new) }
+        ensures ready { StaysReady result self.new.stage (K.moment keeper.new) }
+    {
+        let object = self.object_named(name)?;
+        self.add_object(keeper, object)?;
+        Ok(Reply::new(self.alloc))
+    }
+
+    /// Adds an object to the session.
+    #[tactic(auto, using(crate::proofs::Shells::acting))]
+    fn add_object<K: Keeper>(&mut self, keeper: &mut K, object: ObjId) -> Result<(), Refusal>
+        requires object { HasObject self.old.stage object }
+        requires ready { IsReady self.old.stage (K.moment keeper.old) }
+        ensures step { Runs (moment_beside K.moment) (λ u. u) (step.in_session (session.add object)) (self.old, keeper.old) result (self.new, keeper.new) }
+        ensures ready { StaysReady result self.new.stage (K.moment keeper.new) }
+    {
+        match &mut self.stage {
+            Stage::Declaring(_) => { Err(Refusal::InvalidRequestError(RequestKind::NotConfigured)) }
+            Stage::Configured(session) => session.add(keeper, object),
+        }
+    }
+
+    /// Writes what is pending, and commits.
+    ///
+    /// # Errors
+    /// `NotConfigured`; then what the session refuses.
+    #[tactic(auto, using(crate::proofs::Shells::acting), unfolding(crate::specs::Step::commit))]
+    pub(crate) fn commit<K: Keeper>(&mut self, keeper: &mut K) -> Result<Reply, Refusal>
+        requires { IsReady self.old.stage (K.moment keeper.old) }
+        ensures step { Runs (moment_beside K.moment) (λ reply. reply) step.commit (self.old, keeper.old) result (self.new, keeper.new) }
+        ensures ready { StaysReady result self.new.stage (K.moment keeper.new) }
+    {
+        self.commit_session(keeper)?;
+        Ok(Reply::new(self.alloc))
+    }
+
+    /// Commits the session.
+    #[tactic(auto, using(crate::proofs::Shells::acting))]
+    fn commit_session<K: Keeper>(&mut self, keeper: &mut K) -> Result<(), Refusal>
+        requires { IsReady self.old.stage (K.moment keeper.old) }
+        ensures step { Runs (moment_beside K.moment) (λ u. u) (step.in_session session.commit) (self.old, keeper.old) result (self.new, keeper.new) }
+        ensures ready { StaysReady result self.new.stage (K.moment keeper.new) }
+    {
+        match &mut self.stage {
+            Stage::Declaring(_) => { Err(Refusal::InvalidRequestError(RequestKind::NotConfigured)) }
+            Stage::Configured(session) => session.commit(keeper),
+        }
+    }
+}
+
 /// Checks all declarations, closes the mapping and opens the session.
-#[tactic(auto, using(keeper_core::proofs::ActsLemmas::acting))]
-pub fn configure(alloc: Global, stage: &mut Stage) -> Result<(), Refusal>
-    ensures cause { IfErr result (λ e. e ≢ Refusal.KeeperFault) }
-    ensures opened { IsOpened stage.old stage.new }
+#[tactic(auto, using(crate::proofs::AloneLemmas::standing), unfolding(crate::specs::Step::configured))]
+fn open_session(alloc: Global, stage: &mut Stage) -> Result<(), Refusal>
+    ensures step { Turns (step.configured stage.old) stage.old result stage.new }
+    ensures kept { IsKept stage.old stage.new }
 {
     let Stage::Declaring(mapping) = stage else {
         return Err(Refusal::InvalidRequestError(RequestKind::Configured));
@@ -40,227 +203,151 @@ pub fn configure(alloc: Global, stage: &mut Stage) -> Result<(), Refusal>
     Ok(())
 }
 
-/// Makes the tables that are not there, in the order of their dependencies.
-#[tactic(auto, using(keeper_core::proofs::ActsLemmas::acting))]
-pub fn create_all<K: Keeper>(alloc: Global, stage: &Stage, keeper: &mut K) -> Result<(), Refusal>
-    requires { IsReady stage.now (K.moment keeper.old) }
-    ensures acts { Acts (K.moment keeper.old) result (K.moment keeper.new) }
-    ensures ready { StaysReady result stage.now (K.moment keeper.new) }
+/// Whether a transaction is in progress, or a failed one awaits its rollback.
+fn is_open(session: &Session) -> bool
+    ensures open { result ≡ step.is_open session.now }
+    ensures outside { result ≡ false → session.now.in_transaction ≡ false }
 {
-    let Stage::Configured(session) = stage else {
-        return Err(Refusal::InvalidRequestError(RequestKind::NotConfigured));
-    };
-    if session.depth() > 0 {
-        return Err(Refusal::InvalidRequestError(RequestKind::InTransaction));
-    }
-    create_tables(alloc, session.mapping(), keeper)
+    session.depth() > 0
 }
 
-/// Makes the tables that are not there, in the order of declaration.
-#[tactic(auto, using(keeper_core::proofs::ActsLemmas::acting))]
-fn create_tables<K: Keeper>(alloc: Global, mapping: &Mapping, keeper: &mut K) -> Result<(), Refusal>
+/// Makes the tables of a session that are not there, outside transactions.
+#[tactic(auto, using(keeper_core::proofs::Sequence::sequence, crate::proofs::Shells::creates), unfolding(crate::specs::Step::creating))]
+fn create_all<K: Keeper>(alloc: Global, session: &Session, keeper: &mut K) -> Result<Reply, Refusal>
+    requires resolved { session.now.mapping.schema.resolved ≡ true }
+    requires in_step { IsInStep session.now (K.moment keeper.old) }
+    ensures step { Runs K.moment (λ reply. reply) (step.creating session.now) keeper.old result keeper.new }
+    ensures in_step { StaysInStep result session.now (K.moment keeper.new) }
+{
+    if is_open(session) {
+        return Err(Refusal::InvalidRequestError(RequestKind::InTransaction));
+    }
+    create_tables(alloc, keeper, session.mapping().schema())?;
+    Ok(Reply::new(alloc))
+}
+
+/// The tables in the order of their dependencies.
+#[tactic(auto, using(crate::proofs::Tables::order_declared))]
+fn order_of(alloc: Global, schema: &Schema) -> Result<Vec<TableId>, Refusal>
+    requires { schema.now.resolved ≡ true }
+    ensures order { IfOk result (λ order. order.items ≡ dependency_order schema.now) }
+    ensures declared { IfOk result (λ order. All (IsTable schema.now) order.items) }
+    ensures cause { IfErr result (λ e. e ≡ Refusal.Memory) }
+{
+    schema.tables_in_order(alloc)
+}
+
+/// Makes the tables that are not there, in the order of their dependencies.
+#[tactic(auto, using(keeper_core::proofs::Sequence::sequence), unfolding(crate::specs::Step::create_tables))]
+fn create_tables<K: Keeper>(alloc: Global, keeper: &mut K, schema: &Schema) -> Result<(), Refusal>
     requires attached { (K.moment keeper.old).attached ≡ true }
     requires outside { (K.moment keeper.old).depth ≡ 0 }
-    ensures acts { Acts (K.moment keeper.old) result (K.moment keeper.new) }
+    requires resolved { schema.now.resolved ≡ true }
+    ensures step { Runs K.moment (λ u. u) (step.create_tables schema.now) keeper.old result keeper.new }
     ensures attached { (K.moment keeper.new).attached ≡ true }
     ensures depth { (K.moment keeper.new).depth ≡ 0 }
 {
-    let schema = mapping.schema();
-    for number in 0..schema.count() {
-        calls::create(alloc, keeper, schema, TableId(number))?;
+    let order = order_of(alloc, schema)?;
+    create_each(alloc, keeper, schema, order.as_slice())
+}
+
+/// Makes the tables of an order that are not there.
+#[tactic(auto, using(crate::proofs::Tables::orders))]
+fn create_each<K: Keeper>(
+    alloc: Global,
+    keeper: &mut K,
+    schema: &Schema,
+    order: &[TableId],
+) -> Result<(), Refusal>
+    requires attached { (K.moment keeper.old).attached ≡ true }
+    requires outside { (K.moment keeper.old).depth ≡ 0 }
+    requires declared { All (IsTable schema.now) order.now }
+    ensures step { Runs K.moment (λ u. u) (each step.create_one tt order.now) keeper.old result keeper.new }
+    ensures attached { (K.moment keeper.new).attached ≡ true }
+    ensures depth { (K.moment keeper.new).depth ≡ 0 }
+{
+    for table in order {
+        create_one(alloc, keeper, schema, *table)?;
     }
     Ok(())
 }
 
-/// Answers each created table with its rows, in the order of declaration.
-#[tactic(auto, using(keeper_core::proofs::ActsLemmas::acting))]
-pub fn dump<K: Keeper>(
+/// Makes a table where it is not there.
+#[tactic(auto, using(keeper_core::proofs::Sequence::sequence), unfolding(crate::specs::Step::create_one))]
+fn create_one<K: Keeper>(
     alloc: Global,
-    stage: &Stage,
     keeper: &mut K,
-    reply: &mut Reply,
-) -> Result<(), Refusal>
-    requires { IsReady stage.now (K.moment keeper.old) }
-    ensures acts { Acts (K.moment keeper.old) result (K.moment keeper.new) }
-    ensures ready { StaysReady result stage.now (K.moment keeper.new) }
-{
-    let Stage::Configured(session) = stage else {
-        return Err(Refusal::InvalidRequestError(RequestKind::NotConfigured));
-    };
-    dump_tables(alloc, session.mapping(), keeper, reply)
-}
-
-/// Answers each created table with its rows.
-#[tactic(auto, using(keeper_core::proofs::ActsLemmas::acting))]
-fn dump_tables<K: Keeper>(
-    alloc: Global,
-    mapping: &Mapping,
-    keeper: &mut K,
-    reply: &mut Reply,
-) -> Result<(), Refusal>
-    requires { (K.moment keeper.old).attached ≡ true }
-    ensures acts { Acts (K.moment keeper.old) result (K.moment keeper.new) }
-    ensures depth { DepthStays result (K.moment keeper.old) (K.moment keeper.new) }
-{
-    for number in 0..mapping.schema().count() {
-        dump_table(alloc, mapping, keeper, reply, TableId(number))?;
-    }
-    Ok(())
-}
-
-/// Answers a table with its rows, where it was created.
-#[tactic(auto, using(keeper_core::proofs::ActsLemmas::acting))]
-fn dump_table<K: Keeper>(
-    alloc: Global,
-    mapping: &Mapping,
-    keeper: &mut K,
-    reply: &mut Reply,
+    schema: &Schema,
     table: TableId,
 ) -> Result<(), Refusal>
     requires attached { (K.moment keeper.old).attached ≡ true }
-    requires declared { IsTable mapping.now.schema table }
-    ensures acts { Acts (K.moment keeper.old) result (K.moment keeper.new) }
+    requires outside { (K.moment keeper.old).depth ≡ 0 }
+    requires declared { IsTable schema.now table }
+    ensures step { Runs K.moment (λ u. u) (step.create_one table tt) keeper.old result keeper.new }
+    ensures attached { (K.moment keeper.new).attached ≡ true }
+    ensures depth { (K.moment keeper.new).depth ≡ 0 }
+{
+    calls::create(alloc, keeper, schema, table)?;
+    Ok(())
+}
+
+/// Answers the created tables of a session with their rows.
+#[tactic(auto, unfolding(crate::specs::Step::dumping))]
+fn dump_all<K: Keeper>(alloc: Global, session: &Session, keeper: &mut K) -> Result<Reply, Refusal>
+    requires { IsInStep session.now (K.moment keeper.old) }
+    ensures step { Runs K.moment (λ reply. reply) (step.dumping session.now) keeper.old result keeper.new }
+    ensures in_step { StaysInStep result session.now (K.moment keeper.new) }
+{
+    dump_tables(alloc, keeper, session.mapping().schema())
+}
+
+/// Answers the created tables with their rows, in the order of declaration.
+#[tactic(auto, using(crate::proofs::Tables::tables), unfolding(crate::specs::Step::dump_tables))]
+fn dump_tables<K: Keeper>(alloc: Global, keeper: &mut K, schema: &Schema) -> Result<Reply, Refusal>
+    requires attached { (K.moment keeper.old).attached ≡ true }
+    ensures step { Runs K.moment (λ reply. reply) (step.dump_tables schema.now) keeper.old result keeper.new }
     ensures depth { DepthStays result (K.moment keeper.old) (K.moment keeper.new) }
 {
-    match calls::scan(alloc, keeper, mapping.schema(), table)? {
-        Some(rows) => reply.put_table(mapping.schema().spec(table), &rows),
-        None => Ok(()),
+    let mut reply = Reply::new(alloc);
+    for number in 0..schema.count() {
+        reply = dump_one(alloc, keeper, schema, TableId(number), reply)?;
     }
+    Ok(reply)
 }
 
-/// Makes a transient object, and binds it to the name.
-pub fn make(
+/// A table and its rows go behind the reply, where it was created.
+#[tactic(auto, using(keeper_core::proofs::Sequence::sequence), unfolding(crate::specs::Step::dump_one))]
+fn dump_one<K: Keeper>(
     alloc: Global,
-    stage: &mut Stage,
-    names: &mut Names,
-    name: &Name,
-    class: &Name,
-    cells: &ListOf<(Name, Value)>,
-) -> Result<(), Refusal>
-    ensures cause { IfErr result (λ e. e ≢ Refusal.KeeperFault) }
-    ensures scopes { IsSameScopes stage.old stage.new }
-{
-    let Stage::Configured(session) = stage else {
-        return Err(Refusal::InvalidRequestError(RequestKind::NotConfigured));
-    };
-    let class = find_class(session.mapping(), class)?;
-    let cells = find_cells(alloc, session.mapping(), class, cells.as_slice())?;
-    let object = session.make(class, cells.as_slice())?;
-    names.bind(name, Bound::Object(object, class))
-}
-
-/// Adds the object of a name to the session.
-#[tactic(auto, using(keeper_core::proofs::ActsLemmas::acting))]
-pub fn add<K: Keeper>(
-    stage: &mut Stage,
-    names: &Names,
     keeper: &mut K,
-    term: &Term,
-) -> Result<(), Refusal>
-    requires { IsReady stage.old (K.moment keeper.old) }
-    ensures acts { Acts (K.moment keeper.old) result (K.moment keeper.new) }
-    ensures ready { StaysReady result stage.new (K.moment keeper.new) }
+    schema: &Schema,
+    table: TableId,
+    reply: Reply,
+) -> Result<Reply, Refusal>
+    requires attached { (K.moment keeper.old).attached ≡ true }
+    requires declared { IsTable schema.now table }
+    ensures step { Runs K.moment (λ reply. reply) (step.dump_one schema.now table reply) keeper.old result keeper.new }
+    ensures attached { (K.moment keeper.new).attached ≡ true }
+    ensures depth { DepthStays result (K.moment keeper.old) (K.moment keeper.new) }
 {
-    if term.index.is_some() {
-        return Err(Refusal::NotBuilt);
-    }
-    let Stage::Configured(session) = stage else {
-        return Err(Refusal::InvalidRequestError(RequestKind::NotConfigured));
-    };
-    let object = find_object(names, session.count(), &term.name)?;
-    session.add(keeper, object)
+    let rows = calls::scan(alloc, keeper, schema, table)?;
+    with_rows(schema, table, rows, reply)
 }
 
-/// Writes what is pending, and commits.
-#[tactic(auto, using(keeper_core::proofs::ActsLemmas::acting))]
-pub fn commit<K: Keeper>(stage: &mut Stage, keeper: &mut K) -> Result<(), Refusal>
-    requires { IsReady stage.old (K.moment keeper.old) }
-    ensures acts { Acts (K.moment keeper.old) result (K.moment keeper.new) }
-    ensures ready { StaysReady result stage.new (K.moment keeper.new) }
+/// The reply with a table and its rows behind it, where there are some. The only refusal is want of memory.
+fn with_rows(
+    schema: &Schema,
+    table: TableId,
+    rows: Option<RowList>,
+    reply: Reply,
+) -> Result<Reply, Refusal>
+    requires { IsTable schema.now table }
+    ensures ok { IfOk result (λ text. text ≡ reply ++ step.text_of schema.now table rows) }
+    ensures cause { IfErr result (λ e. e ≡ Refusal.Memory) }
 {
-    let Stage::Configured(session) = stage else {
-        return Err(Refusal::InvalidRequestError(RequestKind::NotConfigured));
-    };
-    session.commit(keeper)
-}
-
-/// No such name stands in its place.
-fn unknown(name: &Name) -> Refusal
-    ensures { result ≢ Refusal.KeeperFault }
-{
-    match name.copied() {
-        Ok(name) => Refusal::InvalidRequestError(RequestKind::Unknown(name)),
-        Err(_) => Refusal::Memory,
+    let mut reply = reply;
+    if let Some(rows) = rows {
+        reply.put_table(schema.spec(table), &rows)?;
     }
-}
-
-/// The class of a name.
-fn find_class(mapping: &Mapping, name: &Name) -> Result<ClassId, Refusal>
-    ensures found { IfOk result (λ class. IsClass mapping.now class) }
-    ensures cause { IfErr result (λ e. e ≢ Refusal.KeeperFault) }
-{
-    match mapping.find_class(name) {
-        Some(class) if class.0 < mapping.count() => Ok(class),
-        _ => Err(unknown(name)),
-    }
-}
-
-/// The attribute of a name.
-fn find_attribute(mapping: &Mapping, class: ClassId, name: &Name) -> Result<AttrNo, Refusal>
-    requires class { IsClass mapping.now class }
-    requires configured { mapping.now.configured ≡ true }
-    ensures { IfErr result (λ e. e ≢ Refusal.KeeperFault) }
-{
-    let mut number = 0u32;
-    for attribute in mapping.attributes(class) {
-        if attribute.name == *name {
-            return Ok(AttrNo(number));
-        }
-        number = number.saturating_add(1);
-    }
-    Err(unknown(name))
-}
-
-/// The cells that are given for attributes by their names; each attribute once.
-fn find_cells(
-    alloc: Global,
-    mapping: &Mapping,
-    class: ClassId,
-    given: &[(Name, Value)],
-) -> Result<ListOf<(AttrNo, Value)>, Refusal>
-    requires class { IsClass mapping.now class }
-    requires configured { mapping.now.configured ≡ true }
-    ensures { IfErr result (λ e. e ≢ Refusal.KeeperFault) }
-{
-    let mut cells: ListOf<(AttrNo, Value)> = ListOf::new(alloc);
-    for (name, value) in given {
-        let attribute = find_attribute(mapping, class, name)?;
-        if has_attribute(&cells, attribute) {
-            return Err(Refusal::InvalidRequestError(RequestKind::WrongKind));
-        }
-        cells.push((attribute, value.copied()?))?;
-    }
-    Ok(cells)
-}
-
-/// Whether a cell was given for an attribute.
-fn has_attribute(cells: &ListOf<(AttrNo, Value)>, attribute: AttrNo) -> bool {
-    for (other, _value) in cells.as_slice() {
-        if other.0 == attribute.0 {
-            return true;
-        }
-    }
-    false
-}
-
-/// The object that a name is bound to, among so many objects.
-fn find_object(names: &Names, count: u32, name: &Name) -> Result<ObjId, Refusal>
-    ensures found { IfOk result (λ object. (0 < object.0) × (object.0 ≤ count)) }
-    ensures cause { IfErr result (λ e. e ≢ Refusal.KeeperFault) }
-{
-    match names.get(name) {
-        Some(Bound::Object(object, _class)) if 0 < object.0 && object.0 <= count => Ok(*object),
-        Some(_) => Err(Refusal::InvalidRequestError(RequestKind::WrongKind)),
-        None => Err(unknown(name)),
-    }
+    Ok(reply)
 }

@@ -3,6 +3,9 @@
 
 mod commands;
 mod lines;
+mod naming;
 mod shell;
+mod stage;
 
-pub use shell::{Shell, Stage};
+pub use shell::Shell;
+pub use stage::Stage;

@@ -1,122 +1,262 @@
 //! The lines of a script.
 
-ghost use Rattle.std.specs.Prelude.{◌≡◌, ◌≢◌, false, IfErr, Err};
-ghost use Rattle.keeper_core.specs.Acting.{ends_early};
-ghost use Rattle.keeper_core.specs.Moment.{Acts};
-ghost use Rattle.shell_steps.specs.ShellState.{IsReady, IsSameStage, StaysReady};
+ghost use Rattle.std.specs.Prelude.{◌≡◌, true, false, IsOk};
+ghost use Rattle.keeper_core.specs.Beside.{moment_beside};
+ghost use Rattle.keeper_core.specs.Moment.{Acts, Runs};
+ghost use Rattle.shell_lines.specs.Lines.{is_built as is_built_line};
+ghost use Rattle.keeper_core.specs.Acting.{change};
+ghost use Rattle.shell_steps.specs.Alone.{Turns, alone, asked};
+ghost use Rattle.shell_steps.specs.ShellState.{IsKept, IsReady, StaysReady};
+ghost use Rattle.shell_steps.specs.Step as step;
 
-use crate::commands;
-use crate::shell::{Shell, Stage};
+use crate::shell::Shell;
+use crate::stage::Stage;
 use base_core::{Refusal, RequestKind};
-use keeper_core::Keeper;
+use keeper_core::{Keeper, calls};
 use script_types::{Command, Inside};
+use shell_lines::{is_built, is_end, read};
 use shell_parts::{Block, Reply};
-use std::alloc::Global;
 use std::mem;
-use thin_read::read_line;
 
 impl Shell {
-    /// Does a line of the script. What it answers goes behind the reply.
+    /// Does a line of the script, the next by number.
     ///
     /// # Errors
     /// Why the line, or the block that it ends, is refused. `Memory` and `KeeperFault` end the run.
-    #[tactic(auto, using(keeper_core::proofs::ActsLemmas::acting))]
-    pub fn do_line<K: Keeper>(
-        &mut self,
-        keeper: &mut K,
-        line: &[u8],
-        reply: &mut Reply,
-    ) -> Result<(), Refusal>
+    #[tactic(auto, using(crate::proofs::Shells::line_counted, crate::proofs::Shells::acts_beside))]
+    pub(crate) fn step<K: Keeper>(&mut self, keeper: &mut K, line: &[u8]) -> Result<Reply, Refusal>
         requires { IsReady self.old.stage (K.moment keeper.old) }
+        ensures step { Runs (moment_beside K.moment) (λ reply. reply) (step.line_step line.now) (self.old, keeper.old) result (self.new, keeper.new) }
         ensures acts { Acts (K.moment keeper.old) result (K.moment keeper.new) }
         ensures ready { StaysReady result self.new.stage (K.moment keeper.new) }
     {
-        let Some(inside) = inside_of(&self.block) else {
-            skip_line(&mut self.block, line);
+        self.count_line();
+        self.do_line(keeper, line)
+    }
+
+    /// One line more.
+    fn count_line(&mut self)
+        ensures { self.new ≡ step.next_line self.old }
+    {
+        self.line = self.line.saturating_add(1);
+    }
+
+    /// Does a line: among skipped lines only the end of the block counts.
+    #[tactic(auto, using(crate::proofs::Shells::acting))]
+    fn do_line<K: Keeper>(&mut self, keeper: &mut K, line: &[u8]) -> Result<Reply, Refusal>
+        requires { IsReady self.old.stage (K.moment keeper.old) }
+        ensures step { Runs (moment_beside K.moment) (λ reply. reply) (step.do_line line.now) (self.old, keeper.old) result (self.new, keeper.new) }
+        ensures ready { StaysReady result self.new.stage (K.moment keeper.new) }
+    {
+        if is_skipped(&self.block) {
+            return self.skip_line(line);
+        }
+        self.read_and_do(keeper, line)
+    }
+
+    /// The end of a block whose lines are skipped; every other line is nothing there.
+    #[tactic(auto, using(crate::proofs::Shells::acting), unfolding(crate::specs::Step::skip_line))]
+    fn skip_line(&mut self, line: &[u8]) -> Result<Reply, Refusal>
+        ensures step { Runs alone (λ reply. reply) (step.skip_line line.now) self.old result self.new }
+        ensures stage { self.new.stage ≡ self.old.stage }
+    {
+        self.end_skipped(is_end(line))?;
+        Ok(Reply::new(self.alloc))
+    }
+
+    /// The block ends, where this is its end.
+    #[tactic(auto, using(crate::proofs::Shells::acting))]
+    fn end_skipped(&mut self, is_end: bool) -> Result<(), Refusal>
+        ensures step { Runs alone (λ u. u) (change (step.unless_end is_end)) self.old result self.new }
+        ensures stage { self.new.stage ≡ self.old.stage }
+    {
+        if !is_end {
             return Ok(());
-        };
-        match read_line(self.alloc, line, inside) {
-            Ok(command) => self.do_command(keeper, command, reply),
+        }
+        self.block = None;
+        Ok(())
+    }
+
+    /// Reads a line, and does what it says.
+    #[tactic(auto, using(crate::proofs::Shells::acting), unfolding(crate::specs::Step::read_and_do))]
+    fn read_and_do<K: Keeper>(&mut self, keeper: &mut K, line: &[u8]) -> Result<Reply, Refusal>
+        requires { IsReady self.old.stage (K.moment keeper.old) }
+        ensures step { Runs (moment_beside K.moment) (λ reply. reply) (step.read_and_do line.now) (self.old, keeper.old) result (self.new, keeper.new) }
+        ensures ready { StaysReady result self.new.stage (K.moment keeper.new) }
+    {
+        let command = self.read(line)?;
+        self.do_command(keeper, command)
+    }
+
+    /// What a line says. In a block the lines behind one that can not be read are skipped.
+    #[tactic(auto, using(crate::proofs::Shells::acting), unfolding(crate::specs::Step::read))]
+    fn read(&mut self, line: &[u8]) -> Result<Command, Refusal>
+        ensures step { Runs alone (λ command. command) (step.read line.now) self.old result self.new }
+        ensures stage { self.new.stage ≡ self.old.stage }
+    {
+        match self.say(line) {
+            Ok(command) => Ok(command),
             Err(refusal) => {
-                skip_block(&mut self.block);
+                if calls::ends_early(&refusal) {
+                    return Err(refusal);
+                }
+                self.skip_block()?;
                 Err(refusal)
             }
         }
     }
 
-    /// Does a command, or takes the line of a block.
-    #[tactic(auto, using(keeper_core::proofs::ActsLemmas::acting))]
-    fn do_command<K: Keeper>(
-        &mut self,
-        keeper: &mut K,
-        command: Command,
-        reply: &mut Reply,
-    ) -> Result<(), Refusal>
-        requires { IsReady self.old.stage (K.moment keeper.old) }
-        ensures acts { Acts (K.moment keeper.old) result (K.moment keeper.new) }
-        ensures ready { StaysReady result self.new.stage (K.moment keeper.new) }
+    /// What a line says in its place.
+    #[tactic(auto, using(crate::proofs::Declaring::reads))]
+    fn say(&self, line: &[u8]) -> Result<Command, Refusal>
+        ensures { Runs alone (λ command. command) (asked (step.said line.now)) self.now result self.now }
     {
-        match mem::replace(&mut self.block, None) {
-            Some(block) => self.do_block_line(keeper, block, command),
-            None => self.do_top_line(keeper, command, reply),
-        }
+        read(self.alloc, line, self.line, place_of(&self.block))
     }
 
-    /// A line of a block: its end declares what it says.
-    #[tactic(auto, using(keeper_core::proofs::ActsLemmas::acting))]
-    fn do_block_line<K: Keeper>(
-        &mut self,
-        _keeper: &mut K,
-        block: Block,
-        command: Command,
-    ) -> Result<(), Refusal>
-        requires { IsReady self.old.stage (K.moment _keeper.old) }
-        ensures acts { Acts (K.moment _keeper.old) result (K.moment _keeper.new) }
-        ensures ready { StaysReady result self.new.stage (K.moment _keeper.new) }
+    /// The lines of the block are skipped from here on.
+    #[tactic(auto, using(crate::proofs::Shells::acting))]
+    fn skip_block(&mut self) -> Result<(), Refusal>
+        ensures step { Runs alone (λ u. u) (change step.skip_block) self.old result self.new }
+        ensures stage { self.new.stage ≡ self.old.stage }
+        ensures done { IsOk result }
     {
-        if let Command::End = command {
-            return declare(&mut self.stage, block);
-        }
-        let mut block = block;
-        block.take(command)?;
-        self.block = Some(block);
-        Ok(())
-    }
-
-    /// A line outside every block.
-    #[tactic(auto, using(keeper_core::proofs::ActsLemmas::acting))]
-    fn do_top_line<K: Keeper>(
-        &mut self,
-        keeper: &mut K,
-        command: Command,
-        reply: &mut Reply,
-    ) -> Result<(), Refusal>
-        requires { IsReady self.old.stage (K.moment keeper.old) }
-        ensures acts { Acts (K.moment keeper.old) result (K.moment keeper.new) }
-        ensures ready { StaysReady result self.new.stage (K.moment keeper.new) }
-    {
-        match command {
-            Command::Skip => Ok(()),
-            Command::Configure => commands::configure(self.alloc, &mut self.stage),
-            Command::CreateAll => commands::create_all(self.alloc, &self.stage, keeper),
-            Command::Dump => commands::dump(self.alloc, &self.stage, keeper, reply),
-            Command::New { name, class, cells } => {
-                commands::make(
-                    self.alloc,
-                    &mut self.stage,
-                    &mut self.names,
-                    &name,
-                    &class,
-                    &cells,
-                )
-            }
-            Command::Add(term) => commands::add(&mut self.stage, &self.names, keeper, &term),
-            Command::Commit(None) => commands::commit(&mut self.stage, keeper),
-            command => {
-                self.block = Some(Block::opened(self.alloc, command, self.line)?);
+        match &mut self.block {
+            None => Ok(()),
+            Some(block) => {
+                block.skip();
                 Ok(())
             }
         }
+    }
+
+    /// Does what a line says in its place.
+    #[tactic(auto, using(crate::proofs::Shells::acting))]
+    fn do_command<K: Keeper>(&mut self, keeper: &mut K, command: Command) -> Result<Reply, Refusal>
+        requires { IsReady self.old.stage (K.moment keeper.old) }
+        ensures step { Runs (moment_beside K.moment) (λ reply. reply) (step.do_command command) (self.old, keeper.old) result (self.new, keeper.new) }
+        ensures ready { StaysReady result self.new.stage (K.moment keeper.new) }
+    {
+        match self.take_block() {
+            Some(block) => self.take(command, block),
+            None => self.do_built(keeper, command),
+        }
+    }
+
+    /// Takes the block that is open out of the shell.
+    fn take_block(&mut self) -> Option<Block>
+        ensures block { result ≡ self.old.block }
+        ensures rest { self.new ≡ step.with_block None self.old }
+    {
+        mem::replace(&mut self.block, None)
+    }
+
+    /// Does what a line outside blocks says, where its form is built.
+    #[tactic(auto, using(crate::proofs::Shells::acting))]
+    fn do_built<K: Keeper>(&mut self, keeper: &mut K, command: Command) -> Result<Reply, Refusal>
+        requires { IsReady self.old.stage (K.moment keeper.old) }
+        ensures step { Runs (moment_beside K.moment) (λ reply. reply) (step.done_if (is_built_line command) command) (self.old, keeper.old) result (self.new, keeper.new) }
+        ensures ready { StaysReady result self.new.stage (K.moment keeper.new) }
+    {
+        if !is_built(&command) {
+            return Err(Refusal::NotBuilt);
+        }
+        self.do_top(keeper, command)
+    }
+
+    /// Does what a line outside blocks says, whose form is built.
+    #[tactic(auto, using(crate::proofs::Shells::acting))]
+    fn do_top<K: Keeper>(&mut self, keeper: &mut K, command: Command) -> Result<Reply, Refusal>
+        requires built { is_built_line command ≡ true }
+        requires ready { IsReady self.old.stage (K.moment keeper.old) }
+        ensures step { Runs (moment_beside K.moment) (λ reply. reply) (step.done command) (self.old, keeper.old) result (self.new, keeper.new) }
+        ensures ready { StaysReady result self.new.stage (K.moment keeper.new) }
+    {
+        match command {
+            Command::Skip => Ok(Reply::new(self.alloc)),
+            Command::Configure => self.configure(),
+            Command::CreateAll => self.create_all(keeper),
+            Command::Dump => self.dump(keeper),
+            Command::New { name, class, cells } => self.make(&name, &class, &cells),
+            Command::Add(term) => self.add(keeper, &term.name),
+            Command::Commit(_savepoint) => self.commit(keeper),
+            head => self.open_block(head),
+        }
+    }
+
+    /// A head opens a block.
+    ///
+    /// # Errors
+    /// `NotBuilt` for every other line.
+    #[tactic(auto, using(crate::proofs::Shells::acting), unfolding(crate::specs::Step::open_block))]
+    fn open_block(&mut self, head: Command) -> Result<Reply, Refusal>
+        ensures step { Runs alone (λ reply. reply) (step.open_block head) self.old result self.new }
+        ensures stage { self.new.stage ≡ self.old.stage }
+    {
+        let block = self.opened(head)?;
+        self.put_block(Some(block))?;
+        Ok(Reply::new(self.alloc))
+    }
+
+    /// The block that a head opens.
+    #[tactic(auto, using(crate::proofs::Declaring::opens))]
+    fn opened(&self, head: Command) -> Result<Block, Refusal>
+        ensures { Runs alone (λ block. block) (asked (step.opened_here head)) self.now result self.now }
+    {
+        Block::opened(self.alloc, head, self.line)
+    }
+
+    /// The block that is open from here on.
+    #[tactic(auto, using(crate::proofs::Shells::acting))]
+    fn put_block(&mut self, block: Option<Block>) -> Result<(), Refusal>
+        ensures step { Runs alone (λ u. u) (change (step.with_block block)) self.old result self.new }
+        ensures stage { self.new.stage ≡ self.old.stage }
+    {
+        self.block = block;
+        Ok(())
+    }
+
+    /// The block ends, or goes on with one more line.
+    #[tactic(auto, using(crate::proofs::Shells::acting))]
+    fn take(&mut self, command: Command, block: Block) -> Result<Reply, Refusal>
+        ensures step { Runs alone (λ reply. reply) (step.taken command block) self.old result self.new }
+        ensures kept { IsKept self.old.stage self.new.stage }
+    {
+        match command {
+            Command::End => self.declare_block(block),
+            command => self.take_line(command, block),
+        }
+    }
+
+    /// The block goes on with the line.
+    #[tactic(auto, using(crate::proofs::Shells::acting), unfolding(crate::specs::Step::take_line))]
+    fn take_line(&mut self, command: Command, block: Block) -> Result<Reply, Refusal>
+        ensures step { Runs alone (λ reply. reply) (step.take_line command block) self.old result self.new }
+        ensures stage { self.new.stage ≡ self.old.stage }
+    {
+        let mut block = block;
+        block.take(command)?;
+        self.put_block(Some(block))?;
+        Ok(Reply::new(self.alloc))
+    }
+
+    /// What the block says is declared.
+    #[tactic(auto, using(crate::proofs::Shells::acting), unfolding(crate::specs::Step::declare_block))]
+    fn declare_block(&mut self, block: Block) -> Result<Reply, Refusal>
+        ensures step { Runs alone (λ reply. reply) (step.declare_block block) self.old result self.new }
+        ensures kept { IsKept self.old.stage self.new.stage }
+    {
+        self.declare(block)?;
+        Ok(Reply::new(self.alloc))
+    }
+
+    /// The stage after a block's declaration.
+    #[tactic(auto, using(crate::proofs::Shells::acting))]
+    fn declare(&mut self, block: Block) -> Result<(), Refusal>
+        ensures step { Runs alone (λ u. u) (step.goes (step.declared block)) self.old result self.new }
+        ensures kept { IsKept self.old.stage self.new.stage }
+    {
+        declare(&mut self.stage, block)
     }
 }
 
@@ -124,9 +264,10 @@ impl Shell {
 ///
 /// # Errors
 /// `NotBuilt` where its form is not built; `Configured` where the mapping is; then the declaration's own refusals.
+#[tactic(auto, using(crate::proofs::Declaring::declaring), unfolding(crate::specs::Step::declared))]
 fn declare(stage: &mut Stage, block: Block) -> Result<(), Refusal>
-    ensures cause { IfErr result (λ e. e ≢ Refusal.KeeperFault) }
-    ensures stage { IsSameStage stage.old stage.new }
+    ensures step { Turns (step.declared block stage.old) stage.old result stage.new }
+    ensures kept { IsKept stage.old stage.new }
 {
     if !block.is_built() {
         return Err(Refusal::NotBuilt);
@@ -137,45 +278,22 @@ fn declare(stage: &mut Stage, block: Block) -> Result<(), Refusal>
     }
 }
 
-/// Against which forms the next line is read; none where it is skipped.
-fn inside_of(block: &Option<Block>) -> Option<Inside> {
+/// Whether the next line is skipped.
+fn is_skipped(block: &Option<Block>) -> bool
+    ensures { result ≡ step.is_skipped block.now }
+{
     match block {
-        None => Some(Inside::Top),
-        Some(block) => {
-            if block.is_skipping() {
-                None
-            } else {
-                Some(block.inside())
-            }
-        }
+        Some(block) => block.is_skipping(),
+        None => false,
     }
 }
 
-/// In a block with a refused line only `end` counts.
-fn skip_line(block: &mut Option<Block>, line: &[u8]) {
-    if is_end(line) {
-        *block = None;
-    }
-}
-
-/// Whether a line is the one word `end`, blanks around it.
-fn is_end(line: &[u8]) -> bool {
-    let mut seen = 0u8;
-    for byte in line {
-        seen = match (seen, *byte) {
-            (0 | 3, b' ' | b'\t') => seen,
-            (0, b'e') => 1,
-            (1, b'n') => 2,
-            (2, b'd') => 3,
-            _ => return false,
-        };
-    }
-    seen == 3
-}
-
-/// The lines of a block with a refused line are skipped from there on.
-fn skip_block(block: &mut Option<Block>) {
-    if let Some(block) = block {
-        block.skip();
+/// Against which forms the next line is read.
+fn place_of(block: &Option<Block>) -> Inside
+    ensures { result ≡ step.place_of block.now }
+{
+    match block {
+        Some(block) => block.inside(),
+        None => Inside::Top,
     }
 }

@@ -1,40 +1,49 @@
 //! The state of a run between two lines, and what a line answers.
 
-ghost use Rattle.std.specs.Prelude.{◌≡◌, false, IfErr, OnOk};
-ghost use Rattle.keeper_core.specs.Moment.{Acts};
-ghost use Rattle.shell_steps.specs.ShellState.{IsDeclaring, IsReady};
+ghost use Rattle.std.specs.Prelude.{◌≡◌, true, IfErr, OnOk};
+ghost use Rattle.keeper_core.specs.Acting.{ends_early};
+ghost use Rattle.keeper_core.specs.Moment.{Acts, Runs};
+ghost use Rattle.shell_steps.specs.Alone.{alone};
+ghost use Rattle.shell_steps.specs.Replies.{moment_answering};
+ghost use Rattle.shell_steps.specs.ShellState.{IsReady, mapping_of, new_shell};
+ghost use Rattle.shell_steps.specs.Step as step;
 
+use crate::stage::Stage;
 use base_core::Refusal;
 use keeper_core::{Keeper, calls};
 use mapper_core::Mapping;
-use session_core::Session;
 use shell_parts::{Block, Names, Reply};
 use std::alloc::Global;
+use std::marker::Model;
 
-/// Declarations until `configure`, and from then on the session.
-#[derive(Drop)]
-pub enum Stage {
-    Declaring(Mapping),
-    Configured(Session),
-}
-
-/// A run between two lines: what was declared or the session, the names that are bound, and the block that is open.
+/// A run between two lines.
 #[derive(Drop)]
 pub struct Shell {
-    pub alloc: Global,
-    pub stage: Stage,
-    pub names: Names,
-    pub block: Option<Block>,
+    pub(crate) alloc: Global,
+    /// What is declared, or the session.
+    pub(crate) stage: Stage,
+    /// The names that are bound.
+    pub(crate) names: Names,
+    /// The block that is open.
+    pub(crate) block: Option<Block>,
     /// The number of the line that is done, from 1.
-    pub line: u32,
+    pub(crate) line: u32,
     /// Some command was refused.
-    pub refused: bool,
+    pub(crate) refused: bool,
+}
+
+impl Model for Shell {
+    ghost use Rattle.shell_steps.specs.ShellState.{ShellState};
+
+    ghost Value = { ShellState };
+
+    ghost view = { λ s. record { stage = s.stage; names = s.names; block = s.block; line = s.line; refused = s.refused } };
 }
 
 impl Shell {
     /// Nothing is declared or bound.
     pub fn new(alloc: Global) -> Shell
-        ensures { IsDeclaring result.stage }
+        ensures { result ≡ new_shell }
     {
         Shell {
             alloc,
@@ -47,11 +56,20 @@ impl Shell {
     }
 
     /// The mapping that is declared, or that of the session.
-    pub fn mapping(&self) -> &Mapping {
+    pub(crate) fn mapping(&self) -> &Mapping
+        ensures { result.now ≡ mapping_of self.now.stage }
+    {
         match &self.stage {
             Stage::Declaring(mapping) => mapping,
             Stage::Configured(session) => session.mapping(),
         }
+    }
+
+    /// The number of the line that is done.
+    fn number(&self) -> u32
+        ensures { result ≡ self.now.line }
+    {
+        self.line
     }
 
     /// Whether some command was refused.
@@ -65,37 +83,53 @@ impl Shell {
     ///
     /// # Errors
     /// `Memory` and `KeeperFault` end the run.
-    #[tactic(auto, using(keeper_core::proofs::ActsLemmas::acting))]
+    #[tactic(auto, using(crate::proofs::Shells::answers))]
     pub fn answer<K: Keeper>(&mut self, keeper: &mut K, line: &[u8]) -> Result<Reply, Refusal>
         requires { IsReady self.old.stage (K.moment keeper.old) }
+        ensures step { Runs (moment_answering K.moment) (λ reply. reply) (step.reply_to line.now) (self.old, keeper.old) result (self.new, keeper.new) }
         ensures acts { Acts (K.moment keeper.old) result (K.moment keeper.new) }
         ensures ready { OnOk result (IsReady self.new.stage (K.moment keeper.new)) }
+        ensures stops { IfErr result (λ e. ends_early e ≡ true) }
     {
-        self.line = self.line.saturating_add(1);
-        let mut reply = Reply::new(self.alloc);
-        match self.do_line(keeper, line, &mut reply) {
-            Ok(()) => Ok(reply),
+        match self.step(keeper, line) {
+            Ok(reply) => Ok(reply),
             Err(refusal) => {
                 if calls::ends_early(&refusal) {
                     return Err(refusal);
                 }
-                self.refused = true;
-                self.error_at(self.line, &refusal)
+                let number = self.number();
+                self.tell(number, &refusal)
             }
         }
     }
 
     /// The reply that says why the line of this number is refused. The only refusal is want of memory.
-    fn error_at(&self, line: u32, refusal: &Refusal) -> Result<Reply, Refusal>
-        ensures { IfErr result (λ e. e ≡ Refusal.Memory) }
+    #[tactic(auto, using(crate::proofs::Shells::acting))]
+    fn tell(&mut self, number: u32, refusal: &Refusal) -> Result<Reply, Refusal>
+        ensures step { Runs alone (λ reply. reply) (step.tell number refusal.now) self.old result self.new }
+        ensures stage { self.new.stage ≡ self.old.stage }
+        ensures cause { IfErr result (λ e. e ≡ Refusal.Memory) }
     {
+        self.refused = true;
         let mut reply = Reply::new(self.alloc);
-        reply.put_error(line, refusal, self.mapping())?;
+        reply.put_error(number, refusal, self.mapping())?;
         Ok(reply)
     }
 
     /// The script has ended: a block that is open is refused at its first line. The only refusal is want of memory.
-    pub fn answer_end(&mut self) -> Result<Reply, Refusal>
+    #[tactic(auto, using(crate::proofs::Shells::answering_alone), unfolding(crate::specs::Step::end_reply))]
+    pub fn answer_end<K: Keeper>(&mut self, keeper: &K) -> Result<Reply, Refusal>
+        ensures step { Runs (moment_answering K.moment) (λ reply. reply) step.end_reply (self.old, keeper.now) result (self.new, keeper.now) }
+        ensures stage { self.new.stage ≡ self.old.stage }
+        ensures cause { IfErr result (λ e. e ≡ Refusal.Memory) }
+    {
+        self.tell_end()
+    }
+
+    /// The reply at the script's end.
+    #[tactic(auto, using(crate::proofs::Shells::acting))]
+    fn tell_end(&mut self) -> Result<Reply, Refusal>
+        ensures step { Runs alone (λ reply. reply) step.ended self.old result self.new }
         ensures stage { self.new.stage ≡ self.old.stage }
         ensures cause { IfErr result (λ e. e ≡ Refusal.Memory) }
     {
@@ -103,18 +137,20 @@ impl Shell {
             return Ok(Reply::new(self.alloc));
         };
         let first = block.first();
-        self.refused = true;
-        self.error_at(first, &Refusal::ScriptError(first, 1))
+        self.tell(first, &Refusal::ScriptError(first, 1))
     }
 
     /// Closes the session, where there is one.
     ///
     /// # Errors
     /// `Memory` and `KeeperFault`.
-    #[tactic(auto, using(keeper_core::proofs::ActsLemmas::acting))]
+    #[tactic(auto, using(crate::proofs::Shells::closes, keeper_core::proofs::ActsLemmas::acting))]
     pub fn close<K: Keeper>(&mut self, keeper: &mut K) -> Result<(), Refusal>
         requires { IsReady self.old.stage (K.moment keeper.old) }
-        ensures { Acts (K.moment keeper.old) result (K.moment keeper.new) }
+        ensures step { Runs (moment_answering K.moment) (λ u. u) step.closing (self.old, keeper.old) result (self.new, keeper.new) }
+        ensures acts { Acts (K.moment keeper.old) result (K.moment keeper.new) }
+        ensures stops { IfErr result (λ e. ends_early e ≡ true) }
+        ensures outside { OnOk result ((K.moment keeper.new).depth ≡ 0) }
     {
         match &mut self.stage {
             Stage::Declaring(_) => Ok(()),

@@ -1,0 +1,20 @@
+use Rattle.std.proofs.Common.{arith, rules, Err}
+use Rattle.keeper_core.specs.Acting.{each}
+use Rattle.keeper_core.specs.Moment.{Runs}
+use Rattle.keeper_core.proofs.Sequence.{passed_on}
+use Rattle.shell_steps.specs.Step.{create_one}
+use Rattle.shell_steps.proofs.Tables.{unit_turn, unit_err}
+use Rattle.shell_steps.proofs.commands.create_each.Goals as goal
+
+pub returns-in_err-create_one-clause-step : goal.returns-in_err-create_one-clause-step
+returns-in_err-create_one-clause-step g c =
+    let ended : Runs {X = Unit {0}} g.K.Keeper.moment (λ u. u) (each create_one tt c.args.order.now) c.args.keeper.now (Err c.in_err-create_one.field-0.0) c.create_one.new.keeper =
+    unit_err create_one c.args.order.now c.loop-table.table-index c.loop-table.invariant.0 c.loop-table-test.true (search rules) c.in_err-create_one.ensures.step in
+    grind (arith, passed_on, ended)
+
+pub loop-table-preserved : goal.loop-table-preserved
+loop-table-preserved g c = (
+  unit_turn create_one c.args.order.now c.loop-table.table-index c.loop-table.invariant.0 c.loop-table-test.true (search rules) c.in_ok-create_one.ensures.step,
+  c.create_one.ensures.attached,
+  c.create_one.ensures.depth,
+)

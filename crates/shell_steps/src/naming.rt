@@ -1,0 +1,176 @@
+//! What the names of a command stand for.
+
+ghost use Rattle.std.specs.Prelude.{◌≡◌, ◌≤◌, ◌<◌, [], length, true, false, IfOk, IfErr, IfSome};
+ghost use Rattle.std.specs.List.{position};
+ghost use Rattle.std.specs.Option.{option_copied};
+ghost use Rattle.keeper_core.specs.Moment.{Runs};
+ghost use Rattle.schema_core.specs.Catalog.{same_name};
+ghost use Rattle.mapper_core.specs.Mapped.{IsClass, find_class};
+ghost use Rattle.object_arena.specs.Graph.{IsObject};
+ghost use Rattle.shell_steps.specs.Alone.{Tells, alone, asked};
+ghost use Rattle.shell_steps.specs.Naming as naming;
+ghost use Rattle.shell_steps.specs.ShellState.{HasClass, HasObject};
+
+use crate::shell::Shell;
+use crate::stage::Stage;
+use base_core::{AttrNo, ClassId, Copied, ListOf, Name, ObjId, Refusal, RequestKind, Value};
+use mapper_core::Mapping;
+use mapper_types::Attribute;
+use session_core::Session;
+use shell_parts::Bound;
+
+/// Values for attributes.
+pub(crate) type Cells = ListOf<(AttrNo, Value)>;
+
+/// Whether an object has been made.
+fn is_object(session: &Session, object: ObjId) -> bool
+    ensures is { result ≡ naming.is_object session.now.graph object }
+    ensures made { result ≡ true → IsObject session.now.graph object }
+{
+    0 < object.0 && object.0 <= session.count()
+}
+
+/// The object of the session that a name is bound to.
+#[tactic(auto, using(crate::proofs::AloneLemmas::standing))]
+fn object_bound(session: &Session, name: &Name, bound: Option<&Bound>) -> Result<ObjId, Refusal>
+    ensures told { Tells (λ object. object) (naming.object_bound session.now name.now (option_copied bound.entry)) result }
+    ensures found { IfOk result (IsObject session.now.graph) }
+{
+    match bound {
+        Some(Bound::Object(object, _class)) => {
+            if is_object(session, *object) {
+                return Ok(*object);
+            }
+            Err(Refusal::InvalidRequestError(RequestKind::WrongKind))
+        }
+        Some(_) => Err(Refusal::InvalidRequestError(RequestKind::WrongKind)),
+        None => {
+            let name = name.copied()?;
+            Err(Refusal::InvalidRequestError(RequestKind::Unknown(name)))
+        }
+    }
+}
+
+/// The class of a name.
+#[tactic(auto, using(crate::proofs::AloneLemmas::standing))]
+fn class_known(mapping: &Mapping, name: &Name) -> Result<ClassId, Refusal>
+    ensures told { Tells (λ class. class) (naming.known name.now (find_class mapping.now.classes name.now)) result }
+    ensures found { IfOk result (IsClass mapping.now) }
+{
+    match mapping.find_class(name) {
+        Some(class) => Ok(class),
+        None => {
+            let name = name.copied()?;
+            Err(Refusal::InvalidRequestError(RequestKind::Unknown(name)))
+        }
+    }
+}
+
+/// The place of the attribute of a name.
+fn place_of(attributes: &[Attribute], name: &Name) -> Option<usize>
+    ensures place { result ≡ position (λ attribute. same_name attribute.name name.now) attributes.now }
+    ensures inside { IfSome result (λ place. place < length attributes.now) }
+{
+    attributes
+        .iter()
+        .position(|attribute| attribute.name == *name)
+}
+
+/// The attribute of a name. Places past 32 bits have no memory.
+fn find_attribute(attributes: &[Attribute], name: &Name) -> Result<Option<AttrNo>, Refusal>
+    ensures found { IfOk result (λ found. found ≡ naming.find_attribute attributes.now name.now) }
+    ensures cause { IfErr result (λ e. e ≡ Refusal.Memory) }
+{
+    let Some(place) = place_of(attributes, name) else {
+        return Ok(None);
+    };
+    match u32::try_from(place) {
+        Ok(number) => Ok(Some(AttrNo(number))),
+        Err(_) => Err(Refusal::Memory),
+    }
+}
+
+/// Whether a value was given for an attribute.
+fn is_given(cells: &[(AttrNo, Value)], attr: AttrNo) -> bool
+    ensures { result ≡ naming.is_given cells.now attr }
+{
+    cells.iter().any(|cell| cell.0.0 == attr.0)
+}
+
+/// The values with one more, for the attribute of its name, which is to have none yet.
+#[tactic(auto, using(crate::proofs::AloneLemmas::standing))]
+fn with_given(
+    attributes: &[Attribute],
+    given: &(Name, Value),
+    cells: Cells,
+) -> Result<Cells, Refusal>
+    ensures { Tells (λ cells. cells) (naming.with_given attributes.now given.now cells) result }
+{
+    let Some(attr) = find_attribute(attributes, &given.0)? else {
+        let name = given.0.copied()?;
+        return Err(Refusal::InvalidRequestError(RequestKind::Unknown(name)));
+    };
+    if is_given(cells.as_slice(), attr) {
+        return Err(Refusal::InvalidRequestError(RequestKind::WrongKind));
+    }
+    let mut cells = cells;
+    cells.push((attr, given.1.copied()?))?;
+    Ok(cells)
+}
+
+impl Shell {
+    /// The object that a name is bound to.
+    #[tactic(auto, using(crate::proofs::Named::naming))]
+    pub(crate) fn object_named(&self, name: &Name) -> Result<ObjId, Refusal>
+        ensures step { Runs alone (λ object. object) (asked (naming.object_named name.now)) self.now result self.now }
+        ensures found { IfOk result (HasObject self.now.stage) }
+    {
+        let Stage::Configured(session) = &self.stage else {
+            return Err(Refusal::InvalidRequestError(RequestKind::NotConfigured));
+        };
+        object_bound(session, name, self.names.get(name))
+    }
+
+    /// The class of a name.
+    #[tactic(auto, using(crate::proofs::Named::naming))]
+    pub(crate) fn class_named(&self, name: &Name) -> Result<ClassId, Refusal>
+        ensures step { Runs alone (λ class. class) (asked (naming.class_named name.now)) self.now result self.now }
+        ensures found { IfOk result (HasClass self.now.stage) }
+    {
+        let Stage::Configured(session) = &self.stage else {
+            return Err(Refusal::InvalidRequestError(RequestKind::NotConfigured));
+        };
+        class_known(session.mapping(), name)
+    }
+
+    /// One value more, for an attribute of a class.
+    #[tactic(auto, using(crate::proofs::AloneLemmas::standing), unfolding(crate::specs::Naming::give_value))]
+    fn give_value(
+        &self,
+        class: ClassId,
+        given: &(Name, Value),
+        cells: Cells,
+    ) -> Result<Cells, Refusal>
+        requires { HasClass self.now.stage class }
+        ensures { Runs alone (λ cells. cells) (naming.give_value class given.now cells) self.now result self.now }
+    {
+        with_given(self.mapping().attributes(class), given, cells)
+    }
+
+    /// The values for attributes of a class by their names, each attribute once.
+    #[tactic(auto, using(keeper_core::proofs::Sequence::loops), unfolding(crate::specs::Naming::cells_named))]
+    pub(crate) fn cells_named(
+        &self,
+        class: ClassId,
+        given: &[(Name, Value)],
+    ) -> Result<Cells, Refusal>
+        requires { HasClass self.now.stage class }
+        ensures { Runs alone (λ cells. cells) (naming.cells_named class given.now) self.now result self.now }
+    {
+        let mut cells: Cells = ListOf::new(self.alloc);
+        for value in given {
+            cells = self.give_value(class, value, cells)?;
+        }
+        Ok(cells)
+    }
+}

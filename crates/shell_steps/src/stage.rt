@@ -1,0 +1,11 @@
+//! Declarations, and then the session.
+
+use mapper_core::Mapping;
+use session_core::Session;
+
+/// Declarations until `configure`, and from then on the session.
+#[derive(Drop)]
+pub enum Stage {
+    Declaring(Mapping),
+    Configured(Session),
+}
