@@ -82,13 +82,13 @@ const CASES: &[Case] = &[
         status: Status::Refused,
     },
     Case {
-        shows: "a symbol is no name",
+        shows: "what is no form of the language is told at its place, and a form that is not built by its name",
         prelude: true,
-        script: "add .\nu = new User == = 1\n",
+        script: "add .\nu = new User == = 1\nrollback\nadd x[0]\nflush now\n",
         failing_reads: &[],
         failing_writes: &[],
         failing_calls: &[],
-        output: "error 9: NotBuilt\nerror 10: NotBuilt\n",
+        output: "error 9: ScriptError(9, 5)\nerror 10: ScriptError(10, 14)\nerror 11: NotBuilt\nerror 12: NotBuilt\nerror 13: ScriptError(13, 7)\n",
         status: Status::Refused,
     },
     Case {
@@ -99,6 +99,16 @@ const CASES: &[Case] = &[
         failing_writes: &[],
         failing_calls: &[],
         output: "error 1: ScriptError(1, 1)\n",
+        status: Status::Refused,
+    },
+    Case {
+        shows: "a block of another form is refused at its end, and after a fault in a block only its end counts",
+        prelude: false,
+        script: "table t\n  id integer primary key\n  unique (id)\nend\nclass A extends B identity 1\nend\ntable t\n  x y\n end x\n\"end\"\n\tend \ntable\n",
+        failing_reads: &[],
+        failing_writes: &[],
+        failing_calls: &[],
+        output: "error 4: NotBuilt\nerror 6: NotBuilt\nerror 8: ScriptError(8, 5)\nerror 12: ScriptError(12, 6)\n",
         status: Status::Refused,
     },
     Case {
