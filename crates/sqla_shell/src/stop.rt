@@ -7,5 +7,4 @@ pub enum Stop {
     Write,
     Keeper,
     Memory,
-    TooLong,
 }

@@ -1,0 +1,73 @@
+use Rattle.std.proofs.Common.{◌≡◌, ◌≤◌, true, Ok, Err, refl, sym, ◌∙◌, subst, arith}
+use Rattle.std.specs.Io.KnownBytes.{IsAtEnd}
+use Rattle.keeper_core.specs.Moment.{Runs}
+use Rattle.script_lines.specs.Cutting.{IsNextOf, KeepsLimits, to_come}
+use Rattle.shell_steps.specs.ShellState.{ShellState}
+use Rattle.sqla_shell.specs.Causes.{stop_refusal}
+use Rattle.sqla_shell.specs.Outcome.{moment_writing}
+use Rattle.sqla_shell.specs.Reference.{answered}
+use Rattle.sqla_shell.proofs.LinesLemmas.{OnLines, line_done, line_stopped_as, lines_ended, lines_start, lines_too_long}
+use Rattle.sqla_shell.proofs.script.do_lines.Goals as goal
+
+-- src/script.rt:78:5
+pub loop-turn-init : goal.loop-turn-init
+loop-turn-init g c = record {
+  way = subst (λ p. OnLines (g.S.Source.left c.args.source.now) (moment_writing {S = ShellState} g.K.Keeper.moment g.O.Sink.written) (c.args.shell.now, c.args.keeper.now, c.args.sink.now) 0 p.taken (to_come p (g.S.Source.left c.args.source.now)) (c.args.shell.now, c.args.keeper.now, c.args.sink.now)) (sym c.requires.start)
+      (lines_start (moment_writing {S = ShellState} g.K.Keeper.moment g.O.Sink.written) (c.args.shell.now, c.args.keeper.now, c.args.sink.now) (g.S.Source.left c.args.source.now));
+  turns = omega arith;
+  few = subst (λ p. p.taken ≤ 16777216) (sym c.requires.start) (omega arith);
+  fits = subst (λ p. p.ended ≡ true → IsAtEnd (g.S.Source.left c.args.source.now)) (sym c.requires.start) (λ is. cc);
+  ready = c.requires.ready;
+  attached = c.requires.attached;
+  target = refl;
+  keeper_faults = omega arith;
+  source_faults = omega arith;
+  sink_faults = omega arith;
+}
+
+-- src/script.rt:80:30
+pub returns-in-End-clause-reference : goal.returns-in-End-clause-reference
+returns-in-End-clause-reference g c = lines_ended (moment_writing {S = ShellState} g.K.Keeper.moment g.O.Sink.written) (c.args.shell.now, c.args.keeper.now, c.args.sink.now) (c.loop-turn.shell, c.loop-turn.keeper, c.loop-turn.sink)
+    (g.S.Source.left c.args.source.now) c.loop-turn._turn c.loop-turn.lines.taken (to_come c.loop-turn.lines (g.S.Source.left c.loop-turn.source)) c.next_line.new.self.taken (to_come c.next_line.new.self (g.S.Source.left c.next_line.new.source))
+    c.loop-turn.invariant.few c.loop-turn.invariant.way
+    (subst (λ a. IsNextOf c.loop-turn.lines.taken (to_come c.loop-turn.lines (g.S.Source.left c.loop-turn.source)) a c.next_line.new.self.taken (to_come c.next_line.new.self (g.S.Source.left c.next_line.new.source))) c.in-End.is c.in_ok-next_line.ensures.next)
+
+-- src/script.rt:81:34
+pub returns-in-TooLong-clause-reference : goal.returns-in-TooLong-clause-reference
+returns-in-TooLong-clause-reference g c = lines_too_long (moment_writing {S = ShellState} g.K.Keeper.moment g.O.Sink.written) (c.args.shell.now, c.args.keeper.now, c.args.sink.now) (c.loop-turn.shell, c.loop-turn.keeper, c.loop-turn.sink)
+    (g.S.Source.left c.args.source.now) c.loop-turn._turn c.loop-turn.lines.taken (to_come c.loop-turn.lines (g.S.Source.left c.loop-turn.source)) c.next_line.new.self.taken (to_come c.next_line.new.self (g.S.Source.left c.next_line.new.source))
+    c.loop-turn.invariant.few c.loop-turn.invariant.way
+    (subst (λ a. IsNextOf c.loop-turn.lines.taken (to_come c.loop-turn.lines (g.S.Source.left c.loop-turn.source)) a c.next_line.new.self.taken (to_come c.next_line.new.self (g.S.Source.left c.next_line.new.source))) c.in-TooLong.is c.in_ok-next_line.ensures.next)
+
+-- src/script.rt:82:37
+pub returns-in_err-answer_line-in-Line-clause-reference :
+    goal.returns-in_err-answer_line-in-Line-clause-reference
+returns-in_err-answer_line-in-Line-clause-reference g c =
+    let limits = subst (λ a. KeepsLimits a c.loop-turn.lines.taken c.next_line.new.self.taken) c.in-Line.is c.in_ok-next_line.ensures.limits in
+    line_stopped_as (c.args.shell.now, c.args.keeper.now, c.args.sink.now)
+    (g.S.Source.left c.args.source.now) c.loop-turn._turn c.loop-turn.lines.taken (to_come c.loop-turn.lines (g.S.Source.left c.loop-turn.source)) c.in-Line.line c.next_line.new.self.taken (to_come c.next_line.new.self (g.S.Source.left c.next_line.new.source))
+    limits.1 limits.2 c.loop-turn.invariant.way
+    (subst (λ a. IsNextOf c.loop-turn.lines.taken (to_come c.loop-turn.lines (g.S.Source.left c.loop-turn.source)) a c.next_line.new.self.taken (to_come c.next_line.new.self (g.S.Source.left c.next_line.new.source))) c.in-Line.is c.in_ok-next_line.ensures.next)
+    c.in_err-answer_line-in-Line.field-0.0 c.from_residual-in_err-answer_line-in-Line.result c.from_residual-in_err-answer_line-in-Line.ensures.1
+    (subst (λ line. Runs (moment_writing {S = ShellState} g.K.Keeper.moment g.O.Sink.written) (λ u. u) (answered line tt) (c.loop-turn.shell, c.loop-turn.keeper, c.loop-turn.sink) (Err (stop_refusal c.in_err-answer_line-in-Line.field-0.0)) (c.answer_line.new.shell, c.answer_line.new.keeper, c.answer_line.new.sink)) c.as_slice.ensures c.in_err-answer_line-in-Line.ensures.step)
+
+-- src/script.rt:78:5
+pub loop-turn-preserved : goal.loop-turn-preserved
+loop-turn-preserved g c =
+    let limits = subst (λ a. KeepsLimits a c.loop-turn.lines.taken c.next_line.new.self.taken) c.in-Line.is c.in_ok-next_line.ensures.limits in
+    record {
+      way = line_done (c.args.shell.now, c.args.keeper.now, c.args.sink.now)
+          (g.S.Source.left c.args.source.now) c.loop-turn._turn c.loop-turn.lines.taken (to_come c.loop-turn.lines (g.S.Source.left c.loop-turn.source)) c.in-Line.line c.next_line.new.self.taken (to_come c.next_line.new.self (g.S.Source.left c.next_line.new.source))
+          limits.1 limits.2 c.loop-turn.invariant.way
+          (subst (λ a. IsNextOf c.loop-turn.lines.taken (to_come c.loop-turn.lines (g.S.Source.left c.loop-turn.source)) a c.next_line.new.self.taken (to_come c.next_line.new.self (g.S.Source.left c.next_line.new.source))) c.in-Line.is c.in_ok-next_line.ensures.next)
+          (subst (λ line. Runs (moment_writing {S = ShellState} g.K.Keeper.moment g.O.Sink.written) (λ u. u) (answered line tt) (c.loop-turn.shell, c.loop-turn.keeper, c.loop-turn.sink) (Ok tt) (c.answer_line.new.shell, c.answer_line.new.keeper, c.answer_line.new.sink)) c.as_slice.ensures c.in_ok-answer_line-in-Line.ensures.step);
+      turns = omega (arith, c.loop-turn.invariant.turns, limits.1);
+      few = limits.2;
+      fits = c.in_ok-next_line.ensures.fits;
+      ready = c.in_ok-answer_line-in-Line.ensures.ready;
+      attached = c.in_ok-answer_line-in-Line.ensures.attached;
+      target = c.in_ok-answer_line-in-Line.ensures.target ∙ c.loop-turn.invariant.target;
+      keeper_faults = omega (arith, c.loop-turn.invariant.keeper_faults, c.in_ok-answer_line-in-Line.ensures.faults);
+      source_faults = omega (arith, c.loop-turn.invariant.source_faults, c.in_ok-next_line.ensures.faults);
+      sink_faults = omega (arith, c.loop-turn.invariant.sink_faults, c.in_ok-answer_line-in-Line.ensures.sink_faults);
+    }

@@ -1,0 +1,20 @@
+use Rattle.std.proofs.Common.{◌≡◌, ◌≤◌, true}
+use Rattle.script_lines.specs.Cutting.{FitsSource, most_bytes, to_come}
+use Rattle.shell_steps.specs.ShellState.{IsReady}
+use Rattle.sqla_shell.specs.Outcome.{moment_writing}
+use Rattle.sqla_shell.proofs.LinesLemmas.{OnLines}
+use Rattle.sqla_shell.proofs.script.do_lines.Given as goal
+
+abbrev pub invariant-loop-turn : goal.invariant-loop-turn
+invariant-loop-turn g l = record {
+  way : OnLines (g.S.Source.left l.fn.source) (moment_writing g.K.Keeper.moment g.O.Sink.written) (l.fn.shell, l.fn.keeper, l.fn.sink) l._turn l.lines.taken (to_come l.lines (g.S.Source.left l.source)) (l.shell, l.keeper, l.sink);
+  turns : l._turn ≤ l.lines.taken;
+  few : l.lines.taken ≤ most_bytes;
+  fits : FitsSource l.lines (g.S.Source.left l.source);
+  ready : IsReady l.shell.stage (g.K.Keeper.moment l.keeper);
+  attached : (g.K.Keeper.moment l.keeper).attached ≡ true;
+  target : (g.K.Keeper.moment l.keeper).target ≡ (g.K.Keeper.moment l.fn.keeper).target;
+  keeper_faults : (g.K.Keeper.moment l.fn.keeper).faults ≤ (g.K.Keeper.moment l.keeper).faults;
+  source_faults : g.S.Source.faults l.fn.source ≤ g.S.Source.faults l.source;
+  sink_faults : g.O.Sink.faults l.fn.sink ≤ g.O.Sink.faults l.sink;
+}

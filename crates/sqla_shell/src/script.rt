@@ -1,0 +1,128 @@
+//! The lines of a script, each done and answered before the next is read.
+
+ghost use Rattle.std.specs.Prelude.{◌≡◌, ◌≤◌, [], true, false, IfErr, IfOk, OnOk};
+ghost use Rattle.base_core.specs.Counts.{Rose};
+ghost use Rattle.keeper_core.specs.Calls.{as_refusal};
+ghost use Rattle.keeper_core.specs.Moment.{Runs};
+ghost use Rattle.script_lines.specs.Cutting.{FitsSource, Pending, to_come};
+ghost use Rattle.shell_steps.specs.ShellState.{IsReady};
+ghost use Rattle.sqla_shell.specs.Causes.{IsShownBy, stop_refusal};
+ghost use Rattle.sqla_shell.specs.Outcome.{HasWritten, DoesLines, DoesScript, moment_writing};
+ghost use Rattle.sqla_shell.specs.Reference.{answered, finished, writes};
+
+use crate::ending::Ending;
+use crate::stop::Stop;
+use byte_streams::{Sink, Source};
+use keeper_core::Keeper;
+use script_lines::{LineBuffer, NextLine};
+use shell_steps::Shell;
+use std::alloc::Global;
+
+/// Writes all of a piece.
+pub fn write_all<O: Sink>(sink: &mut O, piece: &[u8]) -> Result<(), Stop>
+    ensures bytes { HasWritten (O.written sink.old) piece.now result (O.written sink.new) }
+    ensures faults { O.faults sink.old ≤ O.faults sink.new }
+    ensures cause { IfErr result (λ stop. IsShownBy stop ⊥ (Rose (O.faults sink.old) (O.faults sink.new)) ⊥) }
+{
+    let mut written = 0;
+    while written < piece.len() {
+        written += sink.write(&piece[written..])?;
+    }
+    Ok(())
+}
+
+/// Does the lines of a script, and then what its end asks for.
+pub fn do_script<S: Source, O: Sink, K: Keeper>(
+    alloc: Global,
+    shell: &mut Shell,
+    source: &mut S,
+    sink: &mut O,
+    keeper: &mut K,
+) -> Result<Ending, Stop>
+    requires ready { IsReady shell.old.stage (K.moment keeper.old) }
+    requires attached { (K.moment keeper.old).attached ≡ true }
+    ensures reference { DoesScript (S.left source.old) (moment_writing K.moment O.written) (shell.old, keeper.old, sink.old) (as_refusal stop_refusal result) (shell.new, keeper.new, sink.new) }
+    ensures faults { (K.moment keeper.old).faults ≤ (K.moment keeper.new).faults }
+    ensures attached { (K.moment keeper.new).attached ≡ true }
+    ensures target { (K.moment keeper.new).target ≡ (K.moment keeper.old).target }
+    ensures cause { IfErr result (λ stop. IsShownBy stop (Rose (S.faults source.old) (S.faults source.new)) (Rose (O.faults sink.old) (O.faults sink.new)) (Rose (K.moment keeper.old).faults (K.moment keeper.new).faults)) }
+    ensures outside { IfOk result (λ ending. ending ≡ Ending.Finished → (K.moment keeper.new).depth ≡ 0) }
+{
+    let mut lines = LineBuffer::new(alloc);
+    match do_lines(&mut lines, shell, source, sink, keeper)? {
+        Ending::Finished => finish(shell, sink, keeper),
+        Ending::TooLong => Ok(Ending::TooLong),
+    }
+}
+
+/// Does the lines of a script, and tells whether a limit was passed behind them.
+fn do_lines<S: Source, O: Sink, K: Keeper>(
+    lines: &mut LineBuffer,
+    shell: &mut Shell,
+    source: &mut S,
+    sink: &mut O,
+    keeper: &mut K,
+) -> Result<Ending, Stop>
+    requires start { lines.old ≡ record { bytes = []; taken = 0; ended = false } }
+    requires ready { IsReady shell.old.stage (K.moment keeper.old) }
+    requires attached { (K.moment keeper.old).attached ≡ true }
+    ensures reference { DoesLines (S.left source.old) (moment_writing K.moment O.written) (shell.old, keeper.old, sink.old) (as_refusal stop_refusal result) (shell.new, keeper.new, sink.new) }
+    ensures ready { OnOk result (IsReady shell.new.stage (K.moment keeper.new)) }
+    ensures faults { (K.moment keeper.old).faults ≤ (K.moment keeper.new).faults }
+    ensures attached { (K.moment keeper.new).attached ≡ true }
+    ensures target { (K.moment keeper.new).target ≡ (K.moment keeper.old).target }
+    ensures source_faults { S.faults source.old ≤ S.faults source.new }
+    ensures sink_faults { O.faults sink.old ≤ O.faults sink.new }
+    ensures cause { IfErr result (λ stop. IsShownBy stop (Rose (S.faults source.old) (S.faults source.new)) (Rose (O.faults sink.old) (O.faults sink.new)) (Rose (K.moment keeper.old).faults (K.moment keeper.new).faults)) }
+{
+    for _turn in 0..u64::MAX {
+        match lines.next_line(source)? {
+            NextLine::End => return Ok(Ending::Finished),
+            NextLine::TooLong => return Ok(Ending::TooLong),
+            NextLine::Line(line) => answer_line(shell, sink, keeper, line.as_slice())?,
+        }
+    }
+    Ok(Ending::TooLong)
+}
+
+/// Does a line, and then its reply goes out.
+fn answer_line<O: Sink, K: Keeper>(
+    shell: &mut Shell,
+    sink: &mut O,
+    keeper: &mut K,
+    line: &[u8],
+) -> Result<(), Stop>
+    requires { IsReady shell.old.stage (K.moment keeper.old) }
+    ensures step { Runs (moment_writing K.moment O.written) (λ u. u) (answered line.now tt) (shell.old, keeper.old, sink.old) (as_refusal stop_refusal result) (shell.new, keeper.new, sink.new) }
+    ensures ready { OnOk result (IsReady shell.new.stage (K.moment keeper.new)) }
+    ensures sink_faults { O.faults sink.old ≤ O.faults sink.new }
+    ensures faults { (K.moment keeper.old).faults ≤ (K.moment keeper.new).faults }
+    ensures attached { (K.moment keeper.new).attached ≡ true }
+    ensures target { (K.moment keeper.new).target ≡ (K.moment keeper.old).target }
+    ensures cause { IfErr result (λ stop. IsShownBy stop ⊥ (Rose (O.faults sink.old) (O.faults sink.new)) (Rose (K.moment keeper.old).faults (K.moment keeper.new).faults)) }
+{
+    let reply = shell.answer(keeper, line)?;
+    write_all(sink, reply.bytes())
+}
+
+/// Ends a script: a block that is open is refused, and the session is closed.
+fn finish<O: Sink, K: Keeper>(
+    shell: &mut Shell,
+    sink: &mut O,
+    keeper: &mut K,
+) -> Result<Ending, Stop>
+    requires { IsReady shell.old.stage (K.moment keeper.old) }
+    ensures step { Runs (moment_writing K.moment O.written) (λ e. e) finished (shell.old, keeper.old, sink.old) (as_refusal stop_refusal result) (shell.new, keeper.new, sink.new) }
+    ensures finished { IfOk result (λ ending. ending ≡ Ending.Finished) }
+    ensures outside { OnOk result ((K.moment keeper.new).depth ≡ 0) }
+    ensures sink_faults { O.faults sink.old ≤ O.faults sink.new }
+    ensures faults { (K.moment keeper.old).faults ≤ (K.moment keeper.new).faults }
+    ensures attached { (K.moment keeper.new).attached ≡ true }
+    ensures target { (K.moment keeper.new).target ≡ (K.moment keeper.old).target }
+    ensures cause { IfErr result (λ stop. IsShownBy stop ⊥ (Rose (O.faults sink.old) (O.faults sink.new)) (Rose (K.moment keeper.old).faults (K.moment keeper.new).faults)) }
+{
+    let reply = shell.answer_end(keeper)?;
+    write_all(sink, reply.bytes())?;
+    shell.close(keeper)?;
+    Ok(Ending::Finished)
+}
