@@ -19,9 +19,9 @@ use Rattle.script_expr.specs.declared.expression.Test.{Test}
 use Rattle.script_expr.specs.declared.expression.Test.TheVariants as test
 use Rattle.script_expr.specs.declared.expression.Joint.{Joint}
 use Rattle.script_expr.specs.declared.expression.Joint.TheVariants as joint
-use Rattle.script_expr.specs.Input.{Reader, ◌>>=◌, ◌>>◌, ◌<$>◌, pure, refuse, peek, take_token, eat, expect, clause, sees, turns, separated, separated_from, operator, fresh}
-use Rattle.script_expr.specs.Names.{name}
-use Rattle.script_expr.specs.Literals.{literal, literals, begins_literal}
+use Rattle.script_tokens.specs.Input.{Reader, ◌>>=◌, ◌>>◌, ◌<$>◌, pure, refuse, peek, take_token, eat, expect, clause, sees, turns, separated, separated_from, operator, fresh}
+use Rattle.script_tokens.specs.Names.{name}
+use Rattle.script_tokens.specs.Literals.{literal, literals, begins_literal}
 
 abbrev pub function : Kind → Option Func
 function k.Count = Some func.Count

@@ -4,8 +4,8 @@ use Rattle.std.specs.declared.alloc.Global.{Global}
 use denote.Ref.{MutBor}
 use Rattle.script_types.specs.declared.expression.Syn.{Syn}
 use Rattle.script_expr.specs.declared.grammar.Level.{Level}
-use Rattle.script_expr.specs.declared.fault.Fault.{Fault}
-use Rattle.script_expr.specs.Input.{Input, Reads}
+use Rattle.script_tokens.specs.declared.fault.Fault.{Fault}
+use Rattle.script_tokens.specs.Input.{Input, Reads}
 use Rattle.script_expr.specs.Expr.{expr}
 
 pub record Nests (depth : ℕ) (pre : Global → MutBor Input → ℕ → Level → Type 0)

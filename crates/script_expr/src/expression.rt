@@ -1,18 +1,18 @@
 //! Expressions.
 
 ghost use Rattle.std.specs.Prelude.{[], ◌∷◌, ◌≡◌, IfOk};
-ghost use Rattle.script_expr.specs.Input.{Reads, separated_from};
+ghost use Rattle.script_tokens.specs.Input.{Reads, separated_from};
 ghost use Rattle.script_expr.specs.Expr as spec;
 ghost use Rattle.script_expr.specs.Nests.{Nests};
 ghost use Rattle.script_lex.specs.declared.kind.Kind.TheVariants as k;
 
 use crate::grammar::{Grammar, Level};
-use crate::literals::{begins_literal, literal, literals};
-use crate::names::name;
-use crate::{Fault, Tokens};
 use base_core::{ArithOp, Name, RowValues};
 use expr_types::{CompareOp, Func};
 use script_lex::Kind;
+use script_tokens::literals::{begins_literal, literal, literals};
+use script_tokens::names::name;
+use script_tokens::{Fault, Tokens};
 use script_types::{Syn, SynSource};
 use sqlite_items::{Boxed, Items};
 use std::alloc::{AllocError, Global};

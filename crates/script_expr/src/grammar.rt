@@ -1,10 +1,10 @@
 //! The forms inside which expressions nest take the reader of those as a parameter, so that each is proved by itself.
 
-ghost use Rattle.script_expr.specs.Input.{Reads};
+ghost use Rattle.script_tokens.specs.Input.{Reads};
 ghost use Rattle.script_expr.specs.Expr as spec;
 ghost use Rattle.script_expr.specs.Nests.{Nests};
 
-use crate::{Fault, Tokens};
+use script_tokens::{Fault, Tokens};
 use script_types::Syn;
 use std::alloc::Global;
 

@@ -13,9 +13,9 @@ use Rattle.script_expr.specs.declared.grammar.Level.{Level}
 use Rattle.script_expr.specs.declared.grammar.Level.TheVariants as level
 use Rattle.script_expr.specs.declared.expression.Test.{Test}
 use Rattle.script_expr.specs.declared.expression.Test.TheVariants as test
-use Rattle.script_expr.specs.Input.{Reader, ◌>>=◌, ◌<$>◌, pure, refuse, expect, eat, head, sees}
-use Rattle.script_expr.specs.Names.{name}
-use Rattle.script_expr.specs.Literals.{literal}
+use Rattle.script_tokens.specs.Input.{Reader, ◌>>=◌, ◌<$>◌, pure, refuse, expect, eat, head, sees}
+use Rattle.script_tokens.specs.Names.{name}
+use Rattle.script_tokens.specs.Literals.{literal}
 use Rattle.script_expr.specs.Expr as x
 use Rattle.script_laws.specs.Steady.{IsSteady}
 use Rattle.script_laws.proofs.Steps.{both, made, mapped, on_head, on_kind, refused, taken, chosen, chosen_at, eaten, expected, introduced, begun}

@@ -10,12 +10,12 @@ use Rattle.script_types.specs.declared.command.Term.{Term}
 use Rattle.script_lex.specs.declared.kind.Kind.{Kind}
 use Rattle.script_lex.specs.declared.kind.Kind.TheVariants as k
 use Rattle.script_lex.specs.Lex.{same_kind}
-use Rattle.script_expr.specs.Input.{Reader, ◌>>=◌, ◌<$>◌, pure, refuse, expect, sees, next, head}
-use Rattle.script_expr.specs.Names.{name}
-use Rattle.script_expr.specs.Literals.{begins_literal, value}
+use Rattle.script_tokens.specs.Input.{Reader, ◌>>=◌, ◌<$>◌, pure, refuse, expect, sees, next, head}
+use Rattle.script_tokens.specs.Names.{name}
+use Rattle.script_tokens.specs.Literals.{begins_literal, value}
 use Rattle.script_read.specs.Terms as t
-use Rattle.script_read.specs.Blocks as b
-use Rattle.script_read.specs.Classes as l
+use Rattle.script_blocks.specs.Blocks as b
+use Rattle.script_blocks.specs.Classes as l
 use Rattle.script_read.specs.Bindings as n
 use Rattle.script_read.specs.Top as o
 use Rattle.script_read.specs.Line.{ends}

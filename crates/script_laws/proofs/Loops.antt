@@ -1,8 +1,8 @@
 -- A loop whose number of turns is bounded by the tokens that are left is steady where each turn is, and each turn but the last takes a token.
 use Rattle.std.proofs.Common.{◌≡◌, ℕ, zero, suc, ◌+◌, ◌≤◌, List, [], ◌∷◌, take, drop, length, Ok, Err, refl, ap, ◌∙◌, arith}
 use Rattle.script_lex.specs.declared.token.Token.{Token}
-use Rattle.script_expr.specs.declared.fault.Fault.TheVariants.{At}
-use Rattle.script_expr.specs.Input.{Input, Reader, and_then, pure, first_of}
+use Rattle.script_tokens.specs.declared.fault.Fault.TheVariants.{At}
+use Rattle.script_tokens.specs.Input.{Input, Reader, and_then, pure, first_of}
 use Rattle.script_laws.specs.Steady.{before, Settled, Taken, Refused, IsSteady}
 use Rattle.script_laws.proofs.Steps.{drop_drop, alike_less, alike_drop}
 

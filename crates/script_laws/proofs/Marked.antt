@@ -6,9 +6,9 @@ use Rattle.script_lex.specs.declared.token.Token.{Token}
 use Rattle.script_lex.specs.Lex.{same_kind}
 use Rattle.script_types.specs.declared.expression.Syn.{Syn}
 use Rattle.script_expr.specs.declared.expression.Joint.{Joint}
-use Rattle.script_expr.specs.declared.fault.Fault.{Fault}
-use Rattle.script_expr.specs.declared.fault.Fault.TheVariants.{At}
-use Rattle.script_expr.specs.Input.{Input, Outcome, Reader, ◌>>=◌, ◌>>◌, and_then, pure, refusal, peek, eat, head, kind, next, sees, after, first_of, operator, separated_from}
+use Rattle.script_tokens.specs.declared.fault.Fault.{Fault}
+use Rattle.script_tokens.specs.declared.fault.Fault.TheVariants.{At}
+use Rattle.script_tokens.specs.Input.{Input, Outcome, Reader, ◌>>=◌, ◌>>◌, and_then, pure, refusal, peek, eat, head, kind, next, sees, after, first_of, operator, separated_from}
 use Rattle.script_expr.specs.Expr.{joined, chained_by, chained_from}
 use Rattle.script_laws.specs.Steady.{Settled, Taken, Refused, IsSteady}
 use Rattle.script_laws.proofs.Steps.{both, made, eaten, on_kind, counted}

@@ -4,9 +4,9 @@ use Rattle.base_core.specs.declared.value.Value.{Value}
 use Rattle.base_core.specs.declared.value.Value.TheVariants as v
 use Rattle.script_lex.specs.declared.kind.Kind.TheVariants as k
 use Rattle.script_lex.specs.Lex.{same_kind}
-use Rattle.script_expr.specs.Input.{head, next, sees, after}
-use Rattle.script_expr.specs.Names.{is_no_name, name_in, called, named_by, name, names}
-use Rattle.script_expr.specs.Literals.{literal_in, written, past_literal, literal_by, literal, whole_number, int_by, int, value, literals, values}
+use Rattle.script_tokens.specs.Input.{head, next, sees, after}
+use Rattle.script_tokens.specs.Names.{is_no_name, name_in, called, named_by, name, names}
+use Rattle.script_tokens.specs.Literals.{literal_in, written, past_literal, literal_by, literal, whole_number, int_by, int, value, literals, values}
 use Rattle.script_laws.specs.Steady.{Taken, IsSteady}
 use Rattle.script_laws.proofs.Steps.{both, made, on_head, drop_drop, refused, gone_past, chosen, eaten, expected}
 use Rattle.script_laws.proofs.Marked.{IsBare, listed}

@@ -6,12 +6,12 @@ use Rattle.script_lex.specs.declared.kind.Kind.{Kind}
 use Rattle.script_lex.specs.declared.kind.Kind.TheVariants as k
 use Rattle.script_lex.specs.declared.token.Token.{Token}
 use Rattle.script_lex.specs.Lex.{same_kind}
-use Rattle.script_expr.specs.Input.{Input, Reader, Outcome, and_then, ◌>>=◌, pure, expect, eat, clause, sees, after, next, head}
-use Rattle.script_expr.specs.Names.{name}
+use Rattle.script_tokens.specs.Input.{Input, Reader, Outcome, and_then, ◌>>=◌, pure, expect, eat, clause, sees, after, next, head}
+use Rattle.script_tokens.specs.Names.{name}
 use Rattle.script_expr.specs.Expr.{whole}
-use Rattle.script_expr.specs.Select as s
-use Rattle.script_expr.specs.Query as q
-use Rattle.script_expr.specs.Bulk as b
+use Rattle.script_select.specs.Select as s
+use Rattle.script_select.specs.Query as q
+use Rattle.script_select.specs.Bulk as b
 use Rattle.script_laws.specs.Steady.{IsSteady}
 use Rattle.script_laws.proofs.Steps.{both, made, mapped, on_kind, refused, taken, chosen, eaten, expected, introduced}
 use Rattle.script_laws.proofs.Loops.{Turn, Done, Again, after_turn, looped}

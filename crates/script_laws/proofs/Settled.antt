@@ -2,9 +2,9 @@
 use Rattle.std.proofs.Common.{◌≡◌, ℕ, suc, List, take, drop, Ok, Err, refl, ap, sym, ◌∙◌}
 use Rattle.script_types.specs.declared.command.Command.{Command}
 use Rattle.script_lex.specs.declared.token.Token.{Token}
-use Rattle.script_expr.specs.declared.fault.Fault.{Fault}
-use Rattle.script_expr.specs.declared.fault.Fault.TheVariants.{At}
-use Rattle.script_expr.specs.Input.{Outcome, Reader, start_of}
+use Rattle.script_tokens.specs.declared.fault.Fault.{Fault}
+use Rattle.script_tokens.specs.declared.fault.Fault.TheVariants.{At}
+use Rattle.script_tokens.specs.Input.{Outcome, Reader, start_of}
 use Rattle.script_laws.specs.Steady.{Settled, Taken, Refused, IsSteady}
 use Rattle.script_laws.specs.Refusals.{place, IsRefusedForGood, IsReadForGood, whole_binding, whole_top, whole_table_line, whole_class_line}
 use Rattle.script_laws.proofs.Steps.{both}

@@ -3,8 +3,8 @@ use Rattle.std.proofs.Common.{◌≡◌, ℕ, zero, suc, ◌+◌, ◌-◌, ◌�
 use Rattle.script_lex.specs.declared.kind.Kind.{Kind}
 use Rattle.script_lex.specs.declared.token.Token.{Token}
 use Rattle.script_lex.specs.Lex.{same_kind}
-use Rattle.script_expr.specs.declared.fault.Fault.TheVariants.{At}
-use Rattle.script_expr.specs.Input.{Input, Reader, ◌>>=◌, ◌<$>◌, and_then, pure, refuse, peek, take_token, eat, expect, clause, head, next, sees, after, first_of, operator, fresh}
+use Rattle.script_tokens.specs.declared.fault.Fault.TheVariants.{At}
+use Rattle.script_tokens.specs.Input.{Input, Reader, ◌>>=◌, ◌<$>◌, and_then, pure, refuse, peek, take_token, eat, expect, clause, head, next, sees, after, first_of, operator, fresh}
 use Rattle.script_laws.specs.Steady.{before, Settled, Taken, Refused, IsSteady}
 
 drop_nil : (n : ℕ) → drop {A = Token} n [] ≡ []

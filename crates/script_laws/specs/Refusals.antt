@@ -2,11 +2,11 @@
 use Rattle.std.specs.Prelude.{◌≡◌, ℕ, suc, List, take, drop, Ok, Err}
 use Rattle.script_types.specs.declared.command.Command.{Command}
 use Rattle.script_lex.specs.declared.token.Token.{Token}
-use Rattle.script_expr.specs.declared.fault.Fault.{Fault}
-use Rattle.script_expr.specs.declared.fault.Fault.TheVariants.{At}
-use Rattle.script_expr.specs.Input.{Reader, ◌>>=◌, first_of, start_of}
-use Rattle.script_read.specs.Blocks.{table_line}
-use Rattle.script_read.specs.Classes.{class_line}
+use Rattle.script_tokens.specs.declared.fault.Fault.{Fault}
+use Rattle.script_tokens.specs.declared.fault.Fault.TheVariants.{At}
+use Rattle.script_tokens.specs.Input.{Reader, ◌>>=◌, first_of, start_of}
+use Rattle.script_blocks.specs.Blocks.{table_line}
+use Rattle.script_blocks.specs.Classes.{class_line}
 use Rattle.script_read.specs.Bindings.{binding}
 use Rattle.script_read.specs.Top.{top}
 use Rattle.script_read.specs.Line.{ends}

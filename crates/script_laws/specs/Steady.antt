@@ -1,8 +1,8 @@
 -- A reader that looks at most one token ahead of those that it takes.
 use Rattle.std.specs.Prelude.{◌≡◌, ℕ, suc, List, take, drop, Ok, Err}
 use Rattle.script_lex.specs.declared.token.Token.{Token}
-use Rattle.script_expr.specs.declared.fault.Fault.TheVariants.{At}
-use Rattle.script_expr.specs.Input.{Input, Reader, first_of}
+use Rattle.script_tokens.specs.declared.fault.Fault.TheVariants.{At}
+use Rattle.script_tokens.specs.Input.{Input, Reader, first_of}
 
 -- the same count of operators before other tokens
 abbrev pub before : Input → List Token → Input

@@ -4,11 +4,11 @@ use Rattle.script_types.specs.declared.command.Command.{Command}
 use Rattle.script_types.specs.declared.command.Command.TheVariants as c
 use Rattle.script_lex.specs.declared.kind.Kind.{Kind}
 use Rattle.script_lex.specs.declared.kind.Kind.TheVariants as k
-use Rattle.script_expr.specs.Input.{Reader, ◌>>=◌, ◌>>◌, ◌<$>◌, pure, refuse, peek, take_token, eat, expect, clause, sees, separated}
-use Rattle.script_expr.specs.Names.{name, names}
+use Rattle.script_tokens.specs.Input.{Reader, ◌>>=◌, ◌>>◌, ◌<$>◌, pure, refuse, peek, take_token, eat, expect, clause, sees, separated}
+use Rattle.script_tokens.specs.Names.{name, names}
 use Rattle.base_core.specs.declared.value.Value.{Value}
-use Rattle.script_expr.specs.Literals.{value, literals}
-use Rattle.script_expr.specs.Query.{query}
+use Rattle.script_tokens.specs.Literals.{value, literals}
+use Rattle.script_select.specs.Query.{query}
 use Rattle.script_read.specs.Terms.{member}
 
 -- `name = value`

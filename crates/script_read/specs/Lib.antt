@@ -1,6 +1,4 @@
 pub mod Terms
-pub mod Blocks
-pub mod Classes
 pub mod Bindings
 pub mod Top
 pub mod Line

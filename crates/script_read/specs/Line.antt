@@ -9,11 +9,11 @@ use Rattle.script_types.specs.declared.command.Inside.TheVariants.{Top, Table, C
 use Rattle.script_lex.specs.declared.kind.Kind.TheVariants as k
 use Rattle.script_lex.specs.declared.token.Token.{Token}
 use Rattle.script_lex.specs.Lex.{same_kind, skipped, tokens}
-use Rattle.script_expr.specs.declared.fault.Fault.{Fault}
-use Rattle.script_expr.specs.declared.fault.Fault.TheVariants as fault
-use Rattle.script_expr.specs.Input.{Outcome, Reader, ◌>>=◌, ◌>>◌, pure, refuse, sees, second_kind, start_of}
-use Rattle.script_read.specs.Blocks.{table_line}
-use Rattle.script_read.specs.Classes.{class_line}
+use Rattle.script_tokens.specs.declared.fault.Fault.{Fault}
+use Rattle.script_tokens.specs.declared.fault.Fault.TheVariants as fault
+use Rattle.script_tokens.specs.Input.{Outcome, Reader, ◌>>=◌, ◌>>◌, pure, refuse, sees, second_kind, start_of}
+use Rattle.script_blocks.specs.Blocks.{table_line}
+use Rattle.script_blocks.specs.Classes.{class_line}
 use Rattle.script_read.specs.Bindings.{binding}
 use Rattle.script_read.specs.Top.{top}
 

@@ -2,9 +2,9 @@
 use Rattle.std.specs.Prelude.{ℕ, Bool, true, false, if◌then◌else◌, List, [], ◌∷◌, Option, Some, None, Ok}
 use Rattle.script_types.specs.declared.command.Term.{Term}
 use Rattle.script_lex.specs.declared.kind.Kind.TheVariants as k
-use Rattle.script_expr.specs.Input.{Reader, ◌>>=◌, ◌>>◌, ◌<$>◌, pure, eat, expect}
-use Rattle.script_expr.specs.Names.{name}
-use Rattle.script_expr.specs.Literals.{int}
+use Rattle.script_tokens.specs.Input.{Reader, ◌>>=◌, ◌>>◌, ◌<$>◌, pure, eat, expect}
+use Rattle.script_tokens.specs.Names.{name}
+use Rattle.script_tokens.specs.Literals.{int}
 
 -- `[n]`, where it comes next
 unfoldable pub index : Reader (Option ℕ)

@@ -4,19 +4,19 @@ use Rattle.script_types.specs.declared.command.Command.{Command}
 use Rattle.script_types.specs.declared.command.Command.TheVariants as c
 use Rattle.script_lex.specs.declared.kind.Kind.{Kind}
 use Rattle.script_lex.specs.declared.kind.Kind.TheVariants as k
-use Rattle.script_expr.specs.Input.{Reader, ◌>>=◌, ◌>>◌, ◌<$>◌, pure, refuse, peek, take_token, eat, expect, clause, sees, separated}
-use Rattle.script_expr.specs.Names.{name, names}
+use Rattle.script_tokens.specs.Input.{Reader, ◌>>=◌, ◌>>◌, ◌<$>◌, pure, refuse, peek, take_token, eat, expect, clause, sees, separated}
+use Rattle.script_tokens.specs.Names.{name, names}
 use Rattle.std.specs.Prelude.{◌||◌}
 use Rattle.script_types.specs.declared.command.Dialect.{Dialect}
 use Rattle.script_types.specs.declared.command.Dialect.TheVariants.{Sqlite, Postgresql, Mysql}
 use Rattle.script_types.specs.declared.command.Term.{Term}
 use Rattle.script_lex.specs.Lex.{same_kind}
-use Rattle.script_expr.specs.Literals.{value, begins_literal}
-use Rattle.script_expr.specs.Select.{select}
-use Rattle.script_expr.specs.Query.{query}
-use Rattle.script_expr.specs.Bulk.{bulk}
+use Rattle.script_tokens.specs.Literals.{value, begins_literal}
+use Rattle.script_select.specs.Select.{select}
+use Rattle.script_select.specs.Query.{query}
+use Rattle.script_select.specs.Bulk.{bulk}
 use Rattle.script_read.specs.Terms.{term, member, two, linked}
-use Rattle.script_read.specs.Classes.{class_head}
+use Rattle.script_blocks.specs.Classes.{class_head}
 
 -- after `set term.name =`
 unfoldable pub set_to : Term → List ℕ → Reader Command

@@ -1,16 +1,17 @@
 //! Lines that bind a name.
 
 ghost use Rattle.std.specs.Prelude.{◌≡◌};
-ghost use Rattle.script_expr.specs.Input.{Reads};
+ghost use Rattle.script_tokens.specs.Input.{Reads};
 ghost use Rattle.script_read.specs.Bindings as spec;
 
 use crate::terms::member;
 use base_core::{ListOf, Name, Value};
-use script_expr::literals::{literals, value};
-use script_expr::names::name;
-use script_expr::query::query;
-use script_expr::{Fault, Tokens};
 use script_lex::Kind;
+use script_select::query::query;
+use script_tokens::lists::separated;
+use script_tokens::literals::{literals, value};
+use script_tokens::names::name;
+use script_tokens::{Fault, Tokens};
 use script_types::Command;
 use std::alloc::Global;
 
@@ -24,18 +25,17 @@ fn cell(tokens: &mut Tokens<'_>) -> Result<(Name, Value), Fault>
     Ok((attribute, found))
 }
 
+#[tactic(auto, unfolding(crate::specs::Bindings::cells))]
 fn cells(alloc: Global, tokens: &mut Tokens<'_>) -> Result<ListOf<(Name, Value)>, Fault>
     ensures { Reads (spec.cells tokens.old) result tokens.new }
 {
-    let mut found = Vec::new(alloc);
-    for _turn in 0..tokens.left() {
-        let item = cell(tokens)?;
-        found.push(item)?;
-        if !tokens.eat(Kind::Comma) {
-            return Ok(ListOf::from_vec(found));
-        }
-    }
-    Err(tokens.refuse())
+    separated(
+        alloc,
+        tokens,
+        Kind::Comma,
+        Vec::new(alloc),
+        |_alloc, tokens| cell(tokens),
+    )
 }
 
 /// Cells, or none where the line ends.

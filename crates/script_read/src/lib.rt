@@ -2,8 +2,6 @@
 #![tactic(auto)]
 
 mod bindings;
-mod blocks;
-mod classes;
 mod line;
 mod terms;
 #[cfg(test)]

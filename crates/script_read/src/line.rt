@@ -1,16 +1,15 @@
 //! A line.
 
 ghost use Rattle.std.specs.Prelude.{◌≡◌};
-ghost use Rattle.script_expr.specs.Input.{Reads};
+ghost use Rattle.script_tokens.specs.Input.{Reads};
 ghost use Rattle.script_read.specs.Line as spec;
 
 use crate::bindings::binding;
-use crate::blocks::table_line;
-use crate::classes::class_line;
 use crate::top::top;
 use base_core::Refusal;
-use script_expr::{Fault, Tokens};
+use script_blocks::{class_line, table_line};
 use script_lex::{Kind, same_kind, skipped, tokens};
+use script_tokens::{Fault, Tokens};
 use script_types::{Command, Inside};
 use std::alloc::Global;
 

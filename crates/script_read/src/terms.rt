@@ -1,14 +1,14 @@
 //! Names that the script binds, and their members.
 
 ghost use Rattle.std.specs.Prelude.{◌≡◌};
-ghost use Rattle.script_expr.specs.Input.{Reads};
+ghost use Rattle.script_tokens.specs.Input.{Reads};
 ghost use Rattle.script_read.specs.Terms as spec;
 
 use base_core::Name;
-use script_expr::literals::int;
-use script_expr::names::name;
-use script_expr::{Fault, Tokens};
 use script_lex::Kind;
+use script_tokens::literals::int;
+use script_tokens::names::name;
+use script_tokens::{Fault, Tokens};
 use script_types::Term;
 
 #[tactic(auto, unfolding(crate::specs::Terms::index))]

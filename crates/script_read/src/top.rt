@@ -1,19 +1,19 @@
 //! Lines outside every block that bind nothing.
 
 ghost use Rattle.std.specs.Prelude.{◌≡◌};
-ghost use Rattle.script_expr.specs.Input.{Reads};
+ghost use Rattle.script_tokens.specs.Input.{Reads};
 ghost use Rattle.script_read.specs.Top as spec;
 
-use crate::classes::class_head;
 use crate::terms::{linked, member, term, two};
 use base_core::Name;
-use script_expr::bulk::bulk;
-use script_expr::literals::{begins_literal, value};
-use script_expr::names::name;
-use script_expr::query::query;
-use script_expr::select::select;
-use script_expr::{Fault, Tokens};
+use script_blocks::class_head;
 use script_lex::{Kind, same_kind};
+use script_select::bulk::bulk;
+use script_select::query::query;
+use script_select::select::select;
+use script_tokens::literals::{begins_literal, value};
+use script_tokens::names::name;
+use script_tokens::{Fault, Tokens};
 use script_types::{Command, Dialect, Term};
 use std::alloc::Global;
 

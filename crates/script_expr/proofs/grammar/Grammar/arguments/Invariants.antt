@@ -1,6 +1,6 @@
 use Rattle.std.proofs.Common.{◌≡◌, ◌-◌}
 use Rattle.script_lex.specs.declared.kind.Kind.TheVariants as k
-use Rattle.script_expr.specs.Input.{separated_from}
+use Rattle.script_tokens.specs.Input.{separated_from}
 use Rattle.script_expr.specs.declared.grammar.Level.TheVariants as level
 use Rattle.script_expr.specs.Expr.{expr, arguments}
 use Rattle.script_expr.proofs.grammar.Grammar.arguments.Given as goal

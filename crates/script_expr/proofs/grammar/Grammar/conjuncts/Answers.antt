@@ -1,9 +1,9 @@
 use Rattle.std.proofs.Common.{rules, arith}
 use Rattle.std.proofs.lemmas.Grind.{common_steps}
 use Rattle.script_lex.specs.declared.kind.Kind.TheVariants as k
-use Rattle.script_expr.specs.Input.{separated_from}
+use Rattle.script_tokens.specs.Input.{separated_from}
 use Rattle.script_expr.specs.Expr.{expr, negation, conjuncts}
-use Rattle.script_expr.proofs.Turns.{one_more, no_more}
+use Rattle.script_tokens.proofs.Turns.{one_more, no_more}
 use Rattle.script_expr.proofs.grammar.Grammar.conjuncts.Goals as goal
 
 pub loop-turn-init : goal.loop-turn-init

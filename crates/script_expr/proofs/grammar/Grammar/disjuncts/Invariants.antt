@@ -1,6 +1,6 @@
 use Rattle.std.proofs.Common.{◌≡◌, ◌-◌}
 use Rattle.script_lex.specs.declared.kind.Kind.TheVariants as k
-use Rattle.script_expr.specs.Input.{separated_from}
+use Rattle.script_tokens.specs.Input.{separated_from}
 use Rattle.script_expr.specs.Expr.{expr, conjunction, disjuncts}
 use Rattle.script_expr.proofs.grammar.Grammar.disjuncts.Given as goal
 

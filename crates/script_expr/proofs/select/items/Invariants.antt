@@ -1,8 +1,0 @@
-use Rattle.std.proofs.Common.{◌≡◌, ◌-◌, [], ◌∷◌}
-use Rattle.script_lex.specs.declared.kind.Kind.TheVariants as k
-use Rattle.script_expr.specs.Input.{separated, separated_from}
-use Rattle.script_expr.specs.Select.{item, items}
-use Rattle.script_expr.proofs.select.items.Given as goal
-
-abbrev pub invariant-loop-turn : goal.invariant-loop-turn
-invariant-loop-turn l = items l.initial.tokens ≡ separated_from k.Comma item (l._turn-end - l._turn) l.found.items l.tokens

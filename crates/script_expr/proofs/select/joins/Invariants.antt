@@ -1,6 +1,0 @@
-use Rattle.std.proofs.Common.{◌≡◌, ◌-◌}
-use Rattle.script_expr.specs.Select.{joins, joins_from}
-use Rattle.script_expr.proofs.select.joins.Given as goal
-
-abbrev pub invariant-loop-turn : goal.invariant-loop-turn
-invariant-loop-turn l = joins l.initial.tokens ≡ joins_from (l._turn-end - l._turn) l.found.items l.tokens

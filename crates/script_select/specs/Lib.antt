@@ -1,0 +1,3 @@
+pub mod Select
+pub mod Query
+pub mod Bulk
