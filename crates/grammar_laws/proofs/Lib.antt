@@ -1,0 +1,12 @@
+pub mod Taking
+pub mod Steps
+pub mod Options
+pub mod Lists
+pub mod Basics
+pub mod TableLines
+pub mod Lines
+pub mod ClassLines
+pub mod Filling
+pub mod FillingBasics
+pub mod FillingTables
+pub mod FillingClasses

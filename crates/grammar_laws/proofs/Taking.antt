@@ -1,0 +1,81 @@
+-- What a reader does at an input, compared with a form.
+use Rattle.std.proofs.Common.{◌≡◌, ◌≢◌, ℕ, ◌+◌, ◌≤◌, Bool, true, false, List, [], ◌∷◌, ◌++◌, Ok, Err}
+use Rattle.script_lex.specs.declared.kind.Kind.{Kind}
+use Rattle.script_lex.specs.declared.kind.Kind.TheVariants as k
+use Rattle.script_lex.specs.declared.token.Token.{Token}
+use Rattle.script_tokens.specs.declared.fault.Fault.{Fault}
+use Rattle.script_tokens.specs.declared.fault.Fault.TheVariants.{At}
+use Rattle.script_tokens.specs.Input.{Input, Outcome, Reader, first_of, no_token}
+use Rattle.script_forms.specs.Form.{Form}
+
+-- Where a reader reads: where there are no expressions; where there are whole ones; and inside one, where each of `+ - || *` takes one of those that are left.
+pub data Mode : Type 0 where
+  Plain : Mode
+  Around : Mode
+  Inside : Mode
+
+abbrev pub Budget : Mode → ℕ → ℕ → ℕ → Type 0
+Budget Inside count before after = before ≡ count + after
+Budget _ count before after = count ≡ 0
+
+abbrev pub Enough : Mode → ℕ → ℕ → Type 0
+Enough Inside count before = count ≤ before
+Enough _ count before = count ≡ 0
+
+-- there are expressions, which nest
+abbrev pub deep : Mode → Bool
+deep Plain = false
+deep _ = true
+
+-- the tokens that were taken are the form's, and say what was read
+pub record Took {A : Type 0} (mode : Mode) (form : Form A) (i : Input) (a : A) (j : Input) : Type 0 where
+  pub front : List Token
+  pub count : ℕ
+  pub joined : i.ahead ≡ front ++ j.ahead
+  pub budget : Budget mode count i.operators j.operators
+  pub said : form front count a
+
+-- some tokens of the form begin with these
+pub record Completed {A : Type 0} (mode : Mode) (form : Form A) (before : List Token) (operators : ℕ) : Type 0 where
+  pub more : List Token
+  pub count : ℕ
+  pub value : A
+  pub enough : Enough mode count operators
+  pub said : form (before ++ more) count value
+
+-- a word behind which a parenthesis must come, and nests
+abbrev pub nests : Kind → Bool
+nests k.In = true
+nests k.Exists = true
+nests _ = false
+
+-- The tokens before the refused one begin some tokens of the form; or the refused one is a parenthesis that would nest too deep, behind a word that wants it.
+pub data Refused {A : Type 0} (mode : Mode) (form : Form A) (i : Input) (e : Fault) : Type 0 where
+  Behind : (before after : List Token) → i.ahead ≡ before ++ after → e ≡ At (first_of after).at → Completed mode form before i.operators → Refused mode form i e
+  TooDeep : (before after : List Token) (t : Token) → deep mode ≡ true → i.ahead ≡ (before ++ t ∷ []) ++ after → e ≡ At (first_of after).at → nests t.kind ≡ true
+      → (first_of after).kind ≡ k.LParen → Refused mode form i e
+
+abbrev pub Kept : {A : Type 0} → Mode → Form A → Input → Outcome A → Type 0
+Kept mode form i (Ok p) = Took mode form i p.0 p.1
+Kept mode form i (Err e) = Refused mode form i e
+
+-- the same, under a name
+pub record Out {A : Type 0} (mode : Mode) (form : Form A) (i : Input) (out : Outcome A) : Type 0 where
+  pub kept : Kept mode form i out
+
+abbrev pub last_of : Token → List Token → Token
+last_of t [] = t
+last_of t (u ∷ ts) = last_of u ts
+
+-- the last token is no minus that digits follow
+abbrev pub Whole : List Token → Type 0
+Whole tokens = (last_of no_token tokens).kind ≢ k.Signed
+
+-- what a reader reads is what the form says, and what it refuses begins no tokens of the form
+pub record Sound {A : Type 0} (mode : Mode) (p : Reader A) (form : Form A) : Type 0 where
+  pub run : (i : Input) → Whole i.ahead → Kept mode form i (p i)
+
+pub record Inhabited {A : Type 0} (form : Form A) : Type 0 where
+  pub tokens : List Token
+  pub value : A
+  pub said : form tokens 0 value

@@ -1,0 +1,5 @@
+pub mod Form
+pub mod Basics
+pub mod TableLines
+pub mod ClassLines
+pub mod Lines
