@@ -1,0 +1,225 @@
+use crate::postfix::{expression, place, rows};
+use base_core::{ArithOp, ListOf, Name, Refusal, RowList, TableId};
+use expr_types::{Joined, Origin, Select};
+use schema_core::{ColumnKind, ColumnSpec, Schema, TableSpec};
+use select_rows::rows_of;
+use sqlite_items::Items;
+use std::alloc::{AllocError, Global};
+use std::test::Fail;
+
+/// People: a number, a name, and the number of a team.
+const PEOPLE: &str = "1 'ann' 10; 2 'bob' 20; 3 'cyd' 10; 4 'dee' null; 5 'ann' 30;";
+
+/// Teams: a number, a title, and a size.
+const TEAMS: &str = "10 'red' 3; 20 'blue' null; 40 'gone' 7;";
+
+/// What each select shows, its clauses, and its rows. `tools/ask_sqlite.py` asks SQLite for them. People are table 0 and teams table 1.
+const SELECTS: &[(&str, &str, &str)] = &[
+    (
+        "a condition that is not known does not pass",
+        "item 0.0; where 0.2 10 !=;",
+        "2; 5;",
+    ),
+    (
+        "a join drops a row that meets none",
+        "item 0.1; item 1.1; join 1: 0.2 1.0 =;",
+        "'ann' 'red'; 'bob' 'blue'; 'cyd' 'red';",
+    ),
+    (
+        "a left join keeps it with NULLs",
+        "item 0.0; item 1.1; item 1.2; left 1: 0.2 1.0 =;",
+        "1 'red' 3; 2 'blue' null; 3 'red' 3; 4 null null; 5 null null;",
+    ),
+    (
+        "a condition on a left join's columns comes after its NULLs",
+        "item 0.0; left 1: 0.2 1.0 =; where 1.0 is-null;",
+        "4; 5;",
+    ),
+    (
+        "a table joined twice",
+        "item 0.0; item 1.0; join 0: 0.1 1.1 =  0.0 1.0 <  and; left 1: 1.2 2.0 =;",
+        "1 5;",
+    ),
+    (
+        "groups, of which NULL is one, and their aggregates",
+        "item 0.2; item count-all; item 0.0 sum; item 0.1 min; item 0.1 max; group 0.2; up 0.0 min;",
+        "10 2 4 'ann' 'cyd'; 20 1 2 'bob' 'bob'; null 1 4 'dee' 'dee'; 30 1 5 'ann' 'ann';",
+    ),
+    (
+        "a condition on groups",
+        "item 0.1; item 0.2 count; group 0.1; having count-all 1 >;",
+        "'ann' 2;",
+    ),
+    (
+        "aggregates of no rows",
+        "item count-all; item 0.2 count; item 0.2 sum; item 0.1 min; where false;",
+        "0 0 null null;",
+    ),
+    (
+        "no groups of no rows",
+        "item 0.1; group 0.1; where false;",
+        "",
+    ),
+    (
+        "aggregates pass NULL by",
+        "item 0.2 count; item 0.2 sum; item 0.2 min;",
+        "4 70 10;",
+    ),
+    (
+        "NULL is the least, and ties keep their order",
+        "item 0.0; up 0.2;",
+        "4; 1; 3; 2; 5;",
+    ),
+    (
+        "downwards, NULL is last, and the second expression counts where the first ties",
+        "item 0.0; down 0.2; down 0.0;",
+        "5; 2; 3; 1; 4;",
+    ),
+    (
+        "equal rows once, before the cut",
+        "distinct; item 0.1; up 0.1; offset 1; limit 2;",
+        "'bob'; 'cyd';",
+    ),
+    (
+        "rows for which a row of another table is there",
+        "item 0.0; where 1.0 0.2 = exists:1;",
+        "1; 2; 3;",
+    ),
+    (
+        "rows for which none is there",
+        "item 0.0; where 1.0 0.2 =  1.2 5 <  and not-exists:1;",
+        "2; 4; 5;",
+    ),
+];
+
+/// In groups, what SQL leaves open: groups come in the order of their first rows.
+const FIRST_ROWS: (&str, &str) = (
+    "item 0.1; item count-all; group 0.1;",
+    "'ann' 2; 'bob' 1; 'cyd' 1; 'dee' 1;",
+);
+
+fn table(alloc: Global, name: &str, columns: [&str; 3]) -> Result<TableSpec, Refusal> {
+    let mut specs = ListOf::new(alloc);
+    for column in columns {
+        let key = specs.is_empty();
+        specs.push(ColumnSpec {
+            name: Name::new(String::from_str(alloc, column)?),
+            kind: ColumnKind::Integer,
+            key,
+            not_null: key,
+        })?;
+    }
+    Ok(TableSpec {
+        name: Name::new(String::from_str(alloc, name)?),
+        columns: specs,
+        uniques: ListOf::new(alloc),
+        foreigns: ListOf::new(alloc),
+    })
+}
+
+/// Declares a table where a number is left for it.
+fn declared(schema: &mut Schema, spec: TableSpec) -> Result<TableId, Refusal> {
+    if schema.count() < u32::MAX {
+        schema.declare_table(spec)
+    } else {
+        Err(Refusal::Memory)
+    }
+}
+
+fn origin(table: &str) -> Origin {
+    Origin {
+        table: TableId(place(table)),
+        alias: None,
+    }
+}
+
+/// A select that says nothing yet.
+fn plain(alloc: Global) -> Select {
+    Select {
+        distinct: false,
+        items: ListOf::new(alloc),
+        first: origin("0"),
+        joins: ListOf::new(alloc),
+        filter: None,
+        groups: Items::new(alloc),
+        having: None,
+        order: ListOf::new(alloc),
+        limit: None,
+        offset: None,
+    }
+}
+
+fn joined(alloc: Global, left: bool, text: &str) -> Result<Joined, AllocError> {
+    let (table, on) = text.split_once(':').unwrap_or((text, ""));
+    Ok(Joined {
+        left,
+        origin: origin(table),
+        on: expression(alloc, on)?,
+    })
+}
+
+fn add_clause(alloc: Global, select: &mut Select, word: &str, text: &str) -> Result<(), Refusal> {
+    match word {
+        "distinct" => select.distinct = true,
+        "item" => select.items.push((expression(alloc, text)?, None))?,
+        "from" => select.first = origin(text),
+        "join" => select.joins.push(joined(alloc, false, text)?)?,
+        "left" => select.joins.push(joined(alloc, true, text)?)?,
+        "where" => select.filter = Some(expression(alloc, text)?),
+        "group" => select.groups.push(expression(alloc, text)?)?,
+        "having" => select.having = Some(expression(alloc, text)?),
+        "up" => select.order.push((expression(alloc, text)?, false))?,
+        "down" => select.order.push((expression(alloc, text)?, true))?,
+        "limit" => select.limit = Some(place(text) as u64),
+        _ => select.offset = Some(place(text) as u64),
+    }
+    Ok(())
+}
+
+/// The select with these clauses, each ended by a semicolon.
+fn select(alloc: Global, text: &str) -> Result<Select, Refusal> {
+    let mut select = plain(alloc);
+    for clause in text.split(';') {
+        let clause = clause.trim();
+        if !clause.is_empty() {
+            let (word, rest) = clause.split_once(' ').unwrap_or((clause, ""));
+            add_clause(alloc, &mut select, word, rest)?;
+        }
+    }
+    Ok(select)
+}
+
+/// The rows of a select over people and teams.
+fn answer(alloc: Global, people: &str, text: &str) -> Result<RowList, Refusal> {
+    let mut schema = Schema::new(alloc);
+    let first = declared(&mut schema, table(alloc, "people", ["id", "name", "team"])?)?;
+    let second = declared(&mut schema, table(alloc, "teams", ["id", "title", "size"])?)?;
+    let mut tables = ListOf::new(alloc);
+    tables.push((first, rows(alloc, people)?))?;
+    tables.push((second, rows(alloc, TEAMS)?))?;
+    rows_of(alloc, &schema, &tables, &select(alloc, text)?)
+}
+
+#[test]
+fn rows_are_those_of_sqlite(rt: HostRuntime) -> Result<(), Fail> {
+    let alloc = rt.alloc();
+    for (shows, text, wanted) in SELECTS {
+        let wanted = rows(alloc, wanted)?;
+        assert_eq!(rt; answer(alloc, PEOPLE, text), Ok(wanted), "{shows}");
+    }
+    let wanted = rows(alloc, FIRST_ROWS.1)?;
+    assert_eq!(rt; answer(alloc, PEOPLE, FIRST_ROWS.0), Ok(wanted));
+    Ok(())
+}
+
+#[test]
+fn the_first_refusal_is_told(rt: HostRuntime) -> Result<(), Fail> {
+    let alloc = rt.alloc();
+    let people = "1 'ann' 9223372036854775807; 2 'bob' 1;";
+    let sum = answer(alloc, people, "item 0.2 sum;");
+    let range = Refusal::DataError(ArithOp::Add, 9223372036854775807, 1);
+    assert_eq!(rt; sum, Err(range));
+    let missing = answer(alloc, people, "item 0.2 sum; join 7: 0.2 1 + 0 >;");
+    assert_eq!(rt; missing, Err(Refusal::OperationalError(TableId(7))));
+    Ok(())
+}
