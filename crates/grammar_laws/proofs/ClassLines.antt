@@ -14,7 +14,7 @@ use Rattle.script_forms.specs.Form.{Form, sequence, says, word, maybe, whether, 
 use Rattle.script_forms.specs.Basics as basic
 use Rattle.script_forms.specs.ClassLines as form
 use Rattle.grammar_laws.proofs.Taking.{Mode, Took, Refused, Behind, TooDeep, Kept, Out, Whole, Sound, Inhabited}
-use Rattle.grammar_laws.proofs.Steps.{whole_rest, whole_next, budget_more, enough_more, both, both_taken, made, some_both, some_made, some_left, some_right, some_word, left_of, right_of, refused_here, refused_at, at, is_end, expected, taken_by, taken_at, behind_word, on_kind}
+use Rattle.grammar_laws.proofs.Steps.{whole_rest, whole_next, budget_more, enough_more, deep_behind, both, both_taken, made, some_both, some_made, some_left, some_right, some_word, left_of, right_of, refused_here, refused_at, at, is_end, expected, taken_by, taken_at, behind_word, on_kind}
 use Rattle.grammar_laws.proofs.Options.{if_word, introduced, eaten}
 use Rattle.grammar_laws.proofs.Lists.{more_items, joined_three, some_list}
 use Rattle.grammar_laws.proofs.Basics.{named, some_name, names_read}
@@ -75,7 +75,7 @@ word_after m g w so_far up i (Err e) (Behind before after split at done) =
       enough = done.enough;
       said = up (before ++ done.more) done.count (then_says g w (before ++ done.more) done.count done.value done.said);
     })
-word_after m g w so_far up i (Err e) (TooDeep before after u dp split at nests paren) = TooDeep before after u dp split at nests paren
+word_after m g w so_far up i (Err e) (TooDeep before after u dp split at wants) = TooDeep before after u dp split at wants
 
 -- `first-second`
 dashed_kept : (m : Mode) (first second : Kind) → is_end first ≡ false → is_end second ≡ false → (i : Input) → Whole i.ahead → kind i ≡ first
@@ -182,10 +182,10 @@ behind m so_far longer i j l w is t u (Err e) (Behind before after split at done
       said = subst (λ ts. separated k.Comma form.cascade_word ts (t.count + (u.count + done.count)) (w ∷ done.value)) (joined_three t.front u.front before done.more)
           (more_items k.Comma form.cascade_word t.front u.front (before ++ done.more) t.count u.count done.count w done.value t.said u.said done.said);
     })
-behind m so_far longer i j l w is t u (Err e) (TooDeep before after x dp split at nests paren) =
-    TooDeep (t.front ++ (u.front ++ before)) after x dp
+behind m so_far longer i j l w is t u (Err e) (TooDeep before after x dp split at wants) =
+    TooDeep (t.front ++ (u.front ++ before)) after x (deep_behind m t.front (u.front ++ before) (deep_behind m u.front before dp))
     (t.joined ∙ ap (λ ts. t.front ++ ts) (u.joined ∙ ap (λ ts. u.front ++ ts) split) ∙ joined_three t.front u.front (before ++ x ∷ []) after
-    ∙ ap (λ ts. ts ++ after) (joined_three t.front u.front before (x ∷ []))) at nests paren
+    ∙ ap (λ ts. ts ++ after) (joined_three t.front u.front before (x ∷ []))) at wants
 
 by_mark : (m : Mode) (n : ℕ) (so_far longer : Cascade) (i : Input) (w : Cascade) (xs : List Token) (o : ℕ) → longer ≡ form.joined w so_far
     → Took m form.cascade_word i w (record { ahead = xs; operators = o }) → Whole xs → ((so_far : Cascade) (j : Input) → Whole j.ahead → WordsKept m so_far j (r.cascade_from n so_far j))
@@ -208,7 +208,7 @@ by_word m n so_far i whole rec (Ok p) word =
     by_mark _ n so_far p.0 i word.0 p.1.ahead p.1.operators word.1 t (whole_rest t.front p.1.ahead (subst Whole t.joined whole)) rec (same_kind (first_of p.1.ahead).kind k.Comma) refl
 by_word m n so_far i whole rec (Err e) (Behind before after split at done) =
     Behind before after split at (record { more = done.more; count = done.count; value = done.value ∷ []; enough = done.enough; said = done.said })
-by_word m n so_far i whole rec (Err e) (TooDeep before after x dp split at nests paren) = TooDeep before after x dp split at nests paren
+by_word m n so_far i whole rec (Err e) (TooDeep before after x dp split at wants) = TooDeep before after x dp split at wants
 
 words_by : (m : Mode) (n : ℕ) (so_far : Cascade) (i : Input) → Whole i.ahead → WordsKept m so_far i (r.cascade_from n so_far i)
 unfolding WordsKept r.cascade_from head
@@ -252,7 +252,7 @@ all_words m i (Err e) (Behind before after split at done) =
         },
       );
     })
-all_words m i (Err e) (TooDeep before after x dp split at nests paren) = TooDeep before after x dp split at nests paren
+all_words m i (Err e) (TooDeep before after x dp split at wants) = TooDeep before after x dp split at wants
 
 cascade_read : {m : Mode} → Sound m r.cascade words_form
 unfolding r.cascade

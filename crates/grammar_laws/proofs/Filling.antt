@@ -31,12 +31,12 @@ always kind = true
 pub enough_first : (mode : Mode) (m n o : ℕ) → Enough mode (m + n) o → Enough mode m o
 enough_first Plain m n o h = omega arith
 enough_first Around m n o h = omega arith
-enough_first Inside m n o h = omega arith
+enough_first (Inside d) m n o h = omega arith
 
 pub enough_then : (mode : Mode) (m n o p : ℕ) → Enough mode (m + n) o → Budget mode m o p → Enough mode n p
 enough_then Plain m n o p h b = omega arith
 enough_then Around m n o p h b = omega arith
-enough_then Inside m n o p h b = omega arith
+enough_then (Inside d) m n o p h b = omega arith
 
 both_read : {A B : Type 0} (mode : Mode) (p : Reader A) (f : A → Reader B) (xs ys rest : List Token) (m n o : ℕ) (a : A) (b : B) → (one : Read mode p xs ys m o a)
     → Read mode (f a) ys rest n one.left b → Read mode (p >>= f) xs rest (m + n) o b

@@ -50,9 +50,6 @@ refused_yields : {f : Fault} {a : Command} {i : Input} → ◌≡◌ {A = Outcom
 unfolding is_refused
 refused_yields e = subst is_refused e tt
 
-false_true : false ≡ true → ⊥
-false_true e = cc
-
 -- ---- the tokens of a line end with its end, or with a byte that begins no token
 
 bad_is_whole : k.Bad ≢ k.Signed
@@ -84,7 +81,7 @@ ends_well left at [] = λ t. end_is_whole
 ends_well (suc left) at (b ∷ z) = ends_well left (at + 1) z
 ends_well zero at (b ∷ z) = by_blank b at z (is_blank b) (λ left. ends_well left (at + 1) z)
 
-line_is_whole : (line : List ℕ) → Whole (tokens line)
+pub line_is_whole : (line : List ℕ) → Whole (tokens line)
 unfolding EndsWell tokens
 line_is_whole line = ends_well 0 0 line no_token
 
@@ -139,7 +136,7 @@ unfolding ends
 refused_by form line (Ok p) t e is = ends_refused form line p.0 p.1 t (sees k.LineEnd p.1) e is
 refused_by form line (Err f) (Behind before after split at done) e is =
     record { before = before; after = after; joined = split; at = sym (fault_same is) ∙ at; begins = begun form before done }
-refused_by form line (Err f) (TooDeep before after w dp split at nests paren) e is = absurd (false_true dp)
+refused_by form line (Err f) (TooDeep before after w dp split at wants) e is = absurd dp
 
 pub refused_no_sooner : (p : Reader Command) (form : Form Command) → Sound Plain p form → RefusesNoSooner (p >>= ends) form
 refused_no_sooner p form sp line e is = refused_by form (tokens line) (p (start_of (tokens line))) (sp.run (start_of (tokens line)) (line_is_whole line)) e is

@@ -1,13 +1,13 @@
 -- Items with a mark between are read as their form says.
-use Rattle.std.proofs.Common.{◌≡◌, ℕ, zero, suc, ◌+◌, Bool, true, false, if◌then◌else◌, List, [], ◌∷◌, ◌++◌, drop, length, Ok, Err, refl, ap, sym, subst, ◌∙◌, append_assoc}
+use Rattle.std.proofs.Common.{◌≡◌, ℕ, zero, suc, ◌+◌, Bool, true, false, if◌then◌else◌, List, [], ◌∷◌, ◌++◌, drop, length, Ok, Err, refl, ap, sym, subst, ◌∙◌, append-nil, append_assoc, arith}
 use Rattle.script_lex.specs.declared.kind.Kind.{Kind}
 use Rattle.script_lex.specs.declared.token.Token.{Token}
 use Rattle.script_lex.specs.Lex.{same_kind}
 use Rattle.script_tokens.proofs.Alike.{same}
 use Rattle.script_tokens.specs.Input.{Input, Outcome, Reader, ◌>>=◌, and_then, pure, eat, head, next, sees, after, first_of, separated_from}
-use Rattle.script_forms.specs.Form.{Form, word, separated}
+use Rattle.script_forms.specs.Form.{Form, sequence, says, word, separated}
 use Rattle.grammar_laws.proofs.Taking.{Mode, Took, Refused, Behind, TooDeep, Kept, Whole, Sound, Inhabited}
-use Rattle.grammar_laws.proofs.Steps.{whole_rest, whole_next, budget_more, enough_more, is_end, taken_by, refused_here}
+use Rattle.grammar_laws.proofs.Steps.{whole_rest, whole_next, budget_more, enough_more, deep_behind, both_refused, some_made, is_end, taken_by, refused_here}
 
 pub some_list : {A : Type 0} (mark : Kind) {item : Form A} → Inhabited item → Inhabited (separated mark item)
 some_list mark w = record { tokens = w.tokens; value = w.value ∷ []; said = w.said }
@@ -63,10 +63,10 @@ module _ {A : Type 0} (c : Mode) (mark : Kind) (not_end : is_end mark ≡ false)
         said = subst (λ ts. separated mark form ts (t.count + (u.count + done.count)) (x ∷ done.value)) (joined_three t.front u.front before done.more)
             (more_items mark form t.front u.front (before ++ done.more) t.count u.count done.count x done.value t.said u.said done.said);
       })
-  behind found i j m x t u (Err e) (TooDeep before after w dp split at nests paren) =
-      TooDeep (t.front ++ (u.front ++ before)) after w dp
+  behind found i j m x t u (Err e) (TooDeep before after w dp split at wants) =
+      TooDeep (t.front ++ (u.front ++ before)) after w (deep_behind c t.front (u.front ++ before) (deep_behind c u.front before dp))
       (t.joined ∙ ap (λ ts. t.front ++ ts) (u.joined ∙ ap (λ ts. u.front ++ ts) split) ∙ joined_three t.front u.front (before ++ w ∷ []) after
-      ∙ ap (λ ts. ts ++ after) (joined_three t.front u.front before (w ∷ []))) at nests paren
+      ∙ ap (λ ts. ts ++ after) (joined_three t.front u.front before (w ∷ []))) at wants
 
   by_mark : (n : ℕ) (found : List A) (i : Input) (x : A) (xs : List Token) (o : ℕ) → Took c form i x (record { ahead = xs; operators = o }) → Whole xs
       → ((found : List A) (j : Input) → Whole j.ahead → Items c mark form found j (separated_from mark item n found j))
@@ -89,7 +89,7 @@ module _ {A : Type 0} (c : Mode) (mark : Kind) (not_end : is_end mark ≡ false)
       by_mark n found i p.0 p.1.ahead p.1.operators t (whole_rest t.front p.1.ahead (subst Whole t.joined whole)) rec (same_kind (first_of p.1.ahead).kind mark) refl
   by_item n found i whole rec (Err e) (Behind before after split at done) =
       Behind before after split at (record { more = done.more; count = done.count; value = done.value ∷ []; enough = done.enough; said = done.said })
-  by_item n found i whole rec (Err e) (TooDeep before after w dp split at nests paren) = TooDeep before after w dp split at nests paren
+  by_item n found i whole rec (Err e) (TooDeep before after w dp split at wants) = TooDeep before after w dp split at wants
 
   items_by : Sound c item form → Inhabited form → (n : ℕ) (found : List A) (i : Input) → Whole i.ahead → Items c mark form found i (separated_from mark item n found i)
   unfolding Items separated_from head
@@ -105,3 +105,38 @@ pub listed : {A : Type 0} {c : Mode} (mark : Kind) {item : Reader A} {form : For
     → Sound c (λ i. separated_from mark item (length i.ahead) [] i) (separated mark form)
 listed {c = c} mark {item = item} {form = form} not_end sp any =
     record { run = λ i whole. all_of c mark not_end item form i (separated_from mark item (length i.ahead) [] i) (items_by c mark not_end item form sp any (length i.ahead) [] i whole) }
+
+-- the items behind one that was found before
+behind_one : {A : Type 0} (c : Mode) (mark : Kind) (form : Form A) (first : A) (i : Input) (out : Outcome (List A)) → Items c mark form (first ∷ []) i out
+    → Kept c (sequence (separated mark form) (λ more. says (first ∷ more))) i out
+unfolding Items
+behind_one c mark form first i (Ok p) items =
+    let t = items.2 in
+    subst (λ all. Took c (sequence (separated mark form) (λ more. says (first ∷ more))) i all p.1) (sym items.1) (record {
+      front = t.front;
+      count = t.count;
+      joined = t.joined;
+      budget = t.budget;
+      said = (
+        items.0,
+        record {
+          front = t.front;
+          rest = [];
+          front_count = t.count;
+          rest_count = 0;
+          joined = sym (append-nil t.front);
+          counted = omega arith;
+          first = t.said;
+          second = (refl, refl, refl);
+        },
+      );
+    })
+behind_one c mark form first i (Err e) r = both_refused c (separated mark form) (λ more. says (first ∷ more)) i e (λ more. some_made (first ∷ more)) r
+
+pub listed_behind : {A : Type 0} {c : Mode} (mark : Kind) {item : Reader A} {form : Form A} → is_end mark ≡ false → Sound c item form → Inhabited form → (first : A)
+    → Sound c (λ i. separated_from mark item (length i.ahead) (first ∷ []) i) (sequence (separated mark form) (λ more. says (first ∷ more)))
+listed_behind {c = c} mark {item = item} {form = form} not_end sp any first = record {
+  run = λ i whole.
+      behind_one c mark form first i (separated_from mark item (length i.ahead) (first ∷ []) i)
+      (items_by c mark not_end item form sp any (length i.ahead) (first ∷ []) i whole);
+}

@@ -10,7 +10,8 @@ use Rattle.script_tokens.specs.declared.fault.Fault.{Fault}
 use Rattle.script_tokens.specs.declared.fault.Fault.TheVariants.{At}
 use Rattle.script_tokens.specs.Input.{Input, Outcome, Reader, ◌>>=◌, and_then, pure, refuse, peek, take_token, expect, head, kind, next, sees, after, first_of, no_token}
 use Rattle.script_forms.specs.Form.{Form, sequence, says, word, ◌or◌}
-use Rattle.grammar_laws.proofs.Taking.{Mode, Plain, Around, Inside, Budget, Enough, Took, Refused, Behind, TooDeep, Kept, Out, last_of, Whole, Sound, Inhabited}
+use Rattle.grammar_laws.specs.Nesting.{openings}
+use Rattle.grammar_laws.proofs.Taking.{Mode, Plain, Around, Inside, Budget, Enough, Deep, Took, Refused, Behind, TooDeep, Kept, Out, last_of, Whole, Sound, Inhabited}
 
 last_append : (t : Token) (front : List Token) (r : Token) (rs : List Token) → last_of t (front ++ r ∷ rs) ≡ last_of r rs
 last_append t [] r rs = refl
@@ -30,27 +31,36 @@ whole_next (t ∷ ts) h = whole_rest (t ∷ []) ts h
 pub budget_none : (c : Mode) (n : ℕ) → Budget c 0 n n
 budget_none Plain n = refl
 budget_none Around n = refl
-budget_none Inside n = omega arith
+budget_none (Inside d) n = omega arith
 
 pub budget_more : (c : Mode) (m n o p q : ℕ) → Budget c m o p → Budget c n p q → Budget c (m + n) o q
 budget_more Plain m n o p q a b = omega arith
 budget_more Around m n o p q a b = omega arith
-budget_more Inside m n o p q a b = omega arith
+budget_more (Inside d) m n o p q a b = omega arith
 
 pub enough_none : (c : Mode) (n : ℕ) → Enough c 0 n
 enough_none Plain n = refl
 enough_none Around n = refl
-enough_none Inside n = omega arith
+enough_none (Inside d) n = omega arith
 
 pub enough_more : (c : Mode) (m n o p : ℕ) → Budget c m o p → Enough c n p → Enough c (m + n) o
 enough_more Plain m n o p a b = omega arith
 enough_more Around m n o p a b = omega arith
-enough_more Inside m n o p a b = omega arith
+enough_more (Inside d) m n o p a b = omega arith
 
 enough_plus : (c : Mode) (m o : ℕ) → Enough c m o → Enough c (m + 0) o
 enough_plus Plain m o a = omega arith
 enough_plus Around m o a = omega arith
-enough_plus Inside m o a = omega arith
+enough_plus (Inside d) m o a = omega arith
+
+openings_append : (front rest : List Token) → openings (front ++ rest) ≡ openings front + openings rest
+openings_append [] rest = omega arith
+openings_append (t ∷ ts) rest = omega (arith, openings_append ts rest)
+
+pub deep_behind : (c : Mode) (front tokens : List Token) → Deep c tokens → Deep c (front ++ tokens)
+deep_behind Plain front tokens d = d
+deep_behind Around front tokens d = omega (arith, openings_append front tokens, d)
+deep_behind (Inside n) front tokens d = omega (arith, openings_append front tokens, d)
 
 -- ---- one after the other
 
@@ -83,12 +93,12 @@ both_taken c g h i a j t (Err e) (Behind before after split at done) =
         },
       );
     })
-both_taken c g h i a j t (Err e) (TooDeep before after u dp split at nests paren) =
-    TooDeep (t.front ++ before) after u dp
+both_taken c g h i a j t (Err e) (TooDeep before after u dp split at wants) =
+    TooDeep (t.front ++ before) after u (deep_behind c t.front before dp)
     (t.joined ∙ ap (λ ts. t.front ++ ts) split ∙ sym (append_assoc t.front (before ++ u ∷ []) after) ∙ ap (λ ts. ts ++ after) (sym (append_assoc t.front before (u ∷ []))))
-    at nests paren
+    at wants
 
-both_refused : {A B : Type 0} (c : Mode) (g : Form A) (h : A → Form B) (i : Input) (e : Fault) → ((a : A) → Inhabited (h a)) → Refused c g i e
+pub both_refused : {A B : Type 0} (c : Mode) (g : Form A) (h : A → Form B) (i : Input) (e : Fault) → ((a : A) → Inhabited (h a)) → Refused c g i e
     → Refused c (sequence g h) i e
 both_refused c g h i e any (Behind before after split at done) =
     let w = any done.value in
@@ -111,7 +121,7 @@ both_refused c g h i e any (Behind before after split at done) =
         },
       );
     })
-both_refused c g h i e any (TooDeep before after u dp split at nests paren) = TooDeep before after u dp split at nests paren
+both_refused c g h i e any (TooDeep before after u dp split at wants) = TooDeep before after u dp split at wants
 
 both_out : {A B : Type 0} (c : Mode) (g : Form A) (h : A → Form B) (f : A → Reader B) (i : Input) → Whole i.ahead → ((a : A) → Sound c (f a) (h a))
     → ((a : A) → Inhabited (h a)) → (out : Outcome A) → Kept c g i out → Kept c (sequence g h) i (and_then out f)
@@ -152,7 +162,7 @@ pub within_out : {A : Type 0} (c : Mode) (g h : Form A) (i : Input) → ((ts : L
 within_out c g h i up (Ok p) t = record { front = t.front; count = t.count; joined = t.joined; budget = t.budget; said = up t.front t.count p.0 t.said }
 within_out c g h i up (Err e) (Behind before after split at done) =
     Behind before after split at (record { more = done.more; count = done.count; value = done.value; enough = done.enough; said = up (before ++ done.more) done.count done.value done.said })
-within_out c g h i up (Err e) (TooDeep before after u dp split at nests paren) = TooDeep before after u dp split at nests paren
+within_out c g h i up (Err e) (TooDeep before after u dp split at wants) = TooDeep before after u dp split at wants
 
 pub left_of : {A : Type 0} {c : Mode} {g h : Form A} {i : Input} {out : Outcome A} → Out c g i out → Out c (g or h) i out
 left_of {c = c} {g = g} {h = h} {i = i} {out = out} t = record { kept = within_out c g (g or h) i (λ ts n a s. inl s) out t.kept }

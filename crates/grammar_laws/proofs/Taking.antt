@@ -1,31 +1,33 @@
 -- What a reader does at an input, compared with a form.
-use Rattle.std.proofs.Common.{◌≡◌, ◌≢◌, ℕ, ◌+◌, ◌≤◌, Bool, true, false, List, [], ◌∷◌, ◌++◌, Ok, Err}
-use Rattle.script_lex.specs.declared.kind.Kind.{Kind}
+use Rattle.std.proofs.Common.{◌≡◌, ◌≢◌, ℕ, ◌+◌, ◌≤◌, true, List, [], ◌∷◌, ◌++◌, Ok, Err}
 use Rattle.script_lex.specs.declared.kind.Kind.TheVariants as k
 use Rattle.script_lex.specs.declared.token.Token.{Token}
 use Rattle.script_tokens.specs.declared.fault.Fault.{Fault}
 use Rattle.script_tokens.specs.declared.fault.Fault.TheVariants.{At}
 use Rattle.script_tokens.specs.Input.{Input, Outcome, Reader, first_of, no_token}
 use Rattle.script_forms.specs.Form.{Form}
+use Rattle.grammar_laws.specs.Nesting.{openings, nests}
 
--- Where a reader reads: where there are no expressions; where there are whole ones; and inside one, where each of `+ - || *` takes one of those that are left.
+-- Where a reader reads: where there are no expressions; where there are whole ones; and inside one, where each of `+ - || *` takes one of those that are left,
+-- and this many of parentheses, `not` and unary minus may nest.
 pub data Mode : Type 0 where
   Plain : Mode
   Around : Mode
-  Inside : Mode
+  Inside : ℕ → Mode
 
 abbrev pub Budget : Mode → ℕ → ℕ → ℕ → Type 0
-Budget Inside count before after = before ≡ count + after
+Budget (Inside depth) count before after = before ≡ count + after
 Budget _ count before after = count ≡ 0
 
 abbrev pub Enough : Mode → ℕ → ℕ → Type 0
-Enough Inside count before = count ≤ before
+Enough (Inside depth) count before = count ≤ before
 Enough _ count before = count ≡ 0
 
--- there are expressions, which nest
-abbrev pub deep : Mode → Bool
-deep Plain = false
-deep _ = true
+-- so many nest in these tokens that no more may
+abbrev pub Deep : Mode → List Token → Type 0
+Deep Plain tokens = ⊥
+Deep Around tokens = 100 ≤ openings tokens
+Deep (Inside depth) tokens = depth ≤ openings tokens
 
 -- the tokens that were taken are the form's, and say what was read
 pub record Took {A : Type 0} (mode : Mode) (form : Form A) (i : Input) (a : A) (j : Input) : Type 0 where
@@ -43,17 +45,11 @@ pub record Completed {A : Type 0} (mode : Mode) (form : Form A) (before : List T
   pub enough : Enough mode count operators
   pub said : form (before ++ more) count value
 
--- a word behind which a parenthesis must come, and nests
-abbrev pub nests : Kind → Bool
-nests k.In = true
-nests k.Exists = true
-nests _ = false
-
--- The tokens before the refused one begin some tokens of the form; or the refused one is a parenthesis that would nest too deep, behind a word that wants it.
+-- The tokens before the refused one begin some tokens of the form; or it stands behind a word that wants a parenthesis, which would nest too deep.
 pub data Refused {A : Type 0} (mode : Mode) (form : Form A) (i : Input) (e : Fault) : Type 0 where
   Behind : (before after : List Token) → i.ahead ≡ before ++ after → e ≡ At (first_of after).at → Completed mode form before i.operators → Refused mode form i e
-  TooDeep : (before after : List Token) (t : Token) → deep mode ≡ true → i.ahead ≡ (before ++ t ∷ []) ++ after → e ≡ At (first_of after).at → nests t.kind ≡ true
-      → (first_of after).kind ≡ k.LParen → Refused mode form i e
+  TooDeep : (before after : List Token) (t : Token) → Deep mode before → i.ahead ≡ (before ++ t ∷ []) ++ after → e ≡ At (first_of after).at → nests t.kind ≡ true
+      → Refused mode form i e
 
 abbrev pub Kept : {A : Type 0} → Mode → Form A → Input → Outcome A → Type 0
 Kept mode form i (Ok p) = Took mode form i p.0 p.1
