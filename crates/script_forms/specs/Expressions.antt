@@ -91,17 +91,21 @@ comparison_sign =
     or (word k.Greater >> says compare.Greater)
     or (word k.GreaterEqual >> says compare.GreaterEqual)
 
+-- one of the words of the language that may also be names
+abbrev pub free_word : Kind → Form (Unit {0})
+free_word kind tokens count found = word kind tokens count found × ((bytes : List ℕ) × name tokens count bytes)
+
 -- FN: `count`, `sum`, `min`, `max`, `lower`, `upper`, `length`, `coalesce`
 abbrev pub function : Form Func
 function =
-    (word k.Count >> says func.Count)
-    or (word k.Sum >> says func.Sum)
-    or (word k.Min >> says func.Min)
-    or (word k.Max >> says func.Max)
-    or (word k.Lower >> says func.Lower)
-    or (word k.Upper >> says func.Upper)
-    or (word k.Length >> says func.Length)
-    or (word k.Coalesce >> says func.Coalesce)
+    (free_word k.Count >> says func.Count)
+    or (free_word k.Sum >> says func.Sum)
+    or (free_word k.Min >> says func.Min)
+    or (free_word k.Max >> says func.Max)
+    or (free_word k.Lower >> says func.Lower)
+    or (free_word k.Upper >> says func.Upper)
+    or (free_word k.Length >> says func.Length)
+    or (free_word k.Coalesce >> says func.Coalesce)
 
 -- SRC: `NAME [as NAME]`
 abbrev pub source : Form SynSource
@@ -142,7 +146,7 @@ module _ (depth : ℕ) (inner : Place → Form Syn) where
   -- `count(*)`
   abbrev pub count_all : Form Syn
   count_all = do
-    word k.Count
+    free_word k.Count
     nesting depth k.LParen
     word k.Star
     word k.RParen
