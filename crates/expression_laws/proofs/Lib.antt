@@ -1,0 +1,9 @@
+pub mod Steps
+pub mod Nesting
+pub mod Chains
+pub mod Atoms
+pub mod Sums
+pub mod Tests
+pub mod Levels
+pub mod Whole
+pub mod Laws

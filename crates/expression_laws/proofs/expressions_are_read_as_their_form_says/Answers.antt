@@ -1,0 +1,8 @@
+use Rattle.expression_laws.proofs.Laws.{reads_what_is_said, refuses_no_sooner}
+use Rattle.expression_laws.proofs.expressions_are_read_as_their_form_says.Goals as goal
+
+pub returns-clause-read : goal.returns-clause-read
+returns-clause-read c = reads_what_is_said
+
+pub returns-clause-refused : goal.returns-clause-refused
+returns-clause-refused c = refuses_no_sooner

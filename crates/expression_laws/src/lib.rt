@@ -1,0 +1,13 @@
+//! Laws of the script's expressions and their form, each the contract of a function that does nothing: what is read of an expression is what its tokens
+//! say, and a refused token stands behind tokens with which some expression begins.
+#![tactic(auto)]
+
+ghost use Rattle.expression_laws.specs.Exact.{ReadsWhatIsSaid, RefusesNoSooner};
+
+/// An expression that is read says what its form relates to its tokens, with at most 100 of parentheses, `not` and unary minus nested and at most 1000 of
+/// `+ - || *`. Where one is refused, some expression begins with the tokens before the refused one; or that stands right behind an `in` or `exists` whose
+/// parenthesis would be nested in a hundred.
+pub fn expressions_are_read_as_their_form_says()
+    ensures read { ReadsWhatIsSaid }
+    ensures refused { RefusesNoSooner }
+{}
