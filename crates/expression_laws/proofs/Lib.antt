@@ -7,3 +7,11 @@ pub mod Tests
 pub mod Levels
 pub mod Whole
 pub mod Laws
+pub mod FillingSteps
+pub mod FillingKinds
+pub mod FillingChains
+pub mod FillingLiterals
+pub mod FillingAtoms
+pub mod FillingTests
+pub mod FillingExpressions
+pub mod FillingLaws

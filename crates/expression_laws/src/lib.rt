@@ -2,12 +2,14 @@
 //! say, and a refused token stands behind tokens with which some expression begins.
 #![tactic(auto)]
 
-ghost use Rattle.expression_laws.specs.Exact.{ReadsWhatIsSaid, RefusesNoSooner};
+ghost use Rattle.expression_laws.specs.Exact.{ReadsAllThatIsSaid, ReadsWhatIsSaid, RefusesNoSooner, SaysOneThing};
 
 /// An expression that is read says what its form relates to its tokens, with at most 100 of parentheses, `not` and unary minus nested and at most 1000 of
-/// `+ - || *`. Where one is refused, some expression begins with the tokens before the refused one; or that stands right behind an `in` or `exists` whose
+/// `+ - || *`. Up to a token with which no expression goes on, tokens say one at most, and that one is read. Where one is refused, some expression begins with the tokens before the refused one; or that stands right behind an `in` or `exists` whose
 /// parenthesis would be nested in a hundred.
 pub fn expressions_are_read_as_their_form_says()
     ensures read { ReadsWhatIsSaid }
+    ensures all { ReadsAllThatIsSaid }
+    ensures one { SaysOneThing }
     ensures refused { RefusesNoSooner }
 {}

@@ -117,7 +117,8 @@ module _ {A : Type 0} (mode : Mode) (mark : Kind) (item : Reader A) (form : Form
       subst (λ m. Read mode (separated_from mark item (suc n) found) (front ++ rest) rest m o (found ++ a ∷ [])) counts
       (step n found a (front ++ rest) rest rest l 0 o (found ++ a ∷ []) one (last_by n found a rest one.left (other (first_of rest).kind stop)))
 
-  all_read : (n : ℕ) (all found : List A) (front rest : List Token) (count o : ℕ) → length all ≤ n → separated mark form front count all → Enough mode count o
+  -- items behind those that were found
+  pub all_read : (n : ℕ) (all found : List A) (front rest : List Token) (count o : ℕ) → length all ≤ n → separated mark form front count all → Enough mode count o
       → t (first_of rest).kind ≡ true → Read mode (separated_from mark item n found) (front ++ rest) rest count o (found ++ all)
   all_read n [] found front rest count o fits said enough stop = absurd said
   all_read zero (a ∷ more) found front rest count o fits said enough stop = absurd (omega arith)
