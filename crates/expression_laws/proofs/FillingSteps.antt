@@ -45,7 +45,7 @@ opens_onto up og = record { run = λ tokens rest count a said stop. og.run token
 pub opens_less : {A : Type 0} {next few these : Kind → Bool} {g : Form A} → Opens g next few → ((y : Kind) → few y ≡ true → these y ≡ true) → Opens g next these
 opens_less og within = record { run = λ tokens rest count a said stop. within _ (og.run tokens rest count a said stop) }
 
--- a form that says its tokens are of a kind that no end of a line has is of one token or more
+-- a form that begins with kinds other than the end of a line has one token or more
 solid_by : {A : Type 0} (g : Form A) (these : Kind → Bool) → Opens g always these → these k.LineEnd ≡ false → (tokens : List Token) (count : ℕ) (a : A) → g tokens count a
     → 1 ≤ length tokens
 solid_by g these og out [] count a said = absurd (false_true (sym out ∙ og.run [] [] count a said refl))
