@@ -1,5 +1,5 @@
 -- Atoms and unary minus are read as their forms say.
-use Rattle.std.proofs.Common.{◌≡◌, ◌≢◌, ℕ, ◌+◌, ◌≤◌, Bool, true, false, if◌then◌else◌, List, [], ◌∷◌, ◌++◌, Option, Some, None, Ok, Err, refl, ap, sym, subst, ◌∙◌, inl, inr}
+use Rattle.std.proofs.Common.{◌≡◌, ◌≢◌, ℕ, Bool, true, false, if◌then◌else◌, List, [], ◌∷◌, ◌++◌, Option, Some, None, Ok, Err, refl, ap, sym, subst, ◌∙◌, inl, inr}
 use Rattle.expr_types.specs.declared.expr.Func.{Func}
 use Rattle.expr_types.specs.declared.expr.Func.TheVariants as func
 use Rattle.script_types.specs.declared.expression.Syn.{Syn}
@@ -24,7 +24,7 @@ use Rattle.grammar_laws.proofs.Options.{introduced}
 use Rattle.grammar_laws.proofs.Lists.{listed, some_list}
 use Rattle.grammar_laws.proofs.Basics.{named, some_name, literal_read, some_literal}
 use Rattle.expression_laws.proofs.Steps.{Within, within, within_at, first_as, either_up, either_second, then_within, then_says, either_word, mapped}
-use Rattle.expression_laws.proofs.Nesting.{place, nested_form, entered, by_depth, deeper_read, behind_nesting}
+use Rattle.expression_laws.proofs.Nesting.{Fits, place, nested_form, entered, by_depth, deeper_read, behind_nesting}
 
 -- ---- sources
 
@@ -183,16 +183,16 @@ module _ (depth : ℕ) (inner : Place → Form Syn) where
   minus_up : Within (nested_form depth k.Minus (sequence (inner BehindMinus) (λ x. says (e.Neg x)))) (form.unary depth inner)
   minus_up ts m a s = inl s
 
-module _ (depth lower : ℕ) (near : depth ≤ lower + 1) (expr : Level → Reader Syn) (inner : Place → Form Syn)
-    (reads : depth ≢ 0 → (l : Level) → Sound (Inside lower) (expr l) (inner (place l))) (somes : depth ≢ 0 → (stands : Place) → Inhabited (inner stands)) where
-  some_arguments : depth ≢ 0 → (f : Func) → Inhabited (arguments (inner Anywhere) f)
+module _ (depth room outer lower : ℕ) (fits : Fits depth room outer lower) (expr : Level → Reader Syn) (inner : Place → Form Syn)
+    (reads : depth ≢ 0 → (l : Level) → Sound (Inside lower) (expr l) (inner (place l))) (somes : room ≢ 0 → (stands : Place) → Inhabited (inner stands)) where
+  some_arguments : room ≢ 0 → (f : Func) → Inhabited (arguments (inner Anywhere) f)
   unfolding arguments
   some_arguments some f = some_both (some_list k.Comma (somes some Anywhere)) (λ found. some_both (some_word k.RParen) (λ _. some_made (e.Call f found)))
 
   arguments_read : depth ≢ 0 → (f : Func) → Sound (Inside lower) (r.arguments depth expr >>= (λ found. expect k.RParen >> pure (e.Call f found))) (arguments (inner Anywhere) f)
   unfolding r.arguments arguments
   arguments_read some f =
-      both (listed k.Comma refl (reads some level.Whole) (somes some Anywhere)) (λ found. both (expected k.RParen refl) (λ _. made (e.Call f found)) (λ _. some_made (e.Call f found)))
+      both (listed k.Comma refl (reads some level.Whole) (somes (fits.roomy some) Anywhere)) (λ found. both (expected k.RParen refl) (λ _. made (e.Call f found)) (λ _. some_made (e.Call f found)))
       (λ found. some_both (some_word k.RParen) (λ _. some_made (e.Call f found)))
 
   inside_read : depth ≢ 0 → (f : Func) → Sound (Inside lower) (inside depth expr f) (inside_form (inner Anywhere) f)
@@ -201,58 +201,58 @@ module _ (depth lower : ℕ) (near : depth ≤ lower + 1) (expr : Level → Read
       either_word k.Star refl (both (expected k.RParen refl) (λ _. made e.CountAll) (λ _. some_made e.CountAll)) (arguments_read some func.Count)
   inside_read some f = arguments_read some f
 
-  some_inside : depth ≢ 0 → (f : Func) → Inhabited (inside_form (inner Anywhere) f)
+  some_inside : room ≢ 0 → (f : Func) → Inhabited (inside_form (inner Anywhere) f)
   unfolding inside_form
   some_inside some func.Count = some_right (some_arguments some func.Count)
   some_inside some f = some_arguments some f
 
   -- what is read behind a function is behind its name
-  called_up : (f : Func) (kd : Kind) → Calls kd f → (i j : Input) (first : List ℕ) → Took (Inside depth) basic.name i first j → kind i ≡ kd → (out : Outcome Syn)
-      → Kept (Inside depth) (nested_form depth k.LParen (inside_form (inner Anywhere) f)) j out → Kept (Inside depth) (form.atom depth inner) i out
+  called_up : (f : Func) (kd : Kind) → Calls kd f → (i j : Input) (first : List ℕ) → Took (Inside outer) basic.name i first j → kind i ≡ kd → (out : Outcome Syn)
+      → Kept (Inside outer) (nested_form room k.LParen (inside_form (inner Anywhere) f)) j out → Kept (Inside outer) (form.atom room inner) i out
   unfolding inside_form CountAt
   called_up func.Count kd calls i j first took is out kept =
-      within_out (Inside depth) (sequence (form.free_word k.Count) (λ _. nested_form depth k.LParen (star or arguments (inner Anywhere) func.Count))) (form.atom depth inner) i (count_up depth inner) out
-      (both_taken (Inside depth) (form.free_word k.Count) (λ _. nested_form depth k.LParen (star or arguments (inner Anywhere) func.Count)) i tt j
-      (taken_as (Inside depth) (form.free_word k.Count) tt kd i j first took is (λ t bytes same named. ((t, refl, same ∙ calls.count, refl), (bytes, named)))) out kept)
+      within_out (Inside outer) (sequence (form.free_word k.Count) (λ _. nested_form room k.LParen (star or arguments (inner Anywhere) func.Count))) (form.atom room inner) i (count_up room inner) out
+      (both_taken (Inside outer) (form.free_word k.Count) (λ _. nested_form room k.LParen (star or arguments (inner Anywhere) func.Count)) i tt j
+      (taken_as (Inside outer) (form.free_word k.Count) tt kd i j first took is (λ t bytes same named. ((t, refl, same ∙ calls.count, refl), (bytes, named)))) out kept)
   called_up f kd calls i j first took is out kept =
-      within_out (Inside depth) (sequence form.function (λ f. nested_form depth k.LParen (arguments (inner Anywhere) f))) (form.atom depth inner) i (call_up depth inner) out
-      (both_taken (Inside depth) form.function (λ f. nested_form depth k.LParen (arguments (inner Anywhere) f)) i f j (taken_as (Inside depth) form.function f kd i j first took is calls.said) out kept)
+      within_out (Inside outer) (sequence form.function (λ f. nested_form room k.LParen (arguments (inner Anywhere) f))) (form.atom room inner) i (call_up room inner) out
+      (both_taken (Inside outer) form.function (λ f. nested_form room k.LParen (arguments (inner Anywhere) f)) i f j (taken_as (Inside outer) form.function f kd i j first took is calls.said) out kept)
 
   -- behind a name
-  path_at : (i j : Input) (first : List ℕ) → Took (Inside depth) basic.name i first j → (out : Outcome Syn) → Kept (Inside depth) (path_rest first) j out
-      → Kept (Inside depth) (form.atom depth inner) i out
+  path_at : (i j : Input) (first : List ℕ) → Took (Inside outer) basic.name i first j → (out : Outcome Syn) → Kept (Inside outer) (path_rest first) j out
+      → Kept (Inside outer) (form.atom room inner) i out
   path_at i j first took out kept =
-      within_out (Inside depth) (sequence basic.name path_rest) (form.atom depth inner) i (path_up depth inner) out (both_taken (Inside depth) basic.name path_rest i first j took out kept)
+      within_out (Inside outer) (sequence basic.name path_rest) (form.atom room inner) i (path_up room inner) out (both_taken (Inside outer) basic.name path_rest i first j took out kept)
 
-  call_at : (f : Func) (kd : Kind) → Calls kd f → (i j : Input) (first : List ℕ) → Took (Inside depth) basic.name i first j → kind i ≡ kd → Whole j.ahead
-      → Kept (Inside depth) (form.atom depth inner) i (r.call depth expr f j)
+  call_at : (f : Func) (kd : Kind) → Calls kd f → (i j : Input) (first : List ℕ) → Took (Inside outer) basic.name i first j → kind i ≡ kd → Whole j.ahead
+      → Kept (Inside outer) (form.atom room inner) i (r.call depth expr f j)
   unfolding r.call inside
   call_at f kd calls i j first took is whole =
-      by_depth depth lower near expr (inside depth expr f) k.LParen j (Kept (Inside depth) (form.atom depth inner) i)
-      (λ none. path_at i j first took (Err (At (head j).at)) (refused_here (Inside depth) j (some_path_rest first)))
+      by_depth depth room outer lower fits expr (inside depth expr f) k.LParen j (Kept (Inside outer) (form.atom room inner) i)
+      (λ none. path_at i j first took (Err (At (head j).at)) (refused_here (Inside outer) j (some_path_rest first)))
       (λ some. called_up f kd calls i j first took is (and_then (expect k.LParen j) (λ _. inside depth expr f))
-      (entered depth lower near expr k.LParen refl refl some (inside_read some f) (some_inside some f) j whole))
+      (entered depth room outer lower fits expr k.LParen refl refl (fits.roomy some) (inside_read some f) (some_inside (fits.roomy some) f) j whole))
 
-  called_by : (f : Func) (kd : Kind) → Calls kd f → (i j : Input) (first : List ℕ) → Took (Inside depth) basic.name i first j → kind i ≡ kd → Whole j.ahead
-      → (b : Bool) → Kept (Inside depth) (form.atom depth inner) i (if b then r.call depth expr f j else r.path first j)
+  called_by : (f : Func) (kd : Kind) → Calls kd f → (i j : Input) (first : List ℕ) → Took (Inside outer) basic.name i first j → kind i ≡ kd → Whole j.ahead
+      → (b : Bool) → Kept (Inside outer) (form.atom room inner) i (if b then r.call depth expr f j else r.path first j)
   called_by f kd calls i j first took is whole true = call_at f kd calls i j first took is whole
   called_by f kd calls i j first took is whole false = path_at i j first took (r.path first j) ((path_rest_read first).run j whole)
 
-  by_function : (found : Option Func) (kd : Kind) → CallsBy kd found → (i j : Input) (first : List ℕ) → Took (Inside depth) basic.name i first j → kind i ≡ kd → Whole j.ahead
-      → Kept (Inside depth) (form.atom depth inner) i (r.named_by depth expr first found j)
+  by_function : (found : Option Func) (kd : Kind) → CallsBy kd found → (i j : Input) (first : List ℕ) → Took (Inside outer) basic.name i first j → kind i ≡ kd → Whole j.ahead
+      → Kept (Inside outer) (form.atom room inner) i (r.named_by depth expr first found j)
   unfolding CallsBy r.called
   by_function None kd calls i j first took is whole = path_at i j first took (r.path first j) ((path_rest_read first).run j whole)
   by_function (Some f) kd calls i j first took is whole = called_by f kd calls i j first took is whole (sees k.LParen j)
 
-  named_by : (kd : Kind) (i : Input) → Whole i.ahead → kind i ≡ kd → (out : Outcome (List ℕ)) → Kept (Inside depth) basic.name i out
-      → Kept (Inside depth) (form.atom depth inner) i (and_then out (λ first. r.named_by depth expr first (r.function kd)))
+  named_by : (kd : Kind) (i : Input) → Whole i.ahead → kind i ≡ kd → (out : Outcome (List ℕ)) → Kept (Inside outer) basic.name i out
+      → Kept (Inside outer) (form.atom room inner) i (and_then out (λ first. r.named_by depth expr first (r.function kd)))
   named_by kd i whole is (Ok p) took =
       by_function (r.function kd) kd (calls kd) i p.1 p.0 took is (whole_rest took.front p.1.ahead (subst Whole took.joined whole))
   named_by kd i whole is (Err f) refused =
-      within_out (Inside depth) (sequence basic.name path_rest) (form.atom depth inner) i (path_up depth inner) (Err f) (both_refused (Inside depth) basic.name path_rest i f some_path_rest refused)
+      within_out (Inside outer) (sequence basic.name path_rest) (form.atom room inner) i (path_up room inner) (Err f) (both_refused (Inside outer) basic.name path_rest i f some_path_rest refused)
 
   -- a call of a function, or a source and its column
-  named_read : Sound (Inside depth) (r.named depth expr) (form.atom depth inner)
+  named_read : Sound (Inside outer) (r.named depth expr) (form.atom room inner)
   unfolding r.named
   named_read =
       on_kind (λ kd. n.name >>= (λ first. r.named_by depth expr first (r.function kd)))
@@ -260,30 +260,30 @@ module _ (depth lower : ℕ) (near : depth ≤ lower + 1) (expr : Level → Read
 
   -- ---- atoms
 
-  literal_atom : Sound (Inside depth) (l.literal >>= (λ x. pure (e.Lit x))) (form.atom depth inner)
-  literal_atom = within (mapped e.Lit literal_read) (literal_up depth inner)
+  literal_atom : Sound (Inside outer) (l.literal >>= (λ x. pure (e.Lit x))) (form.atom room inner)
+  literal_atom = within (mapped e.Lit literal_read) (literal_up room inner)
 
-  parenthesized_read : Sound (Inside depth) (r.parenthesized depth expr) (form.atom depth inner)
+  parenthesized_read : Sound (Inside outer) (r.parenthesized depth expr) (form.atom room inner)
   unfolding r.parenthesized
   parenthesized_read =
-      deeper_read depth lower near expr k.LParen refl refl
+      deeper_read depth room outer lower fits expr k.LParen refl refl
       (λ some. both (reads some level.Whole) (λ found. both (expected k.RParen refl) (λ _. made found) (λ _. some_made found)) (λ found. some_both (some_word k.RParen) (λ _. some_made found)))
-      (λ some. some_both (somes some Anywhere) (λ found. some_both (some_word k.RParen) (λ _. some_made found))) (some_atom depth inner) (parenthesized_up depth inner)
+      (λ some. some_both (somes some Anywhere) (λ found. some_both (some_word k.RParen) (λ _. some_made found))) (some_atom room inner) (parenthesized_up room inner)
 
-  existence_at : (i : Input) → Whole i.ahead → kind i ≡ k.Exists → Out (Inside depth) (form.atom depth inner) i (r.atom_by depth expr k.Exists i)
+  existence_at : (i : Input) → Whole i.ahead → kind i ≡ k.Exists → Out (Inside outer) (form.atom room inner) i (r.atom_by depth expr k.Exists i)
   unfolding r.exists
   existence_at i whole is =
       within_at
-      (behind_nesting depth lower near expr k.Exists refl refl
+      (behind_nesting depth room outer lower fits expr k.Exists refl refl
       (λ some. both source_read (λ from. both (expected k.Where refl) (λ _. both (reads some level.Whole) (λ found. both (expected k.RParen refl) (λ _. made (e.Exists from found))
       (λ _. some_made (e.Exists from found)))
       (λ found. some_both (some_word k.RParen) (λ _. some_made (e.Exists from found))))
-      (λ _. some_both (somes some Anywhere) (λ found. some_both (some_word k.RParen) (λ _. some_made (e.Exists from found)))))
-      (λ from. some_both (some_word k.Where) (λ _. some_both (somes some Anywhere) (λ found. some_both (some_word k.RParen) (λ _. some_made (e.Exists from found))))))
+      (λ _. some_both (somes (fits.roomy some) Anywhere) (λ found. some_both (some_word k.RParen) (λ _. some_made (e.Exists from found)))))
+      (λ from. some_both (some_word k.Where) (λ _. some_both (somes (fits.roomy some) Anywhere) (λ found. some_both (some_word k.RParen) (λ _. some_made (e.Exists from found))))))
       (λ some. some_both some_source (λ from. some_both (some_word k.Where) (λ _. some_both (somes some Anywhere) (λ found. some_both (some_word k.RParen)
-      (λ _. some_made (e.Exists from found)))))) i whole is) (existence_up depth inner)
+      (λ _. some_made (e.Exists from found)))))) i whole is) (existence_up room inner)
 
-  atom_at : (kd : Kind) (i : Input) → Whole i.ahead → kind i ≡ kd → Out (Inside depth) (form.atom depth inner) i (r.atom_by depth expr kd i)
+  atom_at : (kd : Kind) (i : Input) → Whole i.ahead → kind i ≡ kd → Out (Inside outer) (form.atom room inner) i (r.atom_by depth expr kd i)
   atom_at k.LParen i whole is = at parenthesized_read i whole
   atom_at k.Exists i whole is = existence_at i whole is
   atom_at k.Number i whole is = at literal_atom i whole
@@ -294,20 +294,20 @@ module _ (depth lower : ℕ) (near : depth ≤ lower + 1) (expr : Level → Read
   atom_at k.False i whole is = at literal_atom i whole
   atom_at _ i whole is = at named_read i whole
 
-  pub atom_read : Sound (Inside depth) (r.atom depth expr) (form.atom depth inner)
+  pub atom_read : Sound (Inside outer) (r.atom depth expr) (form.atom room inner)
   unfolding r.atom
   atom_read = on_kind (r.atom_by depth expr) atom_at
 
   -- ---- unary minus
 
-  minus_read : Sound (Inside depth) (λ i. and_then (r.deeper depth expr k.Minus i) (λ _. expr level.Unary >>= (λ x. pure (e.Neg x)))) (form.unary depth inner)
+  minus_read : Sound (Inside outer) (λ i. and_then (r.deeper depth expr k.Minus i) (λ _. expr level.Unary >>= (λ x. pure (e.Neg x)))) (form.unary room inner)
   minus_read =
-      deeper_read depth lower near expr k.Minus refl refl (λ some. mapped e.Neg (reads some level.Unary)) (λ some. some_both (somes some BehindMinus) (λ x. some_made (e.Neg x))) (some_unary depth inner) (minus_up depth inner)
+      deeper_read depth room outer lower fits expr k.Minus refl refl (λ some. mapped e.Neg (reads some level.Unary)) (λ some. some_both (somes some BehindMinus) (λ x. some_made (e.Neg x))) (some_unary room inner) (minus_up room inner)
 
-  unary_at : (kd : Kind) (i : Input) → Whole i.ahead → kind i ≡ kd → Out (Inside depth) (form.unary depth inner) i (r.unary_by depth expr kd i)
+  unary_at : (kd : Kind) (i : Input) → Whole i.ahead → kind i ≡ kd → Out (Inside outer) (form.unary room inner) i (r.unary_by depth expr kd i)
   unary_at k.Minus i whole is = at minus_read i whole
   unary_at _ i whole is = right_of (at atom_read i whole)
 
-  pub unary_read : Sound (Inside depth) (r.unary depth expr) (form.unary depth inner)
+  pub unary_read : Sound (Inside outer) (r.unary depth expr) (form.unary room inner)
   unfolding r.unary
   unary_read = on_kind (r.unary_by depth expr) unary_at

@@ -1,5 +1,5 @@
 -- What stands inside one more of parentheses, `not` and unary minus.
-use Rattle.std.proofs.Common.{◌≡◌, ◌≢◌, ℕ, ◌+◌, ◌≤◌, Bool, true, false, if◌then◌else◌, ◌==◌, List, [], ◌∷◌, ◌++◌, drop, Ok, Err, refl, ap, ◌∙◌, arith}
+use Rattle.std.proofs.Common.{◌≡◌, ◌≢◌, ℕ, ◌+◌, ◌≤◌, Bool, true, false, if◌then◌else◌, ◌==◌, List, [], ◌∷◌, ◌++◌, drop, Ok, Err, ◌⊎◌, inl, inr, refl, ap, ◌∙◌, arith}
 use Rattle.std.proofs.lemmas.Bool.{eqb-true, eqb-false}
 use Rattle.script_types.specs.declared.expression.Syn.{Syn}
 use Rattle.script_lex.specs.declared.kind.Kind.{Kind}
@@ -25,13 +25,20 @@ place level.Whole = Anywhere
 place level.Negation = BehindNot
 place level.Unary = BehindMinus
 
+-- What a reader in which `depth` more may nest is compared with: a form in which `room` may, as many or more. Behind `in` and `exists` such a form goes on where the
+-- reader is refused, or as many as may nest stand before; `outer` and `lower` count those that have to, here and inside one more.
+pub record Fits (depth room outer lower : ℕ) : Type 0 where
+  pub near : outer ≤ lower + 1
+  pub roomy : depth ≢ 0 → room ≢ 0
+  pub full : depth ≡ 0 → (outer ≡ 0) ⊎ (room ≢ 0)
+
 abbrev pub nested_form : {A : Type 0} → ℕ → Kind → Form A → Form A
 nested_form depth kd g = sequence (nesting depth kd) (λ _. g)
 
 -- behind the token that nests
-behind : {A : Type 0} (depth lower : ℕ) → depth ≤ lower + 1 → (kd : Kind) → opens kd ≡ 1 → depth ≢ 0 → (g : Form A) (t : Token) (ts : List Token) (o : ℕ) → t.kind ≡ kd
-    → (out : Outcome A) → Kept (Inside lower) g (record { ahead = ts; operators = o }) out → Kept (Inside depth) (nested_form depth kd g) (record { ahead = t ∷ ts; operators = o }) out
-behind depth lower near kd one some g t ts o is (Ok q) u = record {
+behind : {A : Type 0} (room outer lower : ℕ) → outer ≤ lower + 1 → (kd : Kind) → opens kd ≡ 1 → room ≢ 0 → (g : Form A) (t : Token) (ts : List Token) (o : ℕ) → t.kind ≡ kd
+    → (out : Outcome A) → Kept (Inside lower) g (record { ahead = ts; operators = o }) out → Kept (Inside outer) (nested_form room kd g) (record { ahead = t ∷ ts; operators = o }) out
+behind room outer lower near kd one some g t ts o is (Ok q) u = record {
   front = t ∷ u.front;
   count = u.count;
   joined = ap (λ us. t ∷ us) u.joined;
@@ -50,7 +57,7 @@ behind depth lower near kd one some g t ts o is (Ok q) u = record {
     },
   );
 }
-behind depth lower near kd one some g t ts o is (Err e) (Behind before after split at done) =
+behind room outer lower near kd one some g t ts o is (Err e) (Behind before after split at done) =
     Behind (t ∷ before) after (ap (λ us. t ∷ us) split) at (record {
       more = done.more;
       count = done.count;
@@ -70,11 +77,11 @@ behind depth lower near kd one some g t ts o is (Err e) (Behind before after spl
         },
       );
     })
-behind depth lower near kd one some g t ts o is (Err e) (TooDeep before after u dp split at wants) =
+behind room outer lower near kd one some g t ts o is (Err e) (TooDeep before after u dp split at wants) =
     TooDeep (t ∷ before) after u (omega (arith, near, ap opens is ∙ one, dp)) (ap (λ us. t ∷ us) split) at wants
 
-some_nested : {A : Type 0} (depth : ℕ) (kd : Kind) {g : Form A} → depth ≢ 0 → Inhabited g → Inhabited (nested_form depth kd g)
-some_nested depth kd some any = record {
+some_nested : {A : Type 0} (room : ℕ) (kd : Kind) {g : Form A} → room ≢ 0 → Inhabited g → Inhabited (nested_form room kd g)
+some_nested room kd some any = record {
   tokens = token_of kd ∷ any.tokens;
   value = any.value;
   said = (
@@ -93,27 +100,27 @@ some_nested depth kd some any = record {
 }
 
 -- where one more may nest
-entered_by : {A : Type 0} (depth lower : ℕ) → depth ≤ lower + 1 → (kd : Kind) → opens kd ≡ 1 → is_end kd ≡ false → depth ≢ 0 → (p : Reader A) (g : Form A)
+entered_by : {A : Type 0} (room outer lower : ℕ) → outer ≤ lower + 1 → (kd : Kind) → opens kd ≡ 1 → is_end kd ≡ false → room ≢ 0 → (p : Reader A) (g : Form A)
     → Sound (Inside lower) p g → Inhabited g → (xs : List Token) (o : ℕ) → Whole xs → (s : Bool) → same_kind (first_of xs).kind kd ≡ s
-    → Kept (Inside depth) (nested_form depth kd g) (record { ahead = xs; operators = o })
+    → Kept (Inside outer) (nested_form room kd g) (record { ahead = xs; operators = o })
     (and_then {A = Unit {0}} (if s then Ok (tt, record { ahead = drop 1 xs; operators = o }) else Err (At (first_of xs).at)) (λ _. p))
 unfolding head
-entered_by depth lower near kd one not_end some p g sp any [] o whole true is = absurd (true_false (ap is_end (same is) ∙ not_end))
+entered_by room outer lower near kd one not_end some p g sp any [] o whole true is = absurd (true_false (ap is_end (same is) ∙ not_end))
   where
     true_false : true ≡ false → ⊥
     true_false e = cc
-entered_by depth lower near kd one not_end some p g sp any (t ∷ ts) o whole true is =
+entered_by room outer lower near kd one not_end some p g sp any (t ∷ ts) o whole true is =
     let j : Input = record { ahead = ts; operators = o } in
-    behind depth lower near kd one some g t ts o (same is) (p j) (sp.run j (whole_next (t ∷ ts) whole))
-entered_by depth lower near kd one not_end some p g sp any xs o whole false is =
-    refused_here (Inside depth) (record { ahead = xs; operators = o }) (some_nested depth kd some any)
+    behind room outer lower near kd one some g t ts o (same is) (p j) (sp.run j (whole_next (t ∷ ts) whole))
+entered_by room outer lower near kd one not_end some p g sp any xs o whole false is =
+    refused_here (Inside outer) (record { ahead = xs; operators = o }) (some_nested room kd some any)
 
-module _ (depth lower : ℕ) (near : depth ≤ lower + 1) (expr : Level → Reader Syn) where
-  pub entered : {A : Type 0} (kd : Kind) → opens kd ≡ 1 → is_end kd ≡ false → depth ≢ 0 → {p : Reader A} {g : Form A} → Sound (Inside lower) p g → Inhabited g
-      → (i : Input) → Whole i.ahead → Kept (Inside depth) (nested_form depth kd g) i (and_then (expect kd i) (λ _. p))
+module _ (depth room outer lower : ℕ) (fits : Fits depth room outer lower) (expr : Level → Reader Syn) where
+  pub entered : {A : Type 0} (kd : Kind) → opens kd ≡ 1 → is_end kd ≡ false → room ≢ 0 → {p : Reader A} {g : Form A} → Sound (Inside lower) p g → Inhabited g
+      → (i : Input) → Whole i.ahead → Kept (Inside outer) (nested_form room kd g) i (and_then (expect kd i) (λ _. p))
   unfolding expect sees head next
   entered kd one not_end some {p = p} {g = g} sp any i whole =
-      entered_by depth lower near kd one not_end some p g sp any i.ahead i.operators whole (same_kind (first_of i.ahead).kind kd) refl
+      entered_by room outer lower fits.near kd one not_end some p g sp any i.ahead i.operators whole (same_kind (first_of i.ahead).kind kd) refl
 
   cases_by : {A : Type 0} (p : Reader A) (kd : Kind) (i : Input) (P : Outcome A → Type 0) (b : Bool) → (b ≡ true → P (Err (At (head i).at)))
       → (b ≡ false → P (and_then (expect kd i) (λ _. p))) → P (and_then (if b then refuse i else expect kd i) (λ _. p))
@@ -128,33 +135,45 @@ module _ (depth lower : ℕ) (near : depth ≤ lower + 1) (expr : Level → Read
 
   -- a token that nests begins one of the forms that may stand here
   pub deeper_read : {A : Type 0} (kd : Kind) → opens kd ≡ 1 → is_end kd ≡ false → {p : Reader A} {g h : Form A} → (depth ≢ 0 → Sound (Inside lower) p g)
-      → (depth ≢ 0 → Inhabited g) → Inhabited h → Within (nested_form depth kd g) h → Sound (Inside depth) (λ i. and_then (r.deeper depth expr kd i) (λ _. p)) h
+      → (room ≢ 0 → Inhabited g) → Inhabited h → Within (nested_form room kd g) h → Sound (Inside outer) (λ i. and_then (r.deeper depth expr kd i) (λ _. p)) h
   deeper_read kd one not_end {p = p} {g = g} {h = h} sp any other up = record {
     run = λ i whole.
-        by_depth p kd i (Kept (Inside depth) h i) (λ none. refused_here (Inside depth) i other)
-        (λ some. within_out (Inside depth) (nested_form depth kd g) h i up (and_then (expect kd i) (λ _. p)) (entered kd one not_end some (sp some) (any some) i whole));
+        by_depth p kd i (Kept (Inside outer) h i) (λ none. refused_here (Inside outer) i other)
+        (λ some. within_out (Inside outer) (nested_form room kd g) h i up (and_then (expect kd i) (λ _. p)) (entered kd one not_end (fits.roomy some) (sp some) (any (fits.roomy some)) i whole));
   }
 
-  -- nothing goes on behind a word that wants one more
-  too_deep : {A : Type 0} (kd : Kind) → is_end kd ≡ false → nests kd ≡ true → depth ≡ 0 → (g : Form A) (xs : List Token) (o : ℕ) → (first_of xs).kind ≡ kd
-      → Refused (Inside depth) g (record { ahead = xs; operators = o }) (At (first_of (drop 1 xs)).at)
+  -- as many nest as may, behind a word that wants one more
+  too_deep : {A : Type 0} (kd : Kind) → is_end kd ≡ false → nests kd ≡ true → outer ≡ 0 → (g : Form A) (xs : List Token) (o : ℕ) → (first_of xs).kind ≡ kd
+      → Refused (Inside outer) g (record { ahead = xs; operators = o }) (At (first_of (drop 1 xs)).at)
   too_deep kd not_end wants none g [] o is = absurd (true_false (ap is_end is ∙ not_end))
     where
       true_false : true ≡ false → ⊥
       true_false e = cc
   too_deep kd not_end wants none g (t ∷ ts) o is = TooDeep [] ts t (omega (arith, none)) refl refl (ap nests is ∙ wants)
 
+  refused_behind : {A : Type 0} (kd : Kind) → is_end kd ≡ false → nests kd ≡ true → (g : Form A) → (room ≢ 0 → Inhabited g) → (xs : List Token) (o : ℕ) → (first_of xs).kind ≡ kd
+      → (outer ≡ 0) ⊎ (room ≢ 0)
+      → Kept (Inside outer) (sequence (word kd) (λ _. nested_form room k.LParen g)) (record { ahead = xs; operators = o }) (Err (At (first_of (drop 1 xs)).at))
+  unfolding head
+  refused_behind kd not_end wants g any xs o is (inl none) = too_deep kd not_end wants none (sequence (word kd) (λ _. nested_form room k.LParen g)) xs o is
+  refused_behind kd not_end wants g any xs o is (inr some) =
+      let i : Input = record { ahead = xs; operators = o } in
+      let j : Input = record { ahead = drop 1 xs; operators = o } in
+      let t : Took (Inside outer) (word kd) i tt j = taken_by kd not_end xs o is in
+      both_taken (Inside outer) (word kd) (λ _. nested_form room k.LParen g) i tt j t (Err (At (first_of (drop 1 xs)).at))
+      (refused_here (Inside outer) j (some_nested room k.LParen some (any some)))
+
   -- a word and a parenthesis
   pub behind_nesting : {A : Type 0} (kd : Kind) → is_end kd ≡ false → nests kd ≡ true → {p : Reader A} {g : Form A} → (depth ≢ 0 → Sound (Inside lower) p g)
-      → (depth ≢ 0 → Inhabited g) → (i : Input) → Whole i.ahead → kind i ≡ kd
-      → Out (Inside depth) (sequence (word kd) (λ _. nested_form depth k.LParen g)) i (and_then (take_token i) (λ _ j. and_then (r.deeper depth expr k.LParen j) (λ _. p)))
+      → (room ≢ 0 → Inhabited g) → (i : Input) → Whole i.ahead → kind i ≡ kd
+      → Out (Inside outer) (sequence (word kd) (λ _. nested_form room k.LParen g)) i (and_then (take_token i) (λ _ j. and_then (r.deeper depth expr k.LParen j) (λ _. p)))
   unfolding head next
   behind_nesting kd not_end wants {p = p} {g = g} sp any i whole is =
-      let form : Form _ = sequence (word kd) (λ _. nested_form depth k.LParen g) in
+      let form : Form _ = sequence (word kd) (λ _. nested_form room k.LParen g) in
       let j : Input = record { ahead = drop 1 i.ahead; operators = i.operators } in
-      let t : Took (Inside depth) (word kd) i tt j = taken_by kd not_end i.ahead i.operators is in
+      let t : Took (Inside outer) (word kd) i tt j = taken_by kd not_end i.ahead i.operators is in
       record {
-        kept = by_depth p k.LParen j (Kept (Inside depth) form i) (λ none. too_deep kd not_end wants none form i.ahead i.operators is)
-            (λ some. both_taken (Inside depth) (word kd) (λ _. nested_form depth k.LParen g) i tt j t (and_then (expect k.LParen j) (λ _. p))
-            (entered k.LParen refl refl some (sp some) (any some) j (whole_next i.ahead whole)));
+        kept = by_depth p k.LParen j (Kept (Inside outer) form i) (λ none. refused_behind kd not_end wants g any i.ahead i.operators is (fits.full none))
+            (λ some. both_taken (Inside outer) (word kd) (λ _. nested_form room k.LParen g) i tt j t (and_then (expect k.LParen j) (λ _. p))
+            (entered k.LParen refl refl (fits.roomy some) (sp some) (any (fits.roomy some)) j (whole_next i.ahead whole)));
       }

@@ -1,5 +1,5 @@
 -- Products and sums are read as their forms say.
-use Rattle.std.proofs.Common.{◌≢◌, ℕ, ◌+◌, ◌≤◌, [], ◌∷◌, refl, inl, inr}
+use Rattle.std.proofs.Common.{◌≢◌, ℕ, [], ◌∷◌, refl, inl, inr}
 use Rattle.script_types.specs.declared.expression.Syn.{Syn}
 use Rattle.script_lex.specs.declared.kind.Kind.{Kind}
 use Rattle.script_lex.specs.declared.kind.Kind.TheVariants as k
@@ -11,7 +11,7 @@ use Rattle.script_forms.specs.Expressions as form
 use Rattle.script_forms.specs.Expressions.{Place}
 use Rattle.grammar_laws.proofs.Taking.{Inside, Sound, Inhabited}
 use Rattle.expression_laws.proofs.Steps.{then_says}
-use Rattle.expression_laws.proofs.Nesting.{place}
+use Rattle.expression_laws.proofs.Nesting.{Fits, place}
 use Rattle.expression_laws.proofs.Chains.{JoinsBy, chain_read, some_chain}
 use Rattle.expression_laws.proofs.Atoms.{unary_read, some_unary}
 
@@ -54,12 +54,12 @@ sum_joins _ = tt
 pub some_sum : (depth : ℕ) (inner : Place → Form Syn) → Inhabited (form.sum depth inner)
 some_sum depth inner = some_chain form.sum_joint (some_chain form.product_joint (some_unary depth inner))
 
-module _ (depth lower : ℕ) (near : depth ≤ lower + 1) (expr : Level → Reader Syn) (inner : Place → Form Syn)
-    (reads : depth ≢ 0 → (l : Level) → Sound (Inside lower) (expr l) (inner (place l))) (somes : depth ≢ 0 → (stands : Place) → Inhabited (inner stands)) where
-  product_read : Sound (Inside depth) (r.product depth expr) (form.product depth inner)
+module _ (depth room outer lower : ℕ) (fits : Fits depth room outer lower) (expr : Level → Reader Syn) (inner : Place → Form Syn)
+    (reads : depth ≢ 0 → (l : Level) → Sound (Inside lower) (expr l) (inner (place l))) (somes : room ≢ 0 → (stands : Place) → Inhabited (inner stands)) where
+  product_read : Sound (Inside outer) (r.product depth expr) (form.product room inner)
   unfolding r.product r.factors
-  product_read = chain_read depth r.product_joint form.product_joint product_joins (r.unary depth expr) (form.unary depth inner) (unary_read depth lower near expr inner reads somes)
+  product_read = chain_read outer r.product_joint form.product_joint product_joins (r.unary depth expr) (form.unary room inner) (unary_read depth room outer lower fits expr inner reads somes)
 
-  pub sum_read : Sound (Inside depth) (r.sum depth expr) (form.sum depth inner)
+  pub sum_read : Sound (Inside outer) (r.sum depth expr) (form.sum room inner)
   unfolding r.sum r.summands
-  sum_read = chain_read depth r.sum_joint form.sum_joint sum_joins (r.product depth expr) (form.product depth inner) product_read
+  sum_read = chain_read outer r.sum_joint form.sum_joint sum_joins (r.product depth expr) (form.product room inner) product_read

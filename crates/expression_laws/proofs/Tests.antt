@@ -1,5 +1,5 @@
 -- What stands behind the first sum of a comparison is read as its form says.
-use Rattle.std.proofs.Common.{◌≡◌, ◌≢◌, ℕ, ◌+◌, ◌≤◌, Bool, true, false, if◌then◌else◌, List, [], refl, inl, inr}
+use Rattle.std.proofs.Common.{◌≡◌, ◌≢◌, ℕ, Bool, true, false, if◌then◌else◌, List, [], refl, inl, inr}
 use Rattle.base_core.specs.declared.value.Value.{Value}
 use Rattle.expr_types.specs.declared.expr.CompareOp.{CompareOp}
 use Rattle.expr_types.specs.declared.expr.CompareOp.TheVariants as compare
@@ -22,7 +22,7 @@ use Rattle.grammar_laws.proofs.Options.{eaten}
 use Rattle.grammar_laws.proofs.Lists.{listed}
 use Rattle.grammar_laws.proofs.Basics.{literal_read, some_literal}
 use Rattle.expression_laws.proofs.Steps.{Within, within_at, within, then_says, none_before, first_within, first_as, regrouped, ungrouped, either_up, either_second, with_word, without_word, either_word, mapped}
-use Rattle.expression_laws.proofs.Nesting.{place, nested_form, behind_nesting}
+use Rattle.expression_laws.proofs.Nesting.{Fits, place, nested_form, behind_nesting}
 use Rattle.expression_laws.proofs.Sums.{sum_read, some_sum}
 
 -- ---- the forms of tests
@@ -170,11 +170,11 @@ listing_up =
 
 -- ---- their readers
 
-module _ (depth lower : ℕ) (near : depth ≤ lower + 1) (expr : Level → Reader Syn) (inner : Place → Form Syn)
-    (reads : depth ≢ 0 → (l : Level) → Sound (Inside lower) (expr l) (inner (place l))) (somes : depth ≢ 0 → (stands : Place) → Inhabited (inner stands)) where
-  against_read : (make : Syn → Syn) → Sound (Inside depth) (r.sum depth expr >>= (λ right. pure (make right))) (against depth inner make)
+module _ (depth room outer lower : ℕ) (fits : Fits depth room outer lower) (expr : Level → Reader Syn) (inner : Place → Form Syn)
+    (reads : depth ≢ 0 → (l : Level) → Sound (Inside lower) (expr l) (inner (place l))) (somes : room ≢ 0 → (stands : Place) → Inhabited (inner stands)) where
+  against_read : (make : Syn → Syn) → Sound (Inside outer) (r.sum depth expr >>= (λ right. pure (make right))) (against room inner make)
   unfolding against
-  against_read make = mapped make (sum_read depth lower near expr inner reads somes)
+  against_read make = mapped make (sum_read depth room outer lower fits expr inner reads somes)
 
   listing_read : Sound (Inside lower)
       (eat k.RParen >>= (λ is_empty. if is_empty then pure [] else (l.literals >>= (λ found. expect k.RParen >> pure found)))) listing
@@ -186,100 +186,100 @@ module _ (depth lower : ℕ) (near : depth ≤ lower + 1) (expr : Level → Read
       (λ found. some_both (some_word k.RParen) (λ _. some_made found)))) listing_up
 
   members_at : (i : Input) → Whole i.ahead → kind i ≡ k.In
-      → Out (Inside depth) (sequence (word k.In) (λ _. nested_form depth k.LParen listing)) i (and_then (take_token i) (λ _. r.members depth expr))
+      → Out (Inside outer) (sequence (word k.In) (λ _. nested_form room k.LParen listing)) i (and_then (take_token i) (λ _. r.members depth expr))
   unfolding r.members
-  members_at i whole is = behind_nesting depth lower near expr k.In refl refl (λ some. listing_read) (λ some. some_listing) i whole is
+  members_at i whole is = behind_nesting depth room outer lower fits expr k.In refl refl (λ some. listing_read) (λ some. some_listing) i whole is
 
   among_at : (negated : Bool) (left : Syn) (i : Input) → Whole i.ahead → kind i ≡ k.In
-      → Out (Inside depth) (among depth inner negated left) i (and_then (take_token i) (λ _. r.among depth expr negated left))
+      → Out (Inside outer) (among room inner negated left) i (and_then (take_token i) (λ _. r.among depth expr negated left))
   unfolding r.among among
   among_at negated left i whole is =
       within_at
       (both_at (λ j. and_then (take_token j) (λ _. r.members depth expr)) i whole (members_at i whole is) (λ found. made (e.InList negated left found))
       (λ found. some_made (e.InList negated left found)))
-      (ungrouped (word k.In) (λ _. nested_form depth k.LParen listing) (λ found. says (e.InList negated left found)))
+      (ungrouped (word k.In) (λ _. nested_form room k.LParen listing) (λ found. says (e.InList negated left found)))
 
-  bounds_read : (negated : Bool) (left : Syn) → Sound (Inside depth) (r.between depth expr negated left) (between_bounds depth inner negated left)
+  bounds_read : (negated : Bool) (left : Syn) → Sound (Inside outer) (r.between depth expr negated left) (between_bounds room inner negated left)
   unfolding r.between between_bounds
   bounds_read negated left =
-      both (sum_read depth lower near expr inner reads somes)
-      (λ low. both (expected k.And refl) (λ _. against_read (e.Between negated left low)) (λ _. some_against depth inner (e.Between negated left low)))
-      (λ low. some_both (some_word k.And) (λ _. some_against depth inner (e.Between negated left low)))
+      both (sum_read depth room outer lower fits expr inner reads somes)
+      (λ low. both (expected k.And refl) (λ _. against_read (e.Between negated left low)) (λ _. some_against room inner (e.Between negated left low)))
+      (λ low. some_both (some_word k.And) (λ _. some_against room inner (e.Between negated left low)))
 
   test_at : (negated : Bool) (left : Syn) (kd : Kind) (i : Input) → Whole i.ahead → kind i ≡ kd
-      → Out (Inside depth) (test depth inner negated left) i (r.test_by depth expr negated left kd i)
+      → Out (Inside outer) (test room inner negated left) i (r.test_by depth expr negated left kd i)
   unfolding test liked iliked between r.liked r.iliked
-  test_at negated left k.Like i whole is = left_of (behind_word k.Like refl (against_read (e.Like negated left)) (some_against depth inner (e.Like negated left)) i whole is)
+  test_at negated left k.Like i whole is = left_of (behind_word k.Like refl (against_read (e.Like negated left)) (some_against room inner (e.Like negated left)) i whole is)
   test_at negated left k.Ilike i whole is =
-      right_of (left_of (behind_word k.Ilike refl (against_read (e.Ilike negated left)) (some_against depth inner (e.Ilike negated left)) i whole is))
+      right_of (left_of (behind_word k.Ilike refl (against_read (e.Ilike negated left)) (some_against room inner (e.Ilike negated left)) i whole is))
   test_at negated left k.In i whole is = right_of (right_of (left_of (among_at negated left i whole is)))
   test_at negated left k.Between i whole is =
-      right_of (right_of (right_of (behind_word k.Between refl (bounds_read negated left) (some_bounds depth inner negated left) i whole is)))
-  test_at negated left _ i whole is = refused_at (some_test depth inner negated left) i
+      right_of (right_of (right_of (behind_word k.Between refl (bounds_read negated left) (some_bounds room inner negated left) i whole is)))
+  test_at negated left _ i whole is = refused_at (some_test room inner negated left) i
 
-  test_read : (negated : Bool) (left : Syn) → Sound (Inside depth) (r.tested depth expr negated left) (test depth inner negated left)
+  test_read : (negated : Bool) (left : Syn) → Sound (Inside outer) (r.tested depth expr negated left) (test room inner negated left)
   unfolding r.tested
   test_read negated left = on_kind (r.test_by depth expr negated left) (test_at negated left)
 
-  distinct_read : (left : Syn) → Sound (Inside depth) (r.distinct depth expr left) (distinct depth inner left)
+  distinct_read : (left : Syn) → Sound (Inside outer) (r.distinct depth expr left) (distinct room inner left)
   unfolding r.distinct distinct
   distinct_read left =
       both (eaten k.Not refl)
-      (λ negated. both (expected k.Distinct refl) (λ _. both (expected k.From refl) (λ _. against_read (e.Distinct negated left)) (λ _. some_against depth inner (e.Distinct negated left)))
-      (λ _. some_both (some_word k.From) (λ _. some_against depth inner (e.Distinct negated left))))
-      (λ negated. some_both (some_word k.Distinct) (λ _. some_both (some_word k.From) (λ _. some_against depth inner (e.Distinct negated left))))
+      (λ negated. both (expected k.Distinct refl) (λ _. both (expected k.From refl) (λ _. against_read (e.Distinct negated left)) (λ _. some_against room inner (e.Distinct negated left)))
+      (λ _. some_both (some_word k.From) (λ _. some_against room inner (e.Distinct negated left))))
+      (λ negated. some_both (some_word k.Distinct) (λ _. some_both (some_word k.From) (λ _. some_against room inner (e.Distinct negated left))))
 
-  equal_read : (left : Syn) → Sound (Inside depth) (r.compared depth expr compare.Equal left) (null_form false left or against depth inner (e.Compare compare.Equal left))
+  equal_read : (left : Syn) → Sound (Inside outer) (r.compared depth expr compare.Equal left) (null_form false left or against room inner (e.Compare compare.Equal left))
   unfolding r.compared r.null_after null_form
   equal_read left = either_word k.Null refl (made (e.IsNull false left)) (against_read (e.Compare compare.Equal left))
 
   unlike_read : (left : Syn)
-      → Sound (Inside depth) (r.compared depth expr compare.NotEqual left) (null_form true left or against depth inner (e.Compare compare.NotEqual left))
+      → Sound (Inside outer) (r.compared depth expr compare.NotEqual left) (null_form true left or against room inner (e.Compare compare.NotEqual left))
   unfolding r.compared r.null_after null_form
   unlike_read left = either_word k.Null refl (made (e.IsNull true left)) (against_read (e.Compare compare.NotEqual left))
 
-  less_read : (left : Syn) → Sound (Inside depth) (r.compared depth expr compare.Less left) (against depth inner (e.Compare compare.Less left))
+  less_read : (left : Syn) → Sound (Inside outer) (r.compared depth expr compare.Less left) (against room inner (e.Compare compare.Less left))
   unfolding r.compared r.null_after
   less_read left = against_read (e.Compare compare.Less left)
 
-  less_equal_read : (left : Syn) → Sound (Inside depth) (r.compared depth expr compare.LessEqual left) (against depth inner (e.Compare compare.LessEqual left))
+  less_equal_read : (left : Syn) → Sound (Inside outer) (r.compared depth expr compare.LessEqual left) (against room inner (e.Compare compare.LessEqual left))
   unfolding r.compared r.null_after
   less_equal_read left = against_read (e.Compare compare.LessEqual left)
 
-  greater_read : (left : Syn) → Sound (Inside depth) (r.compared depth expr compare.Greater left) (against depth inner (e.Compare compare.Greater left))
+  greater_read : (left : Syn) → Sound (Inside outer) (r.compared depth expr compare.Greater left) (against room inner (e.Compare compare.Greater left))
   unfolding r.compared r.null_after
   greater_read left = against_read (e.Compare compare.Greater left)
 
-  greater_equal_read : (left : Syn) → Sound (Inside depth) (r.compared depth expr compare.GreaterEqual left) (against depth inner (e.Compare compare.GreaterEqual left))
+  greater_equal_read : (left : Syn) → Sound (Inside outer) (r.compared depth expr compare.GreaterEqual left) (against room inner (e.Compare compare.GreaterEqual left))
   unfolding r.compared r.null_after
   greater_equal_read left = against_read (e.Compare compare.GreaterEqual left)
 
   follow_at : (left : Syn) (kd : Kind) (i : Input) → Whole i.ahead → kind i ≡ kd
-      → Out (Inside depth) (form.tested depth inner left) i (r.follow_by depth expr left (r.test_kind kd) i)
+      → Out (Inside outer) (form.tested room inner left) i (r.follow_by depth expr left (r.test_kind kd) i)
   follow_at left k.Equal i whole is =
-      within_at (behind_word k.Equal refl (equal_read left) (some_right (some_against depth inner (e.Compare compare.Equal left))) i whole is) (equal_up depth inner left)
+      within_at (behind_word k.Equal refl (equal_read left) (some_right (some_against room inner (e.Compare compare.Equal left))) i whole is) (equal_up room inner left)
   follow_at left k.NotEqual i whole is =
-      within_at (behind_word k.NotEqual refl (unlike_read left) (some_right (some_against depth inner (e.Compare compare.NotEqual left))) i whole is) (unlike_up depth inner left)
+      within_at (behind_word k.NotEqual refl (unlike_read left) (some_right (some_against room inner (e.Compare compare.NotEqual left))) i whole is) (unlike_up room inner left)
   follow_at left k.Less i whole is =
-      within_at (behind_word k.Less refl (less_read left) (some_against depth inner (e.Compare compare.Less left)) i whole is)
-      (sign_up depth inner k.Less compare.Less left (λ us m u said. inr (inr (inl (then_says (word k.Less) compare.Less us m u said)))))
+      within_at (behind_word k.Less refl (less_read left) (some_against room inner (e.Compare compare.Less left)) i whole is)
+      (sign_up room inner k.Less compare.Less left (λ us m u said. inr (inr (inl (then_says (word k.Less) compare.Less us m u said)))))
   follow_at left k.LessEqual i whole is =
-      within_at (behind_word k.LessEqual refl (less_equal_read left) (some_against depth inner (e.Compare compare.LessEqual left)) i whole is)
-      (sign_up depth inner k.LessEqual compare.LessEqual left (λ us m u said. inr (inr (inr (inl (then_says (word k.LessEqual) compare.LessEqual us m u said))))))
+      within_at (behind_word k.LessEqual refl (less_equal_read left) (some_against room inner (e.Compare compare.LessEqual left)) i whole is)
+      (sign_up room inner k.LessEqual compare.LessEqual left (λ us m u said. inr (inr (inr (inl (then_says (word k.LessEqual) compare.LessEqual us m u said))))))
   follow_at left k.Greater i whole is =
-      within_at (behind_word k.Greater refl (greater_read left) (some_against depth inner (e.Compare compare.Greater left)) i whole is)
-      (sign_up depth inner k.Greater compare.Greater left (λ us m u said. inr (inr (inr (inr (inl (then_says (word k.Greater) compare.Greater us m u said)))))))
+      within_at (behind_word k.Greater refl (greater_read left) (some_against room inner (e.Compare compare.Greater left)) i whole is)
+      (sign_up room inner k.Greater compare.Greater left (λ us m u said. inr (inr (inr (inr (inl (then_says (word k.Greater) compare.Greater us m u said)))))))
   follow_at left k.GreaterEqual i whole is =
-      within_at (behind_word k.GreaterEqual refl (greater_equal_read left) (some_against depth inner (e.Compare compare.GreaterEqual left)) i whole is)
-      (sign_up depth inner k.GreaterEqual compare.GreaterEqual left (λ us m u said. inr (inr (inr (inr (inr (then_says (word k.GreaterEqual) compare.GreaterEqual us m u said)))))))
-  follow_at left k.Is i whole is = within_at (behind_word k.Is refl (distinct_read left) (some_distinct depth inner left) i whole is) (distinct_up depth inner left)
-  follow_at left k.Not i whole is = within_at (behind_word k.Not refl (test_read true left) (some_test depth inner true left) i whole is) (negated_up depth inner left)
-  follow_at left k.Like i whole is = within_at (at (test_read false left) i whole) (plain_up depth inner left)
-  follow_at left k.Ilike i whole is = within_at (at (test_read false left) i whole) (plain_up depth inner left)
-  follow_at left k.Between i whole is = within_at (at (test_read false left) i whole) (plain_up depth inner left)
-  follow_at left k.In i whole is = within_at (at (test_read false left) i whole) (plain_up depth inner left)
+      within_at (behind_word k.GreaterEqual refl (greater_equal_read left) (some_against room inner (e.Compare compare.GreaterEqual left)) i whole is)
+      (sign_up room inner k.GreaterEqual compare.GreaterEqual left (λ us m u said. inr (inr (inr (inr (inr (then_says (word k.GreaterEqual) compare.GreaterEqual us m u said)))))))
+  follow_at left k.Is i whole is = within_at (behind_word k.Is refl (distinct_read left) (some_distinct room inner left) i whole is) (distinct_up room inner left)
+  follow_at left k.Not i whole is = within_at (behind_word k.Not refl (test_read true left) (some_test room inner true left) i whole is) (negated_up room inner left)
+  follow_at left k.Like i whole is = within_at (at (test_read false left) i whole) (plain_up room inner left)
+  follow_at left k.Ilike i whole is = within_at (at (test_read false left) i whole) (plain_up room inner left)
+  follow_at left k.Between i whole is = within_at (at (test_read false left) i whole) (plain_up room inner left)
+  follow_at left k.In i whole is = within_at (at (test_read false left) i whole) (plain_up room inner left)
   follow_at left _ i whole is = left_of (at (made left) i whole)
 
-  pub follow_read : (left : Syn) → Sound (Inside depth) (r.follow depth expr left) (form.tested depth inner left)
+  pub follow_read : (left : Syn) → Sound (Inside outer) (r.follow depth expr left) (form.tested room inner left)
   unfolding r.follow
   follow_read left = on_kind (λ kd. r.follow_by depth expr left (r.test_kind kd)) (follow_at left)

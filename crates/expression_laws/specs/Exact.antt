@@ -1,5 +1,5 @@
 -- The reader of whole expressions and their form.
-use Rattle.std.specs.Prelude.{◌≡◌, ◌≤◌, ℕ, Bool, true, false, List, [], ◌∷◌, ◌++◌, Ok, Err}
+use Rattle.std.specs.Prelude.{◌≡◌, ◌≤◌, ℕ, Bool, true, false, List, [], ◌∷◌, ◌++◌, Ok, Err, ◌⊎◌}
 use Rattle.script_types.specs.declared.expression.Syn.{Syn}
 use Rattle.script_lex.specs.declared.kind.Kind.{Kind}
 use Rattle.script_lex.specs.declared.kind.Kind.TheVariants as k
@@ -9,7 +9,8 @@ use Rattle.script_tokens.specs.declared.fault.Fault.{Fault}
 use Rattle.script_tokens.specs.declared.fault.Fault.TheVariants.{At}
 use Rattle.script_tokens.specs.Input.{Input, first_of}
 use Rattle.script_expr.specs.Expr.{whole}
-use Rattle.script_forms.specs.Expressions.{expression}
+use Rattle.script_forms.specs.Form.{Form}
+use Rattle.script_forms.specs.Expressions.{expression, expression_to}
 use Rattle.grammar_laws.specs.Nesting.{openings, nests}
 
 -- the tokens before the rest say this
@@ -46,18 +47,29 @@ pub record SaysUpTo (ahead rest : List Token) (found : Syn) : Type 0 where
   pub before : SaysBefore ahead rest found
   pub ends : goes_on (first_of rest).kind ≡ false
 
--- some expression begins with these tokens
-pub record Begins (before : List Token) : Type 0 where
+-- some expression of the form begins with these tokens
+pub record Begins (form : Form Syn) (before : List Token) : Type 0 where
   pub more : List Token
   pub found : Syn
-  pub said : expression (before ++ more) 0 found
+  pub said : form (before ++ more) 0 found
 
--- A refused token stands behind tokens with which some expression begins. Or it stands right behind an `in` or `exists` whose parenthesis would be nested in a hundred of
--- parentheses, `not` and unary minus: so many of `(`, `not` and `-` stand before.
-pub data IsRefusedAt (ahead : List Token) (e : Fault) : Type 0 where
-  Viable : (before after : List Token) → ahead ≡ before ++ after → e ≡ At (first_of after).at → Begins before → IsRefusedAt ahead e
-  TooDeep : (before after : List Token) (t : Token) → ahead ≡ (before ++ t ∷ []) ++ after → e ≡ At (first_of after).at → nests t.kind ≡ true → 100 ≤ openings before
-      → IsRefusedAt ahead e
+-- a refused token, the tokens before which begin some expression of the form
+pub record EndsAViableFront (form : Form Syn) (ahead : List Token) (e : Fault) : Type 0 where
+  pub before : List Token
+  pub after : List Token
+  pub joined : ahead ≡ before ++ after
+  pub at : e ≡ At (first_of after).at
+  pub begins : Begins form before
+
+-- a refused token right behind an `in` or `exists`, before which there are a hundred of `(`, `not` and `-`
+pub record EndsInDepth (ahead : List Token) (e : Fault) : Type 0 where
+  pub before : List Token
+  pub word : Token
+  pub after : List Token
+  pub joined : ahead ≡ (before ++ word ∷ []) ++ after
+  pub at : e ≡ At (first_of after).at
+  pub wants : nests word.kind ≡ true
+  pub deep : 100 ≤ openings before
 
 -- What is read as an expression, anywhere in a line of bytes, is what its tokens say.
 abbrev pub ReadsWhatIsSaid : Type 0
@@ -73,6 +85,14 @@ abbrev pub SaysOneThing : Type 0
 SaysOneThing =
     (ahead rest other_rest : List Token) (found other : Syn) → SaysUpTo ahead rest found → SaysUpTo ahead other_rest other → (found ≡ other) × (rest ≡ other_rest)
 
--- Where an expression is refused, the tokens before the refused one begin some expression, or it would nest too deep.
+-- where an expression is refused, anywhere in a line of bytes
+abbrev pub IsRefused : (List Token → Fault → Type 0) → Type 0
+IsRefused there = (line : List ℕ) (before : List Token) (i : Input) (e : Fault) → tokens line ≡ before ++ i.ahead → whole i ≡ Err e → there i.ahead e
+
+-- The tokens before the refused one begin some expression, in which one more may nest than in those that are read.
 abbrev pub RefusesNoSooner : Type 0
-RefusesNoSooner = (line : List ℕ) (before : List Token) (i : Input) (e : Fault) → tokens line ≡ before ++ i.ahead → whole i ≡ Err e → IsRefusedAt i.ahead e
+RefusesNoSooner = IsRefused (EndsAViableFront (expression_to 101))
+
+-- They begin an expression that is read, but where a parenthesis must come next that would be nested in a hundred.
+abbrev pub RefusesSoonerInDepthAlone : Type 0
+RefusesSoonerInDepthAlone = IsRefused (λ ahead e. EndsAViableFront expression ahead e ⊎ EndsInDepth ahead e)

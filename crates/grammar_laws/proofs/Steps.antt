@@ -53,7 +53,7 @@ enough_plus Plain m o a = omega arith
 enough_plus Around m o a = omega arith
 enough_plus (Inside d) m o a = omega arith
 
-openings_append : (front rest : List Token) → openings (front ++ rest) ≡ openings front + openings rest
+pub openings_append : (front rest : List Token) → openings (front ++ rest) ≡ openings front + openings rest
 openings_append [] rest = omega arith
 openings_append (t ∷ ts) rest = omega (arith, openings_append ts rest)
 

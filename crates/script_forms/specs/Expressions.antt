@@ -232,6 +232,10 @@ unfoldable pub nested : ℕ → Place → Form Syn
 nested zero place = nothing
 nested (suc depth) place = at depth (nested depth) place
 
--- an expression of its own: at most 100 of parentheses, `not` and unary minus nest, and it has at most 1000 of `+ - || *`
+-- an expression of its own: at most this number of parentheses, `not` and unary minus nest, and it has at most 1000 of `+ - || *`
+abbrev pub expression_to : ℕ → Form Syn
+expression_to most tokens count found = (operators : ℕ) × nested (suc most) Anywhere tokens operators found × (operators ≤ 1000) × (count ≡ 0)
+
+-- EXPR: at most 100 nest
 abbrev pub expression : Form Syn
-expression tokens count found = (operators : ℕ) × nested 101 Anywhere tokens operators found × (operators ≤ 1000) × (count ≡ 0)
+expression = expression_to 100

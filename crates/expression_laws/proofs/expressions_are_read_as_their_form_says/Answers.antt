@@ -1,5 +1,5 @@
 use Rattle.expression_laws.proofs.FillingLaws.{reads_all_that_is_said, says_one_thing}
-use Rattle.expression_laws.proofs.Laws.{reads_what_is_said, refuses_no_sooner}
+use Rattle.expression_laws.proofs.Laws.{reads_what_is_said, refuses_no_sooner, refuses_sooner_in_depth_alone}
 use Rattle.expression_laws.proofs.expressions_are_read_as_their_form_says.Goals as goal
 
 pub returns-clause-read : goal.returns-clause-read
@@ -13,3 +13,6 @@ returns-clause-one c = says_one_thing
 
 pub returns-clause-refused : goal.returns-clause-refused
 returns-clause-refused c = refuses_no_sooner
+
+pub returns-clause-deep : goal.returns-clause-deep
+returns-clause-deep c = refuses_sooner_in_depth_alone
