@@ -25,8 +25,8 @@ place level.Whole = Anywhere
 place level.Negation = BehindNot
 place level.Unary = BehindMinus
 
--- What a reader in which `depth` more may nest is compared with: a form in which `room` may, as many or more. Behind `in` and `exists` such a form goes on where the
--- reader is refused, or as many as may nest stand before; `outer` and `lower` count those that have to, here and inside one more.
+-- A reader in which `depth` more may nest, and a form in which `room` more may. Where none may in the reader, either the form has room, or what is refused behind `in`
+-- or `exists` nests too deep: then `outer` that nest have to stand before it, and `lower` of them inside one more.
 pub record Fits (depth room outer lower : ℕ) : Type 0 where
   pub near : outer ≤ lower + 1
   pub roomy : depth ≢ 0 → room ≢ 0
