@@ -1,6 +1,12 @@
 pub mod Form
 pub mod Basics
 pub mod Expressions
+pub mod Selects
+pub mod Queries
+pub mod Bulk
 pub mod TableLines
 pub mod ClassLines
+pub mod ClassHeads
+pub mod Bindings
+pub mod TopLines
 pub mod Lines
