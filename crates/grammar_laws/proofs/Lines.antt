@@ -42,11 +42,11 @@ value_same : {a b : Command} {i j : Input} → ◌≡◌ {A = Outcome Command} (
 unfolding value_of
 value_same {a = a} e = ap (value_of a) e
 
-fault_same : {e f : Fault} → ◌≡◌ {A = Outcome Command} (Err e) (Err f) → e ≡ f
+pub fault_same : {e f : Fault} → ◌≡◌ {A = Outcome Command} (Err e) (Err f) → e ≡ f
 unfolding fault_of
 fault_same {e = e} is = ap (fault_of e) is
 
-refused_yields : {f : Fault} {a : Command} {i : Input} → ◌≡◌ {A = Outcome Command} (Err f) (Ok (a, i)) → ⊥
+pub refused_yields : {f : Fault} {a : Command} {i : Input} → ◌≡◌ {A = Outcome Command} (Err f) (Ok (a, i)) → ⊥
 unfolding is_refused
 refused_yields e = subst is_refused e tt
 
@@ -87,7 +87,7 @@ line_is_whole line = ends_well 0 0 line no_token
 
 -- ---- what a line says, and where it is refused
 
-ends_read : (form : Form Command) (line : List Token) (said : Command) (j : Input) → Took Plain form (start_of line) said j → (b : Bool) → sees k.LineEnd j ≡ b
+pub ends_read : (form : Form Command) (line : List Token) (said : Command) (j : Input) → Took Plain form (start_of line) said j → (b : Bool) → sees k.LineEnd j ≡ b
     → (command : Command) (left : Input) → ◌≡◌ {A = Outcome Command} (if b then Ok (said, j) else Err (At (head j).at)) (Ok (command, left)) → Says form line command
 unfolding sees head
 ends_read form line said j t true seen command left e =
@@ -111,7 +111,7 @@ pub read_as_said : (p : Reader Command) (form : Form Command) → Sound Plain p 
 read_as_said p form sp line command left e =
     read_by form (tokens line) (p (start_of (tokens line))) (sp.run (start_of (tokens line)) (line_is_whole line)) command left e
 
-ends_refused : (form : Form Command) (line : List Token) (said : Command) (j : Input) → Took Plain form (start_of line) said j → (b : Bool)
+pub ends_refused : (form : Form Command) (line : List Token) (said : Command) (j : Input) → Took Plain form (start_of line) said j → (b : Bool)
     → (e : Fault) → ◌≡◌ {A = Outcome Command} (if b then Ok (said, j) else Err (At (head j).at)) (Err e) → EndsAViableFront form line e
 unfolding head
 ends_refused form line said j t true e is = absurd (refused_yields (sym is))
@@ -127,10 +127,10 @@ ends_refused form line said j t false e is = record {
   };
 }
 
-begun : (form : Form Command) (before : List Token) → Completed Plain form before 0 → Begins form before
+pub begun : (form : Form Command) (before : List Token) → Completed Plain form before 0 → Begins form before
 begun form before done = record { more = done.more; command = done.value; said = subst (λ n. form (before ++ done.more) n done.value) done.enough done.said }
 
-refused_by : (form : Form Command) (line : List Token) (out : Outcome Command) → Kept Plain form (start_of line) out → (e : Fault)
+pub refused_by : (form : Form Command) (line : List Token) (out : Outcome Command) → Kept Plain form (start_of line) out → (e : Fault)
     → ◌≡◌ {A = Outcome Command} (and_then out ends) (Err e) → EndsAViableFront form line e
 unfolding ends
 refused_by form line (Ok p) t e is = ends_refused form line p.0 p.1 t (sees k.LineEnd p.1) e is

@@ -1,0 +1,16 @@
+pub mod Flat
+pub mod Following
+pub mod Many
+pub mod Terms
+pub mod Heads
+pub mod Turns
+pub mod Selects
+pub mod Tops
+pub mod SomeKinds
+pub mod FillingParts
+pub mod FillingValues
+pub mod FillingMany
+pub mod FillingSelects
+pub mod FillingHeads
+pub mod FillingTops
+pub mod Lines

@@ -1,0 +1,81 @@
+-- Kinds of tokens, by lists of them.
+use Rattle.std.proofs.Common.{◌≡◌, ◌≢◌, Bool, true, false, not, ◌&&◌, ◌||◌, List, [], ◌∷◌, refl, ap, sym, ◌∙◌}
+use Rattle.script_lex.specs.declared.kind.Kind.{Kind}
+use Rattle.script_lex.specs.declared.kind.Kind.TheVariants as k
+use Rattle.script_lex.specs.Lex.{same_kind}
+use Rattle.script_tokens.proofs.Alike.{same, alike}
+use Rattle.grammar_laws.proofs.FillingTables.{line_end}
+
+pub false_true : false ≡ true → ⊥
+false_true e = cc
+
+unfoldable pub among : List Kind → Kind → Bool
+among [] y = false
+among (kd ∷ ks) y = same_kind y kd || among ks y
+
+unfoldable pub all_in : (Kind → Bool) → List Kind → Bool
+all_in these [] = true
+all_in these (kd ∷ ks) = these kd && all_in these ks
+
+and_left : (a b : Bool) → (a && b) ≡ true → a ≡ true
+and_left true b e = refl
+and_left false b e = absurd (false_true e)
+
+and_right : (a b : Bool) → (a && b) ≡ true → b ≡ true
+and_right true b e = e
+and_right false b e = absurd (false_true e)
+
+pub or_right : (a b : Bool) → b ≡ true → (a || b) ≡ true
+or_right true b e = refl
+or_right false b e = e
+
+by_first : (kd : Kind) (ks : List Kind) (these : Kind → Bool) → (these kd && all_in these ks) ≡ true → (y : Kind) → (among ks y ≡ true → these y ≡ true)
+    → (b : Bool) → same_kind y kd ≡ b → (b || among ks y) ≡ true → these y ≡ true
+by_first kd ks these all y rec true is e = ap these (same is) ∙ and_left (these kd) (all_in these ks) all
+by_first kd ks these all y rec false is e = rec e
+
+-- any kind but this
+abbrev pub other_than : Kind → Kind → Bool
+other_than kd y = not (same_kind y kd)
+
+-- kinds that are all of these
+pub within : (ks : List Kind) (these : Kind → Bool) → all_in these ks ≡ true → (y : Kind) → among ks y ≡ true → these y ≡ true
+unfolding among all_in
+within [] these all y e = absurd (false_true e)
+within (kd ∷ ks) these all y e =
+    by_first kd ks these all y (within ks these (and_right (these kd) (all_in these ks) all) y) (same_kind y kd) refl e
+
+pub first_among : (kd : Kind) (ks : List Kind) → among (kd ∷ ks) kd ≡ true
+unfolding among
+first_among kd ks = ap (λ b. b || among ks kd) (alike {a = kd} {b = kd} refl)
+
+pub rest_among : (kd : Kind) (ks : List Kind) (y : Kind) → among ks y ≡ true → among (kd ∷ ks) y ≡ true
+unfolding among
+rest_among kd ks y e = or_right (same_kind y kd) (among ks y) e
+
+unlike_by : (these : Kind → Bool) (kd y : Kind) → these kd ≡ false → these y ≡ true → (b : Bool) → same_kind y kd ≡ b → b ≡ false
+unlike_by these kd y out e true is = absurd (false_true (sym out ∙ ap these (sym (same is)) ∙ e))
+unlike_by these kd y out e false is = refl
+
+-- no kind of these is this one
+pub unlike : (these : Kind → Bool) (kd : Kind) → these kd ≡ false → (y : Kind) → these y ≡ true → same_kind y kd ≡ false
+unlike these kd out y e = unlike_by these kd y out e (same_kind y kd) refl
+
+pub not_this : (these : Kind → Bool) (kd : Kind) → these kd ≡ false → (y : Kind) → these y ≡ true → other_than kd y ≡ true
+not_this these kd out y e = ap not (unlike these kd out y e)
+
+differ_by : (a b : Kind) → a ≢ b → (s : Bool) → same_kind a b ≡ s → s ≡ false
+differ_by a b other true is = absurd (other (same is))
+differ_by a b other false is = refl
+
+pub differ : (a b : Kind) → a ≢ b → same_kind a b ≡ false
+differ a b other = differ_by a b other (same_kind a b) refl
+
+-- the end of the line is one of these
+pub end_within : (these : Kind → Bool) → these k.LineEnd ≡ true → (y : Kind) → line_end y ≡ true → these y ≡ true
+end_within these is k.LineEnd e = is
+end_within these is _ e = absurd (false_true e)
+
+pub is_end : (y : Kind) → line_end y ≡ true → y ≡ k.LineEnd
+is_end k.LineEnd e = refl
+is_end _ e = absurd (false_true e)

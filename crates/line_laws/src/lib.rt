@@ -1,0 +1,20 @@
+//! Laws of the lines outside blocks and the forms of the script's language, each the contract of a function that does nothing: what the reader reads of a
+//! line is what its tokens say, and a refused token stands behind tokens with which some line begins.
+#![tactic(auto)]
+
+ghost use Rattle.grammar_laws.specs.Exact.{ReadsAllThatIsSaid, ReadsWhatIsSaid, SaysOneThing};
+ghost use Rattle.line_laws.specs.Exact.{RefusesNoSooner, RefusesSoonerInDepthAlone, outer_reader};
+ghost use Rattle.script_forms.specs.TopLines.{outer_line};
+
+/// A line outside every block says the command that its form relates to its tokens, and no other, where at most 100 of parentheses, `not` and unary minus
+/// nest in an expression.
+///
+/// Where it is refused, some line of its kind begins with the tokens before the refused one, if 101 may nest: a line that binds a name where the second
+/// token is `=`, and any other line where not. So it is with 100, except right behind an `in` or `exists` whose parenthesis would be nested in a hundred.
+pub fn lines_outside_blocks_are_read_as_their_forms_say()
+    ensures read { ReadsWhatIsSaid outer_reader (outer_line 100) }
+    ensures all { ReadsAllThatIsSaid outer_reader (outer_line 100) }
+    ensures one { SaysOneThing (outer_line 100) }
+    ensures refused { RefusesNoSooner }
+    ensures deep { RefusesSoonerInDepthAlone }
+{}
