@@ -12,15 +12,16 @@ use Rattle.script_forms.specs.ClassHeads as form
 use Rattle.grammar_laws.proofs.Taking.{Mode}
 use Rattle.grammar_laws.proofs.Filling.{Complete, always, both, then_any, less, made, expected, taken, on_word, either, introduced, word_opens, first_opens}
 use Rattle.grammar_laws.proofs.FillingBasics.{named, names_read}
-use Rattle.line_laws.proofs.SomeKinds.{among, unlike}
+use Rattle.expression_laws.proofs.FillingSteps.{unlike}
+use Rattle.expression_laws.proofs.FillingLiterals.{literal_read}
+use Rattle.line_laws.proofs.SomeKinds.{among}
 use Rattle.line_laws.proofs.FillingParts.{Stands, instead, link, done, clause_stands, list_stands}
-use Rattle.line_laws.proofs.FillingValues.{literal}
 use Rattle.line_laws.proofs.FillingSelects.{ends}
 use Rattle.line_laws.proofs.Heads.{discriminated_same}
 
 identity : {mode : Mode} → Complete mode always r.identity form.identity
 unfolding r.identity
-identity = then_any (expected k.Identity) (λ _. literal)
+identity = then_any (expected k.Identity) (λ _. literal_read)
 
 discriminated : {mode : Mode} → Stands mode (among ends) r.discriminated form.discriminator (among (k.Discriminator ∷ ends))
 unfolding among same_kind

@@ -22,8 +22,11 @@ use Rattle.grammar_laws.proofs.Taking.{Mode, Enough}
 use Rattle.grammar_laws.proofs.Steps.{budget_none}
 use Rattle.grammar_laws.proofs.Filling.{Read, Complete, Opens, Begun, always, both, then_any, less, made, expected, taken, on_word, either, eaten, by_kind_read, mapped_run, word_begun, then_begun, made_opens, word_opens, then_opens, first_opens, whether_opens, either_opens}
 use Rattle.grammar_laws.proofs.FillingBasics.{Solid, named, names_read, listed}
-use Rattle.line_laws.proofs.SomeKinds.{among, all_in, within, first_among, rest_among, unlike, not_this, false_true}
-use Rattle.line_laws.proofs.FillingParts.{Stands, instead, mapped, opens_within, solid, separated_opens, word_or, link, then_stands, done, clause_run, no_clause, clause_stands, list_stands}
+use Rattle.expression_laws.proofs.FillingSteps.{unlike, opens_less, solid_of, separated_opens}
+use Rattle.expression_laws.proofs.FillingKinds.{is_name}
+use Rattle.expression_laws.proofs.FillingLiterals.{ends_source, source_read}
+use Rattle.line_laws.proofs.SomeKinds.{among, all_in, within, first_among, rest_among, not_this, false_true}
+use Rattle.line_laws.proofs.FillingParts.{Stands, instead, mapped, word_or, link, then_stands, done, clause_run, no_clause, clause_stands, list_stands}
 use Rattle.line_laws.proofs.FillingValues as values
 use Rattle.line_laws.proofs.FillingMany.{Turns, many_opens, all_gathered}
 use Rattle.line_laws.proofs.Turns.{joined_by, join_turn, joins_turned, pair_turn, pairs_turned, select_rest, select_flat, query_flat, two_words_same}
@@ -81,7 +84,7 @@ module _ (mode : Mode) (most : ℕ) (whole : Complete mode (among behind_express
   item_opens = first_opens begins
 
   item_solid : Solid (form.item most)
-  item_solid = solid refl item_opens
+  item_solid = solid_of _ item_opens refl
 
   items : Complete mode (among (k.From ∷ [])) s.items (separated k.Comma (form.item most))
   unfolding s.items among all_in same_kind
@@ -98,8 +101,8 @@ module _ (mode : Mode) (most : ℕ) (whole : Complete mode (among behind_express
   unfolding s.descending
   descending ks no_desc no_asc = record {
     complete = word_or k.Desc (less (made true) (λ y e. refl)) (both (eaten k.Asc (unlike (among ks) k.Asc no_asc)) (λ _. less (made false) (λ y e. refl)) (λ _. made_opens false (λ y e. e)))
-        (opens_within (asc_opens ks) (not_this (among (k.Asc ∷ ks)) k.Desc no_desc));
-    opens = either_opens (first_opens {h = λ _. says true} (word_opens k.Desc (first_among k.Desc (k.Asc ∷ ks)))) (opens_within (asc_opens ks) (rest_among k.Desc (k.Asc ∷ ks)));
+        (opens_less (asc_opens ks) (not_this (among (k.Asc ∷ ks)) k.Desc no_desc));
+    opens = either_opens (first_opens {h = λ _. says true} (word_opens k.Desc (first_among k.Desc (k.Asc ∷ ks)))) (opens_less (asc_opens ks) (rest_among k.Desc (k.Asc ∷ ks)));
   }
 
   key : Complete mode (among (k.Comma ∷ behind_order)) s.order_item (form.key most)
@@ -112,13 +115,13 @@ module _ (mode : Mode) (most : ℕ) (whole : Complete mode (among behind_express
   unfolding s.order s.order_items among same_kind
   order =
       list_stands k.Order behind_order [] refl (then_any (expected k.By) (λ _.
-      listed k.Comma (among (k.Comma ∷ behind_order)) (among behind_order) key (solid refl (first_opens begins)) refl (rest_among k.Comma behind_order) (unlike (among behind_order) k.Comma refl)))
+      listed k.Comma (among (k.Comma ∷ behind_order)) (among behind_order) key (solid_of _ (first_opens begins) refl) refl (rest_among k.Comma behind_order) (unlike (among behind_order) k.Comma refl)))
 
   groups : Stands mode (among behind_groups) s.groups (form.groups most) (among behind_where)
   unfolding s.groups s.expressions among all_in same_kind
   groups =
       list_stands k.Group behind_groups [] refl (then_any (expected k.By) (λ _.
-      listed k.Comma (among (k.Comma ∷ behind_groups)) (among behind_groups) (less whole (within (k.Comma ∷ behind_groups) (among behind_expression) refl)) (solid refl begins) refl
+      listed k.Comma (among (k.Comma ∷ behind_groups)) (among behind_groups) (less whole (within (k.Comma ∷ behind_groups) (among behind_expression) refl)) (solid_of _ begins refl) refl
       (rest_among k.Comma behind_groups) (unlike (among behind_groups) k.Comma refl)))
 
   condition : (kd : Kind) (ks : List Kind) → among ks kd ≡ false → all_in (among behind_expression) ks ≡ true → Stands mode (among ks) (s.condition kd) (form.condition most kd) (among (kd ∷ ks))
@@ -136,7 +139,7 @@ module _ (mode : Mode) (most : ℕ) (whole : Complete mode (among behind_express
   joined : (left : Bool) → Complete mode (among behind_source) (s.join left) (join_rest left)
   unfolding s.join among all_in same_kind
   joined left =
-      both (values.source {t = among (k.On ∷ [])} refl) (λ from. then_any (expected k.On) (λ _. both (less whole (within behind_source (among behind_expression) refl))
+      both (less source_read (within (k.On ∷ []) ends_source refl)) (λ from. then_any (expected k.On) (λ _. both (less whole (within behind_source (among behind_expression) refl))
       (λ on. less (made _) (λ y e. refl)) (λ on. made_opens _ (λ y e. e)))) (λ from. first_opens (word_opens k.On refl))
 
   -- the join behind its first token
@@ -195,8 +198,8 @@ module _ (mode : Mode) (most : ℕ) (whole : Complete mode (among behind_express
   turns = record {
     item_read = λ front rest count o a said enough stop. join_run front rest count o a said.0 said.1 enough stop;
     none_read = no_join_read;
-    opens = opens_within join_opens (within (k.Join ∷ k.Left ∷ []) (among behind_source) refl);
-    solid = solid refl join_opens;
+    opens = opens_less join_opens (within (k.Join ∷ k.Left ∷ []) (among behind_source) refl);
+    solid = solid_of _ join_opens refl;
     within = within behind_joins (among behind_source) refl;
   }
 
@@ -226,10 +229,10 @@ module _ (mode : Mode) (most : ℕ) (whole : Complete mode (among behind_express
       link (int_after k.Limit behind_limit refl) (λ limit. link (int_after k.Offset behind_offset refl) (λ offset. done _ (rest_among k.With ends)))))))
 
   pub select_read : Complete mode (among ends) s.select (form.select most)
-  unfolding among same_kind
+  unfolding among all_in same_kind
   select_read =
       instead select_flat (both (eaten k.Distinct (unlike opening k.Distinct refl)) (λ distinct. both items (λ shown. then_any (expected k.From) (λ _.
-      then_stands (values.source {t = among behind_source} refl) (λ first. link joins (λ others. parts distinct shown first others))))
+      then_stands (less source_read (within behind_source ends_source refl)) (λ first. link joins (λ others. parts distinct shown first others))))
       (λ shown. first_opens (word_opens k.From refl))) (λ distinct. first_opens (separated_opens k.Comma item_opens)))
 
   -- ---- queries
@@ -250,8 +253,8 @@ module _ (mode : Mode) (most : ℕ) (whole : Complete mode (among behind_express
   pair_turns = record {
     item_read = λ front rest count o a said enough stop. clause_run mode always k.Join q.pair query.pair pair front rest count o a said enough refl;
     none_read = λ rest o stop. no_clause mode k.Join q.pair rest o (unlike (among behind_pairs) k.Join refl (first_of rest).kind stop);
-    opens = opens_within pair_opens (within (k.Join ∷ []) (among (k.Join ∷ behind_pairs)) refl);
-    solid = solid refl pair_opens;
+    opens = opens_less pair_opens (within (k.Join ∷ []) (among (k.Join ∷ behind_pairs)) refl);
+    solid = solid_of _ pair_opens refl;
     within = rest_among k.Join behind_pairs;
   }
 
@@ -276,7 +279,7 @@ module _ (mode : Mode) (most : ℕ) (whole : Complete mode (among behind_express
   unfolding q.options q.option_list among same_kind
   options =
       list_stands k.With ends [] refl
-      (listed k.Comma (among (k.Comma ∷ ends)) (among ends) (less option (λ y e. refl)) (solid refl option_opens) refl (rest_among k.Comma ends) (unlike (among ends) k.Comma refl))
+      (listed k.Comma (among (k.Comma ∷ ends)) (among ends) (less option (λ y e. refl)) (solid_of _ option_opens refl) refl (rest_among k.Comma ends) (unlike (among ends) k.Comma refl))
 
   pub query_read : Complete mode (among ends) q.query (query.query most)
   unfolding among all_in same_kind
@@ -293,7 +296,7 @@ module _ (mode : Mode) (most : ℕ) (whole : Complete mode (among behind_express
   unfolding b.assigned among all_in same_kind
   assigned =
       word_or k.Null (less (made None) (λ y e. refl)) (mapped Some (less whole (within (k.Comma ∷ behind_cell) (among behind_expression) refl)))
-      (first_opens (opens_within begins (not_this opening k.Null refl)))
+      (first_opens (opens_less begins (not_this opening k.Null refl)))
 
   cell : Complete mode (among (k.Comma ∷ behind_cell)) b.cell (statement.cell most)
   unfolding b.cell
@@ -313,7 +316,7 @@ module _ (mode : Mode) (most : ℕ) (whole : Complete mode (among behind_express
   unfolding b.update b.cells among all_in same_kind
   update =
       then_any (taken k.Update) (λ _. then_any named (λ table. then_any (expected k.Set) (λ _.
-      then_stands (listed k.Comma (among (k.Comma ∷ behind_cell)) (among behind_cell) cell (solid {these = values.begins_name} values.no_name_ends (first_opens values.name_opens)) refl
+      then_stands (listed k.Comma (among (k.Comma ∷ behind_cell)) (among behind_cell) cell (solid_of is_name (first_opens values.name_opens) values.no_name_ends) refl
       (rest_among k.Comma behind_cell) (unlike (among behind_cell) k.Comma refl))
       (λ cells. link (condition k.Where ends refl refl) (λ filter. done _ (λ y e. e))))))
 

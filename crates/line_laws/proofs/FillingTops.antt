@@ -40,23 +40,26 @@ use Rattle.grammar_laws.proofs.Taking.{Mode, Enough}
 use Rattle.grammar_laws.proofs.Filling.{Read, Complete, Opens, always, both, then_any, less, made, expected, taken, on_word, either, if_word, made_opens, word_opens, then_opens, first_opens, maybe_opens, whether_opens, either_opens}
 use Rattle.grammar_laws.proofs.FillingBasics.{named, listed}
 use Rattle.grammar_laws.proofs.FillingTables.{line_end}
-use Rattle.line_laws.proofs.SomeKinds.{false_true, among, other_than, unlike, not_this, end_within}
-use Rattle.line_laws.proofs.FillingParts.{instead, mapped, opens_within, solid, separated_opens, decided, unless_end, perhaps}
+use Rattle.expression_laws.proofs.FillingSteps.{unlike, opens_less, solid_of, separated_opens}
+use Rattle.expression_laws.proofs.FillingKinds.{is_name}
+use Rattle.expression_laws.proofs.FillingLiterals.{literal_read, literal_solid}
+use Rattle.line_laws.proofs.SomeKinds.{false_true, among, other_than, not_this, end_within}
+use Rattle.line_laws.proofs.FillingParts.{instead, mapped, decided, unless_end, perhaps}
 use Rattle.line_laws.proofs.FillingValues as values
-use Rattle.line_laws.proofs.FillingValues.{begins_name, begins_value, name_opens, term_opens, member_opens}
+use Rattle.line_laws.proofs.FillingValues.{begins_value, name_opens, term_opens, member_opens}
 use Rattle.line_laws.proofs.FillingSelects.{ends, opening, behind_expression, select_read, query_read, bulk_read}
 use Rattle.line_laws.proofs.FillingHeads.{class_head}
 use Rattle.line_laws.proofs.Tops.{same_flat}
 
 -- a name begins with no such token
-name_is_no : (kd : Kind) → begins_name kd ≡ false → {t : Kind → Bool} → Opens basic.name t (other_than kd)
-name_is_no kd out = opens_within name_opens (not_this begins_name kd out)
+name_is_no : (kd : Kind) → is_name kd ≡ false → {t : Kind → Bool} → Opens basic.name t (other_than kd)
+name_is_no kd out = opens_less name_opens (not_this is_name kd out)
 
 abbrev no_assign : Kind → Bool
 no_assign = other_than k.Assign
 
 name_no_assign : {t : Kind → Bool} → Opens basic.name t no_assign
-unfolding begins_name is_no_name
+unfolding is_no_name
 name_no_assign = name_is_no k.Assign refl
 
 name_no_end : Opens basic.name line_end (other_than k.LineEnd)
@@ -104,7 +107,7 @@ module _ {mode : Mode} where
   unfolding r.set_to begins_value
   set_to owner called =
       decided (λ kd. same_kind kd k.Null || begins_literal kd) (mapped (c.SetValue owner called) (any values.value)) (mapped (c.SetTerm owner called) (values.term {t = line_end} refl))
-      (first_opens values.value_opens) (first_opens (opens_within term_opens values.name_no_value))
+      (first_opens values.value_opens) (first_opens (opens_less term_opens values.name_no_value))
 
   set : Behind mode r.set (sequence bindings.member (λ owner. sequence (word k.Assign) (λ _. (sequence basic.value (λ v. says (c.SetValue owner.0 owner.1 v))) or (sequence basic.term (λ t. says (c.SetTerm owner.0 owner.1 t))))))
   unfolding r.set
@@ -127,9 +130,9 @@ module _ {mode : Mode} where
   }
 
   two : Behind mode r.same (sequence basic.term (λ first. sequence basic.term (λ second. says (c.Same first second))))
-  unfolding begins_name is_no_name
+  unfolding is_no_name
   two = record {
-    complete = instead same_flat (both (values.term {t = begins_name} refl) (λ first. mapped (c.Same first) (values.term {t = line_end} refl)) (λ first. first_opens term_opens));
+    complete = instead same_flat (both (values.term {t = is_name} refl) (λ first. mapped (c.Same first) (values.term {t = line_end} refl)) (λ first. first_opens term_opens));
     opens = first_opens (first_opens name_no_assign);
   }
 
@@ -147,14 +150,14 @@ module _ {mode : Mode} where
   made_new : (bound : List ℕ) → Complete mode line_end (take_token >> b.made bound) (bindings.new bound)
   unfolding b.made b.cells_if_any b.cells
   made_new bound =
-      then_any (taken k.New) (λ _. then_any named (λ class. both (unless_end [] (listed k.Comma always line_end values.cell (solid {these = begins_name} values.no_name_ends values.cell_opens) refl (λ y e. refl) (unlike line_end k.Comma refl))
-      (separated_opens k.Comma (opens_within values.cell_opens (not_this begins_name k.LineEnd values.no_name_ends)))) (λ cells. any (made _)) (λ cells. made_opens _ (λ y e. e))))
+      then_any (taken k.New) (λ _. then_any named (λ class. both (unless_end [] (listed k.Comma always line_end values.cell (solid_of is_name values.cell_opens values.no_name_ends) refl (λ y e. refl) (unlike line_end k.Comma refl))
+      (separated_opens k.Comma (opens_less values.cell_opens (not_this is_name k.LineEnd values.no_name_ends)))) (λ cells. any (made _)) (λ cells. made_opens _ (λ y e. e))))
 
   got : (bound : List ℕ) → Complete mode line_end (take_token >> b.got bound) (bindings.get bound)
   unfolding b.got literals.literals among same_kind
   got bound =
       any (then_any (taken k.Get) (λ _. then_any named (λ class. then_any (expected k.LParen) (λ _.
-      both (listed k.Comma always (among (k.RParen ∷ [])) values.literal (solid {these = begins_literal} refl values.literal_opens) refl (λ y e. refl) (unlike (among (k.RParen ∷ [])) k.Comma refl))
+      both (listed k.Comma always (among (k.RParen ∷ [])) literal_read (literal_solid) refl (λ y e. refl) (unlike (among (k.RParen ∷ [])) k.Comma refl))
       (λ key. then_any (expected k.RParen) (λ _. made _)) (λ key. first_opens (word_opens k.RParen refl))))))
 
   related : (bound : List ℕ) → Complete mode line_end (take_token >> b.related bound) (bindings.related bound)

@@ -1,15 +1,14 @@
 -- Readers of forms that say something: what they read is what the form says, and what they refuse begins some tokens of it.
-use Rattle.std.proofs.Common.{◌≡◌, ℕ, Bool, true, false, if◌then◌else◌, List, [], drop, length, Some, None, Ok, Err, refl, subst, inl, inr}
+use Rattle.std.proofs.Common.{◌≡◌, Bool, true, false, if◌then◌else◌, [], length, Some, None, Ok, Err, refl, subst, inl, inr}
 use Rattle.script_lex.specs.declared.kind.Kind.{Kind}
 use Rattle.script_lex.specs.declared.kind.Kind.TheVariants as k
-use Rattle.script_lex.specs.declared.token.Token.{Token}
-use Rattle.script_lex.specs.Lex.{same_kind}
 use Rattle.script_tokens.proofs.Alike.{same}
-use Rattle.script_tokens.specs.Input.{Input, Outcome, Reader, ◌>>=◌, and_then, pure, peek, take_token, eat, expect, clause, head, kind, next, sees, after, first_of, separated_from}
+use Rattle.script_tokens.specs.Input.{Input, Outcome, Reader, ◌>>=◌, and_then, pure, peek, take_token, eat, expect, clause, kind, sees, after, separated_from}
 use Rattle.script_forms.specs.Form.{Form, sequence, says, word, maybe, whether, separated, ◌or◌}
-use Rattle.grammar_laws.proofs.Taking.{Mode, Took, Behind, TooDeep, Kept, Out, Whole, Sound, Inhabited}
+use Rattle.grammar_laws.proofs.Taking.{Mode, Behind, TooDeep, Kept, Out, Whole, Sound, Inhabited}
 use Rattle.grammar_laws.proofs.Steps as step
 use Rattle.grammar_laws.proofs.Steps.{budget_none, both_taken, within_out, is_end, taken_by, whole_next}
+use Rattle.expression_laws.proofs.Steps as expressions
 use Rattle.grammar_laws.proofs.Lists as lists
 use Rattle.grammar_laws.proofs.Options as options
 
@@ -50,27 +49,10 @@ eaten kd not_end = record { sound = options.eaten kd not_end; some = record { to
 
 -- ---- one of two
 
-chosen_by : {A : Type 0} (c : Mode) (kd : Kind) {p q : Reader A} {g h : Form A} → is_end kd ≡ false → Sound c p g → Sound c q h → (xs : List Token) (o : ℕ) (b : Bool)
-    → same_kind (first_of xs).kind kd ≡ b → Whole xs
-    → Kept c ((sequence (word kd) (λ _. g)) or h) (record { ahead = xs; operators = o }) ((if b then p else q) (if b then record { ahead = drop 1 xs; operators = o } else record { ahead = xs; operators = o }))
-chosen_by c kd {p = p} {g = g} {h = h} not_end sp sq xs o true is whole =
-    let i : Input = record { ahead = xs; operators = o } in
-    let j : Input = record { ahead = drop 1 xs; operators = o } in
-    let t : Took c (word kd) i tt j = taken_by kd not_end xs o (same is) in
-    within_out c (sequence (word kd) (λ _. g)) ((sequence (word kd) (λ _. g)) or h) i (λ ts n a s. inl s) (p j)
-    (both_taken c (word kd) (λ _. g) i tt j t (p j) (sp.run j (whole_next xs whole)))
-chosen_by c kd {q = q} {g = g} {h = h} not_end sp sq xs o false is whole =
-    let i : Input = record { ahead = xs; operators = o } in
-    within_out c h ((sequence (word kd) (λ _. g)) or h) i (λ ts n a s. inr s) (q i) (sq.run i whole)
-
 -- a word and what it introduces, or another form
 pub word_or : {A : Type 0} {c : Mode} (kd : Kind) {p q : Reader A} {g h : Form A} → is_end kd ≡ false → Follows c p g → Follows c q h
     → Follows c (eat kd >>= (λ found. if found then p else q)) ((sequence (word kd) (λ _. g)) or h)
-unfolding sees after head next
-word_or {c = c} kd not_end one two = record {
-  sound = record { run = λ i whole. chosen_by c kd not_end one.sound two.sound i.ahead i.operators (same_kind (first_of i.ahead).kind kd) refl whole };
-  some = step.some_right two.some;
-}
+word_or kd not_end one two = record { sound = expressions.either_word kd not_end one.sound two.sound; some = step.some_right two.some }
 
 either_by : {A : Type 0} {c : Mode} (b : Bool) {p q : Reader A} {g h : Form A} → Sound c p g → Sound c q h → (i : Input) → Whole i.ahead → Kept c (g or h) i ((if b then p else q) i)
 either_by {c = c} true {p = p} {g = g} {h = h} sp sq i whole = within_out c g (g or h) i (λ ts n a s. inl s) (p i) (sp.run i whole)
@@ -124,7 +106,4 @@ lead kd one = step.some_both (step.some_word kd) (λ _. one.some)
 
 -- a reader of the first of two forms alone
 pub of_first : {A : Type 0} {c : Mode} {p : Reader A} {g h : Form A} → Follows c p g → Follows c p (g or h)
-of_first {c = c} {p = p} {g = g} {h = h} one = record {
-  sound = record { run = λ i whole. within_out c g (g or h) i (λ ts n a s. inl s) (p i) (one.sound.run i whole) };
-  some = step.some_left one.some;
-}
+of_first one = record { sound = expressions.within one.sound (λ ts n a s. inl s); some = step.some_left one.some }

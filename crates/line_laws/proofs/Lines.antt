@@ -30,7 +30,7 @@ use Rattle.line_laws.specs.Exact.{outer_reader, binding_or_other, RefusesNoSoone
 use Rattle.line_laws.proofs.SomeKinds.{false_true, among, all_in, within}
 use Rattle.line_laws.proofs.Following.{Follows}
 use Rattle.line_laws.proofs.Tops.{binding_read, top_read}
-use Rattle.line_laws.proofs.FillingParts.{opens_within}
+use Rattle.expression_laws.proofs.FillingSteps.{opens_less}
 use Rattle.line_laws.proofs.FillingSelects.{behind_expression, opening}
 use Rattle.line_laws.proofs.FillingTops.{outer_read}
 
@@ -55,7 +55,7 @@ begins_opening k.LineEnd e = absurd (false_true e)
 begins_opening _ e = refl
 
 opened : Opens (expression_to 100) always opening
-opened = opens_within expression_opens begins_opening
+opened = opens_less expression_opens begins_opening
 
 complete : Complete Plain line_end outer (outer_line 100)
 complete = outer_read Plain 100 filled opened

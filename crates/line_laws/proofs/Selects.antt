@@ -1,13 +1,12 @@
 -- Selects, queries and bulk statements are read as their forms say, where expressions are.
-use Rattle.std.proofs.Common.{◌≡◌, ℕ, Bool, true, false, List, [], length, Option, Some, None, refl, subst, arith}
+use Rattle.std.proofs.Common.{◌≡◌, ℕ, Bool, true, false, List, [], length, Option, Some, None, refl, subst}
 use Rattle.script_types.specs.declared.select.SynBulk.TheVariants as bulk
 use Rattle.script_types.specs.declared.select.SynJoin.{SynJoin}
 use Rattle.script_types.specs.declared.expression.Syn.{Syn}
 use Rattle.script_types.specs.declared.expression.SynSource.{SynSource}
 use Rattle.script_lex.specs.declared.kind.Kind.{Kind}
 use Rattle.script_lex.specs.declared.kind.Kind.TheVariants as k
-use Rattle.script_lex.specs.declared.token.Token.{Token}
-use Rattle.script_tokens.specs.Input.{Input, Outcome, ◌>>=◌, and_then, kind, next}
+use Rattle.script_tokens.specs.Input.{Input, ◌>>=◌, and_then, kind, next}
 use Rattle.script_tokens.specs.Literals.{values}
 use Rattle.script_expr.specs.Expr as x
 use Rattle.script_select.specs.Select as s
@@ -20,7 +19,8 @@ use Rattle.script_forms.specs.Selects as form
 use Rattle.script_forms.specs.Queries as query
 use Rattle.script_forms.specs.Bulk as statement
 use Rattle.grammar_laws.proofs.Taking.{Mode, Out, Whole, Inhabited}
-use Rattle.grammar_laws.proofs.Steps.{is_end, budget_none, within_out, left_of, right_of, refused_at, some_left}
+use Rattle.grammar_laws.proofs.Steps.{is_end, budget_none, left_of, right_of, refused_at, some_left}
+use Rattle.expression_laws.proofs.Steps.{within_at, with_word, without_word}
 use Rattle.line_laws.proofs.Following.{Follows, link, made, token, mapped, instead, listed, introduced, eaten, word_or, one_of, on_kind, behind_word, lead, some_maybe}
 use Rattle.line_laws.proofs.Many.{all_gathered}
 use Rattle.line_laws.proofs.Terms as terms
@@ -57,28 +57,19 @@ module _ (c : Mode) (most : ℕ) (whole : Follows c x.whole (expression_to most)
 
   -- ---- joins
 
-  joined : (left : Bool) → Follows c (s.join left) (sequence source (λ from. sequence (word k.On) (λ _. sequence (expression_to most) (λ on. says (record { left = left; source = from; on = on })))))
+  -- a join behind `left`, or where it would stand
+  abbrev join_rest : Bool → Form SynJoin
+  join_rest left = sequence source (λ from. sequence (word k.On) (λ _. sequence (expression_to most) (λ on. says (record { left = left; source = from; on = on }))))
+
+  joined : (left : Bool) → Follows c (s.join left) (join_rest left)
   unfolding s.join
   joined left = link terms.source (λ from. link (token k.On refl) (λ _. link whole (λ on. made _)))
 
-  plain_up : (ts : List Token) (n : ℕ) (a : SynJoin)
-      → sequence (word k.Join) (λ _. sequence source (λ from. sequence (word k.On) (λ _. sequence (expression_to most) (λ on. says (record { left = false; source = from; on = on }))))) ts n a → (form.join most) ts n a
-  plain_up ts n a s = (false, record { front = []; rest = ts; front_count = 0; rest_count = n; joined = refl; counted = omega arith; first = (refl, refl); second = s })
-
-  left_up : (ts : List Token) (n : ℕ) (a : SynJoin)
-      → sequence (word k.Left) (λ _. sequence (word k.Join) (λ _. sequence source (λ from. sequence (word k.On) (λ _. sequence (expression_to most) (λ on. says (record { left = true; source = from; on = on })))))) ts n a
-      → (form.join most) ts n a
-  left_up ts n a s =
-      let p = s.1 in
-      (true, record { front = p.front; rest = p.rest; front_count = p.front_count; rest_count = p.rest_count; joined = p.joined; counted = p.counted; first = p.first; second = p.second })
-
-  lifted : {A : Type 0} {g h : Form A} {i : Input} {out : Outcome A} → ((ts : List Token) (n : ℕ) (a : A) → g ts n a → h ts n a) → Out c g i out → Out c h i out
-  lifted {g = g} {h = h} {i = i} {out = out} up t = record { kept = within_out c g h i up out t.kept }
-
   join_by : (kd : Kind) (i : Input) → Whole i.ahead → kind i ≡ kd → Out c (maybe (form.join most)) i (and_then (s.join_by kd i) joined_by)
-  join_by k.Join i whole_line is = one_of (lifted plain_up (behind_word k.Join refl (joined false) i whole_line is))
+  join_by k.Join i whole_line is = one_of (within_at (behind_word k.Join refl (joined false) i whole_line is) (without_word k.Left (λ left. sequence (word k.Join) (λ _. join_rest left))))
   join_by k.Left i whole_line is =
-      subst (λ out. Out c (maybe (form.join most)) i out) (two_words_same (next i)) (one_of (lifted left_up (behind_word k.Left refl (link (token k.Join refl) (λ _. joined true)) i whole_line is)))
+      subst (λ out. Out c (maybe (form.join most)) i out) (two_words_same (next i)) (one_of (within_at (behind_word k.Left refl (link (token k.Join refl) (λ _. joined true)) i whole_line is)
+      (with_word k.Left (λ left. sequence (word k.Join) (λ _. join_rest left)))))
   join_by _ i whole_line is = record { kept = record { front = []; count = 0; joined = refl; budget = budget_none c i.operators; said = (refl, refl) } }
 
   turn : Follows c join_turn (maybe (form.join most))

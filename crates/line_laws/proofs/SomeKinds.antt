@@ -1,9 +1,10 @@
 -- Kinds of tokens, by lists of them.
-use Rattle.std.proofs.Common.{◌≡◌, ◌≢◌, Bool, true, false, not, ◌&&◌, ◌||◌, List, [], ◌∷◌, refl, ap, sym, ◌∙◌}
+use Rattle.std.proofs.Common.{◌≡◌, Bool, true, false, not, ◌&&◌, ◌||◌, List, [], ◌∷◌, refl, ap, ◌∙◌}
 use Rattle.script_lex.specs.declared.kind.Kind.{Kind}
 use Rattle.script_lex.specs.declared.kind.Kind.TheVariants as k
 use Rattle.script_lex.specs.Lex.{same_kind}
 use Rattle.script_tokens.proofs.Alike.{same, alike}
+use Rattle.expression_laws.proofs.FillingSteps.{unlike}
 use Rattle.grammar_laws.proofs.FillingTables.{line_end}
 
 pub false_true : false ≡ true → ⊥
@@ -53,23 +54,8 @@ pub rest_among : (kd : Kind) (ks : List Kind) (y : Kind) → among ks y ≡ true
 unfolding among
 rest_among kd ks y e = or_right (same_kind y kd) (among ks y) e
 
-unlike_by : (these : Kind → Bool) (kd y : Kind) → these kd ≡ false → these y ≡ true → (b : Bool) → same_kind y kd ≡ b → b ≡ false
-unlike_by these kd y out e true is = absurd (false_true (sym out ∙ ap these (sym (same is)) ∙ e))
-unlike_by these kd y out e false is = refl
-
--- no kind of these is this one
-pub unlike : (these : Kind → Bool) (kd : Kind) → these kd ≡ false → (y : Kind) → these y ≡ true → same_kind y kd ≡ false
-unlike these kd out y e = unlike_by these kd y out e (same_kind y kd) refl
-
 pub not_this : (these : Kind → Bool) (kd : Kind) → these kd ≡ false → (y : Kind) → these y ≡ true → other_than kd y ≡ true
 not_this these kd out y e = ap not (unlike these kd out y e)
-
-differ_by : (a b : Kind) → a ≢ b → (s : Bool) → same_kind a b ≡ s → s ≡ false
-differ_by a b other true is = absurd (other (same is))
-differ_by a b other false is = refl
-
-pub differ : (a b : Kind) → a ≢ b → same_kind a b ≡ false
-differ a b other = differ_by a b other (same_kind a b) refl
 
 -- the end of the line is one of these
 pub end_within : (these : Kind → Bool) → these k.LineEnd ≡ true → (y : Kind) → line_end y ≡ true → these y ≡ true
