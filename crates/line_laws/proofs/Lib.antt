@@ -14,3 +14,4 @@ pub mod FillingSelects
 pub mod FillingHeads
 pub mod FillingTops
 pub mod Lines
+pub mod Language

@@ -4,6 +4,7 @@
 
 ghost use Rattle.grammar_laws.specs.Exact.{ReadsAllThatIsSaid, ReadsWhatIsSaid, SaysOneThing};
 ghost use Rattle.line_laws.specs.Exact.{RefusesNoSooner, RefusesSoonerInDepthAlone, outer_reader};
+ghost use Rattle.line_laws.specs.Language.{AnswersAllThatIsSaid, AnswersWhatIsSaid, RefusesByColumn};
 ghost use Rattle.script_forms.specs.TopLines.{outer_line};
 
 /// A line outside every block says the command that its form relates to its tokens, and no other, where at most 100 of parentheses, `not` and unary minus
@@ -17,4 +18,12 @@ pub fn lines_outside_blocks_are_read_as_their_forms_say()
     ensures one { SaysOneThing (outer_line 100) }
     ensures refused { RefusesNoSooner }
     ensures deep { RefusesSoonerInDepthAlone }
+{}
+
+/// What `read_line` is to answer, in a block or outside: to a line that is neither blank nor a comment the command that the form of the lines there
+/// relates to its tokens; and where they say none, the column of a token, with the tokens before which some such line begins.
+pub fn lines_are_answered_as_the_language_says()
+    ensures answers { AnswersWhatIsSaid }
+    ensures all { AnswersAllThatIsSaid }
+    ensures refuses { RefusesByColumn }
 {}
