@@ -1,5 +1,5 @@
--- What expressions mean, of which kind they are and whether they fit, one equation for each variant.
-use Rattle.std.proofs.Common.{◌≡◌, ℕ, Bool, ◌&&◌, List, [], ◌∷◌, ◌++◌, map, ap}
+-- What expressions mean, of which kind they are, whether they fit and where aggregates stand, one equation for each variant.
+use Rattle.std.proofs.Common.{◌≡◌, ℕ, Bool, false, ◌&&◌, List, [], ◌∷◌, ◌++◌, map, ap}
 use Rattle.std.specs.List.{list_all}
 use Rattle.base_core.specs.declared.ids.ColumnNo.{ColumnNo}
 use Rattle.base_core.specs.declared.value.Value.{Value}
@@ -15,6 +15,7 @@ use Rattle.expr_types.specs.Level.{operands, scope_below}
 use Rattle.expr_typing.specs.Kinds.{Scope, Judged, judged, judged_level}
 use Rattle.expr_typing.specs.Plain.{fits, fits_level}
 use Rattle.expr_eval.specs.Eval.{Meaning, evaluated, meaning}
+use Rattle.normal_laws.specs.Aggregates.{aggregates_apart, may_be}
 use Rattle.expr_types.proofs.Folds.{fold-Column, fold-Lit, fold-Compare, fold-IsNull, fold-And, fold-Or, fold-Not, fold-Arith, fold-Neg, fold-Concat, fold-Like, fold-Ilike, fold-InList, fold-Between, fold-Distinct, fold-Call, fold-CountAll, fold-Exists}
 
 abbrev enter : Scope → Origin → Scope
@@ -22,6 +23,9 @@ enter scope origin = scope ++ origin.table ∷ []
 
 abbrev fits_step : Catalog → Expr-F (Scope → Bool) → Scope → Bool
 fits_step schema level scope = fits_level schema scope level && list_all (λ holds. holds (scope_below enter scope level)) (operands level)
+
+abbrev pub apart_step : Expr-F (Bool → Bool) → Bool → Bool
+apart_step level allowed = may_be allowed level && list_all (λ holds. holds (scope_below (λ _ origin. false) allowed level)) (operands level)
 
 pub evaluated-Column : (s : ℕ) (c : ColumnNo) → evaluated (expr.Column s c) ≡ meaning (Expr-F.Column s c)
 unfolding evaluated
@@ -59,6 +63,10 @@ pub fits-Compare : (schema : Catalog) (scope : Scope) (op : CompareOp) (a : Expr
 unfolding fits
 fits-Compare schema scope op a b = ap (λ (f : Scope → Bool). f scope) (fold-Compare (Scope → Bool) (fits_step schema) op a b)
 
+pub apart-Compare : (allowed : Bool) (op : CompareOp) (a : Expr) (b : Expr) → aggregates_apart (expr.Compare op a b) allowed ≡ apart_step (Expr-F.Compare op (aggregates_apart a) (aggregates_apart b)) allowed
+unfolding aggregates_apart
+apart-Compare allowed op a b = ap (λ (a : Bool → Bool). a allowed) (fold-Compare (Bool → Bool) apart_step op a b)
+
 pub evaluated-IsNull : (g : Bool) (a : Expr) → evaluated (expr.IsNull g a) ≡ meaning (Expr-F.IsNull g (evaluated a))
 unfolding evaluated
 evaluated-IsNull g a = fold-IsNull Meaning meaning g a
@@ -70,6 +78,10 @@ judged-IsNull schema scope g a = ap (λ (j : Scope → Judged). j scope) (fold-I
 pub fits-IsNull : (schema : Catalog) (scope : Scope) (g : Bool) (a : Expr) → fits schema (expr.IsNull g a) scope ≡ fits_step schema (Expr-F.IsNull g (fits schema a)) scope
 unfolding fits
 fits-IsNull schema scope g a = ap (λ (f : Scope → Bool). f scope) (fold-IsNull (Scope → Bool) (fits_step schema) g a)
+
+pub apart-IsNull : (allowed : Bool) (g : Bool) (a : Expr) → aggregates_apart (expr.IsNull g a) allowed ≡ apart_step (Expr-F.IsNull g (aggregates_apart a)) allowed
+unfolding aggregates_apart
+apart-IsNull allowed g a = ap (λ (a : Bool → Bool). a allowed) (fold-IsNull (Bool → Bool) apart_step g a)
 
 pub evaluated-And : (es : List Expr) → evaluated (expr.And es) ≡ meaning (Expr-F.And (map evaluated es))
 unfolding evaluated
@@ -83,6 +95,10 @@ pub fits-And : (schema : Catalog) (scope : Scope) (es : List Expr) → fits sche
 unfolding fits
 fits-And schema scope es = ap (λ (f : Scope → Bool). f scope) (fold-And (Scope → Bool) (fits_step schema) es)
 
+pub apart-And : (allowed : Bool) (es : List Expr) → aggregates_apart (expr.And es) allowed ≡ apart_step (Expr-F.And (map aggregates_apart es)) allowed
+unfolding aggregates_apart
+apart-And allowed es = ap (λ (a : Bool → Bool). a allowed) (fold-And (Bool → Bool) apart_step es)
+
 pub evaluated-Or : (es : List Expr) → evaluated (expr.Or es) ≡ meaning (Expr-F.Or (map evaluated es))
 unfolding evaluated
 evaluated-Or es = fold-Or Meaning meaning es
@@ -94,6 +110,10 @@ judged-Or schema scope es = ap (λ (j : Scope → Judged). j scope) (fold-Or (Sc
 pub fits-Or : (schema : Catalog) (scope : Scope) (es : List Expr) → fits schema (expr.Or es) scope ≡ fits_step schema (Expr-F.Or (map (fits schema) es)) scope
 unfolding fits
 fits-Or schema scope es = ap (λ (f : Scope → Bool). f scope) (fold-Or (Scope → Bool) (fits_step schema) es)
+
+pub apart-Or : (allowed : Bool) (es : List Expr) → aggregates_apart (expr.Or es) allowed ≡ apart_step (Expr-F.Or (map aggregates_apart es)) allowed
+unfolding aggregates_apart
+apart-Or allowed es = ap (λ (a : Bool → Bool). a allowed) (fold-Or (Bool → Bool) apart_step es)
 
 pub evaluated-Not : (a : Expr) → evaluated (expr.Not a) ≡ meaning (Expr-F.Not (evaluated a))
 unfolding evaluated
@@ -107,6 +127,10 @@ pub fits-Not : (schema : Catalog) (scope : Scope) (a : Expr) → fits schema (ex
 unfolding fits
 fits-Not schema scope a = ap (λ (f : Scope → Bool). f scope) (fold-Not (Scope → Bool) (fits_step schema) a)
 
+pub apart-Not : (allowed : Bool) (a : Expr) → aggregates_apart (expr.Not a) allowed ≡ apart_step (Expr-F.Not (aggregates_apart a)) allowed
+unfolding aggregates_apart
+apart-Not allowed a = ap (λ (a : Bool → Bool). a allowed) (fold-Not (Bool → Bool) apart_step a)
+
 pub evaluated-Arith : (op : ArithOp) (a : Expr) (b : Expr) → evaluated (expr.Arith op a b) ≡ meaning (Expr-F.Arith op (evaluated a) (evaluated b))
 unfolding evaluated
 evaluated-Arith op a b = fold-Arith Meaning meaning op a b
@@ -118,6 +142,10 @@ judged-Arith schema scope op a b = ap (λ (j : Scope → Judged). j scope) (fold
 pub fits-Arith : (schema : Catalog) (scope : Scope) (op : ArithOp) (a : Expr) (b : Expr) → fits schema (expr.Arith op a b) scope ≡ fits_step schema (Expr-F.Arith op (fits schema a) (fits schema b)) scope
 unfolding fits
 fits-Arith schema scope op a b = ap (λ (f : Scope → Bool). f scope) (fold-Arith (Scope → Bool) (fits_step schema) op a b)
+
+pub apart-Arith : (allowed : Bool) (op : ArithOp) (a : Expr) (b : Expr) → aggregates_apart (expr.Arith op a b) allowed ≡ apart_step (Expr-F.Arith op (aggregates_apart a) (aggregates_apart b)) allowed
+unfolding aggregates_apart
+apart-Arith allowed op a b = ap (λ (a : Bool → Bool). a allowed) (fold-Arith (Bool → Bool) apart_step op a b)
 
 pub evaluated-Neg : (a : Expr) → evaluated (expr.Neg a) ≡ meaning (Expr-F.Neg (evaluated a))
 unfolding evaluated
@@ -131,6 +159,10 @@ pub fits-Neg : (schema : Catalog) (scope : Scope) (a : Expr) → fits schema (ex
 unfolding fits
 fits-Neg schema scope a = ap (λ (f : Scope → Bool). f scope) (fold-Neg (Scope → Bool) (fits_step schema) a)
 
+pub apart-Neg : (allowed : Bool) (a : Expr) → aggregates_apart (expr.Neg a) allowed ≡ apart_step (Expr-F.Neg (aggregates_apart a)) allowed
+unfolding aggregates_apart
+apart-Neg allowed a = ap (λ (a : Bool → Bool). a allowed) (fold-Neg (Bool → Bool) apart_step a)
+
 pub evaluated-Concat : (a : Expr) (b : Expr) → evaluated (expr.Concat a b) ≡ meaning (Expr-F.Concat (evaluated a) (evaluated b))
 unfolding evaluated
 evaluated-Concat a b = fold-Concat Meaning meaning a b
@@ -142,6 +174,10 @@ judged-Concat schema scope a b = ap (λ (j : Scope → Judged). j scope) (fold-C
 pub fits-Concat : (schema : Catalog) (scope : Scope) (a : Expr) (b : Expr) → fits schema (expr.Concat a b) scope ≡ fits_step schema (Expr-F.Concat (fits schema a) (fits schema b)) scope
 unfolding fits
 fits-Concat schema scope a b = ap (λ (f : Scope → Bool). f scope) (fold-Concat (Scope → Bool) (fits_step schema) a b)
+
+pub apart-Concat : (allowed : Bool) (a : Expr) (b : Expr) → aggregates_apart (expr.Concat a b) allowed ≡ apart_step (Expr-F.Concat (aggregates_apart a) (aggregates_apart b)) allowed
+unfolding aggregates_apart
+apart-Concat allowed a b = ap (λ (a : Bool → Bool). a allowed) (fold-Concat (Bool → Bool) apart_step a b)
 
 pub evaluated-Like : (g : Bool) (a : Expr) (b : Expr) → evaluated (expr.Like g a b) ≡ meaning (Expr-F.Like g (evaluated a) (evaluated b))
 unfolding evaluated
@@ -155,6 +191,10 @@ pub fits-Like : (schema : Catalog) (scope : Scope) (g : Bool) (a : Expr) (b : Ex
 unfolding fits
 fits-Like schema scope g a b = ap (λ (f : Scope → Bool). f scope) (fold-Like (Scope → Bool) (fits_step schema) g a b)
 
+pub apart-Like : (allowed : Bool) (g : Bool) (a : Expr) (b : Expr) → aggregates_apart (expr.Like g a b) allowed ≡ apart_step (Expr-F.Like g (aggregates_apart a) (aggregates_apart b)) allowed
+unfolding aggregates_apart
+apart-Like allowed g a b = ap (λ (a : Bool → Bool). a allowed) (fold-Like (Bool → Bool) apart_step g a b)
+
 pub evaluated-Ilike : (g : Bool) (a : Expr) (b : Expr) → evaluated (expr.Ilike g a b) ≡ meaning (Expr-F.Ilike g (evaluated a) (evaluated b))
 unfolding evaluated
 evaluated-Ilike g a b = fold-Ilike Meaning meaning g a b
@@ -166,6 +206,10 @@ judged-Ilike schema scope g a b = ap (λ (j : Scope → Judged). j scope) (fold-
 pub fits-Ilike : (schema : Catalog) (scope : Scope) (g : Bool) (a : Expr) (b : Expr) → fits schema (expr.Ilike g a b) scope ≡ fits_step schema (Expr-F.Ilike g (fits schema a) (fits schema b)) scope
 unfolding fits
 fits-Ilike schema scope g a b = ap (λ (f : Scope → Bool). f scope) (fold-Ilike (Scope → Bool) (fits_step schema) g a b)
+
+pub apart-Ilike : (allowed : Bool) (g : Bool) (a : Expr) (b : Expr) → aggregates_apart (expr.Ilike g a b) allowed ≡ apart_step (Expr-F.Ilike g (aggregates_apart a) (aggregates_apart b)) allowed
+unfolding aggregates_apart
+apart-Ilike allowed g a b = ap (λ (a : Bool → Bool). a allowed) (fold-Ilike (Bool → Bool) apart_step g a b)
 
 pub evaluated-InList : (g : Bool) (a : Expr) (vs : List Value) → evaluated (expr.InList g a vs) ≡ meaning (Expr-F.InList g (evaluated a) vs)
 unfolding evaluated
@@ -179,6 +223,10 @@ pub fits-InList : (schema : Catalog) (scope : Scope) (g : Bool) (a : Expr) (vs :
 unfolding fits
 fits-InList schema scope g a vs = ap (λ (f : Scope → Bool). f scope) (fold-InList (Scope → Bool) (fits_step schema) g a vs)
 
+pub apart-InList : (allowed : Bool) (g : Bool) (a : Expr) (vs : List Value) → aggregates_apart (expr.InList g a vs) allowed ≡ apart_step (Expr-F.InList g (aggregates_apart a) vs) allowed
+unfolding aggregates_apart
+apart-InList allowed g a vs = ap (λ (a : Bool → Bool). a allowed) (fold-InList (Bool → Bool) apart_step g a vs)
+
 pub evaluated-Between : (g : Bool) (a : Expr) (low : Expr) (high : Expr) → evaluated (expr.Between g a low high) ≡ meaning (Expr-F.Between g (evaluated a) (evaluated low) (evaluated high))
 unfolding evaluated
 evaluated-Between g a low high = fold-Between Meaning meaning g a low high
@@ -190,6 +238,10 @@ judged-Between schema scope g a low high = ap (λ (j : Scope → Judged). j scop
 pub fits-Between : (schema : Catalog) (scope : Scope) (g : Bool) (a : Expr) (low : Expr) (high : Expr) → fits schema (expr.Between g a low high) scope ≡ fits_step schema (Expr-F.Between g (fits schema a) (fits schema low) (fits schema high)) scope
 unfolding fits
 fits-Between schema scope g a low high = ap (λ (f : Scope → Bool). f scope) (fold-Between (Scope → Bool) (fits_step schema) g a low high)
+
+pub apart-Between : (allowed : Bool) (g : Bool) (a : Expr) (low : Expr) (high : Expr) → aggregates_apart (expr.Between g a low high) allowed ≡ apart_step (Expr-F.Between g (aggregates_apart a) (aggregates_apart low) (aggregates_apart high)) allowed
+unfolding aggregates_apart
+apart-Between allowed g a low high = ap (λ (a : Bool → Bool). a allowed) (fold-Between (Bool → Bool) apart_step g a low high)
 
 pub evaluated-Distinct : (g : Bool) (a : Expr) (b : Expr) → evaluated (expr.Distinct g a b) ≡ meaning (Expr-F.Distinct g (evaluated a) (evaluated b))
 unfolding evaluated
@@ -203,6 +255,10 @@ pub fits-Distinct : (schema : Catalog) (scope : Scope) (g : Bool) (a : Expr) (b 
 unfolding fits
 fits-Distinct schema scope g a b = ap (λ (f : Scope → Bool). f scope) (fold-Distinct (Scope → Bool) (fits_step schema) g a b)
 
+pub apart-Distinct : (allowed : Bool) (g : Bool) (a : Expr) (b : Expr) → aggregates_apart (expr.Distinct g a b) allowed ≡ apart_step (Expr-F.Distinct g (aggregates_apart a) (aggregates_apart b)) allowed
+unfolding aggregates_apart
+apart-Distinct allowed g a b = ap (λ (a : Bool → Bool). a allowed) (fold-Distinct (Bool → Bool) apart_step g a b)
+
 pub evaluated-Call : (f : Func) (es : List Expr) → evaluated (expr.Call f es) ≡ meaning (Expr-F.Call f (map evaluated es))
 unfolding evaluated
 evaluated-Call f es = fold-Call Meaning meaning f es
@@ -214,6 +270,10 @@ judged-Call schema scope f es = ap (λ (j : Scope → Judged). j scope) (fold-Ca
 pub fits-Call : (schema : Catalog) (scope : Scope) (f : Func) (es : List Expr) → fits schema (expr.Call f es) scope ≡ fits_step schema (Expr-F.Call f (map (fits schema) es)) scope
 unfolding fits
 fits-Call schema scope f es = ap (λ (f : Scope → Bool). f scope) (fold-Call (Scope → Bool) (fits_step schema) f es)
+
+pub apart-Call : (allowed : Bool) (f : Func) (es : List Expr) → aggregates_apart (expr.Call f es) allowed ≡ apart_step (Expr-F.Call f (map aggregates_apart es)) allowed
+unfolding aggregates_apart
+apart-Call allowed f es = ap (λ (a : Bool → Bool). a allowed) (fold-Call (Bool → Bool) apart_step f es)
 
 pub evaluated-CountAll : evaluated expr.CountAll ≡ meaning Expr-F.CountAll
 unfolding evaluated
@@ -238,3 +298,7 @@ judged-Exists schema scope g o a = ap (λ (j : Scope → Judged). j scope) (fold
 pub fits-Exists : (schema : Catalog) (scope : Scope) (g : Bool) (o : Origin) (a : Expr) → fits schema (expr.Exists g o a) scope ≡ fits_step schema (Expr-F.Exists g o (fits schema a)) scope
 unfolding fits
 fits-Exists schema scope g o a = ap (λ (f : Scope → Bool). f scope) (fold-Exists (Scope → Bool) (fits_step schema) g o a)
+
+pub apart-Exists : (allowed : Bool) (g : Bool) (o : Origin) (a : Expr) → aggregates_apart (expr.Exists g o a) allowed ≡ apart_step (Expr-F.Exists g o (aggregates_apart a)) allowed
+unfolding aggregates_apart
+apart-Exists allowed g o a = ap (λ (a : Bool → Bool). a allowed) (fold-Exists (Bool → Bool) apart_step g o a)

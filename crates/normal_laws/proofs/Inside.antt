@@ -1,6 +1,6 @@
--- A place with one more source.
-use Rattle.std.proofs.Common.{◌≡◌, ℕ, zero, suc, ◌+◌, ◌<◌, List, [], ◌∷◌, ◌++◌, length, Some, refl, ap, ◌∙◌, arith, length-append}
-use Rattle.std.specs.List.{slice_get}
+-- A place in a query, alone or of a group, and the same with one more source.
+use Rattle.std.proofs.Common.{◌≡◌, ℕ, zero, suc, ◌+◌, ◌<◌, Bool, true, false, List, [], ◌∷◌, ◌++◌, length, Option, Some, None, refl, sym, ap, subst, ◌∙◌, arith, length-append}
+use Rattle.std.specs.List.{slice_get, AllByRecursion}
 use Rattle.std.specs.Option.{option_and_then}
 use Rattle.base_core.specs.declared.ids.TableId.{TableId}
 use Rattle.base_core.specs.declared.value.Value.{Value}
@@ -9,8 +9,8 @@ use Rattle.schema_core.specs.declared.table.ColumnSpec.{ColumnSpec}
 use Rattle.schema_core.specs.Catalog.{Catalog, kind_of, spec_of}
 use Rattle.expr_typing.specs.Kinds.{Scope}
 use Rattle.expr_typing.specs.Plain.{is_of_kind}
-use Rattle.expr_eval.specs.Eval.{Row, Place, inside, item_or_null}
-use Rattle.normal_laws.specs.Places.{StandsAt, FitsTable, BeginsAt, FitsPlace}
+use Rattle.expr_eval.specs.Eval.{Row, Place, inside, item_or_null, ungrouped}
+use Rattle.normal_laws.specs.Places.{StandsAt, FitsTable, BeginsAt, FitsPlace, FitsGroup}
 
 get_after : (row r : Row) (c : ℕ) → slice_get (row ++ r) (length row + c) ≡ slice_get r c
 get_after [] r c = ap (slice_get r) (omega arith)
@@ -39,10 +39,48 @@ enter_columns schema row r t (u ∷ scope) [] e f h s c column is = absurd (omeg
 enter_columns schema row r t (u ∷ scope) (x ∷ starts) e f h zero c column is = stands_more row r (x + c) (kind_of column.kind) (h zero c column is)
 enter_columns schema row r t (u ∷ scope) (x ∷ starts) e f h (suc s) c column is = enter_columns schema row r t scope starts (omega arith) f (λ k. h (suc k)) s c column is
 
-pub enter_fits : (schema : Catalog) (scope : Scope) (p : Place) (t : TableId) (r : Row) → FitsPlace schema scope p → FitsTable schema t r → FitsPlace schema (scope ++ t ∷ []) (inside p r)
+enter_fits : (schema : Catalog) (scope : Scope) (p : Place) (t : TableId) (r : Row) → FitsPlace schema scope p → FitsTable schema t r → FitsPlace schema (scope ++ t ∷ []) (inside p r)
 enter_fits schema scope p t r h f = record {
   begins = let e = h.begins in omega (arith, length-append {A = ℕ}, length-append {A = TableId});
   columns = enter_columns schema p.row r t scope p.starts h.begins f h.columns;
   rows = h.rows;
   no_group = h.no_group;
 }
+
+-- the place without its group, at a row
+abbrev pub member : Place → Row → Place
+member p row = record (ungrouped p) { row = row }
+
+-- the place fits without its group, and where aggregates may stand, so does each row of the group, where there is one
+pub record Fits (schema : Catalog) (scope : Scope) (allowed : Bool) (p : Place) : Type 0 where
+  pub one : FitsPlace schema scope (ungrouped p)
+  pub each : (rows : List Row) → allowed ≡ true → p.group ≡ Some rows → AllByRecursion (λ row. FitsPlace schema scope (member p row)) rows
+
+no_members : {A : Type 0} (group : Option (List Row)) (rows : List Row) → group ≡ None → group ≡ Some rows → A
+no_members None rows e is = absurd (cc)
+no_members (Some members) rows e is = absurd (cc)
+
+-- a place without a group
+pub alone : (schema : Catalog) (scope : Scope) (allowed : Bool) (p : Place) → FitsPlace schema scope p → Fits schema scope allowed p
+alone schema scope allowed p h = record {
+  one = record { begins = h.begins; columns = h.columns; rows = h.rows; no_group = refl };
+  each = λ rows may is. no_members p.group rows h.no_group is;
+}
+
+same_members : (group : Option (List Row)) (members rows : List Row) → group ≡ Some members → group ≡ Some rows → members ≡ rows
+same_members (Some all) members rows e is = cc
+same_members None members rows e is = absurd (cc)
+
+-- a place of a group
+pub in_group : (schema : Catalog) (scope : Scope) (p : Place) (members : List Row) → FitsGroup schema scope p members → Fits schema scope true p
+in_group schema scope p members h = record {
+  one = h.one;
+  each = λ rows may is. subst (AllByRecursion (λ row. FitsPlace schema scope (member p row))) (same_members p.group members rows h.group is) h.each;
+}
+
+not_allowed : {A : Type 0} → false ≡ true → A
+not_allowed e = absurd (cc)
+
+-- in an `exists` no aggregate may stand
+pub enter : (schema : Catalog) (scope : Scope) (allowed : Bool) (p : Place) (t : TableId) (r : Row) → Fits schema scope allowed p → FitsTable schema t r → Fits schema (scope ++ t ∷ []) false (inside p r)
+enter schema scope allowed p t r h f = record { one = enter_fits schema scope (ungrouped p) t r h.one f; each = λ rows may is. not_allowed may }

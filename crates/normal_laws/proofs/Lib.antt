@@ -1,3 +1,4 @@
+mod Apart
 mod Caseless
 mod Equations
 mod Inside

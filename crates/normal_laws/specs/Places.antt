@@ -1,5 +1,5 @@
 -- Rows of values that are NULL or of their columns' kinds.
-use Rattle.std.specs.Prelude.{◌≡◌, ℕ, ◌+◌, ◌<◌, IsTrue, length, slice_get, Option, Some, None}
+use Rattle.std.specs.Prelude.{◌≡◌, ℕ, ◌+◌, ◌<◌, IsTrue, List, length, slice_get, Option, Some, None}
 use Rattle.std.specs.List.{AllByRecursion}
 use Rattle.base_core.specs.declared.ids.TableId.{TableId}
 use Rattle.base_core.specs.declared.value.Kind.{Kind}
@@ -7,7 +7,7 @@ use Rattle.schema_core.specs.declared.table.ColumnSpec.{ColumnSpec}
 use Rattle.schema_core.specs.Catalog.{Catalog, kind_of, spec_of}
 use Rattle.expr_typing.specs.Kinds.{Scope, column_in}
 use Rattle.expr_typing.specs.Plain.{is_of_kind}
-use Rattle.expr_eval.specs.Eval.{Row, Place, item_or_null, rows_in}
+use Rattle.expr_eval.specs.Eval.{Row, Place, item_or_null, rows_in, ungrouped}
 
 -- a value stands at this place of the row, NULL or of the kind
 abbrev pub StandsAt : Row → ℕ → Kind → Type 0
@@ -27,3 +27,9 @@ pub record FitsPlace (schema : Catalog) (scope : Scope) (p : Place) : Type 0 whe
   pub columns : (s c : ℕ) (column : ColumnSpec) → column_in schema scope s (record { 0 = c }) ≡ Some column → BeginsAt p.row (slice_get p.starts s) c (kind_of column.kind)
   pub rows : (table : TableId) → AllByRecursion (FitsTable schema table) (rows_in p.tables table.0)
   pub no_group : p.group ≡ None
+
+-- a place at which a row stands for the rows of a group: the same place without the group fits, with that row and with each row of the group
+pub record FitsGroup (schema : Catalog) (scope : Scope) (p : Place) (members : List Row) : Type 0 where
+  pub group : p.group ≡ Some members
+  pub one : FitsPlace schema scope (ungrouped p)
+  pub each : AllByRecursion (λ row. FitsPlace schema scope (record (ungrouped p) { row = row })) members

@@ -1,12 +1,13 @@
 //! Laws of the normal form.
 #![tactic(auto)]
 
-ghost use Rattle.std.specs.Prelude.{◌≡◌, IsTrue, is_ok};
+ghost use Rattle.std.specs.Prelude.{◌≡◌, true, IsTrue, List, is_ok};
 ghost use Rattle.expr_types.specs.Normal.{normal};
 ghost use Rattle.expr_typing.specs.Kinds.{judged};
 ghost use Rattle.expr_typing.specs.Plain.{fits};
-ghost use Rattle.expr_eval.specs.Eval.{Place, evaluated};
-ghost use Rattle.normal_laws.specs.Places.{FitsPlace};
+ghost use Rattle.expr_eval.specs.Eval.{Place, Row, evaluated};
+ghost use Rattle.normal_laws.specs.Aggregates.{aggregates_apart};
+ghost use Rattle.normal_laws.specs.Places.{FitsPlace, FitsGroup};
 
 use base_core::TableId;
 use expr_types::Expr;
@@ -19,4 +20,13 @@ pub fn same_in_every_row(schema: &Schema, scope: &[TableId], e: &Expr)
     requires fitting { IsTrue (fits schema.now e.now scope.now) }
     requires typed { IsTrue (is_ok (judged schema.now e.now scope.now)) }
     ensures { (p : Place) → FitsPlace schema.now scope.now p → evaluated (normal e.now) p ≡ evaluated e.now p }
+{}
+
+/// The same of a group, for an expression in which no aggregate stands inside an `exists`. It does nothing when it runs.
+#[tactic(auto, using(crate::proofs::Meaning::in_every_group))]
+pub fn same_in_every_group(schema: &Schema, scope: &[TableId], e: &Expr)
+    requires fitting { IsTrue (fits schema.now e.now scope.now) }
+    requires typed { IsTrue (is_ok (judged schema.now e.now scope.now)) }
+    requires apart { IsTrue (aggregates_apart e.now true) }
+    ensures { (p : Place) (members : List Row) → FitsGroup schema.now scope.now p members → evaluated (normal e.now) p ≡ evaluated e.now p }
 {}
