@@ -1,0 +1,3 @@
+mod Insertion
+mod OneList
+pub mod Ranks
