@@ -15,7 +15,7 @@ use Rattle.expr_types.specs.Level.{operands, scope_below}
 use Rattle.expr_typing.specs.Kinds.{Scope, Judged, judged, judged_level}
 use Rattle.expr_typing.specs.Plain.{fits, fits_level}
 use Rattle.expr_eval.specs.Eval.{Meaning, evaluated, meaning}
-use Rattle.normal_laws.specs.Aggregates.{aggregates_apart, may_be}
+use Rattle.normal_laws.specs.Apart.{stands_apart, may_be}
 use Rattle.expr_types.proofs.Folds.{fold-Column, fold-Lit, fold-Compare, fold-IsNull, fold-And, fold-Or, fold-Not, fold-Arith, fold-Neg, fold-Concat, fold-Like, fold-Ilike, fold-InList, fold-Between, fold-Distinct, fold-Call, fold-CountAll, fold-Exists}
 
 abbrev enter : Scope → Origin → Scope
@@ -24,8 +24,8 @@ enter scope origin = scope ++ origin.table ∷ []
 abbrev fits_step : Catalog → Expr-F (Scope → Bool) → Scope → Bool
 fits_step schema level scope = fits_level schema scope level && list_all (λ holds. holds (scope_below enter scope level)) (operands level)
 
-abbrev pub apart_step : Expr-F (Bool → Bool) → Bool → Bool
-apart_step level allowed = may_be allowed level && list_all (λ holds. holds (scope_below (λ _ origin. false) allowed level)) (operands level)
+abbrev pub apart_step : ℕ → Expr-F (Bool → Bool) → Bool → Bool
+apart_step outer level free = may_be outer free level && list_all (λ holds. holds (scope_below (λ _ origin. false) free level)) (operands level)
 
 pub evaluated-Column : (s : ℕ) (c : ColumnNo) → evaluated (expr.Column s c) ≡ meaning (Expr-F.Column s c)
 unfolding evaluated
@@ -38,6 +38,10 @@ judged-Column schema scope s c = ap (λ (j : Scope → Judged). j scope) (fold-C
 pub fits-Column : (schema : Catalog) (scope : Scope) (s : ℕ) (c : ColumnNo) → fits schema (expr.Column s c) scope ≡ fits_step schema (Expr-F.Column s c) scope
 unfolding fits
 fits-Column schema scope s c = ap (λ (f : Scope → Bool). f scope) (fold-Column (Scope → Bool) (fits_step schema) s c)
+
+pub apart-Column : (outer : ℕ) (free : Bool) (s : ℕ) (c : ColumnNo) → stands_apart outer (expr.Column s c) free ≡ apart_step outer (Expr-F.Column s c) free
+unfolding stands_apart
+apart-Column outer free s c = ap (λ (a : Bool → Bool). a free) (fold-Column (Bool → Bool) (apart_step outer) s c)
 
 pub evaluated-Lit : (v : Value) → evaluated (expr.Lit v) ≡ meaning (Expr-F.Lit v)
 unfolding evaluated
@@ -63,9 +67,9 @@ pub fits-Compare : (schema : Catalog) (scope : Scope) (op : CompareOp) (a : Expr
 unfolding fits
 fits-Compare schema scope op a b = ap (λ (f : Scope → Bool). f scope) (fold-Compare (Scope → Bool) (fits_step schema) op a b)
 
-pub apart-Compare : (allowed : Bool) (op : CompareOp) (a : Expr) (b : Expr) → aggregates_apart (expr.Compare op a b) allowed ≡ apart_step (Expr-F.Compare op (aggregates_apart a) (aggregates_apart b)) allowed
-unfolding aggregates_apart
-apart-Compare allowed op a b = ap (λ (a : Bool → Bool). a allowed) (fold-Compare (Bool → Bool) apart_step op a b)
+pub apart-Compare : (outer : ℕ) (free : Bool) (op : CompareOp) (a : Expr) (b : Expr) → stands_apart outer (expr.Compare op a b) free ≡ apart_step outer (Expr-F.Compare op (stands_apart outer a) (stands_apart outer b)) free
+unfolding stands_apart
+apart-Compare outer free op a b = ap (λ (a : Bool → Bool). a free) (fold-Compare (Bool → Bool) (apart_step outer) op a b)
 
 pub evaluated-IsNull : (g : Bool) (a : Expr) → evaluated (expr.IsNull g a) ≡ meaning (Expr-F.IsNull g (evaluated a))
 unfolding evaluated
@@ -79,9 +83,9 @@ pub fits-IsNull : (schema : Catalog) (scope : Scope) (g : Bool) (a : Expr) → f
 unfolding fits
 fits-IsNull schema scope g a = ap (λ (f : Scope → Bool). f scope) (fold-IsNull (Scope → Bool) (fits_step schema) g a)
 
-pub apart-IsNull : (allowed : Bool) (g : Bool) (a : Expr) → aggregates_apart (expr.IsNull g a) allowed ≡ apart_step (Expr-F.IsNull g (aggregates_apart a)) allowed
-unfolding aggregates_apart
-apart-IsNull allowed g a = ap (λ (a : Bool → Bool). a allowed) (fold-IsNull (Bool → Bool) apart_step g a)
+pub apart-IsNull : (outer : ℕ) (free : Bool) (g : Bool) (a : Expr) → stands_apart outer (expr.IsNull g a) free ≡ apart_step outer (Expr-F.IsNull g (stands_apart outer a)) free
+unfolding stands_apart
+apart-IsNull outer free g a = ap (λ (a : Bool → Bool). a free) (fold-IsNull (Bool → Bool) (apart_step outer) g a)
 
 pub evaluated-And : (es : List Expr) → evaluated (expr.And es) ≡ meaning (Expr-F.And (map evaluated es))
 unfolding evaluated
@@ -95,9 +99,9 @@ pub fits-And : (schema : Catalog) (scope : Scope) (es : List Expr) → fits sche
 unfolding fits
 fits-And schema scope es = ap (λ (f : Scope → Bool). f scope) (fold-And (Scope → Bool) (fits_step schema) es)
 
-pub apart-And : (allowed : Bool) (es : List Expr) → aggregates_apart (expr.And es) allowed ≡ apart_step (Expr-F.And (map aggregates_apart es)) allowed
-unfolding aggregates_apart
-apart-And allowed es = ap (λ (a : Bool → Bool). a allowed) (fold-And (Bool → Bool) apart_step es)
+pub apart-And : (outer : ℕ) (free : Bool) (es : List Expr) → stands_apart outer (expr.And es) free ≡ apart_step outer (Expr-F.And (map (stands_apart outer) es)) free
+unfolding stands_apart
+apart-And outer free es = ap (λ (a : Bool → Bool). a free) (fold-And (Bool → Bool) (apart_step outer) es)
 
 pub evaluated-Or : (es : List Expr) → evaluated (expr.Or es) ≡ meaning (Expr-F.Or (map evaluated es))
 unfolding evaluated
@@ -111,9 +115,9 @@ pub fits-Or : (schema : Catalog) (scope : Scope) (es : List Expr) → fits schem
 unfolding fits
 fits-Or schema scope es = ap (λ (f : Scope → Bool). f scope) (fold-Or (Scope → Bool) (fits_step schema) es)
 
-pub apart-Or : (allowed : Bool) (es : List Expr) → aggregates_apart (expr.Or es) allowed ≡ apart_step (Expr-F.Or (map aggregates_apart es)) allowed
-unfolding aggregates_apart
-apart-Or allowed es = ap (λ (a : Bool → Bool). a allowed) (fold-Or (Bool → Bool) apart_step es)
+pub apart-Or : (outer : ℕ) (free : Bool) (es : List Expr) → stands_apart outer (expr.Or es) free ≡ apart_step outer (Expr-F.Or (map (stands_apart outer) es)) free
+unfolding stands_apart
+apart-Or outer free es = ap (λ (a : Bool → Bool). a free) (fold-Or (Bool → Bool) (apart_step outer) es)
 
 pub evaluated-Not : (a : Expr) → evaluated (expr.Not a) ≡ meaning (Expr-F.Not (evaluated a))
 unfolding evaluated
@@ -127,9 +131,9 @@ pub fits-Not : (schema : Catalog) (scope : Scope) (a : Expr) → fits schema (ex
 unfolding fits
 fits-Not schema scope a = ap (λ (f : Scope → Bool). f scope) (fold-Not (Scope → Bool) (fits_step schema) a)
 
-pub apart-Not : (allowed : Bool) (a : Expr) → aggregates_apart (expr.Not a) allowed ≡ apart_step (Expr-F.Not (aggregates_apart a)) allowed
-unfolding aggregates_apart
-apart-Not allowed a = ap (λ (a : Bool → Bool). a allowed) (fold-Not (Bool → Bool) apart_step a)
+pub apart-Not : (outer : ℕ) (free : Bool) (a : Expr) → stands_apart outer (expr.Not a) free ≡ apart_step outer (Expr-F.Not (stands_apart outer a)) free
+unfolding stands_apart
+apart-Not outer free a = ap (λ (a : Bool → Bool). a free) (fold-Not (Bool → Bool) (apart_step outer) a)
 
 pub evaluated-Arith : (op : ArithOp) (a : Expr) (b : Expr) → evaluated (expr.Arith op a b) ≡ meaning (Expr-F.Arith op (evaluated a) (evaluated b))
 unfolding evaluated
@@ -143,9 +147,9 @@ pub fits-Arith : (schema : Catalog) (scope : Scope) (op : ArithOp) (a : Expr) (b
 unfolding fits
 fits-Arith schema scope op a b = ap (λ (f : Scope → Bool). f scope) (fold-Arith (Scope → Bool) (fits_step schema) op a b)
 
-pub apart-Arith : (allowed : Bool) (op : ArithOp) (a : Expr) (b : Expr) → aggregates_apart (expr.Arith op a b) allowed ≡ apart_step (Expr-F.Arith op (aggregates_apart a) (aggregates_apart b)) allowed
-unfolding aggregates_apart
-apart-Arith allowed op a b = ap (λ (a : Bool → Bool). a allowed) (fold-Arith (Bool → Bool) apart_step op a b)
+pub apart-Arith : (outer : ℕ) (free : Bool) (op : ArithOp) (a : Expr) (b : Expr) → stands_apart outer (expr.Arith op a b) free ≡ apart_step outer (Expr-F.Arith op (stands_apart outer a) (stands_apart outer b)) free
+unfolding stands_apart
+apart-Arith outer free op a b = ap (λ (a : Bool → Bool). a free) (fold-Arith (Bool → Bool) (apart_step outer) op a b)
 
 pub evaluated-Neg : (a : Expr) → evaluated (expr.Neg a) ≡ meaning (Expr-F.Neg (evaluated a))
 unfolding evaluated
@@ -159,9 +163,9 @@ pub fits-Neg : (schema : Catalog) (scope : Scope) (a : Expr) → fits schema (ex
 unfolding fits
 fits-Neg schema scope a = ap (λ (f : Scope → Bool). f scope) (fold-Neg (Scope → Bool) (fits_step schema) a)
 
-pub apart-Neg : (allowed : Bool) (a : Expr) → aggregates_apart (expr.Neg a) allowed ≡ apart_step (Expr-F.Neg (aggregates_apart a)) allowed
-unfolding aggregates_apart
-apart-Neg allowed a = ap (λ (a : Bool → Bool). a allowed) (fold-Neg (Bool → Bool) apart_step a)
+pub apart-Neg : (outer : ℕ) (free : Bool) (a : Expr) → stands_apart outer (expr.Neg a) free ≡ apart_step outer (Expr-F.Neg (stands_apart outer a)) free
+unfolding stands_apart
+apart-Neg outer free a = ap (λ (a : Bool → Bool). a free) (fold-Neg (Bool → Bool) (apart_step outer) a)
 
 pub evaluated-Concat : (a : Expr) (b : Expr) → evaluated (expr.Concat a b) ≡ meaning (Expr-F.Concat (evaluated a) (evaluated b))
 unfolding evaluated
@@ -175,9 +179,9 @@ pub fits-Concat : (schema : Catalog) (scope : Scope) (a : Expr) (b : Expr) → f
 unfolding fits
 fits-Concat schema scope a b = ap (λ (f : Scope → Bool). f scope) (fold-Concat (Scope → Bool) (fits_step schema) a b)
 
-pub apart-Concat : (allowed : Bool) (a : Expr) (b : Expr) → aggregates_apart (expr.Concat a b) allowed ≡ apart_step (Expr-F.Concat (aggregates_apart a) (aggregates_apart b)) allowed
-unfolding aggregates_apart
-apart-Concat allowed a b = ap (λ (a : Bool → Bool). a allowed) (fold-Concat (Bool → Bool) apart_step a b)
+pub apart-Concat : (outer : ℕ) (free : Bool) (a : Expr) (b : Expr) → stands_apart outer (expr.Concat a b) free ≡ apart_step outer (Expr-F.Concat (stands_apart outer a) (stands_apart outer b)) free
+unfolding stands_apart
+apart-Concat outer free a b = ap (λ (a : Bool → Bool). a free) (fold-Concat (Bool → Bool) (apart_step outer) a b)
 
 pub evaluated-Like : (g : Bool) (a : Expr) (b : Expr) → evaluated (expr.Like g a b) ≡ meaning (Expr-F.Like g (evaluated a) (evaluated b))
 unfolding evaluated
@@ -191,9 +195,9 @@ pub fits-Like : (schema : Catalog) (scope : Scope) (g : Bool) (a : Expr) (b : Ex
 unfolding fits
 fits-Like schema scope g a b = ap (λ (f : Scope → Bool). f scope) (fold-Like (Scope → Bool) (fits_step schema) g a b)
 
-pub apart-Like : (allowed : Bool) (g : Bool) (a : Expr) (b : Expr) → aggregates_apart (expr.Like g a b) allowed ≡ apart_step (Expr-F.Like g (aggregates_apart a) (aggregates_apart b)) allowed
-unfolding aggregates_apart
-apart-Like allowed g a b = ap (λ (a : Bool → Bool). a allowed) (fold-Like (Bool → Bool) apart_step g a b)
+pub apart-Like : (outer : ℕ) (free : Bool) (g : Bool) (a : Expr) (b : Expr) → stands_apart outer (expr.Like g a b) free ≡ apart_step outer (Expr-F.Like g (stands_apart outer a) (stands_apart outer b)) free
+unfolding stands_apart
+apart-Like outer free g a b = ap (λ (a : Bool → Bool). a free) (fold-Like (Bool → Bool) (apart_step outer) g a b)
 
 pub evaluated-Ilike : (g : Bool) (a : Expr) (b : Expr) → evaluated (expr.Ilike g a b) ≡ meaning (Expr-F.Ilike g (evaluated a) (evaluated b))
 unfolding evaluated
@@ -207,9 +211,9 @@ pub fits-Ilike : (schema : Catalog) (scope : Scope) (g : Bool) (a : Expr) (b : E
 unfolding fits
 fits-Ilike schema scope g a b = ap (λ (f : Scope → Bool). f scope) (fold-Ilike (Scope → Bool) (fits_step schema) g a b)
 
-pub apart-Ilike : (allowed : Bool) (g : Bool) (a : Expr) (b : Expr) → aggregates_apart (expr.Ilike g a b) allowed ≡ apart_step (Expr-F.Ilike g (aggregates_apart a) (aggregates_apart b)) allowed
-unfolding aggregates_apart
-apart-Ilike allowed g a b = ap (λ (a : Bool → Bool). a allowed) (fold-Ilike (Bool → Bool) apart_step g a b)
+pub apart-Ilike : (outer : ℕ) (free : Bool) (g : Bool) (a : Expr) (b : Expr) → stands_apart outer (expr.Ilike g a b) free ≡ apart_step outer (Expr-F.Ilike g (stands_apart outer a) (stands_apart outer b)) free
+unfolding stands_apart
+apart-Ilike outer free g a b = ap (λ (a : Bool → Bool). a free) (fold-Ilike (Bool → Bool) (apart_step outer) g a b)
 
 pub evaluated-InList : (g : Bool) (a : Expr) (vs : List Value) → evaluated (expr.InList g a vs) ≡ meaning (Expr-F.InList g (evaluated a) vs)
 unfolding evaluated
@@ -223,9 +227,9 @@ pub fits-InList : (schema : Catalog) (scope : Scope) (g : Bool) (a : Expr) (vs :
 unfolding fits
 fits-InList schema scope g a vs = ap (λ (f : Scope → Bool). f scope) (fold-InList (Scope → Bool) (fits_step schema) g a vs)
 
-pub apart-InList : (allowed : Bool) (g : Bool) (a : Expr) (vs : List Value) → aggregates_apart (expr.InList g a vs) allowed ≡ apart_step (Expr-F.InList g (aggregates_apart a) vs) allowed
-unfolding aggregates_apart
-apart-InList allowed g a vs = ap (λ (a : Bool → Bool). a allowed) (fold-InList (Bool → Bool) apart_step g a vs)
+pub apart-InList : (outer : ℕ) (free : Bool) (g : Bool) (a : Expr) (vs : List Value) → stands_apart outer (expr.InList g a vs) free ≡ apart_step outer (Expr-F.InList g (stands_apart outer a) vs) free
+unfolding stands_apart
+apart-InList outer free g a vs = ap (λ (a : Bool → Bool). a free) (fold-InList (Bool → Bool) (apart_step outer) g a vs)
 
 pub evaluated-Between : (g : Bool) (a : Expr) (low : Expr) (high : Expr) → evaluated (expr.Between g a low high) ≡ meaning (Expr-F.Between g (evaluated a) (evaluated low) (evaluated high))
 unfolding evaluated
@@ -239,9 +243,9 @@ pub fits-Between : (schema : Catalog) (scope : Scope) (g : Bool) (a : Expr) (low
 unfolding fits
 fits-Between schema scope g a low high = ap (λ (f : Scope → Bool). f scope) (fold-Between (Scope → Bool) (fits_step schema) g a low high)
 
-pub apart-Between : (allowed : Bool) (g : Bool) (a : Expr) (low : Expr) (high : Expr) → aggregates_apart (expr.Between g a low high) allowed ≡ apart_step (Expr-F.Between g (aggregates_apart a) (aggregates_apart low) (aggregates_apart high)) allowed
-unfolding aggregates_apart
-apart-Between allowed g a low high = ap (λ (a : Bool → Bool). a allowed) (fold-Between (Bool → Bool) apart_step g a low high)
+pub apart-Between : (outer : ℕ) (free : Bool) (g : Bool) (a : Expr) (low : Expr) (high : Expr) → stands_apart outer (expr.Between g a low high) free ≡ apart_step outer (Expr-F.Between g (stands_apart outer a) (stands_apart outer low) (stands_apart outer high)) free
+unfolding stands_apart
+apart-Between outer free g a low high = ap (λ (a : Bool → Bool). a free) (fold-Between (Bool → Bool) (apart_step outer) g a low high)
 
 pub evaluated-Distinct : (g : Bool) (a : Expr) (b : Expr) → evaluated (expr.Distinct g a b) ≡ meaning (Expr-F.Distinct g (evaluated a) (evaluated b))
 unfolding evaluated
@@ -255,9 +259,9 @@ pub fits-Distinct : (schema : Catalog) (scope : Scope) (g : Bool) (a : Expr) (b 
 unfolding fits
 fits-Distinct schema scope g a b = ap (λ (f : Scope → Bool). f scope) (fold-Distinct (Scope → Bool) (fits_step schema) g a b)
 
-pub apart-Distinct : (allowed : Bool) (g : Bool) (a : Expr) (b : Expr) → aggregates_apart (expr.Distinct g a b) allowed ≡ apart_step (Expr-F.Distinct g (aggregates_apart a) (aggregates_apart b)) allowed
-unfolding aggregates_apart
-apart-Distinct allowed g a b = ap (λ (a : Bool → Bool). a allowed) (fold-Distinct (Bool → Bool) apart_step g a b)
+pub apart-Distinct : (outer : ℕ) (free : Bool) (g : Bool) (a : Expr) (b : Expr) → stands_apart outer (expr.Distinct g a b) free ≡ apart_step outer (Expr-F.Distinct g (stands_apart outer a) (stands_apart outer b)) free
+unfolding stands_apart
+apart-Distinct outer free g a b = ap (λ (a : Bool → Bool). a free) (fold-Distinct (Bool → Bool) (apart_step outer) g a b)
 
 pub evaluated-Call : (f : Func) (es : List Expr) → evaluated (expr.Call f es) ≡ meaning (Expr-F.Call f (map evaluated es))
 unfolding evaluated
@@ -271,9 +275,9 @@ pub fits-Call : (schema : Catalog) (scope : Scope) (f : Func) (es : List Expr) �
 unfolding fits
 fits-Call schema scope f es = ap (λ (f : Scope → Bool). f scope) (fold-Call (Scope → Bool) (fits_step schema) f es)
 
-pub apart-Call : (allowed : Bool) (f : Func) (es : List Expr) → aggregates_apart (expr.Call f es) allowed ≡ apart_step (Expr-F.Call f (map aggregates_apart es)) allowed
-unfolding aggregates_apart
-apart-Call allowed f es = ap (λ (a : Bool → Bool). a allowed) (fold-Call (Bool → Bool) apart_step f es)
+pub apart-Call : (outer : ℕ) (free : Bool) (f : Func) (es : List Expr) → stands_apart outer (expr.Call f es) free ≡ apart_step outer (Expr-F.Call f (map (stands_apart outer) es)) free
+unfolding stands_apart
+apart-Call outer free f es = ap (λ (a : Bool → Bool). a free) (fold-Call (Bool → Bool) (apart_step outer) f es)
 
 pub evaluated-CountAll : evaluated expr.CountAll ≡ meaning Expr-F.CountAll
 unfolding evaluated
@@ -299,6 +303,6 @@ pub fits-Exists : (schema : Catalog) (scope : Scope) (g : Bool) (o : Origin) (a 
 unfolding fits
 fits-Exists schema scope g o a = ap (λ (f : Scope → Bool). f scope) (fold-Exists (Scope → Bool) (fits_step schema) g o a)
 
-pub apart-Exists : (allowed : Bool) (g : Bool) (o : Origin) (a : Expr) → aggregates_apart (expr.Exists g o a) allowed ≡ apart_step (Expr-F.Exists g o (aggregates_apart a)) allowed
-unfolding aggregates_apart
-apart-Exists allowed g o a = ap (λ (a : Bool → Bool). a allowed) (fold-Exists (Bool → Bool) apart_step g o a)
+pub apart-Exists : (outer : ℕ) (free : Bool) (g : Bool) (o : Origin) (a : Expr) → stands_apart outer (expr.Exists g o a) free ≡ apart_step outer (Expr-F.Exists g o (stands_apart outer a)) free
+unfolding stands_apart
+apart-Exists outer free g o a = ap (λ (a : Bool → Bool). a free) (fold-Exists (Bool → Bool) (apart_step outer) g o a)

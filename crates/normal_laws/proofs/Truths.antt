@@ -21,11 +21,11 @@ use Rattle.expr_typing.specs.Plain.{fits, is_of_kind}
 use Rattle.expr_eval.specs.Checked.{Checked, ◌>>=◌}
 use Rattle.expr_eval.specs.Truth.{value_of}
 use Rattle.expr_eval.specs.Eval.{Place, Row, evaluated, truth, all_from, along_from, ungrouped, gathered, over, known, aggregated, least_from, greatest_from, below, first_known, is_null, column, after}
-use Rattle.normal_laws.specs.Aggregates.{aggregates_apart, may_be}
-use Rattle.normal_laws.specs.Places.{BeginsAt, FitsPlace}
-use Rattle.normal_laws.proofs.Apart.{Apart, Allowed, apart_each, aggregate_allowed}
+use Rattle.normal_laws.specs.Apart.{stands_apart, may_be}
+use Rattle.normal_laws.specs.Places.{FitsPlace}
+use Rattle.normal_laws.proofs.Apart.{Apart, Free, apart_each, aggregate_free}
 use Rattle.normal_laws.proofs.Equations.{evaluated-Column, evaluated-Lit, evaluated-Compare, evaluated-IsNull, evaluated-And, evaluated-Or, evaluated-Not, evaluated-Like, evaluated-Ilike, evaluated-InList, evaluated-Between, evaluated-Distinct, evaluated-Call, evaluated-Exists, judged-Column, judged-Lit, judged-Arith, judged-Neg, judged-Concat, judged-Call, judged-CountAll, fits-Column, fits-Call, apart-Call}
-use Rattle.normal_laws.proofs.Inside.{Fits, member, alone}
+use Rattle.normal_laws.proofs.Inside.{Fits, ReadsAt, member, alone, column_reads}
 use Rattle.normal_laws.proofs.Negations.{Truthful, truth_value}
 use Rattle.normal_laws.proofs.Typed.{all_of_each, gives_ok, alike_each, all_fits, all_judged}
 
@@ -54,16 +54,16 @@ literal_truth (value.Int n) e = absurd (cc)
 literal_truth (value.Text t) e = absurd (cc)
 literal_truth (value.Bytes b) e = absurd (cc)
 
-begins_truth : (row : Row) (start : Option ℕ) (c : ℕ) (kind : Kind) → BeginsAt row start c kind → kind ≡ kinds.Boolean → Truthful (after row c start)
-begins_truth row (Some start) c kind h e = of_boolean (after row c (Some start)) (subst (λ k. is_of_kind k (after row c (Some start)) ≡ true) e h.1)
-begins_truth row None c kind h e = absurd h
+reads_truth : (row : Row) (start : Option ℕ) (c : ℕ) (kind : Kind) → ReadsAt row start c kind → kind ≡ kinds.Boolean → Truthful (after row c start)
+reads_truth row start c kind h e = of_boolean (after row c start) (subst (λ k. is_of_kind k (after row c start) ≡ true) e h)
 
-column_truth : (schema : Catalog) (scope : Scope) (p : Place) → FitsPlace schema scope p → (s : ℕ) (c : ColumnNo) (o : Option ColumnSpec) → column_in schema scope s c ≡ o → is_some o ≡ true → kind_where o ≡ kinds.Boolean → Truthful (column p s c.0)
-column_truth schema scope p h s c (Some spec) is here e = begins_truth p.row (slice_get p.starts s) c.0 (kind_of spec.kind) (h.columns s c.0 spec is) e
-column_truth schema scope p h s c None is here e = absurd (cc)
+column_truth : (schema : Catalog) (scope : Scope) (outer : ℕ) (free : Bool) (p : Place) → Fits schema scope outer free p → (s : ℕ) (c : ColumnNo) → Apart p.group outer free (expr.Column s c) → (o : Option ColumnSpec) → column_in schema scope s c ≡ o →
+    is_some o ≡ true → kind_where o ≡ kinds.Boolean → Truthful (column p s c.0)
+column_truth schema scope outer free p h s c a (Some spec) is here e = reads_truth p.row (slice_get p.starts s) c.0 (kind_of spec.kind) (column_reads schema scope outer free p h s c spec a is) e
+column_truth schema scope outer free p h s c a None is here e = absurd (cc)
 
 abbrev pub Claim : Expr → Type 0
-Claim e = (schema : Catalog) (scope : Scope) (allowed : Bool) (p : Place) → Fits schema scope allowed p → fits schema e scope ≡ true → Apart p.group allowed e → judged schema e scope ≡ Ok kinds.Boolean → (v : Value) → evaluated e p ≡ Ok v → Truthful v
+Claim e = (schema : Catalog) (scope : Scope) (outer : ℕ) (free : Bool) (p : Place) → Fits schema scope outer free p → fits schema e scope ≡ true → Apart p.group outer free e → judged schema e scope ≡ Ok kinds.Boolean → (v : Value) → evaluated e p ≡ Ok v → Truthful v
 
 abbrev answer : Value → Checked Value
 answer v = Ok v
@@ -99,24 +99,24 @@ pub bind_ok : {A B : Type 0} (r : Checked A) (f : A → Checked B) (y : B) → (
 bind_ok (Ok x) f y e = (x, refl, e)
 bind_ok (Err g) f y e = absurd (cc)
 
-all_from_truthful : (schema : Catalog) (scope : Scope) (allowed : Bool) (p : Place) → Fits schema scope allowed p → (es : List Known) → AllByRecursion (λ e. fits schema e scope ≡ true) (map (λ e. e.0) es) →
-    AllByRecursion (Apart p.group allowed) (map (λ e. e.0) es) → AllByRecursion (λ e. judged schema e scope ≡ Ok kinds.Boolean) (map (λ e. e.0) es) → (done vs : List Value) → AllTruthful done → all_from p done (map evaluated (map (λ e. e.0) es)) ≡ Ok vs → AllTruthful vs
-all_from_truthful schema scope allowed p h [] f a j done vs t e = subst AllTruthful (cc) t
-all_from_truthful schema scope allowed p h (k ∷ es) f a j done vs t e =
+all_from_truthful : (schema : Catalog) (scope : Scope) (outer : ℕ) (free : Bool) (p : Place) → Fits schema scope outer free p → (es : List Known) → AllByRecursion (λ e. fits schema e scope ≡ true) (map (λ e. e.0) es) →
+    AllByRecursion (Apart p.group outer free) (map (λ e. e.0) es) → AllByRecursion (λ e. judged schema e scope ≡ Ok kinds.Boolean) (map (λ e. e.0) es) → (done vs : List Value) → AllTruthful done → all_from p done (map evaluated (map (λ e. e.0) es)) ≡ Ok vs → AllTruthful vs
+all_from_truthful schema scope outer free p h [] f a j done vs t e = subst AllTruthful (cc) t
+all_from_truthful schema scope outer free p h (k ∷ es) f a j done vs t e =
     let one = bind_ok (evaluated k.0 p) (λ v. all_from p (done ++ v ∷ []) (map evaluated (map (λ (d : Known). d.0) es))) vs e in
-    all_from_truthful schema scope allowed p h es f.1 a.1 j.1 (done ++ one.0 ∷ []) vs (all_push done one.0 t (k.1 schema scope allowed p h f.0 a.0 j.0 one.0 one.1)) one.2
+    all_from_truthful schema scope outer free p h es f.1 a.1 j.1 (done ++ one.0 ∷ []) vs (all_push done one.0 t (k.1 schema scope outer free p h f.0 a.0 j.0 one.0 one.1)) one.2
 
 -- the values that an aggregate goes over, where there is a group
 abbrev IfTruthful : Option (List Value) → Type 0
 IfTruthful None = Unit {0}
 IfTruthful (Some vs) = AllTruthful vs
 
-along_truthful : (schema : Catalog) (scope : Scope) (allowed : Bool) (p : Place) (k : Known) → fits schema k.0 scope ≡ true → judged schema k.0 scope ≡ Ok kinds.Boolean →
+along_truthful : (schema : Catalog) (scope : Scope) (outer : ℕ) (free : Bool) (p : Place) (k : Known) → fits schema k.0 scope ≡ true → judged schema k.0 scope ≡ Ok kinds.Boolean →
     (rows : List Row) → AllByRecursion (λ row. FitsPlace schema scope (member p row)) rows → (done vs : List Value) → AllTruthful done → along_from (ungrouped p) (evaluated k.0) done rows ≡ Ok vs → AllTruthful vs
-along_truthful schema scope allowed p k f j [] each done vs t e = subst AllTruthful (cc) t
-along_truthful schema scope allowed p k f j (row ∷ rows) each done vs t e =
+along_truthful schema scope outer free p k f j [] each done vs t e = subst AllTruthful (cc) t
+along_truthful schema scope outer free p k f j (row ∷ rows) each done vs t e =
     let one = bind_ok (evaluated k.0 (member p row)) (λ v. along_from (ungrouped p) (evaluated k.0) (done ++ v ∷ []) rows) vs e in
-    along_truthful schema scope allowed p k f j rows each.1 (done ++ one.0 ∷ []) vs (all_push done one.0 t (k.1 schema scope allowed (member p row) (alone schema scope allowed (member p row) each.0) f tt j one.0 one.1)) one.2
+    along_truthful schema scope outer free p k f j rows each.1 (done ++ one.0 ∷ []) vs (all_push done one.0 t (k.1 schema scope 0 true (member p row) (alone schema scope true (member p row) each.0) f refl j one.0 one.1)) one.2
 
 known_by : (b : Bool) (v : Value) (vs : List Value) → Truthful v → AllTruthful vs → AllTruthful (cond b (v ∷ vs) vs)
 known_by true v vs hv h = (hv, h)
@@ -126,17 +126,17 @@ known_truthful : (vs : List Value) → AllTruthful vs → AllTruthful (known vs)
 known_truthful [] h = tt
 known_truthful (v ∷ vs) h = known_by (not (is_null v)) v (known vs) h.0 (known_truthful vs h.1)
 
-over_truthful : (schema : Catalog) (scope : Scope) (allowed : Bool) (p : Place) → Fits schema scope allowed p → (k : Known) → fits schema k.0 scope ≡ true → judged schema k.0 scope ≡ Ok kinds.Boolean →
-    (group : Option (List Row)) → p.group ≡ group → Allowed group allowed → (o : Option (List Value)) → over group p (evaluated k.0) ≡ Ok o → IfTruthful o
-over_truthful schema scope allowed p h k f j None is may o e = subst IfTruthful (option_is e) tt
-over_truthful schema scope allowed p h k f j (Some rows) is may o e =
+over_truthful : (schema : Catalog) (scope : Scope) (outer : ℕ) (free : Bool) (p : Place) → Fits schema scope outer free p → (k : Known) → fits schema k.0 scope ≡ true → judged schema k.0 scope ≡ Ok kinds.Boolean →
+    (group : Option (List Row)) → p.group ≡ group → Free group free → (o : Option (List Value)) → over group p (evaluated k.0) ≡ Ok o → IfTruthful o
+over_truthful schema scope outer free p h k f j None is may o e = subst IfTruthful (option_is e) tt
+over_truthful schema scope outer free p h k f j (Some rows) is may o e =
     let one = bind_ok (along_from (ungrouped p) (evaluated k.0) [] rows) (λ vs. Ok (Some (known vs))) o e in
-    subst IfTruthful (option_is one.2) (known_truthful one.0 (along_truthful schema scope allowed p k f j rows (h.each rows may is) [] one.0 tt one.1))
+    subst IfTruthful (option_is one.2) (known_truthful one.0 (along_truthful schema scope outer free p k f j rows (h.each rows may is) [] one.0 tt one.1))
 
-gathered_truthful : (schema : Catalog) (scope : Scope) (allowed : Bool) (p : Place) → Fits schema scope allowed p → Allowed p.group allowed → (es : List Known) → AllByRecursion (λ e. fits schema e scope ≡ true) (map (λ e. e.0) es) →
+gathered_truthful : (schema : Catalog) (scope : Scope) (outer : ℕ) (free : Bool) (p : Place) → Fits schema scope outer free p → Free p.group free → (es : List Known) → AllByRecursion (λ e. fits schema e scope ≡ true) (map (λ e. e.0) es) →
     AllByRecursion (λ e. judged schema e scope ≡ Ok kinds.Boolean) (map (λ e. e.0) es) → (o : Option (List Value)) → gathered (map evaluated (map (λ e. e.0) es)) p ≡ Ok o → IfTruthful o
-gathered_truthful schema scope allowed p h may [] f j o e = subst IfTruthful (option_is e) tt
-gathered_truthful schema scope allowed p h may (k ∷ es) f j o e = over_truthful schema scope allowed p h k f.0 j.0 p.group refl may o e
+gathered_truthful schema scope outer free p h may [] f j o e = subst IfTruthful (option_is e) tt
+gathered_truthful schema scope outer free p h may (k ∷ es) f j o e = over_truthful schema scope outer free p h k f.0 j.0 p.group refl may o e
 
 least_truthful : (vs : List Value) (best : Value) → Truthful best → AllTruthful vs → Truthful (least_from best vs)
 least_truthful [] best hb h = hb
@@ -173,48 +173,48 @@ not_boolean_integer e = absurd (cc)
 not_boolean_text : kinds.Boolean ≡ kinds.Text → ⊥
 not_boolean_text e = absurd (cc)
 
-called_truth : (f : Func) (schema : Catalog) (scope : Scope) (allowed : Bool) (p : Place) → Fits schema scope allowed p → (es : List Known) → AllByRecursion (λ e. fits schema e scope ≡ true) (map (λ e. e.0) es) →
-    Apart p.group allowed (expr.Call f (map (λ e. e.0) es)) → called f (in_scope scope (map (judged schema) (map (λ e. e.0) es))) ≡ Ok kinds.Boolean → (v : Value) → evaluated (expr.Call f (map (λ e. e.0) es)) p ≡ Ok v → Truthful v
-called_truth Count schema scope allowed p h es f a j v e = absurd (not_boolean_integer (gives_ok kinds.Integer _ kinds.Boolean j).0)
-called_truth Sum schema scope allowed p h es f a j v e = absurd (not_boolean_integer (no_boolean kinds.Integer (in_scope scope (map (judged schema) (map (λ (d : Known). d.0) es))) j))
-called_truth Lower schema scope allowed p h es f a j v e = absurd (not_boolean_text (no_boolean kinds.Text (in_scope scope (map (judged schema) (map (λ (d : Known). d.0) es))) j))
-called_truth Upper schema scope allowed p h es f a j v e = absurd (not_boolean_text (no_boolean kinds.Text (in_scope scope (map (judged schema) (map (λ (d : Known). d.0) es))) j))
-called_truth Length schema scope allowed p h es f a j v e = absurd (not_boolean_integer (gives_ok kinds.Integer _ kinds.Boolean j).0)
-called_truth Min schema scope allowed p h es f a j v e =
+called_truth : (f : Func) (schema : Catalog) (scope : Scope) (outer : ℕ) (free : Bool) (p : Place) → Fits schema scope outer free p → (es : List Known) → AllByRecursion (λ e. fits schema e scope ≡ true) (map (λ e. e.0) es) →
+    Apart p.group outer free (expr.Call f (map (λ e. e.0) es)) → called f (in_scope scope (map (judged schema) (map (λ e. e.0) es))) ≡ Ok kinds.Boolean → (v : Value) → evaluated (expr.Call f (map (λ e. e.0) es)) p ≡ Ok v → Truthful v
+called_truth Count schema scope outer free p h es f a j v e = absurd (not_boolean_integer (gives_ok kinds.Integer _ kinds.Boolean j).0)
+called_truth Sum schema scope outer free p h es f a j v e = absurd (not_boolean_integer (no_boolean kinds.Integer (in_scope scope (map (judged schema) (map (λ (d : Known). d.0) es))) j))
+called_truth Lower schema scope outer free p h es f a j v e = absurd (not_boolean_text (no_boolean kinds.Text (in_scope scope (map (judged schema) (map (λ (d : Known). d.0) es))) j))
+called_truth Upper schema scope outer free p h es f a j v e = absurd (not_boolean_text (no_boolean kinds.Text (in_scope scope (map (judged schema) (map (λ (d : Known). d.0) es))) j))
+called_truth Length schema scope outer free p h es f a j v e = absurd (not_boolean_integer (gives_ok kinds.Integer _ kinds.Boolean j).0)
+called_truth Min schema scope outer free p h es f a j v e =
     let es' = map (λ (d : Known). d.0) es in
     let one = bind_ok (gathered (map evaluated es') p) (aggregated Min) v (sym (ap (λ m. m p) (evaluated-Call Min es')) ∙ e) in
-    least_truth one.0 v (gathered_truthful schema scope allowed p h (aggregate_allowed p.group allowed Min es' refl a) es f (alike_list schema scope kinds.Boolean es' j) one.0 one.1) one.2
-called_truth Max schema scope allowed p h es f a j v e =
+    least_truth one.0 v (gathered_truthful schema scope outer free p h (aggregate_free p.group outer free Min es' refl a) es f (alike_list schema scope kinds.Boolean es' j) one.0 one.1) one.2
+called_truth Max schema scope outer free p h es f a j v e =
     let es' = map (λ (d : Known). d.0) es in
     let one = bind_ok (gathered (map evaluated es') p) (aggregated Max) v (sym (ap (λ m. m p) (evaluated-Call Max es')) ∙ e) in
-    greatest_truth one.0 v (gathered_truthful schema scope allowed p h (aggregate_allowed p.group allowed Max es' refl a) es f (alike_list schema scope kinds.Boolean es' j) one.0 one.1) one.2
-called_truth Coalesce schema scope allowed p h es f a j v e =
+    greatest_truth one.0 v (gathered_truthful schema scope outer free p h (aggregate_free p.group outer free Max es' refl a) es f (alike_list schema scope kinds.Boolean es' j) one.0 one.1) one.2
+called_truth Coalesce schema scope outer free p h es f a j v e =
     let es' = map (λ (d : Known). d.0) es in
     let one = bind_ok (all_from p [] (map evaluated es')) _ v (sym (ap (λ m. m p) (evaluated-Call Coalesce es')) ∙ e) in
-    let apart = apart_each p.group allowed allowed (expr.Call Coalesce es') (may_be allowed (Expr-F.Call Coalesce (map aggregates_apart es'))) es' (apart-Call allowed Coalesce es') a in
-    let all = all_from_truthful schema scope allowed p h es f apart (alike_list schema scope kinds.Boolean es' j) [] one.0 tt one.1 in
+    let apart = apart_each p.group outer free free (expr.Call Coalesce es') (may_be outer free (Expr-F.Call Coalesce (map (stands_apart outer) es'))) es' (apart-Call outer free Coalesce es') a in
+    let all = all_from_truthful schema scope outer free p h es f apart (alike_list schema scope kinds.Boolean es' j) [] one.0 tt one.1 in
     let same : first_known one.0 ≡ v = cc in
     subst Truthful same (first_truthful one.0 all)
 
 level : (y : Expr-F Known) → Claim (roll-Expr (map-Expr Known Expr (λ e. e.0) y))
-level (Expr-F.Column s c) = subst Claim (sym (expr.rolls-Column s c)) (λ schema scope allowed p h f a' j v' e. subst Truthful (value_is (sym (ap (λ m. m p) (evaluated-Column s c)) ∙ e)) (column_truth schema scope (ungrouped p) h.one s c _ refl (and_parts _ true (sym (fits-Column schema scope s c) ∙ f)).0 (kind_is (sym (judged-Column schema scope s c) ∙ j))))
-level (Expr-F.Lit v) = subst Claim (sym (expr.rolls-Lit v)) (λ schema scope allowed p h f a' j v' e. subst Truthful (value_is (sym (ap (λ m. m p) (evaluated-Lit v)) ∙ e)) (literal_truth v (kind_is (sym (judged-Lit schema scope v) ∙ j))))
-level (Expr-F.Compare op a b) = subst Claim (sym (expr.rolls-Compare op a.0 b.0)) (λ schema scope allowed p h f a' j v' e. truth_is _ _ v' (sym (ap (λ m. m p) (evaluated-Compare op a.0 b.0)) ∙ e))
-level (Expr-F.IsNull g a) = subst Claim (sym (expr.rolls-IsNull g a.0)) (λ schema scope allowed p h f a' j v' e. truth_is _ _ v' (sym (ap (λ m. m p) (evaluated-IsNull g a.0)) ∙ e))
-level (Expr-F.And es) = subst Claim (sym (expr.rolls-And (map (λ (e : Known). e.0) es))) (λ schema scope allowed p h f a' j v' e. truth_is _ _ v' (sym (ap (λ m. m p) (evaluated-And (map (λ (e : Known). e.0) es))) ∙ e))
-level (Expr-F.Or es) = subst Claim (sym (expr.rolls-Or (map (λ (e : Known). e.0) es))) (λ schema scope allowed p h f a' j v' e. truth_is _ _ v' (sym (ap (λ m. m p) (evaluated-Or (map (λ (e : Known). e.0) es))) ∙ e))
-level (Expr-F.Not a) = subst Claim (sym (expr.rolls-Not a.0)) (λ schema scope allowed p h f a' j v' e. truth_is _ _ v' (sym (ap (λ m. m p) (evaluated-Not a.0)) ∙ e))
-level (Expr-F.Arith op a b) = subst Claim (sym (expr.rolls-Arith op a.0 b.0)) (λ schema scope allowed p h f a' j v' e. absurd (not_boolean_integer (no_boolean kinds.Integer (judged schema a.0 scope ∷ judged schema b.0 scope ∷ []) (sym (judged-Arith schema scope op a.0 b.0) ∙ j))))
-level (Expr-F.Neg a) = subst Claim (sym (expr.rolls-Neg a.0)) (λ schema scope allowed p h f a' j v' e. absurd (not_boolean_integer (no_boolean kinds.Integer (judged schema a.0 scope ∷ []) (sym (judged-Neg schema scope a.0) ∙ j))))
-level (Expr-F.Concat a b) = subst Claim (sym (expr.rolls-Concat a.0 b.0)) (λ schema scope allowed p h f a' j v' e. absurd (not_boolean_text (no_boolean kinds.Text (judged schema a.0 scope ∷ judged schema b.0 scope ∷ []) (sym (judged-Concat schema scope a.0 b.0) ∙ j))))
-level (Expr-F.Like g a b) = subst Claim (sym (expr.rolls-Like g a.0 b.0)) (λ schema scope allowed p h f a' j v' e. truth_is _ _ v' (sym (ap (λ m. m p) (evaluated-Like g a.0 b.0)) ∙ e))
-level (Expr-F.Ilike g a b) = subst Claim (sym (expr.rolls-Ilike g a.0 b.0)) (λ schema scope allowed p h f a' j v' e. truth_is _ _ v' (sym (ap (λ m. m p) (evaluated-Ilike g a.0 b.0)) ∙ e))
-level (Expr-F.InList g a vs) = subst Claim (sym (expr.rolls-InList g a.0 vs)) (λ schema scope allowed p h f a' j v' e. truth_is _ _ v' (sym (ap (λ m. m p) (evaluated-InList g a.0 vs)) ∙ e))
-level (Expr-F.Between g a low high) = subst Claim (sym (expr.rolls-Between g a.0 low.0 high.0)) (λ schema scope allowed p h f a' j v' e. truth_within (evaluated a.0 p) _ _ v' (sym (ap (λ m. m p) (evaluated-Between g a.0 low.0 high.0)) ∙ e))
-level (Expr-F.Distinct g a b) = subst Claim (sym (expr.rolls-Distinct g a.0 b.0)) (λ schema scope allowed p h f a' j v' e. truth_is _ _ v' (sym (ap (λ m. m p) (evaluated-Distinct g a.0 b.0)) ∙ e))
-level (Expr-F.Call f' es) = subst Claim (sym (expr.rolls-Call f' (map (λ (e : Known). e.0) es))) (λ schema scope allowed p h f a' j v' e. called_truth f' schema scope allowed p h es (all_fits schema scope (map (λ (e : Known). e.0) es) (and_parts _ _ (sym (fits-Call schema scope f' (map (λ (e : Known). e.0) es)) ∙ f)).1) a' (sym (judged-Call schema scope f' (map (λ (e : Known). e.0) es)) ∙ j) v' e)
-level Expr-F.CountAll = subst Claim (sym expr.rolls-CountAll) (λ schema scope allowed p h f a' j v' e. absurd (not_boolean_integer (sym (kind_is (sym (judged-CountAll schema scope) ∙ j)))))
-level (Expr-F.Exists g o a) = subst Claim (sym (expr.rolls-Exists g o a.0)) (λ schema scope allowed p h f a' j v' e. truth_is _ _ v' (sym (ap (λ m. m p) (evaluated-Exists g o a.0)) ∙ e))
+level (Expr-F.Column s c) = subst Claim (sym (expr.rolls-Column s c)) (λ schema scope outer free p h f a' j v' e. subst Truthful (value_is (sym (ap (λ m. m p) (evaluated-Column s c)) ∙ e)) (column_truth schema scope outer free p h s c a' _ refl (and_parts _ true (sym (fits-Column schema scope s c) ∙ f)).0 (kind_is (sym (judged-Column schema scope s c) ∙ j))))
+level (Expr-F.Lit v) = subst Claim (sym (expr.rolls-Lit v)) (λ schema scope outer free p h f a' j v' e. subst Truthful (value_is (sym (ap (λ m. m p) (evaluated-Lit v)) ∙ e)) (literal_truth v (kind_is (sym (judged-Lit schema scope v) ∙ j))))
+level (Expr-F.Compare op a b) = subst Claim (sym (expr.rolls-Compare op a.0 b.0)) (λ schema scope outer free p h f a' j v' e. truth_is _ _ v' (sym (ap (λ m. m p) (evaluated-Compare op a.0 b.0)) ∙ e))
+level (Expr-F.IsNull g a) = subst Claim (sym (expr.rolls-IsNull g a.0)) (λ schema scope outer free p h f a' j v' e. truth_is _ _ v' (sym (ap (λ m. m p) (evaluated-IsNull g a.0)) ∙ e))
+level (Expr-F.And es) = subst Claim (sym (expr.rolls-And (map (λ (e : Known). e.0) es))) (λ schema scope outer free p h f a' j v' e. truth_is _ _ v' (sym (ap (λ m. m p) (evaluated-And (map (λ (e : Known). e.0) es))) ∙ e))
+level (Expr-F.Or es) = subst Claim (sym (expr.rolls-Or (map (λ (e : Known). e.0) es))) (λ schema scope outer free p h f a' j v' e. truth_is _ _ v' (sym (ap (λ m. m p) (evaluated-Or (map (λ (e : Known). e.0) es))) ∙ e))
+level (Expr-F.Not a) = subst Claim (sym (expr.rolls-Not a.0)) (λ schema scope outer free p h f a' j v' e. truth_is _ _ v' (sym (ap (λ m. m p) (evaluated-Not a.0)) ∙ e))
+level (Expr-F.Arith op a b) = subst Claim (sym (expr.rolls-Arith op a.0 b.0)) (λ schema scope outer free p h f a' j v' e. absurd (not_boolean_integer (no_boolean kinds.Integer (judged schema a.0 scope ∷ judged schema b.0 scope ∷ []) (sym (judged-Arith schema scope op a.0 b.0) ∙ j))))
+level (Expr-F.Neg a) = subst Claim (sym (expr.rolls-Neg a.0)) (λ schema scope outer free p h f a' j v' e. absurd (not_boolean_integer (no_boolean kinds.Integer (judged schema a.0 scope ∷ []) (sym (judged-Neg schema scope a.0) ∙ j))))
+level (Expr-F.Concat a b) = subst Claim (sym (expr.rolls-Concat a.0 b.0)) (λ schema scope outer free p h f a' j v' e. absurd (not_boolean_text (no_boolean kinds.Text (judged schema a.0 scope ∷ judged schema b.0 scope ∷ []) (sym (judged-Concat schema scope a.0 b.0) ∙ j))))
+level (Expr-F.Like g a b) = subst Claim (sym (expr.rolls-Like g a.0 b.0)) (λ schema scope outer free p h f a' j v' e. truth_is _ _ v' (sym (ap (λ m. m p) (evaluated-Like g a.0 b.0)) ∙ e))
+level (Expr-F.Ilike g a b) = subst Claim (sym (expr.rolls-Ilike g a.0 b.0)) (λ schema scope outer free p h f a' j v' e. truth_is _ _ v' (sym (ap (λ m. m p) (evaluated-Ilike g a.0 b.0)) ∙ e))
+level (Expr-F.InList g a vs) = subst Claim (sym (expr.rolls-InList g a.0 vs)) (λ schema scope outer free p h f a' j v' e. truth_is _ _ v' (sym (ap (λ m. m p) (evaluated-InList g a.0 vs)) ∙ e))
+level (Expr-F.Between g a low high) = subst Claim (sym (expr.rolls-Between g a.0 low.0 high.0)) (λ schema scope outer free p h f a' j v' e. truth_within (evaluated a.0 p) _ _ v' (sym (ap (λ m. m p) (evaluated-Between g a.0 low.0 high.0)) ∙ e))
+level (Expr-F.Distinct g a b) = subst Claim (sym (expr.rolls-Distinct g a.0 b.0)) (λ schema scope outer free p h f a' j v' e. truth_is _ _ v' (sym (ap (λ m. m p) (evaluated-Distinct g a.0 b.0)) ∙ e))
+level (Expr-F.Call f' es) = subst Claim (sym (expr.rolls-Call f' (map (λ (e : Known). e.0) es))) (λ schema scope outer free p h f a' j v' e. called_truth f' schema scope outer free p h es (all_fits schema scope (map (λ (e : Known). e.0) es) (and_parts _ _ (sym (fits-Call schema scope f' (map (λ (e : Known). e.0) es)) ∙ f)).1) a' (sym (judged-Call schema scope f' (map (λ (e : Known). e.0) es)) ∙ j) v' e)
+level Expr-F.CountAll = subst Claim (sym expr.rolls-CountAll) (λ schema scope outer free p h f a' j v' e. absurd (not_boolean_integer (sym (kind_is (sym (judged-CountAll schema scope) ∙ j)))))
+level (Expr-F.Exists g o a) = subst Claim (sym (expr.rolls-Exists g o a.0)) (λ schema scope outer free p h f a' j v' e. truth_is _ _ v' (sym (ap (λ m. m p) (evaluated-Exists g o a.0)) ∙ e))
 
 pub truthful : (e : Expr) → Claim e
 truthful = ind-Expr Claim (λ x y is. subst (λ z. Claim (roll-Expr z)) is (level y))

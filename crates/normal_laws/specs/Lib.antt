@@ -1,2 +1,2 @@
-pub mod Aggregates
+pub mod Apart
 pub mod Places

@@ -1,5 +1,5 @@
 -- Rows of values that are NULL or of their columns' kinds.
-use Rattle.std.specs.Prelude.{◌≡◌, ℕ, ◌+◌, ◌<◌, IsTrue, List, length, slice_get, Option, Some, None}
+use Rattle.std.specs.Prelude.{◌≡◌, ℕ, ◌+◌, ◌<◌, IsTrue, List, [], length, slice_get, Option, Some, None}
 use Rattle.std.specs.List.{AllByRecursion}
 use Rattle.base_core.specs.declared.ids.TableId.{TableId}
 use Rattle.base_core.specs.declared.value.Kind.{Kind}
@@ -33,3 +33,10 @@ pub record FitsGroup (schema : Catalog) (scope : Scope) (p : Place) (members : L
   pub group : p.group ≡ Some members
   pub one : FitsPlace schema scope (ungrouped p)
   pub each : AllByRecursion (λ row. FitsPlace schema scope (record (ungrouped p) { row = row })) members
+
+-- a place of a group without rows, for which no row stands
+pub record FitsNoRows (schema : Catalog) (scope : Scope) (p : Place) : Type 0 where
+  pub group : p.group ≡ Some []
+  pub no_row : p.row ≡ []
+  pub begins : length p.starts ≡ length scope
+  pub rows : (table : TableId) → AllByRecursion (FitsTable schema table) (rows_in p.tables table.0)
