@@ -3,3 +3,5 @@ pub mod GraphLemmas
 pub mod HolderLemmas
 pub mod PartLemmas
 pub mod RowLemmas
+pub mod ClassLemmas
+pub mod TurnLemmas

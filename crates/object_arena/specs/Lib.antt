@@ -1,3 +1,4 @@
+pub mod Every
 pub mod Fit
 pub mod Graph
 pub mod Identity

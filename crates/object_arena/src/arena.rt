@@ -10,7 +10,8 @@ ghost use Rattle.schema_core.specs.WellFormed.{is_key, is_row};
 ghost use Rattle.mapper_core.specs.Mapped.{IsAttribute, IsClass, Mapped, attribute_of, attributes_of, is_key_attribute, root_of, root_spec};
 ghost use Rattle.object_arena.specs.declared.object.State.TheVariants.{Persistent};
 ghost use Rattle.object_arena.specs.Graph.{IsCell, IsLink, IsObject, cell_at, either_fault, empty_graph, expired, fresh_object, has_identity, is_persistent, key_fault, kind_fault, make, object_at, object_limit, put_back_object, root_at, row_of, set_cell, shown, value_fault, with_cell, with_fresh, with_link, with_marks, with_object, with_state, with_value};
-ghost use Rattle.object_arena.specs.Identity.{IsFree, IsOne, find_identity, has_key, holds, is_identified, is_other, is_taken, register, registered};
+ghost use Rattle.object_arena.specs.Every.{classes_of};
+ghost use Rattle.object_arena.specs.Identity.{IsFree, IsGraph, IsOne, find_identity, has_key, holds, is_identified, is_other, is_taken, register, registered};
 ghost use Rattle.object_arena.specs.Fit.{IsFit, ObjectFits, cell_fits, identity_fits, key_fits};
 
 use crate::{Cell, CellRead, Link, Object, State, parts};
@@ -65,6 +66,7 @@ impl Arena {
         ensures count { result ≡ length self.now.objects }
         ensures few { length self.now.objects ≤ object_limit }
         ensures one { IsOne self.now.objects self.now.roots }
+        ensures graph { IsGraph self.now.objects self.now.roots }
     {
         self.objects.len() as u32
     }
@@ -199,6 +201,7 @@ impl Arena {
         ensures step { Takes (λ _. tt) (set_cell self.old mapping.now object attr value) self.old result self.new }
         ensures set { OnOk result (self.new ≡ with_value self.old object attr value) }
         ensures fits { IsFit mapping.now self.new }
+        ensures classes { classes_of self.new ≡ classes_of self.old }
     {
         match cell_fault(mapping, self.object(object), attr, &value) {
             Some(fault) => Err(fault),
@@ -231,6 +234,7 @@ impl Arena {
         ensures registered { OnOk result (self.new ≡ registered self.old object key) }
         ensures taken { OnErr result (is_taken self.old object key ≡ true) }
         ensures fits { (mapped : Mapped) → IsFit mapped self.old → key_fits mapped (object_at self.old object).class key ≡ true → IsFit mapped self.new }
+        ensures classes { classes_of self.new ≡ classes_of self.old }
     {
         if self.is_taken(object, &key) {
             return Err(Refusal::InvalidRequestError(RequestKind::IdentityConflict));
@@ -256,6 +260,7 @@ impl Arena {
         requires persistent { (object_at self.old object).state ≡ Persistent }
         ensures expired { self.new ≡ with_object self.old object (expired (object_at self.old object)) }
         ensures fits { (mapped : Mapped) → IsFit mapped self.old → IsFit mapped self.new }
+        ensures classes { classes_of self.new ≡ classes_of self.old }
     {
         self.write_expired(object);
     }
@@ -277,6 +282,7 @@ impl Arena {
         ensures err { OnErr result (self.new ≡ self.old) }
         ensures cause { IfErr result (λ e. e ≡ Memory) }
         ensures fits { (mapped : Mapped) → IsFit mapped self.old → cell_fits (attribute_of mapped (object_at self.old object).class attr) cell ≡ true → IsFit mapped self.new }
+        ensures classes { classes_of self.new ≡ classes_of self.old }
     {
         self.write_cell(object, attr, cell);
         Ok(())
@@ -301,6 +307,7 @@ impl Arena {
         ensures err { OnErr result (self.new ≡ self.old) }
         ensures cause { IfErr result (λ e. e ≡ Memory) }
         ensures fits { (mapped : Mapped) → IsFit mapped self.old → IsFit mapped self.new }
+        ensures classes { classes_of self.new ≡ classes_of self.old }
     {
         self.write_link(object, relation, link);
         Ok(())
@@ -330,6 +337,7 @@ impl Arena {
         ensures err { OnErr result (self.new ≡ self.old) }
         ensures cause { IfErr result (λ e. e ≡ Memory) }
         ensures fits { (mapped : Mapped) → IsFit mapped self.old → IsFit mapped self.new }
+        ensures classes { classes_of self.new ≡ classes_of self.old }
     {
         self.write_marks(object, added, marked, orphan);
         Ok(())
@@ -358,6 +366,7 @@ impl Arena {
         ensures err { OnErr result (self.new ≡ self.old) }
         ensures cause { IfErr result (λ e. e ≡ Memory) }
         ensures fits { (mapped : Mapped) → IsFit mapped self.old → IsFit mapped self.new }
+        ensures classes { classes_of self.new ≡ classes_of self.old }
     {
         self.write_state(object, state);
         Ok(())
@@ -384,6 +393,7 @@ impl Arena {
         requires one { is_persistent state ≡ true → IsFree self.old object identity }
         ensures back { self.new ≡ with_object self.old object (put_back_object (object_at self.old object) state identity) }
         ensures fits { (mapped : Mapped) → IsFit mapped self.old → identity_fits mapped (object_at self.old object).class identity ≡ true → IsFit mapped self.new }
+        ensures classes { classes_of self.new ≡ classes_of self.old }
     {
         self.write_back(object, state, identity);
     }
