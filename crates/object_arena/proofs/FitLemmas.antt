@@ -212,16 +212,18 @@ settled_class Persistent object = refl
 settled_class Deleted object = refl
 settled_class Detached object = refl
 
+-- an object that is put back
+pub object_back : (mapped : Mapped) (object : Object) (state : State) (identity : Option (List Value)) → ObjectFits mapped object → identity_fits mapped object.class identity ≡ true → ObjectFits mapped (put_back_object object state identity)
+object_back mapped object state identity fits good =
+    settled_object_fits mapped state (record object { state = state; identity = identity; marked = false }) (record { class = fits.class; cells = fits.cells; identity = good; links = fits.links })
+
 -- an object put back under an identity that fits
 pub fit_back : (mapped : Mapped) (graph new_graph : Graph) (object : ObjId) (state : State) (identity : Option (List Value)) → IsObject graph object → new_graph ≡ with_object graph object (put_back_object (object_at graph object) state identity) → IsFit mapped graph → identity_fits mapped (object_at graph object).class identity ≡ true → IsFit mapped new_graph
 fit_back mapped graph new_graph object state identity within is fit good =
     let old : Object = object_at graph object in
-    let fits : ObjectFits mapped old = fit_at mapped graph object fit within in
-    let moved : Object = record old { state = state; identity = identity; marked = false } in
     rw is
-    (fit_set mapped graph object (put_back_object old state identity) fit
-    (settled_object_fits mapped state moved (record { class = fits.class; cells = fits.cells; identity = good; links = fits.links }))
-    (settled_class state moved))
+    (fit_set mapped graph object (put_back_object old state identity) fit (object_back mapped old state identity (fit_at mapped graph object fit within) good)
+    (settled_class state (record old { state = state; identity = identity; marked = false })))
 
 -- no objects
 pub fit_empty : (mapped : Mapped) → IsFit mapped empty_graph

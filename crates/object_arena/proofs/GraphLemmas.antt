@@ -84,7 +84,7 @@ graph_left objects roots p new less graph identified left =
     clash : (root : ClassId) (key : List Value) → holds root key (new, get_or roots p no_class_id) ≡ true → ⊥
     clash root key held = let e : is_persistent new.state ≡ true = (and_parts (is_persistent new.state) _ held).0 in cc
 
-same_equiv : IsEquivalence same_values
+pub same_equiv : IsEquivalence same_values
 same_equiv = eq_by_cmp_equiv (lists_total value_cmp_total)
 
 key_swapped : (key own : List Value) (identity : Option (List Value)) → has_key key identity ≡ true → same_values own key ≡ true → has_key own identity ≡ true

@@ -15,7 +15,7 @@ use Rattle.object_arena.specs.Graph.{is_persistent, no_class_id, no_object, plac
 use Rattle.object_arena.specs.Identity.{IsGraph, has_key, holds, holds_at, numbered}
 
 -- the place that was found holds
-place_holds : (objects : List Object) (roots : List ClassId) (root : ClassId) (key : List Value) (place : ℕ) → length roots ≡ length objects → position (holds root key) (zip objects roots) ≡ Some place → (place < length objects) × (holds_at objects roots root key place ≡ true)
+pub place_holds : (objects : List Object) (roots : List ClassId) (root : ClassId) (key : List Value) (place : ℕ) → length roots ≡ length objects → position (holds root key) (zip objects roots) ≡ Some place → (place < length objects) × (holds_at objects roots root key place ≡ true)
 place_holds objects roots root key place rooted at =
     let there = position-Some (holds root key) (zip objects roots) place (no_object, no_class_id) at in
     let inside : place < length (zip objects roots) = there.0 in

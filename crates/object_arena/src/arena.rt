@@ -155,6 +155,7 @@ impl Arena {
         requires configured { mapping.now.configured ≡ true }
         ensures step { Takes (λ object. object) (make self.old mapping.now class) self.old result self.new }
         ensures made { OnOk result (self.new ≡ with_fresh self.old mapping.now class) }
+        ensures room { OnOk result (length self.old.objects < object_limit) }
         ensures exists { IfOk result (λ object. IsObject self.new object) }
         ensures fresh { IfOk result (λ object. object_at self.new object ≡ fresh_object mapping.now class) }
         ensures fits { IsFit mapping.now self.old → IsFit mapping.now self.new }
