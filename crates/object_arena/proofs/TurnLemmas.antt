@@ -2,7 +2,7 @@
 use Rattle.std.proofs.Common.{◌≡◌, ℕ, ◌+◌, ◌<◌, ◌≤◌, List, [], ◌∷◌, ◌++◌, length, map, get_or, take, drop, zero, suc, refl, sym, ap, ◌∙◌, arith, add-one}
 use Rattle.std.specs.Prelude.{slice_set}
 use Rattle.std.specs.List.{enumerate_from}
-use Rattle.std.proofs.lemmas.List.{get_or-set_same, set-get_or, take_all, drop_all, append-nil}
+use Rattle.std.proofs.lemmas.List.{get_or-set_same, get_or_past, set-get_or, take_all, drop_all, append-nil}
 use Rattle.std.proofs.lemmas.Option.{slice_get-get_or}
 use Rattle.base_core.specs.declared.ids.ObjId.{ObjId}
 use Rattle.object_arena.specs.declared.object.Object.{Object}
@@ -96,6 +96,21 @@ placed_left change n [] (suc i) j d after = refl
 placed_left change n (x ∷ xs) zero j d after = refl
 placed_left change n (x ∷ xs) (suc i) zero d after = absurd (omega arith)
 placed_left change n (x ∷ xs) (suc i) (suc j) d after = placed_left change (n + 1) xs i j d (omega arith)
+
+-- no item
+pub placed_past : {X : Type 0} (change : ℕ → X → X) (n : ℕ) (xs : List X) (i j : ℕ) (d : X) → length xs ≤ j → get_or (placed_before change n i xs) j d ≡ d
+placed_past change n [] zero j d past = refl
+placed_past change n [] (suc i) j d past = refl
+placed_past change n (x ∷ xs) i zero d past = absurd (omega arith)
+placed_past change n (x ∷ xs) zero (suc j) d past = get_or_past xs j d (omega arith)
+placed_past change n (x ∷ xs) (suc i) (suc j) d past = placed_past change (n + 1) xs i j d (omega arith)
+
+-- as many items
+pub placed_long : {X : Type 0} (change : ℕ → X → X) (n : ℕ) (xs : List X) (i : ℕ) → length (placed_before change n i xs) ≡ length xs
+placed_long change n [] zero = refl
+placed_long change n [] (suc i) = refl
+placed_long change n (x ∷ xs) zero = refl
+placed_long change n (x ∷ xs) (suc i) = ap (λ k. suc k) (placed_long change (n + 1) xs i)
 
 -- all have been changed
 pub placed_whole : {X : Type 0} (change : ℕ → X → X) (n : ℕ) (xs : List X) (i : ℕ) → length xs ≤ i → placed_before change n i xs ≡ map (λ placed. change placed.0 placed.1) (enumerate_from n xs)

@@ -1,0 +1,9 @@
+//! The scopes of a session: where every object stood at the start of each, and how it goes back there.
+#![tactic(auto)]
+
+mod frames;
+mod restoring;
+mod scope;
+
+pub use frames::Frames;
+pub use scope::{Scope, Standing};
