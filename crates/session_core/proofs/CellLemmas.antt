@@ -12,7 +12,7 @@ use Rattle.object_arena.specs.declared.object.Cell.{Cell}
 use Rattle.object_arena.specs.declared.object.Object.{Object}
 use Rattle.object_arena.specs.Graph.{Graph, IsObject, cell_at, cell_in, cell_put, expired_cell, object_at, with_cell, with_object}
 use Rattle.session_core.specs.Flush.{held_cell, with_written, written_value}
-use Rattle.session_core.proofs.ObjectLemmas.{at_with, with_same, with_twice}
+use Rattle.object_arena.proofs.TurnLemmas.{at_with, with_same, with_twice}
 
 -- ---- what is written into the cells
 

@@ -5,3 +5,4 @@ pub mod MakeLemmas
 pub mod QueueLemmas
 pub mod RunLemmas
 pub mod StepLemmas
+pub mod SessionLemmas

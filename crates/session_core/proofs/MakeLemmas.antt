@@ -19,7 +19,7 @@ use Rattle.object_arena.specs.Graph.{Graph, IsCell, IsObject, object_at, with_ce
 use Rattle.object_arena.specs.Fit.{IsFit, cell_fits, is_of_kind, value_fits}
 use Rattle.object_arena.proofs.FitLemmas.{fit_cells}
 use Rattle.session_core.specs.Making.{first_of_two, kinds_apart, mismatch, mismatch_at, with_values}
-use Rattle.session_core.proofs.ObjectLemmas.{with_same}
+use Rattle.object_arena.proofs.TurnLemmas.{with_same}
 
 -- ---- the first mismatch
 

@@ -1,5 +1,5 @@
 -- The session's calls, put together of their steps.
-use Rattle.std.proofs.Common.{◌≡◌, Bool, false, List, Result, Ok, OnOk, IfErr, sym, subst}
+use Rattle.std.proofs.Common.{◌≡◌, Bool, true, false, List, [], Result, Ok, OnOk, IfErr, refl, sym, subst}
 use Rattle.base_core.specs.declared.refusal.Refusal.{Refusal}
 use Rattle.base_core.specs.declared.refusal.Refusal.TheVariants.{Memory}
 use Rattle.base_core.specs.declared.ids.ObjId.{ObjId}
@@ -8,21 +8,30 @@ use Rattle.keeper_core.specs.Acting.{◌>>=◌}
 use Rattle.keeper_core.specs.Moment.{Moment, Runs}
 use Rattle.keeper_core.specs.Calls as call
 use Rattle.keeper_core.specs.Beside.{changes, moment_beside, on_store}
-use Rattle.keeper_core.proofs.Sequence.{then_ok}
+use Rattle.keeper_core.proofs.Sequence.{done, then_ok}
 use Rattle.keeper_core.proofs.Lifting.{chosen}
-use Rattle.session_core.specs.SessionState.{SessionState}
+use Rattle.savepoints.specs.declared.scope.Scope.{Scope}
+use Rattle.session_core.specs.SessionState.{SessionState, has_scope, in_transaction}
 use Rattle.session_core.specs.Flush.{Written, pending_in_order}
 use Rattle.session_core.specs.Steps.{begun, close, closed, commit, ended, enter, entering, failed, flush, flushed, give_up, leaving, write_pending}
 use Rattle.session_core.proofs.RunLemmas.{then_ends}
 
 -- a transaction began
-pub enters : {K : Type 0} (moment : K → Moment Store) {own now : SessionState} {old new : K} → own.failed ≡ false → own.in_transaction ≡ false
-    → Runs (moment_beside moment) (λ u. u) (on_store call.begin) (own, old) (Ok tt) (own, new) → now ≡ begun own → Runs (moment_beside moment) (λ u. u) enter (own, old) (Ok tt) (now, new)
+pub enters : {K : Type 0} (moment : K → Moment Store) {own now : SessionState} {old new : K} {r : Result (Unit {0}) Refusal} → own.failed ≡ false → own.scopes ≡ []
+    → Runs (moment_beside moment) (λ u. u) (on_store call.begin) (own, old) (Ok tt) (own, new) → OnOk r (now ≡ begun own) → IfErr r (λ e. e ≡ Memory) → Runs (moment_beside moment) (λ u. u) enter (own, old) r (now, new)
 unfolding enter
-enters moment {own = own} {now = now} {old = old} {new = new} well outside p is =
-    let F : Bool → Bool → Type 0 = λ failed open_. Runs (moment_beside moment) (λ u. u) (entering failed open_) (own, old) (Ok tt) (now, new) in
-    chosen moment (λ session. entering session.failed session.in_transaction)
-    (subst (λ (b : Bool). F b own.in_transaction) (sym well) (subst (λ (b : Bool). F false b) (sym outside) (then_ends moment (λ _. begun) {r = Ok tt} p is tt)))
+enters moment {own = own} {now = now} {old = old} {new = new} {r = r} well outside p is cause =
+    let F : Bool → Bool → Type 0 = λ failed open_. Runs (moment_beside moment) (λ u. u) (entering failed open_) (own, old) r (now, new) in
+    chosen moment (λ session. entering session.failed (in_transaction session))
+    (subst (λ (b : Bool). F b (in_transaction own)) (sym well) (subst (λ (scopes : List Scope). F false (has_scope scopes)) (sym outside) (then_ends moment (λ _. begun) p is cause)))
+
+-- a transaction was in progress
+pub stays_in : {K : Type 0} (moment : K → Moment Store) {own : SessionState} {keeper : K} → own.failed ≡ false → in_transaction own ≡ true → Runs (moment_beside moment) (λ u. u) enter (own, keeper) (Ok tt) (own, keeper)
+unfolding enter
+stays_in moment {own = own} {keeper = keeper} well inside =
+    let F : Bool → Bool → Type 0 = λ failed open_. Runs (moment_beside moment) (λ u. u) (entering failed open_) (own, keeper) (Ok tt) (own, keeper) in
+    chosen moment (λ session. entering session.failed (in_transaction session))
+    (subst (λ (b : Bool). F b (in_transaction own)) (sym well) (subst (λ (b : Bool). F false b) (sym inside) (done refl)))
 
 -- a failed flush was rolled back
 pub gives_up : {K : Type 0} (moment : K → Moment Store) {own now : SessionState} {old new : K} {r : Result (Unit {0}) Refusal}
@@ -52,6 +61,6 @@ commits moment p q c is cause =
 
 -- the session was closed
 pub closes : {K : Type 0} (moment : K → Moment Store) {own now : SessionState} {old new : K} {r : Result (Unit {0}) Refusal}
-    → Runs (moment_beside moment) (λ u. u) (leaving own.in_transaction) (own, old) (Ok tt) (own, new) → OnOk r (now ≡ closed own) → IfErr r (λ e. e ≡ Memory) → Runs (moment_beside moment) (λ u. u) close (own, old) r (now, new)
+    → Runs (moment_beside moment) (λ u. u) (leaving (in_transaction own)) (own, old) (Ok tt) (own, new) → OnOk r (now ≡ closed own) → IfErr r (λ e. e ≡ Memory) → Runs (moment_beside moment) (λ u. u) close (own, old) r (now, new)
 unfolding close
-closes moment p is cause = chosen moment (λ session. leaving session.in_transaction >>= λ _. changes closed) (then_ends moment (λ _. closed) p is cause)
+closes moment p is cause = chosen moment (λ session. leaving (in_transaction session) >>= λ _. changes closed) (then_ends moment (λ _. closed) p is cause)

@@ -14,7 +14,7 @@ use Rattle.object_arena.specs.declared.object.Cell.{Cell}
 use Rattle.object_arena.specs.declared.object.Object.{Object}
 use Rattle.object_arena.specs.declared.object.State.{State}
 use Rattle.object_arena.specs.declared.object.State.TheVariants.{Transient, Pending, Persistent, Deleted, Detached}
-use Rattle.object_arena.specs.Graph.{Graph, IsObject, expired, kept_identity, object_at, put_back_object, root_at, row_of, value_or_null, with_object, with_state}
+use Rattle.object_arena.specs.Graph.{Graph, IsObject, expired, kept_identity, object_at, root_at, row_of, value_or_null, with_object, with_state}
 use Rattle.object_arena.specs.Identity.{find_identity, registered}
 use Rattle.object_arena.specs.Fit.{key_fits}
 
@@ -89,23 +89,10 @@ with_written mapped graph written =
 abbrev pub settled : Mapped → Graph → Written → Graph
 settled mapped graph written = with_written mapped (under_key graph written) written
 
--- ---- after failure, at a commit and at a close
-
--- the graph with each object changed
-abbrev pub each_object : (Object → Object) → Graph → Graph
-each_object change graph = record { objects = map change graph.objects; roots = graph.roots }
+-- ---- at a commit and at a close
 
 abbrev pub unmarked : Object → Object
 unmarked object = record object { marked = false }
-
-abbrev pub restored_in : State → Object → Object
-restored_in Pending object = put_back_object object Transient None
-restored_in Persistent object = expired (unmarked object)
-restored_in state object = unmarked object
-
--- an object after its transaction was rolled back: no delete mark; a pending one is transient again, a persistent one expired
-abbrev pub restored : Object → Object
-restored object = restored_in object.state object
 
 abbrev pub committed_in : State → Object → Object
 committed_in Persistent object = expired object

@@ -1,31 +1,51 @@
 -- What is seen of a session, and how a keeper stands beside it.
-use Rattle.std.specs.Prelude.{◌≡◌, ℕ, Bool, true, false, length, Result, Ok, Err, if◌then◌else◌}
+use Rattle.std.specs.Prelude.{◌≡◌, ℕ, ◌+◌, ◌≤◌, Bool, true, false, List, [], ◌∷◌, length, Result, Ok, Err, if◌then◌else◌}
+use Rattle.std.specs.List.{All}
 use Rattle.base_core.specs.declared.refusal.Refusal.{Refusal}
 use Rattle.mapper_core.specs.Mapped.{Mapped}
 use Rattle.object_arena.specs.Graph.{Graph, empty_graph}
+use Rattle.object_arena.specs.Fit.{IsFit}
+use Rattle.savepoints.specs.declared.scope.Scope.{Scope}
+use Rattle.savepoints.specs.Scopes.{IsCopy}
 use Rattle.keeper_core.specs.Acting.{ends_early}
 use Rattle.keeper_core.specs.Moment.{Moment}
 
--- a session: its mapping and objects, whether a transaction is in progress, whether a flush failed that was not rolled
--- back yet, and how many add numbers were given
+-- a session: its mapping and objects, the scopes in progress, the innermost first, whether a flush failed that was not
+-- rolled back yet, and how many add numbers were given
 pub record SessionState : Type 0 where
   pub mapping : Mapped
   pub graph : Graph
-  pub in_transaction : Bool
+  pub scopes : List Scope
   pub failed : Bool
   pub added : ℕ
 
+-- What every session keeps: its mapping is configured, its objects fit it, and each scope can be gone back to. The only
+-- scope is the transaction.
+pub record IsSession (mapped : Mapped) (graph : Graph) (scopes : List Scope) : Type 0 where
+  pub configured : mapped.configured ≡ true
+  pub fit : IsFit mapped graph
+  pub copies : All (IsCopy mapped graph) scopes
+  pub one : length scopes ≤ 1
+
 -- a session over a mapping, with no objects and no transaction
 abbrev pub new_session : Mapped → SessionState
-new_session mapping = record { mapping = mapping; graph = empty_graph; in_transaction = false; failed = false; added = 0 }
+new_session mapping = record { mapping = mapping; graph = empty_graph; scopes = []; failed = false; added = 0 }
 
--- how many scopes the keeper has open beside a session
-abbrev pub open_scopes : Bool → ℕ
-open_scopes in_transaction = if in_transaction then 1 else 0
+abbrev pub has_scope : List Scope → Bool
+has_scope [] = false
+has_scope (scope ∷ scopes) = true
+
+-- a transaction is in progress
+abbrev pub in_transaction : SessionState → Bool
+in_transaction session = has_scope session.scopes
+
+-- how many scopes are in progress, a failed one included
+abbrev pub depth_of : SessionState → ℕ
+depth_of session = if session.failed then length session.scopes + 1 else length session.scopes
 
 -- the keeper took its target, and has the session's scopes open
 abbrev pub IsInStep : {W : Type 0} → SessionState → Moment W → Type 0
-IsInStep session moment = (moment.attached ≡ true) × (moment.depth ≡ open_scopes session.in_transaction)
+IsInStep session moment = (moment.attached ≡ true) × (moment.depth ≡ length session.scopes)
 
 -- a call keeps the keeper in step, unless memory or the store ended it early
 abbrev pub StaysInStep : {A W : Type 0} → Result A Refusal → SessionState → Moment W → Type 0

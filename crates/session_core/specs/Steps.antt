@@ -1,5 +1,5 @@
 -- The session's calls, each as a program of the store and of the session beside it.
-use Rattle.std.specs.Prelude.{Bool, true, false, List, [], ◌∷◌, ◌++◌, fold}
+use Rattle.std.specs.Prelude.{Bool, true, false, List, [], ◌∷◌, ◌++◌, length, fold}
 use Rattle.base_core.specs.Counts.{one_more}
 use Rattle.base_core.specs.declared.ids.AttrNo.{AttrNo}
 use Rattle.base_core.specs.declared.ids.ClassId.{ClassId}
@@ -14,8 +14,10 @@ use Rattle.keeper_core.specs.Calls as call
 use Rattle.object_arena.specs.declared.object.State.{State}
 use Rattle.object_arena.specs.declared.object.State.TheVariants.{Transient, Pending, Deleted, Detached}
 use Rattle.object_arena.specs.Graph.{object_at, with_marks, with_state}
-use Rattle.session_core.specs.SessionState.{SessionState}
-use Rattle.session_core.specs.Flush.{Written, committed, each_object, insert_of, left, pending_in_order, restored, settled}
+use Rattle.object_arena.specs.Every.{each_object}
+use Rattle.savepoints.specs.Scopes.{around, begun_at, restored}
+use Rattle.session_core.specs.SessionState.{SessionState, in_transaction}
+use Rattle.session_core.specs.Flush.{Written, committed, insert_of, left, pending_in_order, settled}
 use Rattle.session_core.specs.Making.{made}
 
 -- the world of a session's calls
@@ -26,7 +28,7 @@ World = Beside SessionState
 
 -- a transaction has begun
 abbrev pub begun : SessionState → SessionState
-begun session = record session { in_transaction = true }
+begun session = record session { scopes = begun_at session.graph ∷ session.scopes }
 
 -- an object whose row was written is persistent under its key
 abbrev pub settled_one : Written → SessionState → SessionState
@@ -36,17 +38,22 @@ settled_one written session = record session { graph = settled session.mapping s
 abbrev pub flushed : List Written → SessionState → SessionState
 flushed written session = record session { graph = fold (settled session.mapping) session.graph written }
 
--- the transaction was rolled back for a flush that failed, and a rollback is awaited
+-- the innermost scope was rolled back for a flush that failed: each object stands where it stood at the scope's start, and a
+-- rollback is awaited
 abbrev pub failed : SessionState → SessionState
-failed session = record session { graph = each_object restored session.graph; in_transaction = false; failed = true }
+failed session = record session {
+  graph = restored (length session.scopes) session.scopes session.graph;
+  scopes = around (length session.scopes) session.scopes;
+  failed = true;
+}
 
 -- the transaction was committed
 abbrev pub ended : SessionState → SessionState
-ended session = record session { graph = each_object committed session.graph; in_transaction = false }
+ended session = record session { graph = each_object committed session.graph; scopes = [] }
 
 -- the session has no transaction and no objects in it
 abbrev pub closed : SessionState → SessionState
-closed session = record session { graph = each_object left session.graph; in_transaction = false; failed = false }
+closed session = record session { graph = each_object left session.graph; scopes = []; failed = false }
 
 -- ---- the transaction
 
@@ -57,7 +64,7 @@ entering false false = on_store call.begin >>= λ _. changes begun
 
 -- refused while a failed flush waits for its rollback; else a transaction begins where none is in progress
 unfoldable pub enter : World → Run World (Unit {0})
-enter = by_own (λ session. entering session.failed session.in_transaction)
+enter = by_own (λ session. entering session.failed (in_transaction session))
 
 -- ---- the flush
 
@@ -116,4 +123,4 @@ leaving false = give tt
 
 -- the transaction ends without its rows, and all objects leave the session
 unfoldable pub close : World → Run World (Unit {0})
-close = by_own (λ session. leaving session.in_transaction >>= λ _. changes closed)
+close = by_own (λ session. leaving (in_transaction session) >>= λ _. changes closed)

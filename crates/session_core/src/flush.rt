@@ -1,6 +1,6 @@
 //! The flush: what is pending is written in the order in which it was added.
 
-ghost use Rattle.std.specs.Prelude.{◌≡◌, [], true, IfOk, IfErr, OnOk, List, fold};
+ghost use Rattle.std.specs.Prelude.{◌≡◌, [], true, length, IfOk, IfErr, OnOk, List, fold};
 ghost use Rattle.schema_core.specs.WellFormed.{IsWellFormed, is_key};
 ghost use Rattle.base_core.specs.declared.value.Value.{Value};
 ghost use Rattle.mapper_core.specs.Mapped.{root_spec};
@@ -17,7 +17,7 @@ ghost use Rattle.session_core.specs.Steps as steps;
 
 use crate::Session;
 use crate::rows::row_of;
-use crate::settling::{restore_all, settle};
+use crate::settling::settle;
 use base_core::{Key, ListOf, ObjId, Refusal};
 use keeper_core::{Keeper, calls};
 use object_arena::State;
@@ -36,10 +36,10 @@ impl Session {
     #[tactic(auto, using(keeper_core::proofs::Sequence::sequence, keeper_core::proofs::Lifting::lifting), unfolding(crate::specs::Steps::flush))]
     pub(crate) fn flush<K: Keeper>(&mut self, keeper: &mut K) -> Result<(), Refusal>
         requires in_step { IsInStep self.old (K.moment keeper.old) }
-        requires inside { self.old.in_transaction ≡ true }
+        requires inside { length self.old.scopes ≡ 1 }
         ensures step { Runs (moment_beside K.moment) (λ u. u) steps.flush (self.old, keeper.old) result (self.new, keeper.new) }
         ensures in_step { StaysInStep result self.new (K.moment keeper.new) }
-        ensures inside { OnOk result (self.new.in_transaction ≡ true) }
+        ensures inside { OnOk result (length self.new.scopes ≡ 1) }
         ensures same { SameObjects self.old self.new }
     {
         let pending = self.pending_in_order()?;
@@ -93,12 +93,12 @@ impl Session {
         objects: &ListOf<ObjId>,
     ) -> Result<Written, Refusal>
         requires in_step { IsInStep self.old (K.moment keeper.old) }
-        requires inside { self.old.in_transaction ≡ true }
+        requires inside { length self.old.scopes ≡ 1 }
         requires objects { All (IsObject self.old.graph) objects.now }
         ensures step { Runs (moment_beside K.moment) (λ written. written) (steps.write_pending objects.now) (self.old, keeper.old) result (self.new, keeper.new) }
         ensures keys { IfOk result (All (spec.IsUnderKey self.new.mapping self.new.graph)) }
         ensures in_step { StaysInStep result self.new (K.moment keeper.new) }
-        ensures inside { OnOk result (self.new.in_transaction ≡ true) }
+        ensures inside { OnOk result (length self.new.scopes ≡ 1) }
         ensures same { SameObjects self.old self.new }
     {
         match self.write_all(keeper, objects) {
@@ -117,21 +117,22 @@ impl Session {
     #[tactic(auto, using(keeper_core::proofs::Sequence::sequence, keeper_core::proofs::Lifting::lifting), unfolding(crate::specs::Steps::give_up))]
     fn give_up<K: Keeper>(&mut self, keeper: &mut K) -> Result<(), Refusal>
         requires in_step { IsInStep self.old (K.moment keeper.old) }
-        requires inside { self.old.in_transaction ≡ true }
+        requires inside { length self.old.scopes ≡ 1 }
         ensures step { Runs (moment_beside K.moment) (λ u. u) steps.give_up (self.old, keeper.old) result (self.new, keeper.new) }
         ensures in_step { StaysInStep result self.new (K.moment keeper.new) }
         ensures same { SameObjects self.old self.new }
         ensures stops { IfErr result (λ e. ends_early e ≡ true) }
     {
         self.roll_back(keeper)?;
-        self.fail()
+        self.fail();
+        Ok(())
     }
 
     /// Rolls the transaction back, and leaves the session as it is.
     #[tactic(auto, using(keeper_core::proofs::Lifting::lifting))]
     pub(crate) fn roll_back<K: Keeper>(&self, keeper: &mut K) -> Result<(), Refusal>
         requires in_step { IsInStep self.now (K.moment keeper.old) }
-        requires inside { self.now.in_transaction ≡ true }
+        requires inside { length self.now.scopes ≡ 1 }
         ensures step { Runs (moment_beside K.moment) (λ u. u) (on_store call.rollback) (self.now, keeper.old) result (self.now, keeper.new) }
         ensures ended { (K.moment keeper.new).depth ≡ 0 }
         ensures attached { (K.moment keeper.new).attached ≡ true }
@@ -140,16 +141,16 @@ impl Session {
         calls::rollback(keeper)
     }
 
-    /// A flush failed: the transaction has ended, its pending objects are transient, and a rollback is awaited.
-    fn fail(&mut self) -> Result<(), Refusal>
-        ensures ok { OnOk result (self.new ≡ steps.failed self.old) }
-        ensures cause { IfErr result (λ e. e ≡ Refusal.Memory) }
+    /// A flush failed: the transaction has ended, each object stands where it stood at its start, and a rollback is awaited.
+    fn fail(&mut self)
+        requires inside { length self.old.scopes ≡ 1 }
+        ensures failed { self.new ≡ steps.failed self.old }
+        ensures ended { self.new.scopes ≡ [] }
         ensures same { SameObjects self.old self.new }
     {
-        restore_all(&mut self.arena)?;
-        self.in_transaction = false;
+        let depth = self.frames.depth();
+        self.frames.restore(&mut self.arena, depth);
         self.failed = true;
-        Ok(())
     }
 
     /// Writes the rows of objects in order, beside the session as it is.
@@ -160,7 +161,7 @@ impl Session {
         objects: &ListOf<ObjId>,
     ) -> Result<Written, Refusal>
         requires in_step { IsInStep self.now (K.moment keeper.old) }
-        requires inside { self.now.in_transaction ≡ true }
+        requires inside { length self.now.scopes ≡ 1 }
         requires objects { All (IsObject self.now.graph) objects.now }
         ensures step { Runs (moment_beside K.moment) (λ written. written) (by_own (λ session. on_store (steps.insert_all session objects.now))) (self.now, keeper.old) result (self.now, keeper.new) }
         ensures in_step { StaysInStep result self.now (K.moment keeper.new) }
@@ -177,7 +178,7 @@ impl Session {
         objects: &ListOf<ObjId>,
     ) -> Result<Written, Refusal>
         requires in_step { IsInStep self.now (K.moment keeper.old) }
-        requires inside { self.now.in_transaction ≡ true }
+        requires inside { length self.now.scopes ≡ 1 }
         requires objects { All (IsObject self.now.graph) objects.now }
         ensures step { Runs K.moment (λ written. written) (steps.insert_all self.now objects.now) keeper.old result keeper.new }
         ensures in_step { StaysInStep result self.now (K.moment keeper.new) }
@@ -199,7 +200,7 @@ impl Session {
         written: &mut Written,
     ) -> Result<(), Refusal>
         requires in_step { IsInStep self.now (K.moment keeper.old) }
-        requires inside { self.now.in_transaction ≡ true }
+        requires inside { length self.now.scopes ≡ 1 }
         requires object { IsObject self.now.graph object }
         requires keys { All (spec.IsUnderKey self.now.mapping self.now.graph) written.old }
         ensures step { Runs K.moment (λ _. written.new) (steps.insert_one self.now object written.old) keeper.old result keeper.new }
@@ -213,7 +214,7 @@ impl Session {
     /// Writes the row of an object, and answers its key.
     fn write<K: Keeper>(&self, keeper: &mut K, object: ObjId) -> Result<Key, Refusal>
         requires in_step { IsInStep self.now (K.moment keeper.old) }
-        requires inside { self.now.in_transaction ≡ true }
+        requires inside { length self.now.scopes ≡ 1 }
         requires object { IsObject self.now.graph object }
         ensures step { Runs K.moment (λ key. key) (call.write self.now.mapping.schema (spec.insert_of self.now.mapping (object_at self.now.graph object))) keeper.old result keeper.new }
         ensures in_step { StaysInStep result self.now (K.moment keeper.new) }
@@ -242,7 +243,7 @@ impl Session {
         requires keys { All (spec.IsUnderKey self.old.mapping self.old.graph) written }
         ensures ok { OnOk result (self.new ≡ steps.flushed written self.old) }
         ensures cause { IfErr result (λ e. e ≡ Refusal.Memory) }
-        ensures scope { self.new.in_transaction ≡ self.old.in_transaction }
+        ensures scope { self.new.scopes ≡ self.old.scopes }
         ensures same { SameObjects self.old self.new }
     {
         for (object, key) in written.into_vec() {
@@ -256,7 +257,7 @@ impl Session {
         requires key { spec.IsUnderKey self.old.mapping self.old.graph (object, key) }
         ensures ok { OnOk result (self.new ≡ steps.settled_one (object, key) self.old) }
         ensures cause { IfErr result (λ e. e ≡ Refusal.Memory) }
-        ensures scope { self.new.in_transaction ≡ self.old.in_transaction }
+        ensures scope { self.new.scopes ≡ self.old.scopes }
         ensures same { SameObjects self.old self.new }
     {
         settle(&mut self.arena, &self.mapping, object, key)

@@ -4,6 +4,7 @@ ghost use Rattle.std.specs.Prelude.{◌≡◌, None, Some, length, slice_get, If
 ghost use Rattle.mapper_core.specs.Mapped.{Mapped, attributes_of};
 ghost use Rattle.object_arena.specs.Graph.{IsObject, object_at, with_cell};
 ghost use Rattle.object_arena.specs.Fit.{IsFit};
+ghost use Rattle.object_arena.specs.Every.{classes_of};
 ghost use Rattle.session_core.specs.Making as spec;
 
 use base_core::{AttrNo, Copied, Kind, ObjId, Refusal, Value};
@@ -46,6 +47,7 @@ pub(crate) fn put_values(
     ensures cause { IfErr result (λ e. e ≡ Refusal.Memory) }
     ensures same { length arena.new.objects ≡ length arena.old.objects }
     ensures fits { (mapped : Mapped) → IsFit mapped arena.old → spec.mismatch (attributes_of mapped (object_at arena.old object).class) cells.now ≡ None → IsFit mapped arena.new }
+    ensures classes { classes_of arena.new ≡ classes_of arena.old }
 {
     for (attr, value) in cells {
         put_value(arena, object, *attr, value)?;
@@ -61,6 +63,7 @@ fn put_value(arena: &mut Arena, object: ObjId, attr: AttrNo, value: &Value) -> R
     ensures fits { (mapped : Mapped) → IsFit mapped arena.old → spec.mismatch_at (slice_get (attributes_of mapped (object_at arena.old object).class) attr.0) value.now ≡ None → IsFit mapped arena.new }
     ensures same { length arena.new.objects ≡ length arena.old.objects }
     ensures class { (object_at arena.new object).class ≡ (object_at arena.old object).class }
+    ensures classes { classes_of arena.new ≡ classes_of arena.old }
 {
     if attr.0 as usize >= arena.object(object).cells.len() {
         return Ok(());

@@ -1,14 +1,13 @@
 //! The session and its calls.
 
-ghost use Rattle.std.specs.Prelude.{◌≡◌, ◌≢◌, true, false, length, if◌then◌else◌, OnOk, IfOk, IfErr};
+ghost use Rattle.std.specs.Prelude.{◌≡◌, ◌≢◌, [], true, length, OnOk, IfOk, IfErr};
 ghost use Rattle.mapper_core.specs.Mapped.{IsClass};
 ghost use Rattle.object_arena.specs.Graph.{IsObject, object_at};
-ghost use Rattle.object_arena.specs.Fit.{IsFit};
 ghost use Rattle.keeper_core.specs.Acting.{ends_early};
 ghost use Rattle.keeper_core.specs.Beside.{moment_beside, on_store};
 ghost use Rattle.keeper_core.specs.Calls as call;
 ghost use Rattle.keeper_core.specs.Moment.{Acts, Runs};
-ghost use Rattle.session_core.specs.SessionState.{IsInStep, StaysInStep, SameObjects, new_session};
+ghost use Rattle.session_core.specs.SessionState.{IsInStep, StaysInStep, SameObjects, depth_of, in_transaction, new_session};
 ghost use Rattle.session_core.specs.Making as making;
 ghost use Rattle.session_core.specs.Making.{IsQuiet};
 ghost use Rattle.session_core.specs.Steps as steps;
@@ -19,32 +18,31 @@ use base_core::{AttrNo, ClassId, ObjId, Refusal, RequestKind, Value};
 use keeper_core::{Keeper, calls};
 use mapper_core::Mapping;
 use object_arena::{Arena, State};
+use savepoints::Frames;
 use std::alloc::Global;
 use std::marker::Model;
 
-/// A session over a configured mapping: its objects, whether a transaction is in progress, and whether a flush failed
-/// that was not rolled back yet.
+/// A session over a configured mapping: its objects, the scopes in progress, and whether a flush failed that was not
+/// rolled back yet.
 #[derive(Drop)]
 pub struct Session {
     pub(crate) alloc: Global,
     pub(crate) mapping: Mapping,
     pub(crate) arena: Arena,
-    pub(crate) in_transaction: bool,
+    pub(crate) frames: Frames,
     pub(crate) failed: bool,
     /// How many add numbers were given.
     pub(crate) added: u64,
 }
 
 impl Model for Session {
-    ghost use Rattle.std.specs.Prelude.{◌≡◌, true};
-    ghost use Rattle.object_arena.specs.Fit.{IsFit};
-    ghost use Rattle.session_core.specs.SessionState.{SessionState};
+    ghost use Rattle.session_core.specs.SessionState.{IsSession, SessionState};
 
     ghost Value = { SessionState };
 
-    ghost view = { λ s. record { mapping = s.mapping; graph = s.arena; in_transaction = s.in_transaction; failed = s.failed; added = s.added } };
+    ghost view = { λ s. record { mapping = s.mapping; graph = s.arena; scopes = s.frames; failed = s.failed; added = s.added } };
 
-    ghost invariant = { λ s. (s.mapping.configured ≡ true) × IsFit s.mapping s.arena };
+    ghost invariant = { λ s. IsSession s.mapping s.arena s.frames };
 }
 
 impl Session {
@@ -57,7 +55,7 @@ impl Session {
             alloc,
             mapping,
             arena: Arena::new(alloc),
-            in_transaction: false,
+            frames: Frames::new(alloc),
             failed: false,
             added: 0,
         }
@@ -96,13 +94,10 @@ impl Session {
 
     /// How many scopes are in progress, a failed one included.
     pub fn depth(&self) -> u32
-        ensures { result ≡ (if self.now.in_transaction then 1 else if self.now.failed then 1 else 0) }
+        ensures { result ≡ depth_of self.now }
     {
-        if self.in_transaction || self.failed {
-            1
-        } else {
-            0
-        }
+        let open = self.frames.depth();
+        if self.failed { open + 1 } else { open }
     }
 
     /// Makes a transient object with these values, each attribute once; the others are NULL.
@@ -115,7 +110,7 @@ impl Session {
         requires class { IsClass self.old.mapping class }
         ensures step { IsQuiet (λ object. object) (making.made class cells.now self.old) result self.new }
         ensures exists { IfOk result (λ object. IsObject self.new.graph object) }
-        ensures scopes { self.new.in_transaction ≡ self.old.in_transaction }
+        ensures scopes { self.new.scopes ≡ self.old.scopes }
         ensures mapping { self.new.mapping ≡ self.old.mapping }
         ensures cause { IfErr result (λ e. e ≢ Refusal.KeeperFault) }
     {
@@ -176,7 +171,7 @@ impl Session {
         ensures acts { Acts (K.moment keeper.old) result (K.moment keeper.new) }
         ensures in_step { StaysInStep result self.new (K.moment keeper.new) }
         ensures same { SameObjects self.old self.new }
-        ensures outside { OnOk result (self.new.in_transaction ≡ false) }
+        ensures outside { OnOk result (self.new.scopes ≡ []) }
         ensures stops { IfErr result (λ e. ends_early e ≡ true) }
     {
         self.leave(keeper)?;
@@ -184,30 +179,39 @@ impl Session {
     }
 
     /// A call is refused while a failed flush waits for its rollback; else a transaction begins where none is in progress.
-    #[tactic(auto, using(keeper_core::proofs::Sequence::sequence, keeper_core::proofs::Lifting::lifting), unfolding(crate::specs::Steps::enter))]
+    #[tactic(auto, using(keeper_core::proofs::Sequence::sequence, keeper_core::proofs::Lifting::lifting, crate::proofs::SessionLemmas::scopes), unfolding(crate::specs::Steps::enter))]
     fn enter<K: Keeper>(&mut self, keeper: &mut K) -> Result<(), Refusal>
         requires in_step { IsInStep self.old (K.moment keeper.old) }
         ensures step { Runs (moment_beside K.moment) (λ u. u) steps.enter (self.old, keeper.old) result (self.new, keeper.new) }
         ensures in_step { StaysInStep result self.new (K.moment keeper.new) }
-        ensures entered { OnOk result (self.new.in_transaction ≡ true) }
+        ensures entered { OnOk result (length self.new.scopes ≡ 1) }
         ensures same { SameObjects self.old self.new }
     {
         if self.failed {
             return Err(Refusal::PendingRollbackError);
         }
-        if self.in_transaction {
+        if self.frames.depth() > 0 {
             return Ok(());
         }
         self.begin(keeper)?;
-        self.in_transaction = true;
-        Ok(())
+        self.begin_scope()
+    }
+
+    /// The transaction's scope starts with the objects as they stand now. The only refusal is want of memory.
+    fn begin_scope(&mut self) -> Result<(), Refusal>
+        requires outside { self.old.scopes ≡ [] }
+        ensures ok { OnOk result (self.new ≡ steps.begun self.old) }
+        ensures cause { IfErr result (λ e. e ≡ Refusal.Memory) }
+        ensures same { SameObjects self.old self.new }
+    {
+        self.frames.push(&self.arena)
     }
 
     /// Begins a transaction of the store, and leaves the session as it is.
     #[tactic(auto, using(keeper_core::proofs::Lifting::lifting))]
     fn begin<K: Keeper>(&self, keeper: &mut K) -> Result<(), Refusal>
         requires in_step { IsInStep self.now (K.moment keeper.old) }
-        requires outside { self.now.in_transaction ≡ false }
+        requires outside { self.now.scopes ≡ [] }
         ensures step { Runs (moment_beside K.moment) (λ u. u) (on_store call.begin) (self.now, keeper.old) result (self.now, keeper.new) }
         ensures depth { OnOk result ((K.moment keeper.new).depth ≡ 1) }
         ensures attached { (K.moment keeper.new).attached ≡ true }
@@ -220,7 +224,7 @@ impl Session {
     #[tactic(auto, using(keeper_core::proofs::Lifting::lifting))]
     fn commit_store<K: Keeper>(&self, keeper: &mut K) -> Result<(), Refusal>
         requires in_step { IsInStep self.now (K.moment keeper.old) }
-        requires inside { self.now.in_transaction ≡ true }
+        requires inside { length self.now.scopes ≡ 1 }
         ensures step { Runs (moment_beside K.moment) (λ u. u) (on_store call.commit) (self.now, keeper.old) result (self.now, keeper.new) }
         ensures ended { (K.moment keeper.new).depth ≡ 0 }
         ensures attached { (K.moment keeper.new).attached ≡ true }
@@ -230,15 +234,15 @@ impl Session {
     }
 
     /// Rolls the transaction of the store back, where one is in progress.
-    #[tactic(auto, using(keeper_core::proofs::Sequence::sequence, keeper_core::proofs::Lifting::lifting))]
+    #[tactic(auto, using(keeper_core::proofs::Sequence::sequence, keeper_core::proofs::Lifting::lifting, crate::proofs::SessionLemmas::scopes))]
     fn leave<K: Keeper>(&self, keeper: &mut K) -> Result<(), Refusal>
         requires in_step { IsInStep self.now (K.moment keeper.old) }
-        ensures step { Runs (moment_beside K.moment) (λ u. u) (steps.leaving self.now.in_transaction) (self.now, keeper.old) result (self.now, keeper.new) }
+        ensures step { Runs (moment_beside K.moment) (λ u. u) (steps.leaving (in_transaction self.now)) (self.now, keeper.old) result (self.now, keeper.new) }
         ensures ended { (K.moment keeper.new).depth ≡ 0 }
         ensures attached { (K.moment keeper.new).attached ≡ true }
         ensures stops { IfErr result (λ e. ends_early e ≡ true) }
     {
-        if self.in_transaction {
+        if self.frames.depth() > 0 {
             return self.roll_back(keeper);
         }
         Ok(())
@@ -249,7 +253,7 @@ impl Session {
     fn take_in(&mut self, object: ObjId) -> Result<(), Refusal>
         requires object { IsObject self.old.graph object }
         ensures step { IsQuiet (λ u. u) (steps.take_in object self.old) result self.new }
-        ensures scopes { self.new.in_transaction ≡ self.old.in_transaction }
+        ensures scopes { self.new.scopes ≡ self.old.scopes }
         ensures same { SameObjects self.old self.new }
     {
         match self.arena.state_of(object) {
@@ -271,9 +275,8 @@ impl Session {
         ensures cause { IfErr result (λ e. e ≡ Refusal.Memory) }
         ensures same { SameObjects self.old self.new }
     {
-        commit_all(&mut self.arena)?;
-        self.in_transaction = false;
-        Ok(())
+        self.frames.clear();
+        commit_all(&mut self.arena)
     }
 
     /// No transaction is in progress, and every object leaves the session. The only refusal is want of memory.
@@ -282,9 +285,8 @@ impl Session {
         ensures cause { IfErr result (λ e. e ≡ Refusal.Memory) }
         ensures same { SameObjects self.old self.new }
     {
-        let_go_all(&mut self.arena)?;
-        self.in_transaction = false;
+        self.frames.clear();
         self.failed = false;
-        Ok(())
+        let_go_all(&mut self.arena)
     }
 }

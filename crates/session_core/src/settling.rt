@@ -1,4 +1,4 @@
-//! What becomes of objects whose rows were written, and at the end of a transaction.
+//! What becomes of objects whose rows were written, and at the end of a transaction that was not rolled back.
 
 ghost use Rattle.std.specs.Prelude.{◌≡◌, true, false, length, IfOk, IfErr, OnOk, ◌==◌};
 ghost use Rattle.std.specs.List.{position};
@@ -7,6 +7,7 @@ ghost use Rattle.object_arena.specs.Graph.{IsCell, IsObject, object_at, root_at,
 ghost use Rattle.object_arena.specs.declared.object.State.TheVariants.{Pending};
 ghost use Rattle.object_arena.specs.Identity.{find_identity, is_taken};
 ghost use Rattle.object_arena.specs.Fit.{IsFit, key_fits};
+ghost use Rattle.object_arena.specs.Every.{classes_of, each_object};
 ghost use Rattle.session_core.specs.Flush as spec;
 
 use crate::rows::value_or_null;
@@ -31,6 +32,7 @@ pub(crate) fn settle(
     ensures cause { IfErr result (λ e. e ≡ Refusal.Memory) }
     ensures fit { IsFit mapping.now arena.new }
     ensures same { length arena.new.objects ≡ length arena.old.objects }
+    ensures classes { classes_of arena.new ≡ classes_of arena.old }
 {
     let written = key.copied()?;
     put_under_key(arena, mapping, object, key)?;
@@ -52,6 +54,7 @@ fn put_under_key(
     ensures fit { IsFit mapping.now arena.new }
     ensures same { length arena.new.objects ≡ length arena.old.objects }
     ensures class { (object_at arena.new object).class ≡ (object_at arena.old object).class }
+    ensures classes { classes_of arena.new ≡ classes_of arena.old }
 {
     free(arena, mapping, object, &key)?;
     arena.register(object, key)
@@ -67,6 +70,7 @@ fn free(arena: &mut Arena, mapping: &Mapping, object: ObjId, key: &Key) -> Resul
     ensures fit { IsFit mapping.now arena.new }
     ensures same { length arena.new.objects ≡ length arena.old.objects }
     ensures class { (object_at arena.new object).class ≡ (object_at arena.old object).class }
+    ensures classes { classes_of arena.new ≡ classes_of arena.old }
 {
     let root = arena.class_of(object);
     match arena.find_identity(root, key) {
@@ -91,6 +95,7 @@ fn write_cells(
     ensures cause { IfErr result (λ e. e ≡ Refusal.Memory) }
     ensures fit { IsFit mapping.now arena.new }
     ensures same { length arena.new.objects ≡ length arena.old.objects }
+    ensures classes { classes_of arena.new ≡ classes_of arena.old }
 {
     for place in 0..arena.object(object).cells.len() {
         let Ok(attr) = u32::try_from(place) else {
@@ -120,6 +125,7 @@ fn write_cell(
     ensures same { length arena.new.objects ≡ length arena.old.objects }
     ensures class { (object_at arena.new object).class ≡ (object_at arena.old object).class }
     ensures width { length (object_at arena.new object).cells ≡ length (object_at arena.old object).cells }
+    ensures classes { classes_of arena.new ≡ classes_of arena.old }
 {
     let record = arena.object(object);
     let value = written_value(
@@ -166,42 +172,6 @@ fn value_under(key: &Key, found: Option<usize>, cell: &Cell) -> Result<Value, Al
     }
 }
 
-#[tactic(auto, using(crate::proofs::ObjectLemmas::turns))]
-/// Every object is as it is after a rollback. The only refusal is want of memory.
-pub(crate) fn restore_all(arena: &mut Arena) -> Result<(), Refusal>
-    ensures ok { OnOk result (arena.new ≡ spec.each_object spec.restored arena.old) }
-    ensures cause { IfErr result (λ e. e ≡ Refusal.Memory) }
-    ensures fits { (mapped : Mapped) → IsFit mapped arena.old → IsFit mapped arena.new }
-    ensures same { length arena.new.objects ≡ length arena.old.objects }
-{
-    for number in 0..arena.count() {
-        restore(arena, ObjId(number + 1))?;
-    }
-    Ok(())
-}
-
-/// A pending object is transient again, a persistent one expired, and no delete mark stays.
-fn restore(arena: &mut Arena, object: ObjId) -> Result<(), Refusal>
-    requires { IsObject arena.old object }
-    ensures ok { OnOk result (arena.new ≡ with_object arena.old object (spec.restored (object_at arena.old object))) }
-    ensures cause { IfErr result (λ e. e ≡ Refusal.Memory) }
-    ensures fits { (mapped : Mapped) → IsFit mapped arena.old → IsFit mapped arena.new }
-    ensures same { length arena.new.objects ≡ length arena.old.objects }
-{
-    unmark(arena, object)?;
-    match arena.state_of(object) {
-        State::Pending => {
-            arena.put_back(object, State::Transient, None);
-            Ok(())
-        }
-        State::Persistent => {
-            arena.expire(object);
-            Ok(())
-        }
-        State::Transient | State::Deleted | State::Detached => Ok(()),
-    }
-}
-
 /// A delete mark is taken away. The only refusal is want of memory.
 pub(crate) fn unmark(arena: &mut Arena, object: ObjId) -> Result<(), Refusal>
     requires { IsObject arena.old object }
@@ -209,6 +179,7 @@ pub(crate) fn unmark(arena: &mut Arena, object: ObjId) -> Result<(), Refusal>
     ensures cause { IfErr result (λ e. e ≡ Refusal.Memory) }
     ensures fits { (mapped : Mapped) → IsFit mapped arena.old → IsFit mapped arena.new }
     ensures same { length arena.new.objects ≡ length arena.old.objects }
+    ensures classes { classes_of arena.new ≡ classes_of arena.old }
 {
     let (added, orphan) = {
         let record = arena.object(object);
@@ -217,10 +188,10 @@ pub(crate) fn unmark(arena: &mut Arena, object: ObjId) -> Result<(), Refusal>
     arena.put_marks(object, added, false, orphan)
 }
 
-#[tactic(auto, using(crate::proofs::ObjectLemmas::turns))]
+#[tactic(auto, using(object_arena::proofs::TurnLemmas::turns))]
 /// Every object is as it is after a commit. The only refusal is want of memory.
 pub(crate) fn commit_all(arena: &mut Arena) -> Result<(), Refusal>
-    ensures ok { OnOk result (arena.new ≡ spec.each_object spec.committed arena.old) }
+    ensures ok { OnOk result (arena.new ≡ each_object spec.committed arena.old) }
     ensures cause { IfErr result (λ e. e ≡ Refusal.Memory) }
     ensures fits { (mapped : Mapped) → IsFit mapped arena.old → IsFit mapped arena.new }
     ensures same { length arena.new.objects ≡ length arena.old.objects }
@@ -249,10 +220,10 @@ fn commit_one(arena: &mut Arena, object: ObjId) -> Result<(), Refusal>
     }
 }
 
-#[tactic(auto, using(crate::proofs::ObjectLemmas::turns))]
+#[tactic(auto, using(object_arena::proofs::TurnLemmas::turns))]
 /// Every object leaves the session. The only refusal is want of memory.
 pub(crate) fn let_go_all(arena: &mut Arena) -> Result<(), Refusal>
-    ensures ok { OnOk result (arena.new ≡ spec.each_object spec.left arena.old) }
+    ensures ok { OnOk result (arena.new ≡ each_object spec.left arena.old) }
     ensures cause { IfErr result (λ e. e ≡ Refusal.Memory) }
     ensures fits { (mapped : Mapped) → IsFit mapped arena.old → IsFit mapped arena.new }
     ensures same { length arena.new.objects ≡ length arena.old.objects }
@@ -292,6 +263,7 @@ pub(crate) fn put_pending(arena: &mut Arena, object: ObjId, added: u64) -> Resul
     ensures cause { IfErr result (λ e. e ≡ Refusal.Memory) }
     ensures fits { (mapped : Mapped) → IsFit mapped arena.old → IsFit mapped arena.new }
     ensures same { length arena.new.objects ≡ length arena.old.objects }
+    ensures classes { classes_of arena.new ≡ classes_of arena.old }
 {
     let orphan = arena.object(object).orphan;
     arena.put_marks(object, added, false, orphan)?;

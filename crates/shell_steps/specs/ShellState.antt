@@ -50,9 +50,9 @@ StaysReady (Err e) stage moment = ends_early e ≡ false → IsReady stage momen
 -- and scopes
 abbrev pub IsKept : Stage → Stage → Type 0
 IsKept (Declaring old) (Declaring new) = Unit {0}
-IsKept (Declaring old) (Configured new) = (new.mapping.schema.resolved ≡ true) × (new.in_transaction ≡ false)
+IsKept (Declaring old) (Configured new) = (new.mapping.schema.resolved ≡ true) × (new.scopes ≡ [])
 IsKept (Configured old) (Declaring new) = ⊥
-IsKept (Configured old) (Configured new) = (new.mapping ≡ old.mapping) × (new.in_transaction ≡ old.in_transaction)
+IsKept (Configured old) (Configured new) = (new.mapping ≡ old.mapping) × (new.scopes ≡ old.scopes)
 
 -- the object is one of the session's
 abbrev pub HasObject : Stage → ObjId → Type 0

@@ -27,7 +27,7 @@ use Rattle.keeper_core.specs.Store.{Store}
 use Rattle.keeper_core.specs.Acting.{Run, ◌>>=◌, change, each, give, guarded, quiet, refuse}
 use Rattle.keeper_core.specs.Beside.{Beside, beside_run, by_own, on_own}
 use Rattle.keeper_core.specs.Calls as call
-use Rattle.session_core.specs.SessionState.{SessionState, new_session}
+use Rattle.session_core.specs.SessionState.{SessionState, in_transaction, new_session}
 use Rattle.session_core.specs.Making.{made}
 use Rattle.session_core.specs.Steps as session
 use Rattle.shell_steps.specs.declared.stage.Stage.{Stage}
@@ -127,7 +127,7 @@ create_tables schema = each create_one tt (dependency_order schema)
 
 -- a transaction is in progress, or a failed one awaits its rollback
 abbrev pub is_open : SessionState → Bool
-is_open state = state.in_transaction || state.failed
+is_open state = in_transaction state || state.failed
 
 abbrev pub creating_if : Bool → SessionState → Store → Run Store (List ℕ)
 creating_if true state = refuse (InvalidRequestError InTransaction)

@@ -1,6 +1,6 @@
 //! The commands that are done over the mapping, the session and the keeper.
 
-ghost use Rattle.std.specs.Prelude.{◌≡◌, ◌≤◌, ◌<◌, ◌++◌, true, false, length, IfErr, IfOk, OnOk};
+ghost use Rattle.std.specs.Prelude.{◌≡◌, ◌≤◌, ◌<◌, ◌++◌, [], true, false, length, IfErr, IfOk, OnOk};
 ghost use Rattle.keeper_core.specs.Acting.{change, each, ends_early};
 ghost use Rattle.keeper_core.specs.Beside.{moment_beside};
 ghost use Rattle.keeper_core.specs.Moment.{Runs};
@@ -206,7 +206,7 @@ fn open_session(alloc: Global, stage: &mut Stage) -> Result<(), Refusal>
 /// Whether a transaction is in progress, or a failed one awaits its rollback.
 fn is_open(session: &Session) -> bool
     ensures open { result ≡ step.is_open session.now }
-    ensures outside { result ≡ false → session.now.in_transaction ≡ false }
+    ensures outside { result ≡ false → session.now.scopes ≡ [] }
 {
     session.depth() > 0
 }

@@ -22,4 +22,5 @@ loop-attr-preserved c = (
       c.put_value.ensures.fits mapped (c.loop-attr.invariant.3 mapped fit none)
       (subst (λ (k : ClassId). mismatch_at (slice_get (attributes_of mapped k) c.loop-attr-item.result.0.0) c.loop-attr-item.result.1 ≡ None) (sym c.loop-attr.invariant.2)
       (taken_at (attributes_of mapped (object_at c.args.arena.now c.args.object).class) c.args.cells.now c.loop-attr.attr-index c.loop-attr-item.result none c.loop-attr-test.true c.loop-attr-item.is)),
+  c.in_ok-put_value.ensures.classes ∙ c.loop-attr.invariant.4,
 )

@@ -2,7 +2,7 @@ use Rattle.std.proofs.Common.{◌≡◌, length}
 use Rattle.mapper_core.specs.Mapped.{Mapped}
 use Rattle.object_arena.specs.Fit.{IsFit}
 use Rattle.session_core.specs.Flush.{committed}
-use Rattle.session_core.proofs.ObjectLemmas.{changed_before}
+use Rattle.object_arena.proofs.TurnLemmas.{changed_before}
 use Rattle.session_core.proofs.settling.commit_all.Given as goal
 
 abbrev pub invariant-loop-number : goal.invariant-loop-number

@@ -16,4 +16,5 @@ loop-place-preserved c =
       c.in_ok-write_cell.ensures.fit,
       c.in_ok-write_cell.ensures.class ∙ c.loop-place.invariant.3,
       c.in_ok-write_cell.ensures.width ∙ c.loop-place.invariant.4,
+      c.in_ok-write_cell.ensures.classes ∙ c.loop-place.invariant.5,
     )

@@ -11,4 +11,4 @@ invariant-loop-object l =
     (goal.iterator-loop-object).can_next l.object-iterator × (goal.iterator-loop-object).is_finite l.object-iterator
     × (flushed (into_iter_items l.object-iterator) l.self ≡ flushed l.fn.written l.fn.self)
     × All (IsUnderKey l.self.mapping l.self.graph) (into_iter_items l.object-iterator)
-    × SameObjects l.fn.self l.self × (l.self.in_transaction ≡ l.fn.self.in_transaction)
+    × SameObjects l.fn.self l.self × (l.self.scopes ≡ l.fn.self.scopes)
