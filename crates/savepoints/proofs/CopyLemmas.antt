@@ -19,7 +19,7 @@ use Rattle.object_arena.proofs.FitLemmas.{object_back}
 use Rattle.object_arena.proofs.GraphLemmas.{graph_pushed}
 use Rattle.savepoints.specs.declared.scope.Standing.{Standing}
 use Rattle.savepoints.specs.declared.scope.Scope.{Scope}
-use Rattle.savepoints.specs.Scopes.{IsCopy, begun_at, made_since, put_back_all, put_back_to, standing_at, standing_of}
+use Rattle.savepoints.specs.Scopes.{HasKeys, IsCopy, begun_at, made_since, put_back_all, put_back_to, standing_at, standing_of}
 use Rattle.savepoints.proofs.BackLemmas.{back_at, back_long, back_stands}
 
 -- ---- objects that stand alike
@@ -95,32 +95,34 @@ same_roots scope graph = refl
 -- ---- what a copy gives
 
 -- objects that go back fit the mapping
-pub back_fits : (mapped : Mapped) (graph : Graph) (scope : Scope) → IsCopy mapped graph scope → IsFit mapped graph → IsFit mapped (put_back_all scope graph)
-back_fits mapped graph scope copy fit = record {
+pub back_fits : (mapped : Mapped) (graph : Graph) (scope : Scope) → HasKeys mapped graph scope → IsFit mapped graph → IsFit mapped (put_back_all scope graph)
+back_fits mapped graph scope keys fit = record {
   objects = λ k d less.
       let inside : k < length graph.objects = omega (arith, back_long scope graph, less) in
       subst (ObjectFits mapped) (sym (back_at scope graph k d no_object inside))
-      (object_back mapped (get_or graph.objects k no_object) (standing_at scope k).state (standing_at scope k).identity (fit.objects k no_object inside) (copy.keys k inside));
+      (object_back mapped (get_or graph.objects k no_object) (standing_at scope k).state (standing_at scope k).identity (fit.objects k no_object inside) (keys k inside));
   roots = same_roots scope graph ∙ fit.roots ∙ sym (back_roots scope graph mapped);
 }
 
 -- ---- how a copy comes about, and that it stays one
 
+stood_at : (graph : Graph) (i : ℕ) → i < length graph.objects → standing_at (begun_at graph) i ≡ standing_of (get_or graph.objects i no_object)
+stood_at graph i less = get_or-map (λ object. standing_of object) graph.objects i no_object made_since less
+
 -- a scope that begins
-pub copy_begun : (mapped : Mapped) (graph : Graph) → IsFit mapped graph → IsGraph graph.objects graph.roots → IsCopy mapped graph (begun_at graph)
-copy_begun mapped graph fit whole = record {
+pub copy_begun : (graph : Graph) → IsGraph graph.objects graph.roots → IsCopy graph (begun_at graph)
+copy_begun graph whole = record {
   few = let long : length (map (λ object. standing_of object) graph.objects) ≡ length graph.objects = length-map graph.objects (λ object. standing_of object) in omega (arith, long);
   back = graph_alike graph.objects (put_back_all (begun_at graph) graph).objects graph.roots (back_long (begun_at graph) graph)
-      (λ i less. back_stands (begun_at graph) graph i less ∙ stood i less) whole;
-  keys = λ place less. rw (stood place less) (fit.objects place no_object less).identity;
+      (λ i less. back_stands (begun_at graph) graph i less ∙ stood_at graph i less) whole;
 }
-  where
-    stood : (i : ℕ) → i < length graph.objects → standing_at (begun_at graph) i ≡ standing_of (get_or graph.objects i no_object)
-    stood i less = get_or-map (λ object. standing_of object) graph.objects i no_object made_since less
+
+pub keys_begun : (mapped : Mapped) (graph : Graph) → IsFit mapped graph → HasKeys mapped graph (begun_at graph)
+keys_begun mapped graph fit = λ place less. rw (stood_at graph place less) (fit.objects place no_object less).identity
 
 -- objects that change, each in its class
-pub copy_kept : (mapped : Mapped) (old new : Graph) (scope : Scope) → classes_of new ≡ classes_of old → IsCopy mapped old scope → IsCopy mapped new scope
-copy_kept mapped old new scope same copy =
+pub copy_kept : (old new : Graph) (scope : Scope) → classes_of new ≡ classes_of old → IsCopy old scope → IsCopy new scope
+copy_kept old new scope same copy =
     let long : length new.objects ≡ length old.objects = classes_long old new same in
     record {
       few = rw long copy.few;
@@ -130,20 +132,22 @@ copy_kept mapped old new scope same copy =
           let inside : i < length old.objects = omega (arith, back_long scope old, less) in
           back_stands scope new i (rw long inside) ∙ sym (back_stands scope old i inside))
           copy.back);
-      keys = λ place less.
-          let inside : place < length old.objects = omega (arith, long, less) in
-          ap (λ (class : ClassId). identity_fits mapped class (standing_at scope place).identity) (class_at old new place same inside) ∙ copy.keys place inside;
     }
 
+pub keys_kept : (mapped : Mapped) (old new : Graph) (scope : Scope) → classes_of new ≡ classes_of old → HasKeys mapped old scope → HasKeys mapped new scope
+keys_kept mapped old new scope same keys = λ place less.
+    let inside : place < length old.objects = omega (arith, classes_long old new same, less) in
+    ap (λ (class : ClassId). identity_fits mapped class (standing_at scope place).identity) (class_at old new place same inside) ∙ keys place inside
+
 -- an object that is made
-pub copy_made : (mapped : Mapped) (old new : Graph) (class : ClassId) (scope : Scope) → new ≡ with_fresh old mapped class → length old.objects < object_limit → IsCopy mapped old scope → IsCopy mapped new scope
+pub copy_made : (mapped : Mapped) (old new : Graph) (class : ClassId) (scope : Scope) → new ≡ with_fresh old mapped class → length old.objects < object_limit → IsCopy old scope → IsCopy new scope
 copy_made mapped old new class scope is room copy =
     let made : Graph = with_fresh old mapped class in
     let fresh : Object = fresh_object mapped class in
     let long : length made.objects ≡ length old.objects + 1 = length-append old.objects (fresh ∷ []) in
     let xs : List Object = (put_back_all scope old).objects ++ no_object ∷ [] in
     let xs_long : length xs ≡ length old.objects + 1 = length-append (put_back_all scope old).objects (no_object ∷ []) ∙ ap (λ (n : ℕ). n + 1) (back_long scope old) in
-    subst (λ (g : Graph). IsCopy mapped g scope) (sym is)
+    subst (λ (g : Graph). IsCopy g scope) (sym is)
     (record {
       few = omega (arith, long, copy.few);
       back = graph_alike xs (put_back_all scope made).objects made.roots (back_long scope made ∙ long ∙ sym xs_long)
@@ -151,14 +155,6 @@ copy_made mapped old new class scope is room copy =
           let inside : i < length made.objects = omega (arith, long, xs_long, less) in
           back_stands scope made i inside ∙ stood i (omega (arith, xs_long, less)))
           (graph_pushed (put_back_all scope old).objects old.roots no_object (root_of mapped class) copy.back (rw back_long room) refl refl);
-      keys = λ place less.
-          ⊎_elim
-          (λ (inside : place < length old.objects).
-          ap (λ (o : Object). identity_fits mapped o.class (standing_at scope place).identity) (get_or_append_left old.objects (fresh ∷ []) no_object place inside) ∙ copy.keys place inside)
-          (λ (past : length old.objects ≤ place).
-          let since : standing_at scope place ≡ made_since = get_or_past scope.standings place made_since (omega (arith, copy.few, past)) in
-          rw since refl)
-          (cases_lt place (length old.objects));
     })
   where
     stood : (i : ℕ) → i < length old.objects + 1 → standing_at scope i ≡ standing_of (get_or ((put_back_all scope old).objects ++ no_object ∷ []) i no_object)
@@ -170,3 +166,16 @@ copy_made mapped old new class scope is room copy =
         get_or_past scope.standings i made_since (omega (arith, copy.few, past))
         ∙ sym (ap (λ (o : Object). standing_of o) (get_or_push (put_back_all scope old).objects no_object no_object i (back_long scope old ∙ omega (arith, past, less)))))
         (cases_lt i (length old.objects))
+
+pub keys_made : (mapped : Mapped) (old new : Graph) (class : ClassId) (scope : Scope) → new ≡ with_fresh old mapped class → length scope.standings ≤ length old.objects → HasKeys mapped old scope → HasKeys mapped new scope
+keys_made mapped old new class scope is few keys =
+    let fresh : Object = fresh_object mapped class in
+    subst (λ (g : Graph). HasKeys mapped g scope) (sym is)
+    (λ place less.
+    ⊎_elim
+    (λ (inside : place < length old.objects).
+    ap (λ (o : Object). identity_fits mapped o.class (standing_at scope place).identity) (get_or_append_left old.objects (fresh ∷ []) no_object place inside) ∙ keys place inside)
+    (λ (past : length old.objects ≤ place).
+    let since : standing_at scope place ≡ made_since = get_or_past scope.standings place made_since (omega (arith, few, past)) in
+    rw since refl)
+    (cases_lt place (length old.objects)))

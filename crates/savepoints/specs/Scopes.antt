@@ -52,12 +52,15 @@ expired_in state object = object
 unfoldable pub all_expired : Graph → Graph
 all_expired graph = each_object (λ object. expired_in object.state object) graph
 
--- The scope can be gone back to, as objects change and more are made: the graph with its objects where they stood is one,
--- and they have keys of their classes.
-pub record IsCopy (mapped : Mapped) (graph : Graph) (scope : Scope) : Type 0 where
+-- The scope can be gone back to, as objects change and more are made: the graph with its objects where they stood is one.
+pub record IsCopy (graph : Graph) (scope : Scope) : Type 0 where
   pub few : length scope.standings ≤ length graph.objects
   pub back : IsGraph (put_back_all scope graph).objects graph.roots
-  pub keys : (place : ℕ) → place < length graph.objects → identity_fits mapped (slice_index_or graph.objects place no_object).class (standing_at scope place).identity ≡ true
+
+-- the objects had keys of their classes
+abbrev pub HasKeys : Mapped → Graph → Scope → Type 0
+HasKeys mapped graph scope =
+    (place : ℕ) → place < length graph.objects → identity_fits mapped (slice_index_or graph.objects place no_object).class (standing_at scope place).identity ≡ true
 
 -- ---- the scopes, the innermost first; the outermost is the transaction, and the others are savepoints
 

@@ -5,7 +5,6 @@ ghost use Rattle.std.specs.List.{All};
 ghost use Rattle.base_core.specs.Answers.{Takes};
 ghost use Rattle.base_core.specs.declared.refusal.Refusal.TheVariants.{Memory};
 ghost use Rattle.mapper_core.specs.Mapped.{Mapped};
-ghost use Rattle.object_arena.specs.Identity.{IsGraph};
 ghost use Rattle.object_arena.specs.Fit.{IsFit};
 ghost use Rattle.object_arena.specs.Every.{classes_of};
 ghost use Rattle.savepoints.specs.Scopes as spec;
@@ -68,7 +67,8 @@ impl Frames {
         ensures step { Takes (λ _. tt) (spec.push arena.now self.old) self.old result self.new }
         ensures pushed { OnOk result (self.new ≡ spec.begun_at arena.now ∷ self.old) }
         ensures cause { length self.old < spec.scope_limit → IfErr result (λ e. e ≡ Memory) }
-        ensures copies { (mapped : Mapped) → IsFit mapped arena.now → All (spec.IsCopy mapped arena.now) self.old → All (spec.IsCopy mapped arena.now) self.new }
+        ensures copies { All (spec.IsCopy arena.now) self.old → All (spec.IsCopy arena.now) self.new }
+        ensures keys { (mapped : Mapped) → IsFit mapped arena.now → All (spec.HasKeys mapped arena.now) self.old → All (spec.HasKeys mapped arena.now) self.new }
     {
         if self.scopes.len() >= SCOPE_LIMIT {
             return Err(Refusal::LimitReached(LimitKind::Savepoints));
@@ -99,10 +99,10 @@ impl Frames {
     #[tactic(auto, unfolding(crate::specs::Scopes::restored))]
     pub fn restore(&mut self, arena: &mut Arena, depth: u32)
         requires depth { (1 ≤ depth) × (depth ≤ length self.old) }
-        requires copy { IsGraph (spec.put_back_all (spec.scope_at depth self.old) arena.old).objects arena.old.roots }
+        requires copy { spec.IsCopy arena.old (spec.scope_at depth self.old) }
         ensures restored { arena.new ≡ spec.restored depth self.old arena.old }
         ensures scopes { self.new ≡ spec.around depth self.old }
-        ensures fits { (mapped : Mapped) → spec.IsCopy mapped arena.old (spec.scope_at depth self.old) → IsFit mapped arena.old → IsFit mapped arena.new }
+        ensures fits { (mapped : Mapped) → spec.HasKeys mapped arena.old (spec.scope_at depth self.old) → IsFit mapped arena.old → IsFit mapped arena.new }
         ensures classes { classes_of arena.new ≡ classes_of arena.old }
     {
         let scope = self.end(depth);

@@ -46,7 +46,8 @@ fn standing_of(object: &Object) -> Result<Standing, AllocError>
 /// A scope that begins with the objects as they stand now. The only refusal is want of memory.
 pub(crate) fn begun_at(alloc: Global, arena: &Arena) -> Result<Scope, Refusal>
     ensures scope { IfOk result (λ scope. scope ≡ spec.begun_at arena.now) }
-    ensures copy { IfOk result (λ scope. (mapped : Mapped) → IsFit mapped arena.now → spec.IsCopy mapped arena.now scope) }
+    ensures copy { IfOk result (λ scope. spec.IsCopy arena.now scope) }
+    ensures keys { IfOk result (λ scope. (mapped : Mapped) → IsFit mapped arena.now → spec.HasKeys mapped arena.now scope) }
     ensures cause { IfErr result (λ e. e ≡ Memory) }
 {
     let mut standings = ListOf::new(alloc);

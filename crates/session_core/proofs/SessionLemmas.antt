@@ -10,8 +10,8 @@ use Rattle.object_arena.specs.Graph.{Graph, object_limit, with_fresh}
 use Rattle.object_arena.specs.Fit.{IsFit}
 use Rattle.object_arena.specs.Every.{classes_of}
 use Rattle.savepoints.specs.declared.scope.Scope.{Scope}
-use Rattle.savepoints.specs.Scopes.{IsCopy, begun_at, push}
-use Rattle.savepoints.proofs.CopyLemmas.{copy_kept, copy_made}
+use Rattle.savepoints.specs.Scopes.{HasKeys, IsCopy, begun_at, push}
+use Rattle.savepoints.proofs.CopyLemmas.{copy_kept, copy_made, keys_kept, keys_made}
 use Rattle.session_core.specs.SessionState.{IsSession, has_scope}
 
 -- objects that change, each in its class
@@ -19,7 +19,8 @@ pub session_kept : (mapped : Mapped) (old new : Graph) (scopes : List Scope) →
 session_kept mapped old new scopes fit same session = record {
   configured = session.configured;
   fit = fit;
-  copies = λ k d less. copy_kept mapped old new _ same (session.copies k d less);
+  copies = λ k d less. copy_kept old new _ same (session.copies k d less);
+  keys = λ k d less. keys_kept mapped old new _ same (session.keys k d less);
   one = session.one;
 }
 
@@ -29,6 +30,7 @@ session_made mapped old new class scopes fit is room session = record {
   configured = session.configured;
   fit = fit;
   copies = λ k d less. copy_made mapped old new class _ is room (session.copies k d less);
+  keys = λ k d less. keys_made mapped old new class _ is (session.copies k d less).few (session.keys k d less);
   one = session.one;
 }
 
@@ -37,17 +39,18 @@ pub session_outside : (mapped : Mapped) (graph : Graph) → mapped.configured �
 session_outside mapped graph configured fit = record {
   configured = configured;
   fit = fit;
-  copies = All-nil (IsCopy mapped graph);
+  copies = All-nil (IsCopy graph);
+  keys = All-nil (HasKeys mapped graph);
   one = omega arith;
 }
 
 -- the transaction's scope starts, unless that is refused
-pub session_begun : (mapped : Mapped) (graph : Graph) (old new : List Scope) (r : Result (Unit {0}) Refusal) → old ≡ [] → Takes (λ _. tt) (push graph old) old r new → OnOk r (new ≡ begun_at graph ∷ old) → All (IsCopy mapped graph) new → IsSession mapped graph old → IsSession mapped graph new
-session_begun mapped graph old new (Ok u) outside step is copies session =
+pub session_begun : (mapped : Mapped) (graph : Graph) (old new : List Scope) (r : Result (Unit {0}) Refusal) → old ≡ [] → Takes (λ _. tt) (push graph old) old r new → OnOk r (new ≡ begun_at graph ∷ old) → All (IsCopy graph) new → All (HasKeys mapped graph) new → IsSession mapped graph old → IsSession mapped graph new
+session_begun mapped graph old new (Ok u) outside step is copies keys session =
     let long : length new ≡ 1 = ap (λ (scopes : List Scope). length scopes) (is ∙ ap (λ (scopes : List Scope). begun_at graph ∷ scopes) outside) in
-    record { configured = session.configured; fit = session.fit; copies = copies; one = omega (arith, long) }
-session_begun mapped graph old new (Err e) outside step is copies session =
-    record { configured = session.configured; fit = session.fit; copies = copies; one = rw step.0 session.one }
+    record { configured = session.configured; fit = session.fit; copies = copies; keys = keys; one = omega (arith, long) }
+session_begun mapped graph old new (Err e) outside step is copies keys session =
+    record { configured = session.configured; fit = session.fit; copies = copies; keys = keys; one = rw step.0 session.one }
 
 -- a scope is in progress or none is
 pub inside : (scopes : List Scope) → 0 < length scopes → has_scope scopes ≡ true

@@ -6,7 +6,7 @@ use Rattle.mapper_core.specs.Mapped.{Mapped}
 use Rattle.object_arena.specs.Graph.{Graph, empty_graph}
 use Rattle.object_arena.specs.Fit.{IsFit}
 use Rattle.savepoints.specs.declared.scope.Scope.{Scope}
-use Rattle.savepoints.specs.Scopes.{IsCopy}
+use Rattle.savepoints.specs.Scopes.{HasKeys, IsCopy}
 use Rattle.keeper_core.specs.Acting.{ends_early}
 use Rattle.keeper_core.specs.Moment.{Moment}
 
@@ -24,7 +24,8 @@ pub record SessionState : Type 0 where
 pub record IsSession (mapped : Mapped) (graph : Graph) (scopes : List Scope) : Type 0 where
   pub configured : mapped.configured ≡ true
   pub fit : IsFit mapped graph
-  pub copies : All (IsCopy mapped graph) scopes
+  pub copies : All (IsCopy graph) scopes
+  pub keys : All (HasKeys mapped graph) scopes
   pub one : length scopes ≤ 1
 
 -- a session over a mapping, with no objects and no transaction
