@@ -1,9 +1,10 @@
 -- That a scope can be gone back to.
-use Rattle.std.proofs.Common.{◌≡◌, ℕ, ◌+◌, ◌<◌, ◌≤◌, true, ◌&&◌, List, [], ◌∷◌, ◌++◌, length, map, get_or, Option, is_some, refl, sym, ap, ◌∙◌, subst, ⊎_elim, arith}
+use Rattle.std.proofs.Common.{◌≡◌, ℕ, ◌+◌, ◌<◌, ◌≤◌, true, ◌&&◌, List, [], ◌∷◌, ◌++◌, length, map, get_or, Option, is_some, refl, sym, ap, ◌∙◌, subst, ⊎_elim, arith, ◌-◌, drop}
 use Rattle.std.specs.Prelude.{not, if◌then◌else◌, ◌==◌}
-use Rattle.std.specs.List.{enumerate_from}
+use Rattle.std.specs.List.{All, enumerate_from}
 use Rattle.std.proofs.lemmas.Bool.{cases_lt}
 use Rattle.std.proofs.lemmas.List.{get_or-map, get_or_append_left, get_or_default, get_or_past, get_or_push, length-append, length-map}
+use Rattle.std.proofs.lemmas.List.Elements.{All-drop, All-nil}
 use Rattle.base_core.specs.declared.ids.ClassId.{ClassId}
 use Rattle.base_core.specs.declared.value.Value.{Value}
 use Rattle.mapper_core.specs.Mapped.{Mapped, root_of}
@@ -19,7 +20,7 @@ use Rattle.object_arena.proofs.FitLemmas.{object_back}
 use Rattle.object_arena.proofs.GraphLemmas.{graph_pushed}
 use Rattle.savepoints.specs.declared.scope.Standing.{Standing}
 use Rattle.savepoints.specs.declared.scope.Scope.{Scope}
-use Rattle.savepoints.specs.Scopes.{HasKeys, IsCopy, begun_at, made_since, put_back_all, put_back_to, standing_at, standing_of}
+use Rattle.savepoints.specs.Scopes.{HasKeys, IsCopy, begun_at, made_since, no_scope, put_back_all, put_back_to, scope_at, standing_at, standing_of}
 use Rattle.savepoints.proofs.BackLemmas.{back_at, back_long, back_stands}
 
 -- ---- objects that stand alike
@@ -179,3 +180,22 @@ keys_made mapped old new class scope is few keys =
     let since : standing_at scope place ≡ made_since = get_or_past scope.standings place made_since (omega (arith, few, past)) in
     rw since refl)
     (cases_lt place (length old.objects)))
+
+-- ---- all scopes
+
+pub copies_none : (graph : Graph) → All (IsCopy graph) []
+copies_none graph = All-nil (IsCopy graph)
+
+pub copies_kept : (old new : Graph) (scopes : List Scope) → classes_of new ≡ classes_of old → All (IsCopy old) scopes → All (IsCopy new) scopes
+copies_kept old new scopes same all = λ k d less. copy_kept old new (get_or scopes k d) same (all k d less)
+
+pub copies_made : (mapped : Mapped) (old new : Graph) (class : ClassId) (scopes : List Scope) → new ≡ with_fresh old mapped class → length old.objects < object_limit → All (IsCopy old) scopes → All (IsCopy new) scopes
+copies_made mapped old new class scopes is room all = λ k d less. copy_made mapped old new class (get_or scopes k d) is room (all k d less)
+
+-- the scope at a depth
+pub copy_at : (graph : Graph) (depth : ℕ) (scopes : List Scope) → 1 ≤ depth → depth ≤ length scopes → All (IsCopy graph) scopes → IsCopy graph (scope_at depth scopes)
+copy_at graph depth scopes above within all = all (length scopes - depth) no_scope (omega arith)
+
+-- the scopes that are left
+pub copies_left : (graph : Graph) (n : ℕ) (scopes left : List Scope) → left ≡ drop n scopes → All (IsCopy graph) scopes → All (IsCopy graph) left
+copies_left graph n scopes left is all = rw is (All-drop (IsCopy graph) n scopes all)
