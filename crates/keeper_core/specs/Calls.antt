@@ -144,3 +144,7 @@ CanRefuse (row.Update table key cells) writes.KeysSpent = ⊥
 CanRefuse (row.Update table key cells) writes.PrimaryKey = ⊥
 CanRefuse statement (writes.NoTable absent) = absent ≡ table_of statement
 CanRefuse statement e = Unit {0}
+
+-- the same, told in the words of the layers above
+abbrev pub IsRefusalOf : RowStmt → Refusal → Type 0
+IsRefusalOf statement e = (refusal : WriteRefusal) × (e ≡ write_refusal (table_of statement) refusal) × CanRefuse statement refusal

@@ -7,7 +7,7 @@ ghost use Rattle.keeper_core.specs.Moment.{Runs};
 ghost use Rattle.keeper_core.specs.Acting as acting;
 ghost use Rattle.keeper_core.specs.Calls as call;
 ghost use Rattle.schema_core.specs.Apply as apply;
-ghost use Rattle.keeper_core.specs.Calls.{depth_left, stop_refusal};
+ghost use Rattle.keeper_core.specs.Calls.{depth_left, stop_refusal, IsRefusalOf};
 
 use crate::{Keeper, KeeperStop, WriteRefusal};
 use base_core::{IntegrityKind, Key, Refusal, RowList, TableId};
@@ -88,6 +88,7 @@ pub fn write<K: Keeper>(
     ensures step { Runs K.moment (λ key. key) (call.write schema.now statement.now) keeper.old result keeper.new }
     ensures depth { (K.moment keeper.new).depth ≡ depth_left result (K.moment keeper.old).depth 0 }
     ensures key { IfOk result (λ key. IsKeyFor schema.now statement.now key) }
+    ensures refuses { IfErr result (λ e. IsRefusalOf statement.now e) }
 {
     match keeper.write(alloc, schema, statement) {
         Ok(key) => Ok(key),

@@ -19,16 +19,16 @@ two_items (x ∷ []) a b len p q = absurd (omega arith)
 two_items (x ∷ y ∷ []) a b len p q = ap (λ c. c ∷ y ∷ []) (sym p) ∙ ap (λ c. a ∷ c ∷ []) (sym q)
 two_items (x ∷ y ∷ z ∷ xs) a b len p q = absurd (omega arith)
 
-pub pair_row : (columns : List ColumnSpec) (row : List Value) (a b : ColumnSpec) (x y : Value) → length columns ≡ 2 → a ≡ get_or columns 0 a → b ≡ get_or columns 1 b
-    → length row ≡ 2 → x ≡ get_or row 0 x → y ≡ get_or row 1 y → may_hold a x ≡ true → may_hold b y ≡ true → pointwise may_hold columns row ≡ true
-pair_row columns row a b x y two p q cells r s one other =
-    ap (λ cs. pointwise may_hold cs row) (two_items columns a b two p q) ∙ ap (pointwise may_hold (a ∷ b ∷ [])) (two_items row x y cells r s)
+pub pair_row : (columns : List ColumnSpec) (cells : List Value) (a b : ColumnSpec) (x y : Value) → length columns ≡ 2 → a ≡ get_or columns 0 a → b ≡ get_or columns 1 b
+    → length cells ≡ 2 → x ≡ get_or cells 0 x → y ≡ get_or cells 1 y → may_hold a x ≡ true → may_hold b y ≡ true → pointwise may_hold columns cells ≡ true
+pair_row columns cells a b x y two p q count r s one other =
+    ap (λ cs. pointwise may_hold cs cells) (two_items columns a b two p q) ∙ ap (pointwise may_hold (a ∷ b ∷ [])) (two_items cells x y count r s)
     ∙ ap (λ h. h && (may_hold b y && true)) one ∙ ap (λ h. h && true) other
 
 pub pair_key : (columns : List ColumnSpec) (key : List Value) (a b : ColumnSpec) (x : Value) → length columns ≡ 2 → a ≡ get_or columns 0 a → b ≡ get_or columns 1 b
     → length key ≡ 1 → x ≡ get_or key 0 x → a.key ≡ true → b.key ≡ false → fits a x ≡ true → pointwise fits (filter (λ column. column.key) columns) key ≡ true
-pair_key columns key a b x two p q cells r first second fit =
-    ap (λ cs. pointwise fits (filter (λ column. column.key) cs) key) (two_items columns a b two p q) ∙ ap (pointwise fits (filter (λ column. column.key) (a ∷ b ∷ []))) (one_item key x cells r)
+pair_key columns key a b x two p q count r first second fit =
+    ap (λ cs. pointwise fits (filter (λ column. column.key) cs) key) (two_items columns a b two p q) ∙ ap (pointwise fits (filter (λ column. column.key) (a ∷ b ∷ []))) (one_item key x count r)
     ∙ ap (λ k. pointwise fits (cond k (a ∷ cond b.key (b ∷ []) []) (cond b.key (b ∷ []) [])) (x ∷ [])) first ∙ ap (λ k. pointwise fits (a ∷ cond k (b ∷ []) []) (x ∷ [])) second
     ∙ ap (λ h. h && true) fit
 

@@ -466,3 +466,15 @@ fn a_fault_leaves_what_was_committed_and_no_scope(rt: HostRuntime) -> Result<(),
     }
     Ok(())
 }
+
+#[test]
+fn a_fault_of_the_first_call_takes_no_target(rt: HostRuntime) -> Result<(), Fail> {
+    let alloc = rt.alloc();
+    let schema = two_tables(alloc)?;
+    let mut keeper = MemKeeper::new(alloc, &[1])?;
+    assert_eq!(rt; done(keeper.attach(alloc, Target::Memory)), b'!');
+    assert_eq!(rt; said(alloc, &schema, &mut keeper, &Call::Begin)?, b'?');
+    assert_eq!(rt; said(alloc, &schema, &mut keeper, &Call::Depth)?, b'0');
+    assert_eq!(rt; keeper.statements().len(), 0);
+    Ok(())
+}
