@@ -1,5 +1,5 @@
 -- What acting calls in a row keep.
-use Rattle.std.proofs.Common.{◌≡◌, ◌≢◌, ℕ, ◌≤◌, Result, Ok, Err, IfErr, IsErrAnd, refl, sym, ap, ◌∙◌, subst, arith}
+use Rattle.std.proofs.Common.{◌≡◌, ◌≢◌, ℕ, ◌≤◌, Result, Ok, Err, IfErr, IsErrAnd, refl, sym, ◌∙◌, arith}
 use Rattle.base_core.specs.Counts.{Rose}
 use Rattle.base_core.specs.declared.refusal.Refusal.{Refusal}
 use Rattle.base_core.specs.declared.refusal.Refusal.TheVariants.{Memory, KeeperFault}

@@ -1,12 +1,12 @@
 -- Calls of a keeper, and changes of what stands beside it, as runs of the world that has both.
-use Rattle.std.proofs.Common.{◌≡◌, ℕ, ◌≤◌, Bool, true, false, List, [], ◌++◌, Option, None, Some, Result, Ok, Err, OnOk, IfErr, MatchBool, refl, sym, ap, ◌∙◌, subst, append-nil, arith}
+use Rattle.std.proofs.Common.{◌≡◌, Bool, true, false, [], Option, None, Some, Result, Ok, Err, MatchBool, refl, sym, ap, ◌∙◌, subst, arith}
 use Rattle.std.proofs.lemmas.Bool.{false≢true}
 use Rattle.base_core.specs.Counts.{Rose}
 use Rattle.keeper_core.specs.declared.sent.Sent.{Sent}
 use Rattle.base_core.specs.declared.refusal.Refusal.{Refusal}
-use Rattle.base_core.specs.declared.refusal.Refusal.TheVariants.{Memory, KeeperFault}
+use Rattle.base_core.specs.declared.refusal.Refusal.TheVariants.{Memory}
 use Rattle.keeper_core.specs.Store.{Store}
-use Rattle.keeper_core.specs.Acting.{Log, Run, after_events, ends_early, is_of_tables, quiet, change}
+use Rattle.keeper_core.specs.Acting.{Log, Run, after_events, ends_early, is_of_tables, quiet}
 use Rattle.keeper_core.specs.Moment.{Told, Moment, IsRun, IsCutOff, AsTold, Runs, Ran}
 use Rattle.keeper_core.specs.Beside.{Beside, beside_run, on_store, quiet_run, on_own, by_own, changes, told_beside, moment_beside}
 

@@ -1,14 +1,14 @@
 -- How runs of programs are joined, undone and repeated: what an acting call needs of the calls that it makes.
-use Rattle.std.proofs.Common.{◌≡◌, ℕ, ◌+◌, ◌<◌, ◌≤◌, Bool, true, false, List, [], ◌∷◌, ◌++◌, Option, None, Some, Result, Ok, Err, OnOk, IfErr, IsErrAnd, MatchBool, refl, sym, ap, ◌∙◌, subst, append_assoc, append-nil, arith, min, length, drop, get_or}
+use Rattle.std.proofs.Common.{◌≡◌, ℕ, ◌+◌, ◌<◌, ◌≤◌, Bool, true, false, List, [], ◌∷◌, ◌++◌, Option, None, Some, Result, Ok, Err, OnOk, IfErr, IsErrAnd, MatchBool, refl, sym, ap, ◌∙◌, subst, append_assoc, append-nil, arith, length, drop, get_or}
 use Rattle.std.proofs.lemmas.Bool.{false≢true}
-use Rattle.std.proofs.Common.{suc, add-one, drop-cons}
+use Rattle.std.proofs.Common.{add-one, drop-cons}
 use Rattle.std.proofs.lemmas.List.{drop_all}
 use Rattle.base_core.specs.Counts.{Rose}
 use Rattle.base_core.specs.declared.refusal.Refusal.{Refusal}
 use Rattle.base_core.specs.declared.refusal.Refusal.TheVariants.{Memory, KeeperFault}
 use Rattle.keeper_core.specs.declared.sent.Sent.{Sent}
-use Rattle.keeper_core.specs.Acting.{Event, Log, Run, after_event, after_events, ends_early, is_of_tables, quiet, joined, followed, ◌>>=◌, give, refuse, guarded, mended, rescued, rescue_of, each}
-use Rattle.keeper_core.specs.Moment.{Told, Moment, Refused, IsRun, IsCutOff, Stops, Outcome, AsTold, IsShown, IsCalm, Parts, Runs, Ran, AsReached, Way, Reaches, Reached}
+use Rattle.keeper_core.specs.Acting.{Event, Log, Run, after_event, after_events, ends_early, is_of_tables, joined, followed, ◌>>=◌, give, refuse, guarded, mended, each}
+use Rattle.keeper_core.specs.Moment.{Told, Moment, IsRun, IsCutOff, Outcome, AsTold, IsShown, IsCalm, Runs, Ran, AsReached, Reaches, Reached}
 
 -- ---- logs
 

@@ -1,5 +1,5 @@
 -- Calls that act: what one run of a program does to a world, and how runs are joined.
-use Rattle.std.specs.Prelude.{◌≡◌, ℕ, Bool, true, false, List, [], ◌∷◌, ◌++◌, Option, None, Some, Result, Ok, Err}
+use Rattle.std.specs.Prelude.{ℕ, Bool, true, false, List, [], ◌∷◌, ◌++◌, Result, Ok, Err}
 use Rattle.base_core.specs.declared.refusal.Refusal.{Refusal}
 use Rattle.base_core.specs.declared.refusal.Refusal.TheVariants.{Memory, KeeperFault, DataError, KeysSpent, IntegrityError, OperationalError}
 use Rattle.keeper_core.specs.declared.sent.Sent.{Sent}

@@ -1,5 +1,5 @@
 -- A store with something beside it that acts with it, as a session or an arena of objects: the world of the layers above.
-use Rattle.std.specs.Prelude.{◌≡◌, Option, None, Some, Ok}
+use Rattle.std.specs.Prelude.{Option, None, Some, Ok}
 use Rattle.keeper_core.specs.Store.{Store}
 use Rattle.keeper_core.specs.Acting.{Run, quiet}
 use Rattle.keeper_core.specs.Moment.{Moment, Told}

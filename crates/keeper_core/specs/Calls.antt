@@ -1,5 +1,5 @@
 -- What each call of a keeper does to a store that is told.
-use Rattle.std.specs.Prelude.{◌≡◌, ℕ, ◌+◌, ◌-◌, ◌<◌, ◌≤◌, Bool, true, false, List, [], ◌∷◌, map, length, drop, slice_index_or, Option, None, Some, Result, Ok, Err, is_some, if◌then◌else◌, IfOk, IfErr, IsTrue}
+use Rattle.std.specs.Prelude.{◌≡◌, ℕ, ◌-◌, Bool, true, false, List, [], ◌∷◌, map, length, drop, slice_index_or, Option, Result, Ok, Err, if◌then◌else◌, IfSome}
 use Rattle.std.specs.Option.{option_map}
 use Rattle.base_core.specs.declared.ids.TableId.{TableId}
 use Rattle.base_core.specs.declared.value.Value.{Value}
@@ -14,12 +14,20 @@ use Rattle.keeper_core.specs.declared.keeper.KeeperStop.{KeeperStop}
 use Rattle.keeper_core.specs.declared.keeper.KeeperStop.TheVariants as stops
 use Rattle.keeper_core.specs.declared.keeper.WriteRefusal.{WriteRefusal}
 use Rattle.keeper_core.specs.declared.keeper.WriteRefusal.TheVariants as writes
+use Rattle.keeper_core.specs.declared.keeper.QueryRefusal.{QueryRefusal}
+use Rattle.keeper_core.specs.declared.keeper.QueryRefusal.TheVariants as queries
 use Rattle.keeper_core.specs.Acting.{Run, Sends, quiet, give, ends_early}
 use Rattle.schema_core.specs.declared.statement.Breach.{Breach}
 use Rattle.schema_core.specs.declared.statement.Breach.TheVariants as breaches
 use Rattle.schema_core.specs.Apply.{Outcome, apply, table_of}
 use Rattle.schema_core.specs.Catalog.{Catalog}
-use Rattle.schema_core.specs.Tables.{Tables, rows_in}
+use Rattle.schema_core.specs.Tables.{rows_in}
+use Rattle.expr_types.specs.declared.select.Select.{Select}
+use Rattle.select_rows.specs.Created.{bare}
+use Rattle.select_rows.specs.Refusals as select
+use Rattle.select_rows.specs.Rows.{answer}
+use Rattle.select_rows.specs.Shapes.{AreRows}
+use Rattle.keeper_core.specs.Moment.{Told}
 use Rattle.keeper_core.specs.Store.{Store, committed_of, is_created, created, dropped}
 
 -- ---- refusals of a keeper as refusals of the layers above
@@ -44,6 +52,12 @@ write_refusal table writes.Foreign = refusals.IntegrityError kinds.Foreign table
 write_refusal table (writes.Range op a b) = refusals.DataError op a b
 write_refusal table writes.Fault = refusals.KeeperFault
 write_refusal table writes.Memory = refusals.Memory
+
+abbrev pub query_refusal : QueryRefusal → Refusal
+query_refusal (queries.NoTable absent) = refusals.OperationalError absent
+query_refusal (queries.Range op a b) = refusals.DataError op a b
+query_refusal queries.Fault = refusals.KeeperFault
+query_refusal queries.Memory = refusals.Memory
 
 -- ---- the calls
 
@@ -111,6 +125,10 @@ written statement (Err breach) w = sends (sent.Write statement) w (Err (breach_r
 unfoldable pub write : Catalog → RowStmt → Store → Run Store (List Value)
 write schema statement w = written statement (apply schema w.tables statement) w
 
+-- the rows of a select over the tables now; it changes nothing, and a refused one is sent too
+unfoldable pub query : Catalog → Select → Store → Run Store (List (List Value))
+query schema select w = sends (sent.Query select) w (answer schema (bare w.tables) select)
+
 -- ---- what every keeper's depth is after a call
 
 -- the depth after a call that leaves now at Ok, and no scope after a fault or want of memory
@@ -123,6 +141,12 @@ abbrev pub depth_after_write : {A : Type 0} → Result A WriteRefusal → ℕ �
 depth_after_write (Err writes.Fault) now = 0
 depth_after_write (Err writes.Memory) now = 0
 depth_after_write r now = now
+
+-- a refused select leaves them too
+abbrev pub depth_after_query : {A : Type 0} → Result A QueryRefusal → ℕ → ℕ
+depth_after_query (Err queries.Fault) now = 0
+depth_after_query (Err queries.Memory) now = 0
+depth_after_query r now = now
 
 -- the depth that a call leaves: now, or where it ended early, ended
 abbrev pub depth_left : {A : Type 0} → Result A Refusal → ℕ → ℕ → ℕ
@@ -148,3 +172,17 @@ CanRefuse statement e = Unit {0}
 -- the same, told in the words of the layers above
 abbrev pub IsRefusalOf : RowStmt → Refusal → Type 0
 IsRefusalOf statement e = (refusal : WriteRefusal) × (e ≡ write_refusal (table_of statement) refusal) × CanRefuse statement refusal
+
+-- the tables that are told, where any are, have rows that fit the schema
+abbrev pub HoldsRows : Catalog → Option (Told Store) → Type 0
+HoldsRows schema told = IfSome told (λ t. AreRows schema (bare t.world.tables))
+
+-- which refusals a select may meet, whatever the keeper: of a table of its text, or of a result outside 64 bits
+abbrev pub CanRefuseQuery : Select → QueryRefusal → Type 0
+CanRefuseQuery s queries.Fault = Unit {0}
+CanRefuseQuery s e = select.CanRefuse s (query_refusal e)
+
+-- the same, told in the words of the layers above
+abbrev pub IsRefusalOfQuery : Select → Refusal → Type 0
+IsRefusalOfQuery s refusals.KeeperFault = Unit {0}
+IsRefusalOfQuery s e = select.CanRefuse s e

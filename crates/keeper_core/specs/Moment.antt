@@ -1,9 +1,8 @@
 -- What is seen of a keeper, or of an object beside it, at one moment, and the one relation that every acting call ensures.
-use Rattle.std.specs.Prelude.{◌≡◌, ℕ, ◌≤◌, Bool, true, false, List, [], ◌++◌, Option, None, Some, Result, Ok, Err, OnOk, IfErr, MatchBool, is_ok, IfSome, length}
-use Rattle.std.specs.Option.{option_map}
+use Rattle.std.specs.Prelude.{◌≡◌, ℕ, ◌≤◌, Bool, false, List, [], ◌++◌, Option, None, Some, Result, Ok, Err, OnOk, IfErr, MatchBool, is_ok, IfSome, length}
 use Rattle.base_core.specs.Counts.{Rose}
 use Rattle.base_core.specs.declared.refusal.Refusal.{Refusal}
-use Rattle.base_core.specs.declared.refusal.Refusal.TheVariants.{Memory, KeeperFault}
+use Rattle.base_core.specs.declared.refusal.Refusal.TheVariants.{KeeperFault}
 use Rattle.keeper_core.specs.declared.keeper.Target.{Target}
 use Rattle.keeper_core.specs.declared.keeper.Target.TheVariants as targets
 use Rattle.keeper_core.specs.Store.{Store, committed_of}

@@ -7,10 +7,13 @@ ghost use Rattle.keeper_core.specs.Moment.{Runs};
 ghost use Rattle.keeper_core.specs.Acting as acting;
 ghost use Rattle.keeper_core.specs.Calls as call;
 ghost use Rattle.schema_core.specs.Apply as apply;
-ghost use Rattle.keeper_core.specs.Calls.{depth_left, stop_refusal, IsRefusalOf};
+ghost use Rattle.keeper_core.specs.Calls.{depth_left, stop_refusal, HoldsRows, IsRefusalOf, IsRefusalOfQuery};
+ghost use Rattle.expr_typing.specs.Plain.{IsPlainSelect};
+ghost use Rattle.select_rows.specs.Shapes.{AreOfItems, AreWide};
 
-use crate::{Keeper, KeeperStop, WriteRefusal};
+use crate::{Keeper, KeeperStop, QueryRefusal, WriteRefusal};
 use base_core::{IntegrityKind, Key, Refusal, RowList, TableId};
+use expr_types::Select;
 use schema_core::{RowStmt, Schema};
 use std::alloc::Global;
 
@@ -96,6 +99,28 @@ pub fn write<K: Keeper>(
     }
 }
 
+/// The rows of a select.
+pub fn query<K: Keeper>(
+    alloc: Global,
+    keeper: &mut K,
+    schema: &Schema,
+    select: &Select,
+) -> Result<RowList, Refusal>
+    requires attached { (K.moment keeper.old).attached ≡ true }
+    requires inside { 1 ≤ (K.moment keeper.old).depth }
+    requires plain { IsPlainSelect schema.now select.now }
+    ensures step { Runs K.moment (λ rows. rows) (call.query schema.now select.now) keeper.old result keeper.new }
+    ensures depth { (K.moment keeper.new).depth ≡ depth_left result (K.moment keeper.old).depth 0 }
+    ensures wide { IfOk result (λ rows. AreWide select.now rows) }
+    ensures kinds { HoldsRows schema.now (K.moment keeper.old).told → IfOk result (λ rows. AreOfItems schema.now select.now rows) }
+    ensures refuses { IfErr result (λ e. IsRefusalOfQuery select.now e) }
+{
+    match keeper.query(alloc, schema, select) {
+        Ok(rows) => Ok(rows),
+        Err(refusal) => Err(refusal_of_query(refusal)),
+    }
+}
+
 /// The rows of a table, rising by key, or none where it was not created.
 pub fn scan<K: Keeper>(
     alloc: Global,
@@ -138,6 +163,18 @@ pub fn refusal_of(table: TableId, refusal: WriteRefusal) -> Refusal
         WriteRefusal::Range(op, a, b) => Refusal::DataError(op, a, b),
         WriteRefusal::Fault => Refusal::KeeperFault,
         WriteRefusal::Memory => Refusal::Memory,
+    }
+}
+
+/// A select's refusal in the words of the layers above.
+pub fn refusal_of_query(refusal: QueryRefusal) -> Refusal
+    ensures { result ≡ call.query_refusal refusal }
+{
+    match refusal {
+        QueryRefusal::NoTable(absent) => Refusal::OperationalError(absent),
+        QueryRefusal::Range(op, a, b) => Refusal::DataError(op, a, b),
+        QueryRefusal::Fault => Refusal::KeeperFault,
+        QueryRefusal::Memory => Refusal::Memory,
     }
 }
 

@@ -4,12 +4,15 @@ ghost use Rattle.std.specs.Prelude.{◌≡◌, ◌+◌, ◌-◌, ◌<◌, ◌≤
 ghost use Rattle.schema_core.specs.Catalog.{IsTable};
 ghost use Rattle.schema_core.specs.Apply.{table_of};
 ghost use Rattle.schema_core.specs.WellFormed.{IsWellFormed, IsKeyFor};
+ghost use Rattle.expr_typing.specs.Plain.{IsPlainSelect};
+ghost use Rattle.select_rows.specs.Shapes.{AreOfItems, AreWide};
 ghost use Rattle.keeper_core.specs.Moment.{Moment, Runs, IsAttached, IsCoherent};
 ghost use Rattle.keeper_core.specs.Store.{Store};
 ghost use Rattle.keeper_core.specs.Calls as call;
-ghost use Rattle.keeper_core.specs.Calls.{as_refusal, stop_refusal, write_refusal, depth_after, depth_after_write, CanRefuse};
+ghost use Rattle.keeper_core.specs.Calls.{as_refusal, stop_refusal, write_refusal, query_refusal, depth_after, depth_after_write, depth_after_query, CanRefuse, CanRefuseQuery, HoldsRows};
 
 use base_core::{ArithOp, Key, Name, RowList, TableId};
+use expr_types::Select;
 use schema_core::{RowStmt, Schema};
 use std::alloc::Global;
 
@@ -46,7 +49,7 @@ pub enum WriteRefusal {
     Memory,
 }
 
-/// Why a select is refused.
+/// Why a select is refused. All but `Fault` and `Memory` leave the tables and scopes as they were.
 #[derive(Clone, Copy, Debug, PartialEq, Eq)]
 pub enum QueryRefusal {
     NoTable(TableId),
@@ -147,6 +150,22 @@ pub trait Keeper {
         ensures depth { (moment self.new).depth ≡ depth_after_write result (moment self.old).depth }
         ensures key { IfOk result (λ key. IsKeyFor schema.now statement.now key) }
         ensures refuses { IfErr result (λ e. CanRefuse statement.now e) };
+
+    /// The rows of a select, over the tables now. A select changes nothing, and a refused one is a statement too.
+    fn query(
+        &mut self,
+        alloc: Global,
+        schema: &Schema,
+        select: &Select,
+    ) -> Result<RowList, QueryRefusal>
+        requires attached { (moment self.old).attached ≡ true }
+        requires inside { 1 ≤ (moment self.old).depth }
+        requires plain { IsPlainSelect schema.now select.now }
+        ensures step { Runs moment (λ rows. rows) (call.query schema.now select.now) self.old (as_refusal query_refusal result) self.new }
+        ensures depth { (moment self.new).depth ≡ depth_after_query result (moment self.old).depth }
+        ensures wide { IfOk result (λ rows. AreWide select.now rows) }
+        ensures kinds { HoldsRows schema.now (moment self.old).told → IfOk result (λ rows. AreOfItems schema.now select.now rows) }
+        ensures refuses { IfErr result (λ e. CanRefuseQuery select.now e) };
 
     /// The rows of a table, rising by key, or none where it was not created. This is no statement.
     fn scan(

@@ -13,22 +13,30 @@ use Rattle.schema_core.specs.declared.statement.RowStmt.{RowStmt}
 use Rattle.schema_core.specs.Apply.{apply, table_of}
 use Rattle.schema_core.specs.Catalog.{Catalog}
 use Rattle.schema_core.specs.Tables.{Tables, rows_in}
+use Rattle.expr_types.specs.declared.select.Select.{Select}
+use Rattle.select_rows.specs.Created.{bare}
+use Rattle.select_rows.specs.Rows.{answer}
+use Rattle.select_rows.specs.Shapes.{AreRows}
 use Rattle.keeper_core.specs.declared.sent.Sent.{Sent}
 use Rattle.keeper_core.specs.declared.sent.Sent.TheVariants as sent
 use Rattle.keeper_core.specs.Acting.{Run, after_events, ends_early, is_of_tables, quiet, give}
 use Rattle.keeper_core.specs.Calls as call
 use Rattle.keeper_core.specs.declared.keeper.WriteRefusal.{WriteRefusal}
+use Rattle.keeper_core.specs.declared.keeper.QueryRefusal.{QueryRefusal}
+use Rattle.keeper_core.specs.declared.keeper.QueryRefusal.TheVariants as queries
 use Rattle.keeper_core.specs.declared.keeper.Target.{Target}
 use Rattle.keeper_core.specs.declared.keeper.Target.TheVariants as targets
-use Rattle.keeper_core.specs.Calls.{sends, breach_refusal, write_refusal, written}
+use Rattle.keeper_core.specs.Calls.{HoldsRows, sends, breach_refusal, depth_after_query, query_refusal, write_refusal, written}
 use Rattle.keeper_core.specs.Moment.{AsTold, IsAttached, IsToldAnew, new_store, IsCutOff, IsRun, Outcome, Ran, Refused, Runs, Stops, Told}
 use Rattle.keeper_core.specs.Store.{Store, committed_of, created, dropped, is_created}
 use Rattle.table_store.specs.declared.writing.Unwritten.{Unwritten}
 use Rattle.table_store.specs.declared.writing.Unwritten.TheVariants as unwritten
+use Rattle.keeper_mem.specs.declared.keeper.Unasked.{Unasked}
+use Rattle.keeper_mem.specs.declared.keeper.Unasked.TheVariants as unasked
 use Rattle.keeper_mem.specs.declared.keeper.Attachment.{Attachment}
 use Rattle.keeper_mem.specs.declared.keeper.Attachment.TheVariants.{Fresh, Taken, Untaken}
 use Rattle.table_store.specs.Written.{broken}
-use Rattle.keeper_mem.specs.Kept.{Kept, Wrote, counted, depth_by, ended, failed, is_taken, moment_of, refused_by, sent_by, target_of, taken_by, told_by, told_of, untaken_by}
+use Rattle.keeper_mem.specs.Kept.{Asked, Kept, Wrote, counted, depth_by, ended, failed, is_query_fault, is_taken, moment_of, refused_by, sent_by, target_of, taken_by, told_by, told_of, untaken_by}
 
 -- ---- a keeper that took its target tells what it has
 
@@ -264,6 +272,30 @@ not_written schema statement breach r old new taken small broke same is =
     (refused (λ (key : List Value). key) (call.write schema statement) (sent.Write statement) (breach_refusal (table_of statement) breach) old new taken small (own_breach (table_of statement) breach)
     (ap (λ outcome. written statement outcome old.store) broke) (is ∙ ap (refused_by (counted old) (sent.Write statement)) (sym (broken_is (table_of statement) breach))))
 
+pub asked : (schema : Catalog) (select : Select) (rows : List (List Value)) (old new : Kept) → is_taken old.attachment ≡ true
+    → answer schema (bare old.store.tables) select ≡ Ok rows → new ≡ sent_by (counted old) (sent.Query select) old.store
+    → Runs moment_of (λ (rows : List (List Value)). rows) (call.query schema select) old (Ok rows) new
+unfolding call.query
+asked schema select rows old new taken told is =
+    sent_ok (λ (rows : List (List Value)). rows) (call.query schema select) (sent.Query select) old.store rows old new taken (ap (sends (sent.Query select) old.store) told) is
+
+pub not_asked : (schema : Catalog) (select : Select) (refusal : QueryRefusal) (old new : Kept) → is_taken old.attachment ≡ true → old.refusals < 2 ^ 64 → ends_early (query_refusal refusal) ≡ false
+    → answer schema (bare old.store.tables) select ≡ Err (query_refusal refusal) → new ≡ refused_by (counted old) (sent.Query select) (query_refusal refusal)
+    → Runs moment_of (λ (rows : List (List Value)). rows) (call.query schema select) old (Err (query_refusal refusal)) new
+unfolding call.query
+not_asked schema select refusal old new taken small own told is =
+    refused (λ (rows : List (List Value)). rows) (call.query schema select) (sent.Query select) (query_refusal refusal) old new taken small own (ap (sends (sent.Query select) old.store) told) is
+
+pub held_rows : (schema : Catalog) (kept : Kept) → is_taken kept.attachment ≡ true → HoldsRows schema (moment_of kept).told → AreRows schema (bare kept.store.tables)
+held_rows schema kept taken h = subst (λ (t : Told Store). AreRows schema (bare t.world.tables)) (sym (told_taken kept.attachment kept taken)) h
+
+-- a refused select is no fault
+pub asked_no_fault : (refusal : QueryRefusal) → ends_early (query_refusal refusal) ≡ false → is_query_fault {A = List (List Value)} (Err refusal) ≡ false
+asked_no_fault (queries.NoTable table) own = refl
+asked_no_fault (queries.Range op a b) own = refl
+asked_no_fault queries.Fault own = cc
+asked_no_fault queries.Memory own = refl
+
 -- ---- depth
 
 pub depth_sent : (statement : Sent) (after : Store) (old new : Kept) → is_taken old.attachment ≡ true → new ≡ sent_by (counted old) statement after → depth_by new.attachment new ≡ length after.scopes
@@ -274,6 +306,16 @@ depth_counted old new is = ap (λ kept. depth_by kept.attachment kept) is ∙ de
 
 pub depth_refused : (statement : Sent) (e : Refusal) (old new : Kept) → new ≡ refused_by (counted old) statement e → depth_by new.attachment new ≡ depth_by old.attachment old
 depth_refused statement e old new is = ap (λ kept. depth_by kept.attachment kept) is ∙ depth_same old.attachment old (refused_by (counted old) statement e) refl
+
+depth_query : (refusal : QueryRefusal) (now : ℕ) → ends_early (query_refusal refusal) ≡ false → now ≡ depth_after_query {A = List (List Value)} (Err refusal) now
+depth_query (queries.NoTable table) now own = refl
+depth_query (queries.Range op a b) now own = refl
+depth_query queries.Fault now own = absurd (cc)
+depth_query queries.Memory now own = absurd (cc)
+
+pub depth_asked : (refusal : QueryRefusal) (statement : Sent) (e : Refusal) (old new : Kept) → ends_early (query_refusal refusal) ≡ false → new ≡ refused_by (counted old) statement e
+    → depth_by new.attachment new ≡ depth_after_query {A = List (List Value)} (Err refusal) (depth_by old.attachment old)
+depth_asked refusal statement e old new own is = depth_refused statement e old new is ∙ depth_query refusal (depth_by old.attachment old) own
 
 pub depth_failed : (old new : Kept) → new ≡ failed (counted old) → depth_by new.attachment new ≡ 0
 depth_failed old new is = ap (λ kept. depth_by kept.attachment kept) is ∙ depth_none old.attachment (failed (counted old)) refl
@@ -344,8 +386,14 @@ pub ruleset dropping = (removed, not_removed, ends)
 
 pub ruleset scanning = (scanned, ends)
 
+pub ruleset asking = (asked, not_asked, asked_no_fault, depth_asked, held_rows, ends)
+
 pub ruleset writing = (wrote, not_written, ends)
 
 -- a keeper whose memory ran out in a statement gives up as it would have before it
 pub wrote_nothing : (schema : Catalog) (statement : RowStmt) (old new : Kept) (u : Unwritten) → u ≡ unwritten.Memory → Wrote schema statement old (Err u) new → ended new ≡ ended old
 wrote_nothing schema statement old new u is did = subst (λ w. Wrote schema statement old (Err w) new) is did
+
+-- the same of a select
+pub asked_nothing : (schema : Catalog) (select : Select) (old new : Kept) (u : Unasked) → u ≡ unasked.Memory → Asked schema select old (Err u) new → ended new ≡ ended old
+asked_nothing schema select old new u is did = subst (λ w. Asked schema select old (Err w) new) is did

@@ -14,13 +14,21 @@ use Rattle.keeper_core.specs.declared.keeper.KeeperStop.TheVariants as stops
 use Rattle.keeper_core.specs.declared.keeper.Target.TheVariants as targets
 use Rattle.keeper_core.specs.declared.keeper.WriteRefusal.{WriteRefusal}
 use Rattle.keeper_core.specs.declared.keeper.WriteRefusal.TheVariants as refusals
-use Rattle.keeper_core.specs.declared.sent.Sent.TheVariants.{Write}
-use Rattle.keeper_core.specs.Calls.{write_refusal}
+use Rattle.keeper_core.specs.declared.keeper.QueryRefusal.{QueryRefusal}
+use Rattle.keeper_core.specs.declared.keeper.QueryRefusal.TheVariants as queries
+use Rattle.keeper_core.specs.declared.sent.Sent.TheVariants.{Query, Write}
+use Rattle.keeper_core.specs.Acting.{ends_early}
+use Rattle.keeper_core.specs.Calls.{CanRefuseQuery, query_refusal, write_refusal}
+use Rattle.expr_types.specs.declared.select.Select.{Select}
+use Rattle.select_rows.specs.Created.{bare}
+use Rattle.select_rows.specs.Rows.{answer}
 use Rattle.table_store.specs.declared.writing.Unwritten.{Unwritten}
 use Rattle.table_store.specs.declared.writing.Unwritten.TheVariants.{Breaks, Memory}
 use Rattle.table_store.specs.Written.{broken, given_up}
 use Rattle.keeper_core.specs.Moment.{IsCoherent, Moment, Refused, Told, new_store}
 use Rattle.keeper_core.specs.Store.{Store, committed_of}
+use Rattle.keeper_mem.specs.declared.keeper.Unasked.{Unasked}
+use Rattle.keeper_mem.specs.declared.keeper.Unasked.TheVariants as unasked
 use Rattle.keeper_mem.specs.declared.keeper.Attachment.{Attachment}
 use Rattle.keeper_mem.specs.declared.keeper.Attachment.TheVariants.{Fresh, Taken, Untaken}
 
@@ -95,6 +103,10 @@ abbrev pub is_write_fault : {A : Type 0} → Result A WriteRefusal → Bool
 is_write_fault (Err refusals.Fault) = true
 is_write_fault r = false
 
+abbrev pub is_query_fault : {A : Type 0} → Result A QueryRefusal → Bool
+is_query_fault (Err queries.Fault) = true
+is_query_fault r = false
+
 abbrev pub is_file : Target → Bool
 is_file targets.Memory = false
 is_file (targets.File name) = true
@@ -148,6 +160,19 @@ Wrote schema statement old (Ok key) new =
 Wrote schema statement old (Err (Breaks breach)) new =
     (apply schema old.store.tables statement ≡ Err breach) × (new ≡ refused_by old (Write statement) (write_refusal (table_of statement) (broken breach)))
 Wrote schema statement old (Err Memory) new = ended new ≡ ended old
+
+-- a select was answered, or refused; where memory ran out, what a keeper that gives up is left with is the same
+abbrev pub Asked : Catalog → Select → Kept → Result (List (List Value)) Unasked → Kept → Type 0
+Asked schema select old (Ok rows) new =
+    (answer schema (bare old.store.tables) select ≡ Ok rows) × (new ≡ sent_by old (Query select) old.store)
+Asked schema select old (Err (unasked.Refused refusal)) new =
+    (ends_early (query_refusal refusal) ≡ false) × (answer schema (bare old.store.tables) select ≡ Err (query_refusal refusal)) × (new ≡ refused_by old (Query select) (query_refusal refusal))
+Asked schema select old (Err unasked.Memory) new = ended new ≡ ended old
+
+-- what may refuse a select; want of memory may end any
+abbrev pub MayRefuseQuery : Select → Unasked → Type 0
+MayRefuseQuery select (unasked.Refused refusal) = CanRefuseQuery select refusal
+MayRefuseQuery select unasked.Memory = Unit {0}
 
 told_coherent : (attachment : Attachment) (kept : Kept) → (depth_by attachment kept ≡ length (told_by attachment kept).world.scopes) × ((told_by attachment kept).log.committed ≡ committed_of (told_by attachment kept).world) × ((told_by attachment kept).log.written ≡ [])
 told_coherent Fresh kept = (refl, refl, refl)

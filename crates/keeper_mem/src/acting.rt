@@ -4,16 +4,19 @@ ghost use Rattle.std.specs.Prelude.{◌≡◌, ◌+◌, ◌-◌, ◌<◌, ◌≤
 ghost use Rattle.schema_core.specs.Apply.{table_of};
 ghost use Rattle.schema_core.specs.Catalog.{IsTable};
 ghost use Rattle.schema_core.specs.WellFormed.{IsKeyFor, IsWellFormed};
+ghost use Rattle.expr_typing.specs.Plain.{IsPlainSelect};
+ghost use Rattle.select_rows.specs.Shapes.{AreOfItems, AreWide};
 ghost use Rattle.keeper_core.specs.declared.keeper.KeeperStop.TheVariants as stops;
 ghost use Rattle.keeper_core.specs.Calls as call;
-ghost use Rattle.keeper_core.specs.Calls.{as_refusal, depth_after, depth_after_write, stop_refusal, write_refusal, CanRefuse};
+ghost use Rattle.keeper_core.specs.Calls.{as_refusal, depth_after, depth_after_query, depth_after_write, query_refusal, stop_refusal, write_refusal, CanRefuse, CanRefuseQuery, HoldsRows};
 ghost use Rattle.keeper_core.specs.Moment.{IsAttached, Runs};
-ghost use Rattle.keeper_mem.specs.Kept.{IsCounted, IsNumbered, coherent, is_failing, is_fault, is_file, is_write_fault, moment_of};
+ghost use Rattle.keeper_mem.specs.Kept.{IsCounted, IsNumbered, coherent, is_failing, is_fault, is_file, is_query_fault, is_write_fault, moment_of};
 
 use crate::MemKeeper;
-use crate::keeper::broken;
+use crate::keeper::{Unasked, broken};
 use base_core::{Key, RowList, TableId};
-use keeper_core::{Keeper, KeeperStop, Sent, Target, WriteRefusal};
+use expr_types::Select;
+use keeper_core::{Keeper, KeeperStop, QueryRefusal, Sent, Target, WriteRefusal};
 use schema_core::{RowStmt, Schema};
 use std::alloc::Global;
 use table_store::Unwritten;
@@ -220,6 +223,36 @@ impl Keeper for MemKeeper {
             Err(Unwritten::Memory) => {
                 self.give_up();
                 return Err(WriteRefusal::Memory);
+            }
+        }
+    }
+
+    #[tactic(auto, using(crate::proofs::Keeping::asking))]
+    fn query(
+        &mut self,
+        alloc: Global,
+        schema: &Schema,
+        select: &Select,
+    ) -> Result<RowList, QueryRefusal>
+        requires attached { (moment_of self.old).attached ≡ true }
+        requires inside { 1 ≤ (moment_of self.old).depth }
+        requires plain { IsPlainSelect schema.now select.now }
+        ensures step { Runs moment_of (λ rows. rows) (call.query schema.now select.now) self.old (as_refusal query_refusal result) self.new }
+        ensures depth { (moment_of self.new).depth ≡ depth_after_query result (moment_of self.old).depth }
+        ensures wide { IfOk result (λ rows. AreWide select.now rows) }
+        ensures kinds { HoldsRows schema.now (moment_of self.old).told → IfOk result (λ rows. AreOfItems schema.now select.now rows) }
+        ensures refuses { IfErr result (λ e. CanRefuseQuery select.now e) }
+        ensures numbered { IsNumbered self.old (is_query_fault result) self.new }
+    {
+        let Ok(()) = self.count_call() else {
+            return Err(QueryRefusal::Fault);
+        };
+        match self.ask(alloc, schema, select) {
+            Ok(rows) => return Ok(rows),
+            Err(Unasked::Refused(refusal)) => return Err(refusal),
+            Err(Unasked::Memory) => {
+                self.give_up();
+                return Err(QueryRefusal::Memory);
             }
         }
     }

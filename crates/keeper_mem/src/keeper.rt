@@ -10,11 +10,15 @@ ghost use Rattle.keeper_core.specs.declared.keeper.KeeperStop.TheVariants as sto
 ghost use Rattle.keeper_core.specs.declared.sent.Sent.TheVariants as statements;
 ghost use Rattle.keeper_core.specs.Store.{committed_of, created, dropped, is_created};
 ghost use Rattle.table_store.specs.Written.{MayRefuse, broken};
-ghost use Rattle.keeper_mem.specs.Kept.{Wrote, counted, depth_by, ended, failed, is_failing, is_listed, is_taken, new_keeper, refused_by, sent_by, taken_by, untaken_by};
+ghost use Rattle.expr_typing.specs.Plain.{IsPlainSelect};
+ghost use Rattle.select_rows.specs.Created.{bare};
+ghost use Rattle.select_rows.specs.Shapes.{AreOfItems, AreRows, AreWide};
+ghost use Rattle.keeper_mem.specs.Kept.{Asked, MayRefuseQuery, Wrote, counted, depth_by, ended, failed, is_failing, is_listed, is_taken, new_keeper, refused_by, sent_by, taken_by, untaken_by};
 
 use base_core::{Copied, Key, Refusal, RowList, TableId};
+use expr_types::{CopiedIn, Select};
 use keeper_core::calls::{refusal_of, table_of};
-use keeper_core::{KeeperStop, Sent, Target, WriteRefusal};
+use keeper_core::{KeeperStop, QueryRefusal, Sent, Target, WriteRefusal};
 use schema_core::{Breach, RowStmt, Schema};
 use std::alloc::{AllocError, Global};
 use std::marker::Model;
@@ -33,6 +37,13 @@ pub enum Attachment {
 struct Rejected {
     statement: Sent,
     refusal: Refusal,
+}
+
+/// Why a select was not answered.
+#[derive(Clone, Copy, Debug, PartialEq, Eq)]
+pub enum Unasked {
+    Refused(QueryRefusal),
+    Memory,
 }
 
 /// A keeper of tables in memory, which tells everything. It numbers its calls other than `depth` from 1, and fails
@@ -248,8 +259,29 @@ impl MemKeeper {
         self.log.push_reserved(Sent::Commit);
     }
 
-    /// Keeps a refused statement, if there is memory for it.
+    /// Keeps a refused statement, if there is memory for it: in the log, and as the last one.
     pub(crate) fn keep_refusal(
+        &mut self,
+        logged: Sent,
+        last: Sent,
+        refusal: Refusal,
+    ) -> Result<(), AllocError>
+        requires same { logged ≡ last }
+        ensures ok { OnOk result (self.new ≡ refused_by self.old last refusal) }
+        ensures err { IfErr result (λ _. self.new ≡ self.old) }
+    {
+        self.log.reserve(self.store.depth() + 1)?;
+        self.log.push_reserved(logged);
+        self.refusals = self.refusals.saturating_add(1);
+        self.last = Some(Rejected {
+            statement: last,
+            refusal,
+        });
+        Ok(())
+    }
+
+    /// Keeps a refused statement on one row.
+    pub(crate) fn keep_refused_write(
         &mut self,
         statement: &RowStmt,
         refused: RowStmt,
@@ -259,12 +291,24 @@ impl MemKeeper {
         ensures ok { OnOk result (self.new ≡ refused_by self.old (statements.Write statement.now) refusal) }
         ensures err { IfErr result (λ _. self.new ≡ self.old) }
     {
-        self.log.reserve(self.store.depth() + 1)?;
-        let statement = Sent::Write(statement.copied()?);
-        self.log.push_reserved(Sent::Write(refused));
-        self.refusals = self.refusals.saturating_add(1);
-        self.last = Some(Rejected { statement, refusal });
-        Ok(())
+        let last = Sent::Write(statement.copied()?);
+        self.keep_refusal(Sent::Write(refused), last, refusal)
+    }
+
+    /// Keeps a refused select.
+    pub(crate) fn keep_refused_query(
+        &mut self,
+        alloc: Global,
+        select: &Select,
+        refused: Select,
+        refusal: Refusal,
+    ) -> Result<(), AllocError>
+        requires same { refused ≡ select.now }
+        ensures ok { OnOk result (self.new ≡ refused_by self.old (statements.Query select.now) refusal) }
+        ensures err { IfErr result (λ _. self.new ≡ self.old) }
+    {
+        let last = Sent::Query(select.copied_in(alloc)?);
+        self.keep_refusal(Sent::Query(refused), last, refusal)
     }
 
     /// Does a statement on one row, and keeps it.
@@ -293,12 +337,53 @@ impl MemKeeper {
             }
             Err(Unwritten::Breaks(breach)) => {
                 let refusal = refusal_of(table_of(statement), broken(breach));
-                let Ok(()) = self.keep_refusal(statement, sent, refusal) else {
+                let Ok(()) = self.keep_refused_write(statement, sent, refusal) else {
                     return Err(Unwritten::Memory);
                 };
                 return Err(Unwritten::Breaks(breach));
             }
             Err(Unwritten::Memory) => return Err(Unwritten::Memory),
+        }
+    }
+
+    /// Answers a select, and keeps it.
+    pub(crate) fn ask(
+        &mut self,
+        alloc: Global,
+        schema: &Schema,
+        select: &Select,
+    ) -> Result<RowList, Unasked>
+        ensures step { Asked schema.now select.now self.old result self.new }
+        ensures wide { IfOk result (λ rows. AreWide select.now rows) }
+        ensures kinds { IsPlainSelect schema.now select.now → AreRows schema.now (bare self.old.store.tables) → IfOk result (λ rows. AreOfItems schema.now select.now rows) }
+        ensures refuses { IfErr result (λ e. MayRefuseQuery select.now e) }
+    {
+        let Ok(sent) = select.copied_in(alloc) else {
+            return Err(Unasked::Memory);
+        };
+        let Ok(()) = self.log.reserve(self.store.depth() + 1) else {
+            return Err(Unasked::Memory);
+        };
+        match self.store.query(alloc, schema, select) {
+            Ok(rows) => {
+                self.log.push_reserved(Sent::Query(sent));
+                return Ok(rows);
+            }
+            Err(Refusal::OperationalError(table)) => {
+                let refusal = Refusal::OperationalError(table);
+                let Ok(()) = self.keep_refused_query(alloc, select, sent, refusal) else {
+                    return Err(Unasked::Memory);
+                };
+                return Err(Unasked::Refused(QueryRefusal::NoTable(table)));
+            }
+            Err(Refusal::DataError(op, a, b)) => {
+                let refusal = Refusal::DataError(op, a, b);
+                let Ok(()) = self.keep_refused_query(alloc, select, sent, refusal) else {
+                    return Err(Unasked::Memory);
+                };
+                return Err(Unasked::Refused(QueryRefusal::Range(op, a, b)));
+            }
+            Err(_) => return Err(Unasked::Memory),
         }
     }
 }

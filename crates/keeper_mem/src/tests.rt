@@ -2,17 +2,21 @@
 
 ghost use Rattle.std.specs.Prelude.{◌≡◌, ◌<◌, true, length, filter, IsTrue};
 ghost use Rattle.std.specs.Cmp.Lexicographic.{pointwise};
+ghost use Rattle.schema_core.specs.Catalog.{Catalog, IsTable};
 ghost use Rattle.schema_core.specs.Tables.{fits};
+ghost use Rattle.expr_typing.specs.Plain.{IsPlainSelect};
 ghost use Rattle.schema_core.specs.WellFormed.{IsWellFormed, are_cells, may_hold};
 
 use crate::MemKeeper;
 use base_core::{ColumnNo, Key, Kind, ListOf, Name, RowList, TableId, Value};
+use expr_types::{Origin, Select};
 use keeper_core::calls::table_of;
-use keeper_core::{Keeper, KeeperStop, Target, WriteRefusal};
+use keeper_core::{Keeper, KeeperStop, QueryRefusal, Sent, Target, WriteRefusal};
 use schema_core::{
     ColumnKind, ColumnSpec, ForeignSpec, RowStmt, Schema, TableSpec, kind_of, kind_of_value,
     same_kind,
 };
+use sqlite_items::Items;
 use std::alloc::Global;
 use std::string::String;
 use std::test::Fail;
@@ -32,6 +36,8 @@ enum Call {
     Update(u32, i64, Option<i64>),
     Delete(u32, i64),
     Count(u32),
+    /// A select of all rows of a table, with no item.
+    Rows(u32),
     Depth,
 }
 
@@ -282,6 +288,45 @@ fn written(answer: Result<Key, WriteRefusal>) -> u8 {
     }
 }
 
+/// A select of all rows of a table, with no item.
+#[tactic(auto, using(crate::proofs::Plain::plain_rows))]
+fn all_rows(alloc: Global, table: TableId) -> Select
+    ensures { (schema : Catalog) → IsTable schema table → IsPlainSelect schema result }
+{
+    Select {
+        distinct: false,
+        items: ListOf::new(alloc),
+        first: Origin { table, alias: None },
+        joins: ListOf::new(alloc),
+        filter: None,
+        groups: Items::new(alloc),
+        having: None,
+        order: ListOf::new(alloc),
+        limit: None,
+        offset: None,
+    }
+}
+
+/// How many rows there are, or a letter for what refuses the select.
+fn answered(answer: Result<RowList, QueryRefusal>) -> u8 {
+    match answer {
+        Ok(rows) => digit(rows.len()),
+        Err(QueryRefusal::NoTable(_)) => b'T',
+        Err(QueryRefusal::Range(_, _, _)) => b'R',
+        Err(QueryRefusal::Fault) => b'!',
+        Err(QueryRefusal::Memory) => b'-',
+    }
+}
+
+/// What a select of all rows answers; `?` where it may not be asked.
+fn query_call(alloc: Global, schema: &Schema, keeper: &mut MemKeeper, table: u32) -> u8 {
+    if !keeper.is_attached() || keeper.depth() < 1 || schema.count() <= table {
+        return b'?';
+    }
+    let select = all_rows(alloc, TableId(table));
+    answered(keeper.query(alloc, schema, &select))
+}
+
 /// What a call of a whole table answers; `?` where it may not be made.
 fn table_call(alloc: Global, schema: &Schema, keeper: &mut MemKeeper, call: &Call) -> u8 {
     if !keeper.is_attached() {
@@ -337,6 +382,7 @@ fn said(alloc: Global, schema: &Schema, keeper: &mut MemKeeper, call: &Call) -> 
     }
     Ok(match call {
         Call::Create(_) | Call::Drop(_) | Call::Count(_) => table_call(alloc, schema, keeper, call),
+        Call::Rows(table) => query_call(alloc, schema, keeper, *table),
         Call::Depth => digit(keeper.depth() as usize),
         _ => scope_call(alloc, keeper, call),
     })
@@ -350,13 +396,16 @@ fn attached(alloc: Global, failing: &[u64]) -> Result<MemKeeper, Fail> {
 }
 
 /// Calls, and what each answers.
-static CALLS: [(Call, u8); 46] = [
+static CALLS: [(Call, u8); 53] = [
     (Call::Create(0), b'y'),
     (Call::Create(0), b'n'),
     (Call::Drop(1), b'n'),
     (Call::Begin, b'.'),
     (Call::Insert(1, None, Some(1)), b'T'),
+    (Call::Rows(1), b'T'),
+    (Call::Rows(0), b'0'),
     (Call::Rollback, b'.'),
+    (Call::Rows(0), b'?'),
     (Call::Create(1), b'y'),
     (Call::Begin, b'.'),
     (Call::Insert(1, None, Some(1)), b'F'),
@@ -380,6 +429,8 @@ static CALLS: [(Call, u8); 46] = [
     (Call::Insert(0, None, Some(5)), b'S'),
     (Call::Insert(0, None, None), b'N'),
     (Call::Count(0), b'4'),
+    (Call::Rows(0), b'4'),
+    (Call::Rows(1), b'2'),
     (Call::Rollback, b'.'),
     (Call::Count(0), b'0'),
     (Call::Begin, b'.'),
@@ -390,7 +441,9 @@ static CALLS: [(Call, u8); 46] = [
     (Call::Insert(0, None, Some(7)), b'3'),
     (Call::Savepoint, b'.'),
     (Call::Insert(0, None, Some(8)), b'4'),
+    (Call::Rows(0), b'4'),
     (Call::RollbackTo(1), b'.'),
+    (Call::Rows(0), b'1'),
     (Call::Depth, b'1'),
     (Call::Insert(0, None, Some(9)), b'2'),
     (Call::Commit, b'.'),
@@ -423,7 +476,7 @@ fn calls_answer_as_the_rules_say(rt: HostRuntime) -> Result<(), Fail> {
 }
 
 /// Calls, and how many rows of table 0 are committed before each.
-static STEPS: [(Call, u8); 10] = [
+static STEPS: [(Call, u8); 11] = [
     (Call::Create(0), b'T'),
     (Call::Begin, b'0'),
     (Call::Insert(0, None, Some(5)), b'0'),
@@ -432,6 +485,7 @@ static STEPS: [(Call, u8); 10] = [
     (Call::Insert(0, None, Some(6)), b'1'),
     (Call::Savepoint, b'1'),
     (Call::Insert(0, None, Some(7)), b'1'),
+    (Call::Rows(0), b'1'),
     (Call::Release, b'1'),
     (Call::Commit, b'1'),
 ];
@@ -476,5 +530,19 @@ fn a_fault_of_the_first_call_takes_no_target(rt: HostRuntime) -> Result<(), Fail
     assert_eq!(rt; said(alloc, &schema, &mut keeper, &Call::Begin)?, b'?');
     assert_eq!(rt; said(alloc, &schema, &mut keeper, &Call::Depth)?, b'0');
     assert_eq!(rt; keeper.statements().len(), 0);
+    Ok(())
+}
+
+#[test]
+fn a_refused_select_is_in_the_log(rt: HostRuntime) -> Result<(), Fail> {
+    let alloc = rt.alloc();
+    let schema = two_tables(alloc)?;
+    let mut keeper = attached(alloc, &[])?;
+    said(alloc, &schema, &mut keeper, &Call::Begin)?;
+    assert_eq!(rt; said(alloc, &schema, &mut keeper, &Call::Rows(0))?, b'T');
+    assert_eq!(rt; said(alloc, &schema, &mut keeper, &Call::Count(0))?, b'T');
+    assert_eq!(rt; keeper.statements().len(), 2);
+    let last = keeper.statements().last();
+    assert!(rt; matches!(last, Some(Sent::Query(_))));
     Ok(())
 }

@@ -16,7 +16,7 @@ use Rattle.select_rows.specs.Order.{same_row}
 use Rattle.select_rows.specs.Rows.{Keyed, rows_with}
 use Rattle.select_rows.specs.Seen.{HasSeen, rows_at}
 
-same_row_equiv : IsEquivalence same_row
+pub same_row_equiv : IsEquivalence same_row
 same_row_equiv = eq_by_cmp_equiv (lists_total value_cmp_total)
 
 -- ---- rows that were seen

@@ -2,15 +2,23 @@
 
 ghost use Rattle.std.specs.Prelude.{◌≡◌, ◌-◌, ◌<◌, [], ◌∷◌, length, map, drop, slice_index_or, IfOk, IfErr, OnOk, OnErr};
 ghost use Rattle.std.specs.Option.{option_map, option_copied};
+ghost use Rattle.base_core.specs.Answers.{Gives};
 ghost use Rattle.schema_core.specs.Tables.{rows_in};
+ghost use Rattle.expr_typing.specs.Plain.{IsPlainSelect};
+ghost use Rattle.select_rows.specs.Created.{bare};
+ghost use Rattle.select_rows.specs.Refusals.{CanRefuse};
+ghost use Rattle.select_rows.specs.Rows.{answer};
+ghost use Rattle.select_rows.specs.Shapes.{AreOfItems, AreRows, AreWide};
 ghost use Rattle.schema_core.specs.WellFormed.{IsKeyFor, IsWellFormed};
 ghost use Rattle.keeper_core.specs.Store.{created, dropped, is_created};
 ghost use Rattle.table_store.specs.Written.{MayRefuse, Wrote, given_up};
 
 use crate::tables::TableMap;
 use crate::writing::{Unwritten, apply};
-use base_core::{Copied, Key, RowList, TableId};
+use base_core::{Copied, Key, Refusal, RowList, TableId};
+use expr_types::Select;
 use schema_core::{RowStmt, Schema};
+use select_rows::rows_of;
 use std::alloc::{AllocError, Global};
 use std::marker::Model;
 
@@ -143,6 +151,21 @@ impl TableStore {
                 Err(Unwritten::Memory)
             }
         }
+    }
+
+    /// The rows of a select over the tables.
+    ///
+    /// # Errors
+    /// `OperationalError` with the first table of the select's text that is not created, or `DataError` with the first
+    /// result outside 64 bits; want of memory.
+    pub fn query(&self, alloc: Global, schema: &Schema, select: &Select) -> Result<RowList, Refusal>
+        ensures rows { Gives (λ x. x) result (answer schema.now (bare self.now.tables) select.now) }
+        ensures refuses { IfErr result (λ e. CanRefuse select.now e) }
+        ensures wide { IfOk result (λ rows. AreWide select.now rows) }
+        ensures kinds { IsPlainSelect schema.now select.now → AreRows schema.now (bare self.now.tables) → IfOk result (λ rows. AreOfItems schema.now select.now rows) }
+    {
+        let tables = self.tables.bare(alloc)?;
+        rows_of(alloc, schema, &tables, select)
     }
 
     /// The rows of a table, rising by key, or none where it is not created.

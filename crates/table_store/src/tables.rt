@@ -4,10 +4,11 @@ ghost use Rattle.std.specs.Prelude.{◌≡◌, [], true, is_some, IfOk, OnOk, On
 ghost use Rattle.std.specs.Option.{option_copied};
 ghost use Rattle.keeper_core.specs.Store.{created, dropped};
 ghost use Rattle.schema_core.specs.Tables.{rows_in, row_under, with_row, with_rows, without_row};
+ghost use Rattle.select_rows.specs.Created.{bare};
 ghost use Rattle.table_store.specs.Held.{AreSorted, rows_at, restored};
 
 use crate::rows::TableRows;
-use base_core::{Copied, Key, RowValues, TableId};
+use base_core::{Copied, Key, ListOf, RowList, RowValues, TableId};
 use std::alloc::{AllocError, Global};
 use std::collections::BTreeMap;
 use std::marker::Model;
@@ -52,6 +53,17 @@ impl TableMap {
         ensures { result.now.entries ≡ self.now }
     {
         &self.tables
+    }
+
+    /// Each table with copies of its rows, rising by key, as a select sees them.
+    pub(crate) fn bare(&self, alloc: Global) -> Result<ListOf<(TableId, RowList)>, AllocError>
+        ensures { IfOk result (λ tables. tables ≡ bare self.now) }
+    {
+        let mut tables = Vec::new(alloc);
+        for (table, rows) in &self.tables {
+            tables.push((*table, rows.list(alloc)?))?;
+        }
+        Ok(ListOf::from_vec(tables))
     }
 
     /// Makes a table that has no rows. At an error nothing changes.
