@@ -1,0 +1,11 @@
+//! The rows that a bulk statement takes, and what it makes of them.
+#![tactic(auto)]
+
+mod cells;
+mod taken;
+
+pub use cells::inserted;
+pub use taken::{deleted, updated};
+
+#[cfg(test)]
+mod tests;
