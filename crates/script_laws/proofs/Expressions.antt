@@ -1,5 +1,5 @@
 -- Expressions are read steadily.
-use Rattle.std.proofs.Common.{◌≡◌, ℕ, zero, suc, Bool, true, false, if◌then◌else◌, ◌==◌, List, [], ◌∷◌, Option, Some, None, refl}
+use Rattle.std.proofs.Common.{◌≡◌, ℕ, zero, suc, Bool, true, false, if◌then◌else◌, ◌==◌, List, [], ◌∷◌, Option, Some, None, refl, sym, ◌∙◌}
 use Rattle.expr_types.specs.declared.expr.CompareOp.{CompareOp}
 use Rattle.expr_types.specs.declared.expr.CompareOp.TheVariants as compare
 use Rattle.expr_types.specs.declared.expr.Func.{Func}
@@ -17,26 +17,50 @@ use Rattle.script_tokens.specs.Input.{Reader, ◌>>=◌, ◌<$>◌, pure, refuse
 use Rattle.script_tokens.specs.Names.{name}
 use Rattle.script_tokens.specs.Literals.{literal}
 use Rattle.script_expr.specs.Expr as x
-use Rattle.script_laws.specs.Steady.{IsSteady}
-use Rattle.script_laws.proofs.Steps.{both, made, mapped, on_head, on_kind, refused, taken, chosen, chosen_at, eaten, expected, introduced, begun}
+use Rattle.script_laws.specs.Steady.{closes, IsSteady}
+use Rattle.script_laws.proofs.Steps.{IsSteadyAt, both, made, mapped, on_head, on_kind, there, behind, refused, chosen, chosen_at, eaten, expected, introduced, begun, false_true}
 use Rattle.script_laws.proofs.Marked.{IsBare, bare_first, listed, chained}
 use Rattle.script_laws.proofs.Reading.{comma_marks, name_steady, name_bare, literal_steady, literals_steady}
 
-and_marks : same_kind k.LineEnd k.And ≡ false
-unfolding same_kind
+and_marks : closes k.And ≡ false
 and_marks = refl
 
-or_marks : same_kind k.LineEnd k.Or ≡ false
-unfolding same_kind
+or_marks : closes k.Or ≡ false
 or_marks = refl
+
+-- no operator or test closes a line
+
+no_product : (kd : Kind) → closes kd ≡ true → x.product_joint kd ≡ None
+no_product k.LineEnd e = refl
+no_product k.Bad e = refl
+no_product _ e = absurd (false_true e)
+
+no_sum : (kd : Kind) → closes kd ≡ true → x.sum_joint kd ≡ None
+no_sum k.LineEnd e = refl
+no_sum k.Bad e = refl
+no_sum _ e = absurd (false_true e)
+
+test_goes : (kd : Kind) → (x.test_kind kd ≡ test.Absent → ⊥) → closes kd ≡ false
+test_goes k.LineEnd some = absurd (some refl)
+test_goes k.Bad some = absurd (some refl)
+test_goes _ some = refl
+
+no_compare : {op : CompareOp} → test.Compare op ≡ test.Absent → ⊥
+no_compare e = cc
+
+no_distinct : test.Distinct ≡ test.Absent → ⊥
+no_distinct e = cc
+
+no_negated : test.Negated ≡ test.Absent → ⊥
+no_negated e = cc
 
 pub source_steady : IsSteady x.source
 unfolding x.source
-source_steady = both name_steady (λ table. both (introduced k.As name_steady) (λ alias. made (record { table = table; alias = alias })))
+source_steady = both name_steady (λ table. both (introduced k.As refl name_steady) (λ alias. made (record { table = table; alias = alias })))
 
 null_steady : (op : CompareOp) → IsSteady (x.negated_test k.Null op)
-null_steady compare.Equal = eaten k.Null
-null_steady compare.NotEqual = eaten k.Null
+null_steady compare.Equal = eaten k.Null refl
+null_steady compare.NotEqual = eaten k.Null refl
 null_steady _ = made false
 
 null_after_steady : (op : CompareOp) → IsSteady (x.null_after op)
@@ -44,10 +68,10 @@ unfolding x.null_after
 null_after_steady op = null_steady op
 
 path_steady : (first : List ℕ) → IsSteady (x.path first)
-path_steady first = both (expected k.Dot) (λ _. both name_steady (λ second. made (e.Path first second)))
+path_steady first = both (expected k.Dot refl) (λ _. both name_steady (λ second. made (e.Path first second)))
 
 star_steady : (f : Func) → IsSteady (x.star_of f)
-star_steady func.Count = eaten k.Star
+star_steady func.Count = eaten k.Star refl
 star_steady _ = made false
 
 takes_all_steady : (f : Func) → IsSteady (x.takes_all f)
@@ -55,19 +79,19 @@ unfolding x.takes_all
 takes_all_steady f = star_steady f
 
 module _ (depth : ℕ) (expr : Level → Reader Syn) (steady : (l : Level) → IsSteady (expr l)) (bare : (l : Level) → IsBare (expr l)) where
-  deeper_steady : (kind : Kind) → IsSteady (x.deeper depth expr kind)
+  deeper_steady : (kind : Kind) → closes kind ≡ false → IsSteady (x.deeper depth expr kind)
   unfolding x.deeper
-  deeper_steady kind = chosen_at refuse (expect kind) (depth == 0) refused (expected kind)
+  deeper_steady kind goes = chosen_at refuse (expect kind) (depth == 0) refused (expected kind goes)
 
   parenthesized_steady : IsSteady (x.parenthesized depth expr)
   unfolding x.parenthesized
-  parenthesized_steady = both (deeper_steady k.LParen) (λ _. both (steady level.Whole) (λ inner. both (expected k.RParen) (λ _. made inner)))
+  parenthesized_steady = both (deeper_steady k.LParen refl) (λ _. both (steady level.Whole) (λ inner. both (expected k.RParen refl) (λ _. made inner)))
 
   exists_steady : IsSteady (x.exists depth expr)
   unfolding x.exists
   exists_steady =
-      both (deeper_steady k.LParen) (λ _. both source_steady (λ from. both (expected k.Where) (λ _. both (steady level.Whole) (λ inner.
-      both (expected k.RParen) (λ _. made (e.Exists from inner))))))
+      both (deeper_steady k.LParen refl) (λ _. both source_steady (λ from. both (expected k.Where refl) (λ _. both (steady level.Whole) (λ inner.
+      both (expected k.RParen refl) (λ _. made (e.Exists from inner))))))
 
   arguments_steady : IsSteady (x.arguments depth expr)
   unfolding x.arguments
@@ -76,8 +100,8 @@ module _ (depth : ℕ) (expr : Level → Reader Syn) (steady : (l : Level) → I
   call_steady : (f : Func) → IsSteady (x.call depth expr f)
   unfolding x.call
   call_steady f =
-      both (deeper_steady k.LParen) (λ _. both (takes_all_steady f) (λ is_all. chosen is_all (both (expected k.RParen) (λ _. made e.CountAll))
-      (both arguments_steady (λ found. both (expected k.RParen) (λ _. made (e.Call f found))))))
+      both (deeper_steady k.LParen refl) (λ _. both (takes_all_steady f) (λ is_all. chosen is_all (both (expected k.RParen refl) (λ _. made e.CountAll))
+      (both arguments_steady (λ found. both (expected k.RParen refl) (λ _. made (e.Call f found))))))
 
   called_steady : (f : Func) (first : List ℕ) → IsSteady (x.called depth expr f first)
   unfolding x.called sees head
@@ -93,30 +117,30 @@ module _ (depth : ℕ) (expr : Level → Reader Syn) (steady : (l : Level) → I
   unfolding x.named
   named_steady =
       on_kind (λ kind. name >>= (λ first. x.named_by depth expr first (x.function kind)))
-      (λ kind. both name_steady (λ first. named_by_steady first (x.function kind)))
+      (λ kind. there (both name_steady (λ first. named_by_steady first (x.function kind))))
 
   -- a literal, or a name with what follows it
   plain_steady : (b : Bool) → IsSteady (if b then (e.Lit <$> literal) else x.named depth expr)
   plain_steady b = chosen b (mapped e.Lit literal_steady) named_steady
 
-  atom_by_steady : (kind : Kind) → IsSteady (x.atom_by depth expr kind)
-  atom_by_steady k.LParen = parenthesized_steady
-  atom_by_steady k.Exists = both taken (λ _. exists_steady)
-  atom_by_steady k.Number = mapped e.Lit literal_steady
-  atom_by_steady k.Signed = mapped e.Lit literal_steady
-  atom_by_steady k.TextLiteral = mapped e.Lit literal_steady
-  atom_by_steady k.BytesLiteral = mapped e.Lit literal_steady
-  atom_by_steady k.True = mapped e.Lit literal_steady
-  atom_by_steady k.False = mapped e.Lit literal_steady
-  atom_by_steady _ = named_steady
+  atom_by_steady : (kind : Kind) → IsSteadyAt kind (x.atom_by depth expr kind)
+  atom_by_steady k.LParen = there parenthesized_steady
+  atom_by_steady k.Exists = behind k.Exists refl (λ _. exists_steady)
+  atom_by_steady k.Number = there (mapped e.Lit literal_steady)
+  atom_by_steady k.Signed = there (mapped e.Lit literal_steady)
+  atom_by_steady k.TextLiteral = there (mapped e.Lit literal_steady)
+  atom_by_steady k.BytesLiteral = there (mapped e.Lit literal_steady)
+  atom_by_steady k.True = there (mapped e.Lit literal_steady)
+  atom_by_steady k.False = there (mapped e.Lit literal_steady)
+  atom_by_steady _ = there named_steady
 
   atom_steady : IsSteady (x.atom depth expr)
   unfolding x.atom
   atom_steady = on_kind (x.atom_by depth expr) atom_by_steady
 
-  unary_by_steady : (kind : Kind) → IsSteady (x.unary_by depth expr kind)
-  unary_by_steady k.Minus = both (deeper_steady k.Minus) (λ _. mapped e.Neg (steady level.Unary))
-  unary_by_steady _ = atom_steady
+  unary_by_steady : (kind : Kind) → IsSteadyAt kind (x.unary_by depth expr kind)
+  unary_by_steady k.Minus = there (both (deeper_steady k.Minus refl) (λ _. mapped e.Neg (steady level.Unary)))
+  unary_by_steady _ = there atom_steady
 
   unary_steady : IsSteady (x.unary depth expr)
   unfolding x.unary
@@ -124,7 +148,7 @@ module _ (depth : ℕ) (expr : Level → Reader Syn) (steady : (l : Level) → I
 
   factors_steady : (first : Syn) → IsSteady (x.factors depth expr first)
   unfolding x.factors
-  factors_steady first = chained x.product_joint (x.unary depth expr) refl unary_steady first
+  factors_steady first = chained x.product_joint (x.unary depth expr) no_product unary_steady first
 
   product_steady : IsSteady (x.product depth expr)
   unfolding x.product
@@ -132,7 +156,7 @@ module _ (depth : ℕ) (expr : Level → Reader Syn) (steady : (l : Level) → I
 
   summands_steady : (first : Syn) → IsSteady (x.summands depth expr first)
   unfolding x.summands
-  summands_steady first = chained x.sum_joint (x.product depth expr) refl product_steady first
+  summands_steady first = chained x.sum_joint (x.product depth expr) no_sum product_steady first
 
   sum_steady : IsSteady (x.sum depth expr)
   unfolding x.sum
@@ -146,17 +170,17 @@ module _ (depth : ℕ) (expr : Level → Reader Syn) (steady : (l : Level) → I
   distinct_steady : (left : Syn) → IsSteady (x.distinct depth expr left)
   unfolding x.distinct
   distinct_steady left =
-      both (eaten k.Not) (λ negated. both (expected k.Distinct) (λ _. both (expected k.From) (λ _. mapped (e.Distinct negated left) sum_steady)))
+      both (eaten k.Not refl) (λ negated. both (expected k.Distinct refl) (λ _. both (expected k.From refl) (λ _. mapped (e.Distinct negated left) sum_steady)))
 
   members_steady : IsSteady (x.members depth expr)
   unfolding x.members
   members_steady =
-      both (deeper_steady k.LParen) (λ _. both (eaten k.RParen) (λ is_empty. chosen is_empty (made [])
-      (both literals_steady (λ found. both (expected k.RParen) (λ _. made found)))))
+      both (deeper_steady k.LParen refl) (λ _. both (eaten k.RParen refl) (λ is_empty. chosen is_empty (made [])
+      (both literals_steady (λ found. both (expected k.RParen refl) (λ _. made found)))))
 
   between_steady : (negated : Bool) (left : Syn) → IsSteady (x.between depth expr negated left)
   unfolding x.between
-  between_steady negated left = both sum_steady (λ low. both (expected k.And) (λ _. mapped (e.Between negated left low) sum_steady))
+  between_steady negated left = both sum_steady (λ low. both (expected k.And refl) (λ _. mapped (e.Between negated left low) sum_steady))
 
   liked_steady : (negated : Bool) (left : Syn) → IsSteady (x.liked depth expr negated left)
   unfolding x.liked
@@ -170,35 +194,35 @@ module _ (depth : ℕ) (expr : Level → Reader Syn) (steady : (l : Level) → I
   unfolding x.among
   among_steady negated left = mapped (e.InList negated left) members_steady
 
-  test_by_steady : (negated : Bool) (left : Syn) (kind : Kind) → IsSteady (x.test_by depth expr negated left kind)
-  test_by_steady negated left k.Like = both taken (λ _. liked_steady negated left)
-  test_by_steady negated left k.Ilike = both taken (λ _. iliked_steady negated left)
-  test_by_steady negated left k.Between = both taken (λ _. between_steady negated left)
-  test_by_steady negated left k.In = both taken (λ _. among_steady negated left)
-  test_by_steady negated left _ = refused
+  test_by_steady : (negated : Bool) (left : Syn) (kind : Kind) → IsSteadyAt kind (x.test_by depth expr negated left kind)
+  test_by_steady negated left k.Like = behind k.Like refl (λ _. liked_steady negated left)
+  test_by_steady negated left k.Ilike = behind k.Ilike refl (λ _. iliked_steady negated left)
+  test_by_steady negated left k.Between = behind k.Between refl (λ _. between_steady negated left)
+  test_by_steady negated left k.In = behind k.In refl (λ _. among_steady negated left)
+  test_by_steady negated left _ = there refused
 
   tested_steady : (negated : Bool) (left : Syn) → IsSteady (x.tested depth expr negated left)
   unfolding x.tested
   tested_steady negated left = on_kind (x.test_by depth expr negated left) (test_by_steady negated left)
 
-  follow_by_steady : (left : Syn) (t : Test) → IsSteady (x.follow_by depth expr left t)
-  follow_by_steady left (test.Compare op) = both taken (λ _. compared_steady op left)
-  follow_by_steady left test.Distinct = both taken (λ _. distinct_steady left)
-  follow_by_steady left test.Negated = both taken (λ _. tested_steady true left)
-  follow_by_steady left test.Plain = tested_steady false left
-  follow_by_steady left test.Absent = made left
+  follow_by_steady : (left : Syn) (kind : Kind) (t : Test) → x.test_kind kind ≡ t → IsSteadyAt kind (x.follow_by depth expr left t)
+  follow_by_steady left kind (test.Compare op) e = behind kind (test_goes kind (λ is. no_compare (sym e ∙ is))) (λ _. compared_steady op left)
+  follow_by_steady left kind test.Distinct e = behind kind (test_goes kind (λ is. no_distinct (sym e ∙ is))) (λ _. distinct_steady left)
+  follow_by_steady left kind test.Negated e = behind kind (test_goes kind (λ is. no_negated (sym e ∙ is))) (λ _. tested_steady true left)
+  follow_by_steady left kind test.Plain e = there (tested_steady false left)
+  follow_by_steady left kind test.Absent e = there (made left)
 
   follow_steady : (left : Syn) → IsSteady (x.follow depth expr left)
   unfolding x.follow
-  follow_steady left = on_kind (λ kind. x.follow_by depth expr left (x.test_kind kind)) (λ kind. follow_by_steady left (x.test_kind kind))
+  follow_steady left = on_kind (λ kind. x.follow_by depth expr left (x.test_kind kind)) (λ kind. follow_by_steady left kind (x.test_kind kind) refl)
 
   comparison_steady : IsSteady (x.comparison depth expr)
   unfolding x.comparison
   comparison_steady = both sum_steady follow_steady
 
-  negation_by_steady : (kind : Kind) → IsSteady (x.negation_by depth expr kind)
-  negation_by_steady k.Not = both (deeper_steady k.Not) (λ _. mapped e.Not (steady level.Negation))
-  negation_by_steady _ = comparison_steady
+  negation_by_steady : (kind : Kind) → IsSteadyAt kind (x.negation_by depth expr kind)
+  negation_by_steady k.Not = there (both (deeper_steady k.Not refl) (λ _. mapped e.Not (steady level.Negation)))
+  negation_by_steady _ = there comparison_steady
 
   negation_steady : IsSteady (x.negation depth expr)
   unfolding x.negation
@@ -240,7 +264,7 @@ module _ (depth : ℕ) (expr : Level → Reader Syn) (steady : (l : Level) → I
 
   conjunction_steady : IsSteady (x.conjunction depth expr)
   unfolding x.conjunction
-  conjunction_steady = both negation_steady (λ first. both (eaten k.And) (λ more. chosen more (mapped e.And (conjuncts_steady first)) (made first)))
+  conjunction_steady = both negation_steady (λ first. both (eaten k.And refl) (λ more. chosen more (mapped e.And (conjuncts_steady first)) (made first)))
 
   conjunction_bare : IsBare (x.conjunction depth expr)
   unfolding x.conjunction
@@ -253,7 +277,7 @@ module _ (depth : ℕ) (expr : Level → Reader Syn) (steady : (l : Level) → I
 
   disjunction_steady : IsSteady (x.disjunction depth expr)
   unfolding x.disjunction
-  disjunction_steady = both conjunction_steady (λ first. both (eaten k.Or) (λ more. chosen more (mapped e.Or (disjuncts_steady first)) (made first)))
+  disjunction_steady = both conjunction_steady (λ first. both (eaten k.Or refl) (λ more. chosen more (mapped e.Or (disjuncts_steady first)) (made first)))
 
   disjunction_bare : IsBare (x.disjunction depth expr)
   unfolding x.disjunction

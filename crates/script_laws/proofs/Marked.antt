@@ -6,12 +6,13 @@ use Rattle.script_lex.specs.declared.token.Token.{Token}
 use Rattle.script_lex.specs.Lex.{same_kind}
 use Rattle.script_types.specs.declared.expression.Syn.{Syn}
 use Rattle.script_expr.specs.declared.expression.Joint.{Joint}
+use Rattle.script_tokens.proofs.Alike.{same}
 use Rattle.script_tokens.specs.declared.fault.Fault.{Fault}
 use Rattle.script_tokens.specs.declared.fault.Fault.TheVariants.{At}
 use Rattle.script_tokens.specs.Input.{Input, Outcome, Reader, ◌>>=◌, ◌>>◌, and_then, pure, refusal, peek, eat, head, kind, next, sees, after, first_of, operator, separated_from}
 use Rattle.script_expr.specs.Expr.{joined, chained_by, chained_from}
-use Rattle.script_laws.specs.Steady.{Settled, Taken, Refused, IsSteady}
-use Rattle.script_laws.proofs.Steps.{both, made, eaten, on_kind, counted}
+use Rattle.script_laws.specs.Steady.{closes, Settled, Taken, Refused, IsSteady}
+use Rattle.script_laws.proofs.Steps.{IsSteadyAt, both, both_there, there, made, eaten, on_kind, counted, false_true}
 use Rattle.script_laws.proofs.Loops.{Turn, Done, Again, after_turn, looped}
 
 -- no tokens
@@ -53,10 +54,6 @@ is_refused : {A : Type 0} → Outcome A → Type 0
 is_refused (Ok p) = ⊥
 is_refused (Err e) = Unit {0}
 
-is_false : Bool → Type 0
-is_false true = ⊥
-is_false false = Unit {0}
-
 is_none : {A : Type 0} → Option A → Type 0
 is_none None = ⊥
 is_none (Some a) = Unit {0}
@@ -69,10 +66,6 @@ pub refused_yields : {A : Type 0} {f : Fault} {a : A} {i : Input} → Yields (Er
 unfolding is_refused
 refused_yields e = subst is_refused e tt
 
-pub false_true : false ≡ true → ⊥
-unfolding is_false
-false_true e = subst is_false e tt
-
 pub not_done : {S A : Type 0} {s : S} {a : A} → ◌≡◌ {A = Turn S A} (Done a) (Again s) → ⊥
 unfolding is_again
 not_done e = subst is_again e tt
@@ -81,29 +74,36 @@ pub len_same : {i j : Input} → i ≡ j → length i.ahead ≡ length j.ahead
 len_same e = ap (λ l. length l.ahead) e
 
 shorter_by : {A : Type 0} (p : Reader A) (i j : Input) (x : A) → Settled p i → Yields (p i) x j → length j.ahead ≤ length i.ahead
-shorter_by p i j x (Taken k a o h) e =
+shorter_by p i j x (Taken k a o l h) e =
     let rest : record { ahead = drop k i.ahead; operators = o } ≡ j = rest_same (sym (h i.ahead refl) ∙ e) in
     let len : length i.ahead - k ≡ length j.ahead = sym (length-drop k i.ahead) ∙ len_same rest in
     omega arith
-shorter_by p i j x (Refused k h) e = absurd (refused_yields (sym (h i.ahead refl) ∙ e))
+shorter_by p i j x (Refused k l h) e = absurd (refused_yields (sym (h i.ahead refl) ∙ e))
 
 -- a reader never leaves more tokens than there were
 pub never_longer : {A : Type 0} {p : Reader A} → IsSteady p → (i j : Input) (x : A) → Yields (p i) x j → length j.ahead ≤ length i.ahead
 never_longer {p = p} sp i j x e = shorter_by p i j x (sp i) e
 
+closes_by : (mark : Kind) (b : Bool) → same_kind k.LineEnd mark ≡ b → closes mark ≡ false → b ≡ false
+closes_by mark true is goes = absurd (false_true (sym goes ∙ sym (ap closes (same is))))
+closes_by mark false is goes = refl
+
+unlike_end : (mark : Kind) → closes mark ≡ false → same_kind k.LineEnd mark ≡ false
+unlike_end mark goes = closes_by mark (same_kind k.LineEnd mark) refl goes
+
 seen_at : (mark : Kind) (xs : List Token) → same_kind k.LineEnd mark ≡ false → same_kind (first_of xs).kind mark ≡ true → suc (length (drop 1 xs)) ≤ length xs
 seen_at mark [] ends seen = absurd (false_true (sym ends ∙ seen))
 seen_at mark (x ∷ xs) ends seen = omega arith
 
-pub mark_taken : (mark : Kind) (i : Input) → same_kind k.LineEnd mark ≡ false → sees mark i ≡ true → suc (length (next i).ahead) ≤ length i.ahead
+pub mark_taken : (mark : Kind) (i : Input) → closes mark ≡ false → sees mark i ≡ true → suc (length (next i).ahead) ≤ length i.ahead
 unfolding sees head next
-mark_taken mark i ends seen = seen_at mark i.ahead ends seen
+mark_taken mark i goes seen = seen_at mark i.ahead (unlike_end mark goes) seen
 
 module _ {S X : Type 0} (mark : Kind) (item : S → Reader X) (grow : S → X → S) (loop : ℕ → S → Reader S)
     (starts : (s : S) (i : Input) → loop 0 s i ≡ Err (refusal i))
     (goes : (n : ℕ) (s : S) (i : Input)
     → loop (suc n) s i ≡ and_then (item s i) (λ x. eat mark >>= (λ more. if more then loop n (grow s x) else pure (grow s x))))
-    (marks : same_kind k.LineEnd mark ≡ false)
+    (marks : closes mark ≡ false)
     (steady : (s : S) → IsSteady (item s))
     (bare : (s : S) → IsBare (item s)) where
   turned : S → X → Bool → Turn S S
@@ -114,7 +114,7 @@ module _ {S X : Type 0} (mark : Kind) (item : S → Reader X) (grow : S → X �
 
   turn_steady : (s : S) → IsSteady (turn s)
   unfolding turn
-  turn_steady s = both (steady s) (λ x. both (eaten mark) (λ more. made (turned s x more)))
+  turn_steady s = both (steady s) (λ x. both (eaten mark marks) (λ more. made (turned s x more)))
 
   by_more : (n : ℕ) (s : S) (x : X) (j : Input) (b : Bool)
       → (if b then loop n (grow s x) else pure (grow s x)) j ≡ and_then (Ok (turned s x b, j)) (after_turn (loop n))
@@ -159,7 +159,7 @@ module _ {S X : Type 0} (mark : Kind) (item : S → Reader X) (grow : S → X �
   pub marked : (s : S) → IsSteady (λ j. loop (length j.ahead) s j)
   marked s = looped loop turn unrolls ends_bare turn_steady shrinks s
 
-pub listed : {A : Type 0} (mark : Kind) {item : Reader A} → same_kind k.LineEnd mark ≡ false → IsSteady item → IsBare item
+pub listed : {A : Type 0} (mark : Kind) {item : Reader A} → closes mark ≡ false → IsSteady item → IsBare item
     → (found : List A) → IsSteady (λ j. separated_from mark item (length j.ahead) found j)
 unfolding separated_from
 listed mark {item = item} marks steady bare found =
@@ -167,7 +167,7 @@ listed mark {item = item} marks steady bare found =
 
 -- ---- chains
 
-module _ (joint : Kind → Option Joint) (operand : Reader Syn) (ends : joint k.LineEnd ≡ None) (steady : IsSteady operand) where
+module _ (joint : Kind → Option Joint) (operand : Reader Syn) (ends : (kd : Kind) → closes kd ≡ true → joint kd ≡ None) (steady : IsSteady operand) where
   link_by : Syn → Option Joint → Reader (Turn Syn Syn)
   link_by left None = pure (Done left)
   link_by left (Some j) = operator >> operand >>= (λ right. pure (Again (joined j left right)))
@@ -175,14 +175,21 @@ module _ (joint : Kind → Option Joint) (operand : Reader Syn) (ends : joint k.
   link : Syn → Reader (Turn Syn Syn)
   link left = peek >>= (λ kind. link_by left (joint kind))
 
-  link_by_steady : (left : Syn) (o : Option Joint) → IsSteady (link_by left o)
+  goes_by : (kd : Kind) (j : Joint) (b : Bool) → closes kd ≡ b → joint kd ≡ Some j → b ≡ false
+  goes_by kd j true is e = absurd (some_none (sym e ∙ ends kd is))
+  goes_by kd j false is e = refl
+
+  goes : (kd : Kind) (j : Joint) → joint kd ≡ Some j → closes kd ≡ false
+  goes kd j e = goes_by kd j (closes kd) refl e
+
+  link_by_steady : (left : Syn) (kd : Kind) (o : Option Joint) → joint kd ≡ o → IsSteadyAt kd (link_by left o)
   unfolding link_by
-  link_by_steady left None = made (Done left)
-  link_by_steady left (Some j) = both (both counted (λ _. steady)) (λ right. made (Again (joined j left right)))
+  link_by_steady left kd None e = there (made (Done left))
+  link_by_steady left kd (Some j) e = both_there (both_there (counted kd (goes kd j e)) (λ _. steady)) (λ right. made (Again (joined j left right)))
 
   link_steady : (left : Syn) → IsSteady (link left)
   unfolding link
-  link_steady left = on_kind (λ kind. link_by left (joint kind)) (λ kind. link_by_steady left (joint kind))
+  link_steady left = on_kind (λ kind. link_by left (joint kind)) (λ kind. link_by_steady left kind (joint kind) refl)
 
   out_same : (n : ℕ) (left : Syn) (j : Joint) (out : Outcome Syn)
       → and_then out (λ right. chained_from joint operand n (joined j left right))
@@ -203,7 +210,7 @@ module _ (joint : Kind → Option Joint) (operand : Reader Syn) (ends : joint k.
 
   link_ends : (left : Syn) (o : ℕ) → chained_from joint operand 0 left (none_left o) ≡ chained_from joint operand 1 left (none_left o)
   unfolding chained_from head
-  link_ends left o = sym (ap (λ found. chained_by (chained_from joint operand 0) operand left found (none_left o)) ends)
+  link_ends left o = sym (ap (λ found. chained_by (chained_from joint operand 0) operand left found (none_left o)) (ends k.LineEnd refl))
 
   taken_at : (t : Token) (ts : List Token) (o : ℕ) (b : Bool) (m : Input)
       → Yields {A = Unit {0}} (if b then Err (At t.at) else Ok (tt, record { ahead = ts; operators = o - 1 })) tt m → length m.ahead ≡ length ts
@@ -244,7 +251,7 @@ module _ (joint : Kind → Option Joint) (operand : Reader Syn) (ends : joint k.
   link_shrinks_at : (left more : Syn) (xs : List Token) (o : ℕ) (m : Input) → Yields {A = Turn Syn Syn} (link left (record { ahead = xs; operators = o })) (Again more) m
       → suc (length m.ahead) ≤ length xs
   unfolding link head
-  link_shrinks_at left more [] o m e = absurd (link_none left more o m (joint k.LineEnd) ends e)
+  link_shrinks_at left more [] o m e = absurd (link_none left more o m (joint k.LineEnd) (ends k.LineEnd refl) e)
   link_shrinks_at left more (t ∷ ts) o m e = link_shrinks_by left more t ts o m (joint t.kind) e
 
   link_shrinks : (left : Syn) (i m : Input) (more : Syn) → link left i ≡ Ok (Again more, m) → suc (length m.ahead) ≤ length i.ahead

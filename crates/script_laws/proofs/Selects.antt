@@ -12,8 +12,8 @@ use Rattle.script_expr.specs.Expr.{whole}
 use Rattle.script_select.specs.Select as s
 use Rattle.script_select.specs.Query as q
 use Rattle.script_select.specs.Bulk as b
-use Rattle.script_laws.specs.Steady.{IsSteady}
-use Rattle.script_laws.proofs.Steps.{both, made, mapped, on_kind, refused, taken, chosen, eaten, expected, introduced}
+use Rattle.script_laws.specs.Steady.{closes, IsSteady}
+use Rattle.script_laws.proofs.Steps.{IsSteadyAt, both, made, mapped, on_kind, there, behind, refused, chosen, eaten, expected, introduced}
 use Rattle.script_laws.proofs.Loops.{Turn, Done, Again, after_turn, looped}
 use Rattle.script_laws.proofs.Marked.{none_left, IsBare, Yields, bare_first, listed, rest_same, value_same, not_done, len_same, never_longer, mark_taken, refused_yields, some_none}
 use Rattle.script_laws.proofs.Reading.{comma_marks, name_steady, name_bare, names_steady, int_steady, values_steady}
@@ -21,7 +21,7 @@ use Rattle.script_laws.proofs.Expressions.{whole_steady, whole_bare, source_stea
 
 item_steady : IsSteady s.item
 unfolding s.item
-item_steady = both whole_steady (λ value. both (introduced k.As name_steady) (λ called. made (value, called)))
+item_steady = both whole_steady (λ value. both (introduced k.As refl name_steady) (λ called. made (value, called)))
 
 item_bare : IsBare s.item
 unfolding s.item
@@ -33,7 +33,7 @@ items_steady = listed k.Comma comma_marks item_steady item_bare []
 
 descending_steady : IsSteady s.descending
 unfolding s.descending
-descending_steady = both (eaten k.Desc) (λ found. chosen found (made true) (both (eaten k.Asc) (λ _. made false)))
+descending_steady = both (eaten k.Desc refl) (λ found. chosen found (made true) (both (eaten k.Asc refl) (λ _. made false)))
 
 order_item_steady : IsSteady s.order_item
 unfolding s.order_item
@@ -49,12 +49,12 @@ order_items_steady = listed k.Comma comma_marks order_item_steady order_item_bar
 
 order_steady : IsSteady s.order
 unfolding s.order
-order_steady = both (eaten k.Order) (λ found. chosen found (both (expected k.By) (λ _. order_items_steady)) (made []))
+order_steady = both (eaten k.Order refl) (λ found. chosen found (both (expected k.By refl) (λ _. order_items_steady)) (made []))
 
 last_part_steady : IsSteady s.last_part
 unfolding s.last_part
 last_part_steady =
-    both order_steady (λ keys. both (introduced k.Limit int_steady) (λ limit. both (introduced k.Offset int_steady) (λ offset.
+    both order_steady (λ keys. both (introduced k.Limit refl int_steady) (λ limit. both (introduced k.Offset refl int_steady) (λ offset.
     made (record { order = keys; limit = limit; offset = offset }))))
 
 expressions_steady : IsSteady s.expressions
@@ -63,26 +63,26 @@ expressions_steady = listed k.Comma comma_marks whole_steady whole_bare []
 
 groups_steady : IsSteady s.groups
 unfolding s.groups
-groups_steady = both (eaten k.Group) (λ found. chosen found (both (expected k.By) (λ _. expressions_steady)) (made []))
+groups_steady = both (eaten k.Group refl) (λ found. chosen found (both (expected k.By refl) (λ _. expressions_steady)) (made []))
 
-pub condition_steady : (word : Kind) → IsSteady (s.condition word)
+pub condition_steady : (word : Kind) → closes word ≡ false → IsSteady (s.condition word)
 unfolding s.condition
-condition_steady word = introduced word whole_steady
+condition_steady word goes = introduced word goes whole_steady
 
 middle_part_steady : IsSteady s.middle_part
 unfolding s.middle_part
 middle_part_steady =
-    both (condition_steady k.Where) (λ filter. both groups_steady (λ keys. both (condition_steady k.Having) (λ having.
+    both (condition_steady k.Where refl) (λ filter. both groups_steady (λ keys. both (condition_steady k.Having refl) (λ having.
     made (record { filter = filter; groups = keys; having = having }))))
 
 join_steady : (left : Bool) → IsSteady (s.join left)
 unfolding s.join
-join_steady left = both source_steady (λ from. both (expected k.On) (λ _. both whole_steady (λ on. made (record { left = left; source = from; on = on }))))
+join_steady left = both source_steady (λ from. both (expected k.On refl) (λ _. both whole_steady (λ on. made (record { left = left; source = from; on = on }))))
 
-join_by_steady : (kind : Kind) → IsSteady (s.join_by kind)
-join_by_steady k.Join = both taken (λ _. made (Some false))
-join_by_steady k.Left = both taken (λ _. both (expected k.Join) (λ _. made (Some true)))
-join_by_steady _ = made None
+join_by_steady : (kind : Kind) → IsSteadyAt kind (s.join_by kind)
+join_by_steady k.Join = behind k.Join refl (λ _. made (Some false))
+join_by_steady k.Left = behind k.Left refl (λ _. both (expected k.Join refl) (λ _. made (Some true)))
+join_by_steady _ = there (made None)
 
 begins_join_steady : IsSteady s.begins_join
 unfolding s.begins_join
@@ -135,7 +135,7 @@ word_takes : (kind : Kind) (t : Token) (ts : List Token) (o : ℕ) (left : Bool)
 unfolding next
 word_takes k.Join t ts o left m e = let same : length ts ≡ length m.ahead = len_same (rest_same e) in omega arith
 word_takes k.Left t ts o left m e =
-    never_longer (both (expected k.Join) (λ _. made (Some true))) (record { ahead = ts; operators = o }) m (Some left) e
+    never_longer (both (expected k.Join refl) (λ _. made (Some true))) (record { ahead = ts; operators = o }) m (Some left) e
 word_takes _ t ts o left m e = absurd (some_none (sym (value_same e)))
 
 begins_takes : (xs : List Token) (o : ℕ) (left : Bool) (m : Input) → Yields {A = Option Bool} (s.begins_join (record { ahead = xs; operators = o })) (Some left) m
@@ -178,7 +178,7 @@ joins_steady = looped s.joins_from joins_turn joins_unroll joins_end joins_turn_
 pub select_steady : IsSteady s.select
 unfolding s.select
 select_steady =
-    both (eaten k.Distinct) (λ distinct. both items_steady (λ shown. both (expected k.From) (λ _. both source_steady (λ first. both joins_steady (λ others.
+    both (eaten k.Distinct refl) (λ distinct. both items_steady (λ shown. both (expected k.From refl) (λ _. both source_steady (λ first. both joins_steady (λ others.
     both middle_part_steady (λ part. both last_part_steady (λ end. made (record {
       distinct = distinct;
       items = shown;
@@ -196,7 +196,7 @@ select_steady =
 
 pair_steady : IsSteady q.pair
 unfolding q.pair
-pair_steady = both name_steady (λ first. both (expected k.Dot) (λ _. both name_steady (λ second. made (first, second))))
+pair_steady = both name_steady (λ first. both (expected k.Dot refl) (λ _. both name_steady (λ second. made (first, second))))
 
 pairs_turn_by : List (List ℕ × List ℕ) → Bool → Reader (Turn (List (List ℕ × List ℕ)) (List (List ℕ × List ℕ)))
 pairs_turn_by found false = pure (Done found)
@@ -212,7 +212,7 @@ pairs_by_steady found true = both pair_steady (λ j. made (Again (found ++ j ∷
 
 pairs_turn_steady : (found : List (List ℕ × List ℕ)) → IsSteady (pairs_turn found)
 unfolding pairs_turn
-pairs_turn_steady found = both (eaten k.Join) (pairs_by_steady found)
+pairs_turn_steady found = both (eaten k.Join refl) (pairs_by_steady found)
 
 pair_same : (n : ℕ) (found : List (List ℕ × List ℕ)) (out : Outcome (List ℕ × List ℕ))
     → and_then out (λ j. q.joins_from n (found ++ j ∷ [])) ≡ and_then (and_then out (λ j. pure (Again (found ++ j ∷ [])))) (after_turn (q.joins_from n))
@@ -229,8 +229,7 @@ pairs_unroll : (n : ℕ) (found : List (List ℕ × List ℕ)) (i : Input) → q
 unfolding q.joins_from pairs_turn
 pairs_unroll n found i = pairs_same_by n found (after k.Join i) (sees k.Join i)
 
-join_marks : same_kind k.LineEnd k.Join ≡ false
-unfolding same_kind
+join_marks : closes k.Join ≡ false
 join_marks = refl
 
 pairs_end : (found : List (List ℕ × List ℕ)) (o : ℕ) → q.joins_from 0 found (none_left o) ≡ q.joins_from 1 found (none_left o)
@@ -265,10 +264,10 @@ query_joins_steady : IsSteady q.joins
 unfolding q.joins
 query_joins_steady = looped q.joins_from pairs_turn pairs_unroll pairs_end pairs_turn_steady pairs_shrink []
 
-manner_by_steady : (kind : Kind) → IsSteady (q.manner_by kind)
-manner_by_steady k.Joined = both taken (λ _. made true)
-manner_by_steady k.Selectin = both taken (λ _. made false)
-manner_by_steady _ = refused
+manner_by_steady : (kind : Kind) → IsSteadyAt kind (q.manner_by kind)
+manner_by_steady k.Joined = behind k.Joined refl (λ _. made true)
+manner_by_steady k.Selectin = behind k.Selectin refl (λ _. made false)
+manner_by_steady _ = there refused
 
 manner_steady : IsSteady q.manner
 unfolding q.manner
@@ -292,23 +291,23 @@ option_list_steady = listed k.Comma comma_marks option_steady option_bare []
 
 options_steady : IsSteady q.options
 unfolding q.options
-options_steady = both (eaten k.With) (λ found. chosen found option_list_steady (made []))
+options_steady = both (eaten k.With refl) (λ found. chosen found option_list_steady (made []))
 
 pub query_steady : IsSteady q.query
 unfolding q.query
 query_steady =
-    both name_steady (λ class. both query_joins_steady (λ others. both (condition_steady k.Where) (λ filter. both last_part_steady (λ end. both options_steady (λ loads.
+    both name_steady (λ class. both query_joins_steady (λ others. both (condition_steady k.Where refl) (λ filter. both last_part_steady (λ end. both options_steady (λ loads.
     made (record { class = class; joins = others; filter = filter; order = end.order; limit = end.limit; offset = end.offset; options = loads }))))))
 
 -- ---- bulk statements
 
 assigned_steady : IsSteady b.assigned
 unfolding b.assigned
-assigned_steady = both (eaten k.Null) (λ is_null. chosen is_null (made None) (mapped Some whole_steady))
+assigned_steady = both (eaten k.Null refl) (λ is_null. chosen is_null (made None) (mapped Some whole_steady))
 
 cell_steady : IsSteady b.cell
 unfolding b.cell
-cell_steady = both name_steady (λ column. both (expected k.Assign) (λ _. both assigned_steady (λ value. made (column, value))))
+cell_steady = both name_steady (λ column. both (expected k.Assign refl) (λ _. both assigned_steady (λ value. made (column, value))))
 
 cell_bare : IsBare b.cell
 unfolding b.cell
@@ -320,27 +319,27 @@ cells_steady = listed k.Comma comma_marks cell_steady cell_bare []
 
 row_steady : IsSteady b.row
 unfolding b.row
-row_steady = both (expected k.LParen) (λ _. both values_steady (λ found. both (expected k.RParen) (λ _. made found)))
+row_steady = both (expected k.LParen refl) (λ _. both values_steady (λ found. both (expected k.RParen refl) (λ _. made found)))
 
 insert_steady : IsSteady b.insert
 unfolding b.insert
 insert_steady =
-    both name_steady (λ table. both names_steady (λ columns. both (expected k.Values) (λ _. both row_steady (λ found. made (Insert table columns found)))))
+    both name_steady (λ table. both names_steady (λ columns. both (expected k.Values refl) (λ _. both row_steady (λ found. made (Insert table columns found)))))
 
 update_steady : IsSteady b.update
 unfolding b.update
 update_steady =
-    both name_steady (λ table. both (expected k.Set) (λ _. both cells_steady (λ found. both (condition_steady k.Where) (λ filter. made (Update table found filter)))))
+    both name_steady (λ table. both (expected k.Set refl) (λ _. both cells_steady (λ found. both (condition_steady k.Where refl) (λ filter. made (Update table found filter)))))
 
 delete_steady : IsSteady b.delete
 unfolding b.delete
-delete_steady = both name_steady (λ table. both (condition_steady k.Where) (λ filter. made (Delete table filter)))
+delete_steady = both name_steady (λ table. both (condition_steady k.Where refl) (λ filter. made (Delete table filter)))
 
-bulk_by_steady : (kind : Kind) → IsSteady (b.bulk_by kind)
-bulk_by_steady k.Insert = both taken (λ _. insert_steady)
-bulk_by_steady k.Update = both taken (λ _. update_steady)
-bulk_by_steady k.Delete = both taken (λ _. delete_steady)
-bulk_by_steady _ = refused
+bulk_by_steady : (kind : Kind) → IsSteadyAt kind (b.bulk_by kind)
+bulk_by_steady k.Insert = behind k.Insert refl (λ _. insert_steady)
+bulk_by_steady k.Update = behind k.Update refl (λ _. update_steady)
+bulk_by_steady k.Delete = behind k.Delete refl (λ _. delete_steady)
+bulk_by_steady _ = there refused
 
 pub bulk_steady : IsSteady b.bulk
 unfolding b.bulk

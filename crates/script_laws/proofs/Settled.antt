@@ -5,7 +5,7 @@ use Rattle.script_lex.specs.declared.token.Token.{Token}
 use Rattle.script_tokens.specs.declared.fault.Fault.{Fault}
 use Rattle.script_tokens.specs.declared.fault.Fault.TheVariants.{At}
 use Rattle.script_tokens.specs.Input.{Outcome, Reader, start_of}
-use Rattle.script_laws.specs.Steady.{Settled, Taken, Refused, IsSteady}
+use Rattle.script_laws.specs.Steady.{Leaves, Settled, Taken, Refused, IsSteady}
 use Rattle.script_laws.specs.Refusals.{place, IsRefusedForGood, IsReadForGood, whole_binding, whole_top, whole_table_line, whole_class_line}
 use Rattle.script_laws.proofs.Steps.{both}
 use Rattle.script_laws.proofs.Marked.{refused_yields, rest_same, value_same, Yields}
@@ -20,10 +20,10 @@ unfolding fault_of
 fault_same {d = d} q = ap (fault_of d) q
 
 refused_by : (p : Reader Command) (tokens : List Token) (e : Fault) → Settled p (start_of tokens) → p (start_of tokens) ≡ Err e
-    → (k : ℕ) × ((e ≡ At (place k tokens))
-    × ((other : List Token) → take (suc k) tokens ≡ take (suc k) other → p (start_of other) ≡ Err (At (place k other))))
-refused_by p tokens e (Taken k a n h) was = absurd (refused_yields (sym was ∙ h tokens refl))
-refused_by p tokens e (Refused k h) was = (k, (fault_same (sym was ∙ h tokens refl), h))
+    → (k : ℕ) × (Leaves k tokens × ((e ≡ At (place k tokens))
+    × ((other : List Token) → take (suc k) tokens ≡ take (suc k) other → p (start_of other) ≡ Err (At (place k other)))))
+refused_by p tokens e (Taken k a n l h) was = absurd (refused_yields (sym was ∙ h tokens refl))
+refused_by p tokens e (Refused k l h) was = (k, (l, (fault_same (sym was ∙ h tokens refl), h)))
 
 refused_for_good : (p : Reader Command) → IsSteady p → IsRefusedForGood p
 refused_for_good p sp tokens e was = refused_by p tokens e (sp (start_of tokens)) was
@@ -32,7 +32,7 @@ read_by : (p : Reader Command) (tokens : List Token) (c : Command) (n : ℕ) (re
     → p (start_of tokens) ≡ Ok (c, record { ahead = rest; operators = n })
     → (k : ℕ) × ((rest ≡ drop k tokens)
     × ((other : List Token) → take (suc k) tokens ≡ take (suc k) other → p (start_of other) ≡ Ok (c, record { ahead = drop k other; operators = n })))
-read_by p tokens c n rest (Taken k a m h) was =
+read_by p tokens c n rest (Taken k a m l h) was =
     let same : Yields {A = Command} (Ok (a, record { ahead = drop k tokens; operators = m })) c (record { ahead = rest; operators = n }) = sym (h tokens refl) ∙ was in
     let value : a ≡ c = value_same same in
     let input : record { ahead = drop k tokens; operators = m } ≡ record { ahead = rest; operators = n } = rest_same same in
@@ -44,7 +44,7 @@ read_by p tokens c n rest (Taken k a m h) was =
             ∙ ap (λ o. Ok (c, record { ahead = drop k other; operators = o })) count,
       ),
     )
-read_by p tokens c n rest (Refused k h) was = absurd (refused_yields (sym (h tokens refl) ∙ was))
+read_by p tokens c n rest (Refused k l h) was = absurd (refused_yields (sym (h tokens refl) ∙ was))
 
 read_for_good : (p : Reader Command) → IsSteady p → IsReadForGood p
 read_for_good p sp tokens c n rest was = read_by p tokens c n rest (sp (start_of tokens)) was

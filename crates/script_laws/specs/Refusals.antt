@@ -10,17 +10,18 @@ use Rattle.script_blocks.specs.Classes.{class_line}
 use Rattle.script_read.specs.Bindings.{binding}
 use Rattle.script_read.specs.Top.{top}
 use Rattle.script_read.specs.Line.{ends}
+use Rattle.script_laws.specs.Steady.{Leaves}
 
 -- where the token after the first k begins
 abbrev pub place : ℕ → List Token → ℕ
 place k tokens = (first_of (drop k tokens)).at
 
--- Where a reader is refused, some k tokens stand before the refused one, and it is refused there whatever other tokens follow:
--- so no tokens that begin with the first k and the refused one are read.
+-- Where a reader is refused, some k tokens stand before the refused one, which is one of them if they are those of a line, and it is refused there
+-- whatever other tokens follow: so no tokens that begin with the first k and the refused one are read.
 abbrev pub IsRefusedForGood : Reader Command → Type 0
 IsRefusedForGood p = (tokens : List Token) (e : Fault) → p (start_of tokens) ≡ Err e
-    → (k : ℕ) × ((e ≡ At (place k tokens))
-    × ((other : List Token) → take (suc k) tokens ≡ take (suc k) other → p (start_of other) ≡ Err (At (place k other))))
+    → (k : ℕ) × (Leaves k tokens × ((e ≡ At (place k tokens))
+    × ((other : List Token) → take (suc k) tokens ≡ take (suc k) other → p (start_of other) ≡ Err (At (place k other)))))
 
 -- What a reader gives is settled by the tokens that it takes and the next one.
 abbrev pub IsReadForGood : Reader Command → Type 0

@@ -6,6 +6,7 @@ ghost use Rattle.script_laws.specs.Refusals.{IsRefusedForGood, IsReadForGood, wh
 
 /// Where a line is refused, no line begins with its tokens up to and with the refused one: whatever follows them is refused at that token too.
 ///
+/// The refused token is one of those that the line has, if they end as those of a line of bytes do: its end, or a byte that begins no token, is the last.
 /// This holds of bindings, of the other lines outside every block, and of the lines of both kinds of blocks, each for itself.
 pub fn no_line_begins_with_what_was_refused()
     ensures bindings { IsRefusedForGood whole_binding }
