@@ -187,6 +187,14 @@ outer_top mode xs rest n o a is read = record {
   is = ap (λ c. if c then b.binding (record { ahead = xs; operators = o }) else r.top (record { ahead = xs; operators = o })) is ∙ read.is;
 }
 
+-- lines that are no bindings: read where the second token decides what is read, and where it does not
+record OfTop (mode : Mode) (g : Form Command) : Type 0 where
+  by_second : Complete mode line_end outer g
+  by_first : Complete mode line_end r.top g
+
+one_of : {mode : Mode} {g h : Form Command} → OfTop mode g → OfTop mode h → OfTop mode (g or h)
+one_of og oh = record { by_second = either og.by_second oh.by_second; by_first = either og.by_first oh.by_first }
+
 not_true : (c : Bool) → not c ≡ true → c ≡ false
 not_true true e = absurd (false_true e)
 not_true false e = refl
@@ -203,50 +211,50 @@ module _ {mode : Mode} where
       outer_top mode (front ++ rest) rest count o a (subst (λ ts. same_kind (first_of (drop 1 (ts ++ rest))).kind k.Assign ≡ false) (sym tokens) other)
       (cp.run front rest count o a said enough stop)
 
-  on_top : (kd : Kind) {g : Form Command} → Complete mode line_end r.top (sequence (word kd) (λ _. g)) → Opens g line_end no_assign → Complete mode line_end outer (sequence (word kd) (λ _. g))
-  on_top kd {g = g} cp og = record { run = top_run kd g cp og }
+  on_top : (kd : Kind) {g : Form Command} → Complete mode line_end r.top (sequence (word kd) (λ _. g)) → Opens g line_end no_assign → OfTop mode (sequence (word kd) (λ _. g))
+  on_top kd {g = g} cp og = record { by_second = record { run = top_run kd g cp og }; by_first = cp }
 
   behind_word : (kd : Kind) {by p : Reader Command} {g : Form Command} → by ≡ (take_token >> p) → Behind mode p g → Complete mode line_end by (sequence (word kd) (λ _. g))
   behind_word kd {g = g} is one = subst (λ q. Complete mode line_end q (sequence (word kd) (λ _. g))) (sym is) (then_any (taken kd) (λ _. one.complete))
 
-  at_top : (kd : Kind) {p : Reader Command} {g : Form Command} → r.top_by kd ≡ (take_token >> p) → Behind mode p g → Complete mode line_end outer (sequence (word kd) (λ _. g))
+  at_top : (kd : Kind) {p : Reader Command} {g : Form Command} → r.top_by kd ≡ (take_token >> p) → Behind mode p g → OfTop mode (sequence (word kd) (λ _. g))
   unfolding r.top
   at_top kd is one = on_top kd (on_word r.top_by kd (behind_word kd is one)) one.opens
 
   -- lines of the readers within, which read every first word that the one above does not
   in_acting : (kd : Kind) {g : Form Command} → r.top_by kd ≡ r.acting → Complete mode line_end (r.acting_by kd) (sequence (word kd) (λ _. g)) → Opens g line_end no_assign
-      → Complete mode line_end outer (sequence (word kd) (λ _. g))
+      → OfTop mode (sequence (word kd) (λ _. g))
   unfolding r.top r.acting
   in_acting kd {g = g} top cp og =
       on_top kd (on_word r.top_by kd (subst (λ q. Complete mode line_end q (sequence (word kd) (λ _. g))) (sym top) (on_word r.acting_by kd cp))) og
 
   at_acting : (kd : Kind) {p : Reader Command} {g : Form Command} → r.top_by kd ≡ r.acting → r.acting_by kd ≡ (take_token >> p) → Behind mode p g
-      → Complete mode line_end outer (sequence (word kd) (λ _. g))
+      → OfTop mode (sequence (word kd) (λ _. g))
   at_acting kd top is one = in_acting kd top (behind_word kd is one) one.opens
 
   in_termed : (kd : Kind) {g : Form Command} → r.top_by kd ≡ r.acting → r.acting_by kd ≡ r.termed → Complete mode line_end (r.termed_by kd) (sequence (word kd) (λ _. g))
-      → Opens g line_end no_assign → Complete mode line_end outer (sequence (word kd) (λ _. g))
+      → Opens g line_end no_assign → OfTop mode (sequence (word kd) (λ _. g))
   unfolding r.termed
   in_termed kd {g = g} top acting cp og = in_acting kd top (subst (λ q. Complete mode line_end q (sequence (word kd) (λ _. g))) (sym acting) (on_word r.termed_by kd cp)) og
 
   at_termed : (kd : Kind) (f : Term → Command) → r.top_by kd ≡ r.acting → r.acting_by kd ≡ r.termed → r.termed_by kd ≡ (take_token >> (R.term >>= (λ x. pure (f x))))
-      → Complete mode line_end outer (sequence (word kd) (λ _. sequence basic.term (λ x. says (f x))))
+      → OfTop mode (sequence (word kd) (λ _. sequence basic.term (λ x. says (f x))))
   at_termed kd f top acting is = in_termed kd top acting (behind_word kd is (a_term f)) (first_opens (first_opens name_no_assign))
 
   at_bare : (kd : Kind) (a : Command) → r.top_by kd ≡ r.acting → r.acting_by kd ≡ r.termed → r.termed_by kd ≡ r.bare → r.bare_by kd ≡ (take_token >> pure a)
-      → Complete mode line_end outer (sequence (word kd) (λ _. says a))
+      → OfTop mode (sequence (word kd) (λ _. says a))
   unfolding r.bare
   at_bare kd a top acting termed is =
       in_termed kd top acting (subst (λ q. Complete mode line_end q (sequence (word kd) (λ _. says a))) (sym termed) (on_word r.bare_by kd (behind_word kd is (nothing_more a)))) (made_opens a end_no_assign)
 
-  acting_lines : Complete mode line_end outer form.acting_line
+  acting_lines : OfTop mode form.acting_line
   acting_lines =
-      either (at_acting k.Set refl refl set) (either (at_acting k.Append refl refl append) (either (at_acting k.Remove refl refl remove) (either (at_acting k.Show refl refl show)
-      (either (at_acting k.Is refl refl two) (either (at_acting k.Commit refl refl (name_if_any c.Commit)) (either (at_acting k.Rollback refl refl (name_if_any c.Rollback))
-      (either (either (at_termed k.Add c.Add refl refl refl) (either (at_termed k.Delete c.Delete refl refl refl) (either (at_termed k.Expunge c.Expunge refl refl refl)
-      (either (at_termed k.Expire c.Expire refl refl refl) (either (at_termed k.Refresh c.Refresh refl refl refl) (at_termed k.State c.State refl refl refl))))))
-      (either (at_bare k.Configure c.Configure refl refl refl refl) (either (at_bare k.CreateAll c.CreateAll refl refl refl refl) (either (at_bare k.DropAll c.DropAll refl refl refl refl)
-      (either (at_bare k.Dump c.Dump refl refl refl refl) (either (at_bare k.Flush c.Flush refl refl refl refl) (at_bare k.Close c.Close refl refl refl refl)))))))))))))
+      one_of (at_acting k.Set refl refl set) (one_of (at_acting k.Append refl refl append) (one_of (at_acting k.Remove refl refl remove) (one_of (at_acting k.Show refl refl show)
+      (one_of (at_acting k.Is refl refl two) (one_of (at_acting k.Commit refl refl (name_if_any c.Commit)) (one_of (at_acting k.Rollback refl refl (name_if_any c.Rollback))
+      (one_of (one_of (at_termed k.Add c.Add refl refl refl) (one_of (at_termed k.Delete c.Delete refl refl refl) (one_of (at_termed k.Expunge c.Expunge refl refl refl)
+      (one_of (at_termed k.Expire c.Expire refl refl refl) (one_of (at_termed k.Refresh c.Refresh refl refl refl) (at_termed k.State c.State refl refl refl))))))
+      (one_of (at_bare k.Configure c.Configure refl refl refl refl) (one_of (at_bare k.CreateAll c.CreateAll refl refl refl refl) (one_of (at_bare k.DropAll c.DropAll refl refl refl refl)
+      (one_of (at_bare k.Dump c.Dump refl refl refl refl) (one_of (at_bare k.Flush c.Flush refl refl refl refl) (at_bare k.Close c.Close refl refl refl refl)))))))))))))
 
 -- ---- lines with expressions
 
@@ -287,10 +295,10 @@ module _ (mode : Mode) (most : ℕ) (expressions : Complete mode (among behind_e
   unfolding r.compile
   compile = record { complete = then_any dialect compiled; opens = first_opens dialect_opens }
 
-  top_lines : Complete mode line_end outer (form.top_line most)
+  top_lines : OfTop mode (form.top_line most)
   top_lines =
-      either (at_top k.Table refl (a_name c.TableHead)) (either (at_top k.Class refl a_class) (either (at_top k.Rows refl (rows c.Rows)) (either (at_top k.Bulk refl (statements c.Bulk))
-      (either (at_top k.Compile refl compile) acting_lines))))
+      one_of (at_top k.Table refl (a_name c.TableHead)) (one_of (at_top k.Class refl a_class) (one_of (at_top k.Rows refl (rows c.Rows)) (one_of (at_top k.Bulk refl (statements c.Bulk))
+      (one_of (at_top k.Compile refl compile) acting_lines))))
 
   bound_to : (bound : List ℕ) → Complete mode line_end (b.bound_to bound) (bindings.bound_to most bound)
   unfolding b.bound_to
@@ -299,9 +307,9 @@ module _ (mode : Mode) (most : ℕ) (expressions : Complete mode (among behind_e
       (either (on_word (b.binding_by bound) k.Objects (then_any (taken k.Objects) (λ _. (objects (c.Objects bound)).complete)))
       (either (on_word (b.binding_by bound) k.Related (related bound)) (on_word (b.binding_by bound) k.BeginNested (begun bound)))))
 
-  binding : Complete mode line_end b.binding (bindings.binding_line most)
+  pub binding_filled : Complete mode line_end b.binding (bindings.binding_line most)
   unfolding b.binding
-  binding = then_any named (λ bound. then_any (expected k.Assign) (λ _. bound_to bound))
+  binding_filled = then_any named (λ bound. then_any (expected k.Assign) (λ _. bound_to bound))
 
   binding_run : (front rest : List Token) (count o : ℕ) (a : Command) → (bindings.binding_line most) front count a → Enough mode count o → line_end (first_of rest).kind ≡ true
       → Read mode outer (front ++ rest) rest count o a
@@ -312,7 +320,10 @@ module _ (mode : Mode) (most : ℕ) (expressions : Complete mode (among behind_e
       let tokens : front ≡ w.first.0 ∷ u ∷ v.rest = w.joined ∙ ap (λ ts. ts ++ w.rest) w.first.1 ∙ ap (λ ts. w.first.0 ∷ ts) (v.joined ∙ ap (λ ts. ts ++ v.rest) v.first.1) in
       let assigns : same_kind u.kind k.Assign ≡ true = alike v.first.2 in
       outer_binding mode (front ++ rest) rest count o a (subst (λ ts. same_kind (first_of (drop 1 (ts ++ rest))).kind k.Assign ≡ true) (sym tokens) assigns)
-      (binding.run front rest count o a said enough stop)
+      (binding_filled.run front rest count o a said enough stop)
 
   pub outer_read : Complete mode line_end outer (form.outer_line most)
-  outer_read = either (record { run = binding_run }) top_lines
+  outer_read = either (record { run = binding_run }) top_lines.by_second
+
+  pub top_filled : Complete mode line_end r.top (form.top_line most)
+  top_filled = top_lines.by_first

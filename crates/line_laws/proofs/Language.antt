@@ -10,10 +10,11 @@ use Rattle.script_tokens.specs.declared.fault.Fault.{Fault}
 use Rattle.script_tokens.specs.Input.{Outcome, start_of}
 use Rattle.script_read.specs.Line.{line, line_of, answer_of, refusal_of}
 use Rattle.script_forms.specs.Lines.{Says}
-use Rattle.grammar_laws.specs.Exact.{EndsAViableFront, ReadsWhatIsSaid, ReadsAllThatIsSaid}
-use Rattle.grammar_laws.proofs.Lines.{tables_read, tables_all_read, tables_refused, classes_read, classes_all_read, classes_refused}
+use Rattle.grammar_laws.specs.Exact.{ReadsWhatIsSaid, ReadsAllThatIsSaid}
+use Rattle.grammar_laws.proofs.Lines.{tables_read, tables_all_read, classes_read, classes_all_read}
 use Rattle.line_laws.specs.Language.{line_form, form_of_kind, TellsTheColumn, AnswersWhatIsSaid, AnswersAllThatIsSaid, RefusesByColumn}
-use Rattle.line_laws.proofs.Lines.{reads_what_is_said, reads_all_that_is_said, refuses_no_sooner}
+use Rattle.line_laws.proofs.Lines.{reads_what_is_said, reads_all_that_is_said}
+use Rattle.line_laws.proofs.Fronts.{LongestFront, outer_front, table_front, class_front}
 
 read_at : (inside : Inside) → ReadsWhatIsSaid (line_of inside) (line_form inside)
 read_at Top = reads_what_is_said
@@ -25,10 +26,11 @@ all_at Top = reads_all_that_is_said
 all_at Table = tables_all_read
 all_at Class = classes_all_read
 
-refused_at : (inside : Inside) (bytes : List ℕ) (e : Fault) → line_of inside (start_of (tokens bytes)) ≡ Err e → EndsAViableFront (form_of_kind inside (tokens bytes)) (tokens bytes) e
-refused_at Top bytes e is = refuses_no_sooner bytes e is
-refused_at Table bytes e is = tables_refused bytes e is
-refused_at Class bytes e is = classes_refused bytes e is
+refused_at : (inside : Inside) (bytes : List ℕ) (e : Fault) → line_of inside (start_of (tokens bytes)) ≡ Err e
+    → LongestFront (form_of_kind inside 101 (tokens bytes)) (form_of_kind inside 100 (tokens bytes)) (tokens bytes) e
+refused_at Top bytes e is = outer_front bytes e is
+refused_at Table bytes e is = table_front bytes e is
+refused_at Class bytes e is = class_front bytes e is
 
 -- ---- answers
 
@@ -80,7 +82,15 @@ told_by : (bytes : List ℕ) (number : ℕ) (inside : Inside) (refusal : Refusal
 told_by bytes number inside refusal (Ok p) is e = absurd (not_both (sym e))
 told_by bytes number inside refusal (Err f) is e =
     let front = refused_at inside bytes f is in
-    record { before = front.before; after = front.after; joined = front.joined; told = sym (same_refusal e) ∙ ap (refusal_of number) front.at; begins = front.begins }
+    record {
+      before = front.before;
+      after = front.after;
+      joined = front.joined;
+      stands = front.stands;
+      told = sym (same_refusal e) ∙ ap (refusal_of number) front.at;
+      begins = front.begins;
+      stops = front.stops;
+    }
 
 refused_by : (bytes : List ℕ) (number : ℕ) (inside : Inside) (refusal : Refusal) (b : Bool)
     → ◌≡◌ {A = Result Command Refusal} (if b then Ok Skip else answer_of number (line_of inside (start_of (tokens bytes)))) (Err refusal) → TellsTheColumn inside (tokens bytes) number refusal

@@ -14,4 +14,7 @@ pub mod FillingSelects
 pub mod FillingHeads
 pub mod FillingTops
 pub mod Lines
+pub mod Closed
+pub mod Places
+pub mod Fronts
 pub mod Language

@@ -42,7 +42,7 @@ narrow = record { sound = whole_sound; some = some_expression_to 100 }
 wide : Follows Plain whole (expression_to 101)
 wide = record { sound = wider_sound; some = some_expression_to 101 }
 
-filled : Complete Plain (among behind_expression) whole (expression_to 100)
+pub filled : Complete Plain (among behind_expression) whole (expression_to 100)
 unfolding all_in
 filled = less whole_plain (within behind_expression ends_expression refl)
 
@@ -54,7 +54,7 @@ begins_opening k.Assign e = absurd (false_true e)
 begins_opening k.LineEnd e = absurd (false_true e)
 begins_opening _ e = refl
 
-opened : Opens (expression_to 100) always opening
+pub opened : Opens (expression_to 100) always opening
 opened = opens_less expression_opens begins_opening
 
 complete : Complete Plain line_end outer (outer_line 100)

@@ -1,5 +1,5 @@
 -- What is answered to a line of bytes, wherever it stands.
-use Rattle.std.specs.Prelude.{◌≡◌, ℕ, false, List, ◌++◌, Ok, Err}
+use Rattle.std.specs.Prelude.{◌≡◌, ℕ, ◌≤◌, false, List, [], ◌∷◌, ◌++◌, length, Ok, Err}
 use Rattle.base_core.specs.declared.refusal.Refusal.{Refusal}
 use Rattle.base_core.specs.declared.refusal.Refusal.TheVariants.{ScriptError}
 use Rattle.script_types.specs.declared.command.Command.{Command}
@@ -22,19 +22,22 @@ line_form Top = outer_line 100
 line_form Table = table_line
 line_form Class = class_line
 
--- the form of the lines that stand there and are of this one's kind, in whose expressions one more may nest
-abbrev pub form_of_kind : Inside → List Token → Form Command
-form_of_kind Top line = form_for 101 line
-form_of_kind Table line = table_line
-form_of_kind Class line = class_line
+-- the form of the lines that stand there and are of this one's kind, in whose expressions so many may nest
+abbrev pub form_of_kind : Inside → ℕ → List Token → Form Command
+form_of_kind Top most line = form_for most line
+form_of_kind Table most line = table_line
+form_of_kind Class most line = class_line
 
--- the column of a token, with the tokens before which some line of its kind begins
+-- The column of a token, which stands one past the longest front of the line with which some line of its kind begins: such a line begins with the tokens
+-- before it, if one more may nest than in those that are read, and none begins with these and the token itself.
 pub record TellsTheColumn (inside : Inside) (line : List Token) (number : ℕ) (refusal : Refusal) : Type 0 where
   pub before : List Token
   pub after : List Token
   pub joined : line ≡ before ++ after
+  pub stands : 1 ≤ length after
   pub told : refusal ≡ ScriptError number (column (first_of after).at)
-  pub begins : Begins (form_of_kind inside line) before
+  pub begins : Begins (form_of_kind inside 101 line) before
+  pub stops : Begins (form_of_kind inside 100 line) (before ++ first_of after ∷ []) → ⊥
 
 -- The command that is answered to a line, which is neither blank nor a comment, is what its tokens say.
 abbrev pub AnswersWhatIsSaid : Type 0
@@ -46,6 +49,6 @@ abbrev pub AnswersAllThatIsSaid : Type 0
 AnswersAllThatIsSaid = (bytes : List ℕ) (number : ℕ) (inside : Inside) (command : Command) → skipped bytes ≡ false → Says (line_form inside) (tokens bytes) command
     → line bytes number inside ≡ Ok command
 
--- A refusal tells the number of the line and the column of a token.
+-- A refusal tells the number of the line and the column of the token at which no line of this kind goes on.
 abbrev pub RefusesByColumn : Type 0
 RefusesByColumn = (bytes : List ℕ) (number : ℕ) (inside : Inside) (refusal : Refusal) → line bytes number inside ≡ Err refusal → TellsTheColumn inside (tokens bytes) number refusal

@@ -1,0 +1,144 @@
+-- Where a line is refused, its tokens up to there are the longest front of it with which some line begins.
+use Rattle.std.proofs.Common.{◌≡◌, ℕ, zero, suc, ◌+◌, ◌-◌, ◌≤◌, Bool, true, false, if◌then◌else◌, List, [], ◌∷◌, ◌++◌, take, drop, length, Ok, Err, refl, ap, sym, subst, ◌∙◌, append_assoc, length-append, length-drop, arith}
+use Rattle.std.proofs.lemmas.List.{take-append-drop, take-append-le}
+use Rattle.std.proofs.Math.Seq.{drop-append_seam}
+use Rattle.script_types.specs.declared.command.Command.{Command}
+use Rattle.script_lex.specs.declared.kind.Kind.TheVariants as k
+use Rattle.script_lex.specs.declared.token.Token.{Token}
+use Rattle.script_lex.specs.Lex.{same_kind, tokens}
+use Rattle.script_tokens.specs.declared.fault.Fault.{Fault}
+use Rattle.script_tokens.specs.declared.fault.Fault.TheVariants.{Memory, At}
+use Rattle.script_tokens.specs.Input.{Input, Outcome, Reader, ◌>>=◌, and_then, first_of, no_token, second_kind, start_of}
+use Rattle.script_blocks.specs.Blocks.{table_line}
+use Rattle.script_blocks.specs.Classes.{class_line}
+use Rattle.script_read.specs.Bindings.{binding}
+use Rattle.script_read.specs.Top.{top}
+use Rattle.script_read.specs.Line.{ends, line_of, outer}
+use Rattle.script_forms.specs.Form.{Form}
+use Rattle.script_forms.specs.Lines.{Says, Begins}
+use Rattle.script_forms.specs.Bindings.{binding_line}
+use Rattle.script_forms.specs.TopLines.{top_line}
+use Rattle.script_forms.specs.TableLines as tables
+use Rattle.script_forms.specs.ClassLines as classes
+use Rattle.grammar_laws.specs.Exact.{EndsAViableFront, ReadsAllThatIsSaid, table_reader, class_reader}
+use Rattle.grammar_laws.proofs.Taking.{Plain}
+use Rattle.grammar_laws.proofs.Lines.{all_is_read, refused_yields, tables_all_read, tables_refused, classes_all_read, classes_refused}
+use Rattle.script_laws.specs.Refusals.{place, IsRefusedForGood, whole_binding, whole_top, whole_table_line, whole_class_line}
+use Rattle.script_laws.proofs.Settled.{binding_refused, top_refused, table_refused, class_refused}
+use Rattle.line_laws.specs.Exact.{outer_reader, binding_or_other, form_for}
+use Rattle.line_laws.proofs.FillingTops.{binding_filled, top_filled}
+use Rattle.line_laws.proofs.Lines.{filled, opened, refuses_no_sooner}
+use Rattle.line_laws.proofs.Closed.{line_is_closed}
+use Rattle.line_laws.proofs.Places.{Rise, line_rises, one_place}
+
+-- a refused token of the line: some line of the wide form begins with the tokens before it, and none of the narrow one with these and itself
+pub record LongestFront (wide narrow : Form Command) (line : List Token) (e : Fault) : Type 0 where
+  pub before : List Token
+  pub after : List Token
+  pub joined : line ≡ before ++ after
+  pub stands : 1 ≤ length after
+  pub at : e ≡ At (first_of after).at
+  pub begins : Begins wide before
+  pub stops : Begins narrow (before ++ first_of after ∷ []) → ⊥
+
+place_of : Fault → ℕ
+place_of Memory = 0
+place_of (At at) = at
+
+same_place : {a b : ℕ} → At a ≡ At b → a ≡ b
+unfolding place_of
+same_place e = ap place_of e
+
+-- ---- the tokens before
+
+-- a token stands no later than another one that has its place
+no_later : (k : ℕ) (line before after : List Token) → line ≡ before ++ after → Rise 0 line → suc k ≤ length line → place k line ≡ (first_of after).at → k ≤ length before
+no_later k line before [] split rise some is =
+    let all : length line ≡ length before + 0 = ap length split ∙ length-append before [] in
+    omega arith
+no_later k line before (t ∷ ts) split rise some is =
+    let all : length line ≡ length before + suc (length ts) = ap length split ∙ length-append before (t ∷ ts) in
+    let other : suc (length before) ≤ length line = omega arith in
+    let there : place (length before) line ≡ t.at = ap (λ us. (first_of us).at) (ap (drop (length before)) split ∙ drop-append_seam before (t ∷ ts)) in
+    let same : k ≡ length before = one_place 0 line k (length before) rise some other (is ∙ sym there) in
+    omega arith
+
+begins_less : (form : Form Command) (k : ℕ) (line before after : List Token) → line ≡ before ++ after → k ≤ length before → Begins form before → Begins form (take k line)
+begins_less form k line before after split less begins =
+    let cut : take k before ≡ take k line = sym (take-append-le k before after less) ∙ sym (ap (take k) split) in
+    let whole : before ++ begins.more ≡ take k before ++ (drop k before ++ begins.more) =
+    sym (ap (λ ts. ts ++ begins.more) (take-append-drop k before)) ∙ append_assoc (take k before) (drop k before) begins.more in
+    subst (λ ts. Begins form ts) cut (record {
+      more = drop k before ++ begins.more;
+      command = begins.command;
+      said = subst (λ ts. form ts 0 begins.command) whole begins.said;
+    })
+
+-- ---- the refused token itself
+
+alike_front : (k : ℕ) (line more z : List Token) → suc k ≤ length line → take (suc k) line ≡ take (suc k) (((take k line ++ first_of (drop k line) ∷ []) ++ more) ++ z)
+alike_front k [] more z some = absurd (omega arith)
+alike_front zero (t ∷ ts) more z some = refl
+alike_front (suc k) (t ∷ ts) more z some = let less : suc k ≤ length ts = omega arith in ap (λ us. t ∷ us) (alike_front k ts more z less)
+
+not_both : (out : Outcome Command) (e : Fault) → out ≡ Err e → (left : Input) (command : Command) → out ≡ Ok (command, left) → ⊥
+not_both out e is left command read = refused_yields (sym is ∙ read)
+
+stops_at : (p : Reader Command) (form : Form Command) (k : ℕ) (line : List Token) → ReadsAllThatIsSaid p form → suc k ≤ length line
+    → ((other : List Token) → take (suc k) line ≡ take (suc k) other → p (start_of other) ≡ Err (At (place k other)))
+    → Begins form (take k line ++ first_of (drop k line) ∷ []) → ⊥
+stops_at p form k line reads some again begins =
+    let said = (take k line ++ first_of (drop k line) ∷ []) ++ begins.more in
+    let other = said ++ no_token ∷ [] in
+    let says : Says form other begins.command = record { front = said; rest = no_token ∷ []; joined = refl; ends = refl; said = begins.said } in
+    let read = reads other begins.command says in
+    not_both (p (start_of other)) (At (place k other)) (again other (alike_front k line begins.more (no_token ∷ []) some)) read.0 begins.command read.1
+
+-- ---- both
+
+longest : (p : Reader Command) (wide narrow : Form Command) → IsRefusedForGood p → ReadsAllThatIsSaid p narrow → (bytes : List ℕ) (e : Fault)
+    → p (start_of (tokens bytes)) ≡ Err e → EndsAViableFront wide (tokens bytes) e → LongestFront wide narrow (tokens bytes) e
+longest p wide narrow refused reads bytes e is viable =
+    let line = tokens bytes in
+    let for_good = refused line e is in
+    let k = for_good.0 in
+    let some : suc k ≤ length line = for_good.1.0 (line_is_closed bytes) in
+    let there : place k line ≡ (first_of viable.after).at = same_place (sym for_good.1.1.0 ∙ viable.at) in
+    let left : length (drop k line) ≡ length line - k = length-drop k line in
+    let stands : 1 ≤ length (drop k line) = omega arith in
+    let less : k ≤ length viable.before = no_later k line viable.before viable.after viable.joined (line_rises bytes) some there in record {
+      before = take k line;
+      after = drop k line;
+      joined = sym (take-append-drop k line);
+      stands = stands;
+      at = for_good.1.1.0;
+      begins = begins_less wide k line viable.before viable.after viable.joined less viable.begins;
+      stops = stops_at p narrow k line reads some for_good.1.1.1;
+    }
+
+-- ---- the lines of each place
+
+bindings_all_read : ReadsAllThatIsSaid whole_binding (binding_line 100)
+bindings_all_read = all_is_read binding (binding_line 100) (binding_filled Plain 100 filled opened)
+
+others_all_read : ReadsAllThatIsSaid whole_top (top_line 100)
+others_all_read = all_is_read top (top_line 100) (top_filled Plain 100 filled opened)
+
+outer_by : (bytes : List ℕ) (b : Bool) (e : Fault)
+    → ◌≡◌ {A = Outcome Command} (and_then (if b then binding (start_of (tokens bytes)) else top (start_of (tokens bytes))) ends) (Err e)
+    → EndsAViableFront (binding_or_other b 101) (tokens bytes) e → LongestFront (binding_or_other b 101) (binding_or_other b 100) (tokens bytes) e
+outer_by bytes true e is viable = longest whole_binding (binding_line 101) (binding_line 100) binding_refused bindings_all_read bytes e is viable
+outer_by bytes false e is viable = longest whole_top (top_line 101) (top_line 100) top_refused others_all_read bytes e is viable
+
+pub outer_front : (bytes : List ℕ) (e : Fault) → outer_reader (start_of (tokens bytes)) ≡ Err e
+    → LongestFront (form_for 101 (tokens bytes)) (form_for 100 (tokens bytes)) (tokens bytes) e
+unfolding line_of outer second_kind
+outer_front bytes e is = outer_by bytes (same_kind (first_of (drop 1 (tokens bytes))).kind k.Assign) e is (refuses_no_sooner bytes e is)
+
+pub table_front : (bytes : List ℕ) (e : Fault) → table_reader (start_of (tokens bytes)) ≡ Err e → LongestFront tables.table_line tables.table_line (tokens bytes) e
+unfolding line_of
+table_front bytes e is = longest whole_table_line tables.table_line tables.table_line table_refused tables_all_read bytes e is (tables_refused bytes e is)
+
+pub class_front : (bytes : List ℕ) (e : Fault) → class_reader (start_of (tokens bytes)) ≡ Err e → LongestFront classes.class_line classes.class_line (tokens bytes) e
+unfolding line_of
+class_front bytes e is = longest whole_class_line classes.class_line classes.class_line class_refused classes_all_read bytes e is (classes_refused bytes e is)
