@@ -1,5 +1,5 @@
 -- What a flush writes into the cells of an object.
-use Rattle.std.proofs.Common.{◌≡◌, ℕ, ◌+◌, ◌<◌, ◌≤◌, List, [], ◌∷◌, ◌++◌, length, map, get_or, take, drop, zero, suc, sym, ap, ◌∙◌, arith, add-one}
+use Rattle.std.proofs.Common.{◌≡◌, ℕ, ◌+◌, ◌<◌, ◌≤◌, List, ◌++◌, length, map, get_or, take, drop, sym, ap, ◌∙◌, arith, add-one}
 use Rattle.std.specs.Prelude.{slice_set}
 use Rattle.std.specs.List.{enumerate_from}
 use Rattle.std.proofs.lemmas.List.{append-nil, drop_all, take_all}
@@ -12,16 +12,9 @@ use Rattle.object_arena.specs.declared.object.Cell.{Cell}
 use Rattle.object_arena.specs.declared.object.Object.{Object}
 use Rattle.object_arena.specs.Graph.{Graph, IsObject, cell_at, cell_in, cell_put, expired_cell, object_at, with_cell, with_object}
 use Rattle.session_core.specs.Flush.{held_cell, with_written, written_value}
-use Rattle.object_arena.proofs.TurnLemmas.{at_with, with_same, with_twice}
+use Rattle.object_arena.proofs.TurnLemmas.{at_with, placed_write, with_same, with_twice}
 
 -- ---- what is written into the cells
-
--- a write of the item at a place, made of the place and the item that stood there
-indexed_write : {X : Type 0} (f : ℕ × X → X) (n : ℕ) (xs : List X) (i p : ℕ) (d : X) → i < length xs → p ≡ n + i
-    → slice_set (map f (enumerate_from n (take i xs)) ++ drop i xs) i (f (p, get_or (map f (enumerate_from n (take i xs)) ++ drop i xs) i d)) ≡ map f (enumerate_from n (take (suc i) xs)) ++ drop (suc i) xs
-indexed_write f n [] i p d less at = absurd (omega arith)
-indexed_write f n (x ∷ xs) zero p d less at = let same : p ≡ n = omega arith in ap (λ q. f (q, x) ∷ xs) same
-indexed_write f n (x ∷ xs) (suc i) p d less at = ap (λ ys. f (n, x) ∷ ys) (indexed_write f (n + 1) xs i p d (omega arith) (omega arith))
 
 -- the cells of an object, of which those before a place were written
 abbrev pub cells_before : (ℕ × Cell → Value) → ℕ → List Cell → List Cell
@@ -54,7 +47,7 @@ more value graph now new object attr i made less number so_far write =
     write ∙ ap (put now) here ∙ ap (λ (g : Graph). put g mid) so_far ∙ with_twice graph object mid (cell_put mid attr (held_cell (value (attr.0, cell_in mid attr)))) in
     let cells : slice_set mid.cells attr.0 (held_cell (value (attr.0, cell_in mid attr))) ≡ cells_before value (i + 1) old.cells =
     ap (λ (p : ℕ). slice_set mid.cells p (held_cell (value (p, get_or mid.cells p expired_cell)))) number
-    ∙ indexed_write (λ placed. held_cell (value placed)) 0 old.cells i i expired_cell less (omega arith)
+    ∙ placed_write (λ place cell. held_cell (value (place, cell))) 0 old.cells i i expired_cell less (omega arith)
     ∙ ap (λ (p : ℕ). cells_before value p old.cells) (sym (add-one i)) in
     step ∙ ap (λ (written : List Cell). with_object graph object (record old { cells = written })) cells
 
