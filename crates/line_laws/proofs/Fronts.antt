@@ -1,8 +1,9 @@
 -- Where a line is refused, its tokens up to there are the longest front of it with which some line begins.
-use Rattle.std.proofs.Common.{◌≡◌, ℕ, zero, suc, ◌+◌, ◌-◌, ◌≤◌, Bool, true, false, if◌then◌else◌, List, [], ◌∷◌, ◌++◌, take, drop, length, Ok, Err, refl, ap, sym, subst, ◌∙◌, append_assoc, length-append, length-drop, arith}
+use Rattle.std.proofs.Common.{◌≡◌, ◌⊎◌, ℕ, zero, suc, ◌+◌, ◌-◌, ◌≤◌, Bool, true, false, if◌then◌else◌, List, [], ◌∷◌, ◌++◌, take, drop, length, Ok, Err, refl, ap, sym, subst, ◌∙◌, append_assoc, append-nil, inl, inr, length-append, length-drop, arith}
 use Rattle.std.proofs.lemmas.List.{take-append-drop, take-append-le}
-use Rattle.std.proofs.Math.Seq.{drop-append_seam}
+use Rattle.std.proofs.Math.Seq.{drop-append_seam, take-append_seam}
 use Rattle.script_types.specs.declared.command.Command.{Command}
+use Rattle.script_lex.specs.declared.kind.Kind.{Kind}
 use Rattle.script_lex.specs.declared.kind.Kind.TheVariants as k
 use Rattle.script_lex.specs.declared.token.Token.{Token}
 use Rattle.script_lex.specs.Lex.{same_kind, tokens}
@@ -23,22 +24,28 @@ use Rattle.script_forms.specs.ClassLines as classes
 use Rattle.grammar_laws.specs.Exact.{EndsAViableFront, ReadsAllThatIsSaid, table_reader, class_reader}
 use Rattle.grammar_laws.proofs.Taking.{Plain}
 use Rattle.grammar_laws.proofs.Lines.{all_is_read, refused_yields, tables_all_read, tables_refused, classes_all_read, classes_refused}
+use Rattle.grammar_laws.specs.Nesting.{openings, nests}
+use Rattle.expression_laws.specs.Exact.{EndsInDepth}
+use Rattle.script_laws.specs.Steady.{closes, IsClosed}
 use Rattle.script_laws.specs.Refusals.{place, IsRefusedForGood, whole_binding, whole_top, whole_table_line, whole_class_line}
 use Rattle.script_laws.proofs.Settled.{binding_refused, top_refused, table_refused, class_refused}
 use Rattle.line_laws.specs.Exact.{outer_reader, binding_or_other, form_for}
+use Rattle.line_laws.specs.Language.{EndDeep}
+use Rattle.line_laws.proofs.SomeKinds.{false_true}
 use Rattle.line_laws.proofs.FillingTops.{binding_filled, top_filled}
-use Rattle.line_laws.proofs.Lines.{filled, opened, refuses_no_sooner}
+use Rattle.line_laws.proofs.Lines.{filled, opened, refuses_no_sooner, refuses_sooner_in_depth_alone}
 use Rattle.line_laws.proofs.Closed.{line_is_closed}
 use Rattle.line_laws.proofs.Places.{Rise, line_rises, one_place}
 
--- a refused token of the line: some line of the wide form begins with the tokens before it, and none of the narrow one with these and itself
+-- a refused token of the line: some line of the narrow form begins with the tokens before it, or they end deep and one of the wide form does; and none of
+-- the narrow form begins with these and itself
 pub record LongestFront (wide narrow : Form Command) (line : List Token) (e : Fault) : Type 0 where
   pub before : List Token
   pub after : List Token
   pub joined : line ≡ before ++ after
   pub stands : 1 ≤ length after
   pub at : e ≡ At (first_of after).at
-  pub begins : Begins wide before
+  pub begins : Begins narrow before ⊎ (EndDeep before × Begins wide before)
   pub stops : Begins narrow (before ++ first_of after ∷ []) → ⊥
 
 place_of : Fault → ℕ
@@ -51,17 +58,21 @@ same_place e = ap place_of e
 
 -- ---- the tokens before
 
+-- two tokens that have one place are one
+one_front : (k : ℕ) (line before : List Token) (t : Token) (ts : List Token) → line ≡ before ++ t ∷ ts → Rise 0 line → suc k ≤ length line → place k line ≡ t.at
+    → k ≡ length before
+one_front k line before t ts split rise some is =
+    let all : length line ≡ length before + suc (length ts) = ap length split ∙ length-append before (t ∷ ts) in
+    let other : suc (length before) ≤ length line = omega arith in
+    let there : place (length before) line ≡ t.at = ap (λ us. (first_of us).at) (ap (drop (length before)) split ∙ drop-append_seam before (t ∷ ts)) in
+    one_place 0 line k (length before) rise some other (is ∙ sym there)
+
 -- a token stands no later than another one that has its place
 no_later : (k : ℕ) (line before after : List Token) → line ≡ before ++ after → Rise 0 line → suc k ≤ length line → place k line ≡ (first_of after).at → k ≤ length before
 no_later k line before [] split rise some is =
     let all : length line ≡ length before + 0 = ap length split ∙ length-append before [] in
     omega arith
-no_later k line before (t ∷ ts) split rise some is =
-    let all : length line ≡ length before + suc (length ts) = ap length split ∙ length-append before (t ∷ ts) in
-    let other : suc (length before) ≤ length line = omega arith in
-    let there : place (length before) line ≡ t.at = ap (λ us. (first_of us).at) (ap (drop (length before)) split ∙ drop-append_seam before (t ∷ ts)) in
-    let same : k ≡ length before = one_place 0 line k (length before) rise some other (is ∙ sym there) in
-    omega arith
+no_later k line before (t ∷ ts) split rise some is = let same : k ≡ length before = one_front k line before t ts split rise some is in omega arith
 
 begins_less : (form : Form Command) (k : ℕ) (line before after : List Token) → line ≡ before ++ after → k ≤ length before → Begins form before → Begins form (take k line)
 begins_less form k line before after split less begins =
@@ -73,6 +84,45 @@ begins_less form k line before after split less begins =
       command = begins.command;
       said = subst (λ ts. form ts 0 begins.command) whole begins.said;
     })
+
+-- ---- the depth of expressions
+
+closed_last : (ts : List Token) (t : Token) → IsClosed (ts ++ t ∷ []) → closes t.kind ≡ true
+closed_last [] t closed = closed
+closed_last (u ∷ []) t closed = closed.1
+closed_last (u ∷ v ∷ us) t closed = closed_last (v ∷ us) t closed.1
+
+nesting_goes : (kd : Kind) → nests kd ≡ true → closes kd ≡ false
+nesting_goes k.In e = refl
+nesting_goes k.Exists e = refl
+nesting_goes _ e = absurd (false_true e)
+
+end_deep : (k : ℕ) (line earlier : List Token) (word : Token) (after : List Token) → line ≡ (earlier ++ word ∷ []) ++ after → Rise 0 line → IsClosed line → suc k ≤ length line
+    → place k line ≡ (first_of after).at → nests word.kind ≡ true → 100 ≤ openings earlier → EndDeep (take k line)
+end_deep k line earlier word [] split rise closed some is wants deep =
+    let last : closes word.kind ≡ true = closed_last earlier word (subst IsClosed (split ∙ append-nil (earlier ++ word ∷ [])) closed) in
+    absurd (false_true (sym (nesting_goes word.kind wants) ∙ last))
+end_deep k line earlier word (t ∷ ts) split rise closed some is wants deep =
+    let front = earlier ++ word ∷ [] in
+    let same : k ≡ length front = one_front k line front t ts split rise some is in record {
+      earlier = earlier;
+      word = word;
+      joined = ap (λ n. take n line) same ∙ ap (take (length front)) split ∙ take-append_seam front (t ∷ ts);
+      wants = wants;
+      deep = deep;
+    }
+
+begins_one : (wide narrow : Form Command) (k : ℕ) (line : List Token) (e : Fault) → Rise 0 line → IsClosed line → suc k ≤ length line → e ≡ At (place k line)
+    → EndsAViableFront wide line e → EndsAViableFront narrow line e ⊎ EndsInDepth line e
+    → Begins narrow (take k line) ⊎ (EndDeep (take k line) × Begins wide (take k line))
+begins_one wide narrow k line e rise closed some at viable (inl v) =
+    inl (begins_less narrow k line v.before v.after v.joined (no_later k line v.before v.after v.joined rise some (same_place (sym at ∙ v.at))) v.begins)
+begins_one wide narrow k line e rise closed some at viable (inr d) =
+    let less = no_later k line viable.before viable.after viable.joined rise some (same_place (sym at ∙ viable.at)) in
+    inr (
+      end_deep k line d.before d.word d.after d.joined rise closed some (same_place (sym at ∙ d.at)) d.wants d.deep,
+      begins_less wide k line viable.before viable.after viable.joined less viable.begins,
+    )
 
 -- ---- the refused token itself
 
@@ -97,22 +147,22 @@ stops_at p form k line reads some again begins =
 -- ---- both
 
 longest : (p : Reader Command) (wide narrow : Form Command) → IsRefusedForGood p → ReadsAllThatIsSaid p narrow → (bytes : List ℕ) (e : Fault)
-    → p (start_of (tokens bytes)) ≡ Err e → EndsAViableFront wide (tokens bytes) e → LongestFront wide narrow (tokens bytes) e
-longest p wide narrow refused reads bytes e is viable =
+    → p (start_of (tokens bytes)) ≡ Err e → EndsAViableFront wide (tokens bytes) e → EndsAViableFront narrow (tokens bytes) e ⊎ EndsInDepth (tokens bytes) e
+    → LongestFront wide narrow (tokens bytes) e
+longest p wide narrow refused reads bytes e is viable deep =
     let line = tokens bytes in
     let for_good = refused line e is in
     let k = for_good.0 in
-    let some : suc k ≤ length line = for_good.1.0 (line_is_closed bytes) in
-    let there : place k line ≡ (first_of viable.after).at = same_place (sym for_good.1.1.0 ∙ viable.at) in
+    let closed : IsClosed line = line_is_closed bytes in
+    let some : suc k ≤ length line = for_good.1.0 closed in
     let left : length (drop k line) ≡ length line - k = length-drop k line in
-    let stands : 1 ≤ length (drop k line) = omega arith in
-    let less : k ≤ length viable.before = no_later k line viable.before viable.after viable.joined (line_rises bytes) some there in record {
+    let stands : 1 ≤ length (drop k line) = omega arith in record {
       before = take k line;
       after = drop k line;
       joined = sym (take-append-drop k line);
       stands = stands;
       at = for_good.1.1.0;
-      begins = begins_less wide k line viable.before viable.after viable.joined less viable.begins;
+      begins = begins_one wide narrow k line e (line_rises bytes) closed some for_good.1.1.0 viable deep;
       stops = stops_at p narrow k line reads some for_good.1.1.1;
     }
 
@@ -126,19 +176,20 @@ others_all_read = all_is_read top (top_line 100) (top_filled Plain 100 filled op
 
 outer_by : (bytes : List ℕ) (b : Bool) (e : Fault)
     → ◌≡◌ {A = Outcome Command} (and_then (if b then binding (start_of (tokens bytes)) else top (start_of (tokens bytes))) ends) (Err e)
-    → EndsAViableFront (binding_or_other b 101) (tokens bytes) e → LongestFront (binding_or_other b 101) (binding_or_other b 100) (tokens bytes) e
-outer_by bytes true e is viable = longest whole_binding (binding_line 101) (binding_line 100) binding_refused bindings_all_read bytes e is viable
-outer_by bytes false e is viable = longest whole_top (top_line 101) (top_line 100) top_refused others_all_read bytes e is viable
+    → EndsAViableFront (binding_or_other b 101) (tokens bytes) e → EndsAViableFront (binding_or_other b 100) (tokens bytes) e ⊎ EndsInDepth (tokens bytes) e
+    → LongestFront (binding_or_other b 101) (binding_or_other b 100) (tokens bytes) e
+outer_by bytes true e is viable deep = longest whole_binding (binding_line 101) (binding_line 100) binding_refused bindings_all_read bytes e is viable deep
+outer_by bytes false e is viable deep = longest whole_top (top_line 101) (top_line 100) top_refused others_all_read bytes e is viable deep
 
 pub outer_front : (bytes : List ℕ) (e : Fault) → outer_reader (start_of (tokens bytes)) ≡ Err e
     → LongestFront (form_for 101 (tokens bytes)) (form_for 100 (tokens bytes)) (tokens bytes) e
 unfolding line_of outer second_kind
-outer_front bytes e is = outer_by bytes (same_kind (first_of (drop 1 (tokens bytes))).kind k.Assign) e is (refuses_no_sooner bytes e is)
+outer_front bytes e is = outer_by bytes (same_kind (first_of (drop 1 (tokens bytes))).kind k.Assign) e is (refuses_no_sooner bytes e is) (refuses_sooner_in_depth_alone bytes e is)
 
 pub table_front : (bytes : List ℕ) (e : Fault) → table_reader (start_of (tokens bytes)) ≡ Err e → LongestFront tables.table_line tables.table_line (tokens bytes) e
 unfolding line_of
-table_front bytes e is = longest whole_table_line tables.table_line tables.table_line table_refused tables_all_read bytes e is (tables_refused bytes e is)
+table_front bytes e is = longest whole_table_line tables.table_line tables.table_line table_refused tables_all_read bytes e is (tables_refused bytes e is) (inl (tables_refused bytes e is))
 
 pub class_front : (bytes : List ℕ) (e : Fault) → class_reader (start_of (tokens bytes)) ≡ Err e → LongestFront classes.class_line classes.class_line (tokens bytes) e
 unfolding line_of
-class_front bytes e is = longest whole_class_line classes.class_line classes.class_line class_refused classes_all_read bytes e is (classes_refused bytes e is)
+class_front bytes e is = longest whole_class_line classes.class_line classes.class_line class_refused classes_all_read bytes e is (classes_refused bytes e is) (inl (classes_refused bytes e is))

@@ -1,5 +1,5 @@
 -- What is answered to a line of bytes, wherever it stands.
-use Rattle.std.specs.Prelude.{◌≡◌, ℕ, ◌≤◌, false, List, [], ◌∷◌, ◌++◌, length, Ok, Err}
+use Rattle.std.specs.Prelude.{◌≡◌, ◌⊎◌, ℕ, ◌≤◌, true, false, List, [], ◌∷◌, ◌++◌, length, Ok, Err}
 use Rattle.base_core.specs.declared.refusal.Refusal.{Refusal}
 use Rattle.base_core.specs.declared.refusal.Refusal.TheVariants.{ScriptError}
 use Rattle.script_types.specs.declared.command.Command.{Command}
@@ -14,6 +14,7 @@ use Rattle.script_forms.specs.Lines.{Says, Begins}
 use Rattle.script_forms.specs.TableLines.{table_line}
 use Rattle.script_forms.specs.ClassLines.{class_line}
 use Rattle.script_forms.specs.TopLines.{outer_line}
+use Rattle.grammar_laws.specs.Nesting.{openings, nests}
 use Rattle.line_laws.specs.Exact.{form_for}
 
 -- the form of the lines that stand there
@@ -28,15 +29,27 @@ form_of_kind Top most line = form_for most line
 form_of_kind Table most line = table_line
 form_of_kind Class most line = class_line
 
+-- tokens that end with an `in` or `exists`, before which there are a hundred of `(`, `not` and `-`
+pub record EndDeep (tokens : List Token) : Type 0 where
+  pub earlier : List Token
+  pub word : Token
+  pub joined : tokens ≡ earlier ++ word ∷ []
+  pub wants : nests word.kind ≡ true
+  pub deep : 100 ≤ openings earlier
+
+-- some line of this one's kind begins with these tokens, or they end so deep that only one does in which one more may nest
+abbrev pub BeginOne : Inside → List Token → List Token → Type 0
+BeginOne inside line tokens = Begins (form_of_kind inside 100 line) tokens ⊎ (EndDeep tokens × Begins (form_of_kind inside 101 line) tokens)
+
 -- The column of a token, which stands one past the longest front of the line with which some line of its kind begins: such a line begins with the tokens
--- before it, if one more may nest than in those that are read, and none begins with these and the token itself.
+-- before it, and none begins with these and the token itself.
 pub record TellsTheColumn (inside : Inside) (line : List Token) (number : ℕ) (refusal : Refusal) : Type 0 where
   pub before : List Token
   pub after : List Token
   pub joined : line ≡ before ++ after
   pub stands : 1 ≤ length after
   pub told : refusal ≡ ScriptError number (column (first_of after).at)
-  pub begins : Begins (form_of_kind inside 101 line) before
+  pub begins : BeginOne inside line before
   pub stops : Begins (form_of_kind inside 100 line) (before ++ first_of after ∷ []) → ⊥
 
 -- The command that is answered to a line, which is neither blank nor a comment, is what its tokens say.

@@ -24,8 +24,8 @@ pub fn lines_outside_blocks_are_read_as_their_forms_say()
 /// relates to its tokens; and where they say none, the column of a token.
 ///
 /// That token stands one past the longest front of the line with which some line of its kind begins: such a line begins with the tokens before it, and none
-/// begins with these and the token itself. Where the token stands right behind an `in` or `exists` whose parenthesis would be nested in a hundred of an
-/// expression, the tokens before it begin a line in which 101 may nest.
+/// begins with these and the token itself. Where they end with an `in` or `exists` before which there are a hundred of `(`, `not` and `-`, the line that
+/// begins with them may be one in which 101 of parentheses, `not` and unary minus nest.
 pub fn lines_are_answered_as_the_language_says()
     ensures answers { AnswersWhatIsSaid }
     ensures all { AnswersAllThatIsSaid }
