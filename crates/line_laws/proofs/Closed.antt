@@ -1,5 +1,5 @@
 -- The last token of a line of bytes closes it, and what stands behind a minus that digits must follow is a number.
-use Rattle.std.proofs.Common.{◌≡◌, ℕ, zero, suc, ◌+◌, ◌-◌, Bool, true, false, not, ◌&&◌, ◌||◌, if◌then◌else◌, ◌==◌, List, [], ◌∷◌, take, drop, map, slice_index, Option, Some, None, refl, ap, sym, subst, ◌∙◌, arith}
+use Rattle.std.proofs.Common.{◌≡◌, ℕ, zero, suc, ◌+◌, ◌-◌, Bool, true, false, not, ◌&&◌, if◌then◌else◌, ◌==◌, List, [], ◌∷◌, take, drop, map, slice_index, Option, Some, None, refl, ap, ◌∙◌, arith}
 use Rattle.std.specs.Char.{is_ascii_digit}
 use Rattle.std.specs.Str.{bytes_eq}
 use Rattle.script_lex.specs.declared.kind.Kind.{Kind}
@@ -11,11 +11,12 @@ use Rattle.script_lex.specs.declared.token.Content.TheVariants.{Number}
 use Rattle.script_lex.specs.declared.token.Token.{Token}
 use Rattle.script_lex.specs.Shape as s
 use Rattle.script_lex.specs.Shape.{Text}
-use Rattle.script_lex.specs.Content.{content, number}
+use Rattle.script_lex.specs.Content.{content}
 use Rattle.script_lex.specs.Lex.{same_kind, is_blank, placed, cut, tokens_from, tokens}
 use Rattle.script_tokens.proofs.Alike.{same, other}
 use Rattle.script_tokens.specs.Input.{first_of}
 use Rattle.script_laws.specs.Steady.{closes, IsClosed}
+use Rattle.script_laws.proofs.Steps.{false_true}
 
 -- ---- a minus that digits must follow
 
@@ -34,20 +35,12 @@ neither false nx ny = ny
 no_minus : (kd : Kind) (len next : ℕ) → (kd ≡ k.Signed → ⊥) → IsMinus next (kd, len)
 no_minus kd len next differs = record { run = λ e. absurd (differs e) }
 
-is_true : Bool → Type 0
-is_true true = Unit {0}
-is_true false = ⊥
-
-no_false : false ≡ true → ⊥
-unfolding is_true
-no_false e = subst is_true (sym e) tt
-
 unsigned : List (Text × Kind) → Bool
 unsigned [] = true
 unsigned (w ∷ ws) = not (same_kind w.1 k.Signed) && unsigned ws
 
 unsigned_by : (kd : Kind) (b rest : Bool) → same_kind kd k.Signed ≡ b → (not b && rest) ≡ true → (kd ≡ k.Signed → ⊥) × (rest ≡ true)
-unsigned_by kd true rest is e = absurd (no_false e)
+unsigned_by kd true rest is e = absurd (false_true e)
 unsigned_by kd false rest is e = (other is, e)
 
 no_word : (ws : List (Text × Kind)) (word : Text) → unsigned ws ≡ true → s.lookup ws word ≡ k.Signed → ⊥
@@ -131,7 +124,7 @@ first_cut at d w e =
     ∙ first_by t.0 (tokens_from (t.1 - 1) (at + 1) w) (same_kind t.0.kind k.Bad)
 
 number_first : (at : ℕ) (z : Text) → is_ascii_digit (slice_index z 0) ≡ true → closes (first_of (tokens_from 0 at z)).kind ≡ false
-number_first at [] e = absurd (no_false e)
+number_first at [] e = absurd (false_true e)
 number_first at (d ∷ w) e = ap (λ t. closes t.kind) (first_cut at d w (no_blank d e)) ∙ ap closes (number_cut at d w e)
 
 -- ---- the tokens of a line
