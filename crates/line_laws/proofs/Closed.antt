@@ -7,7 +7,6 @@ use Rattle.script_lex.specs.declared.kind.Kind.TheVariants as k
 use Rattle.script_lex.specs.declared.kind.TheConstants.{WORDS}
 use Rattle.script_lex.specs.declared.shape.Class.TheVariants as class
 use Rattle.script_lex.specs.declared.token.Content.{Content}
-use Rattle.script_lex.specs.declared.token.Content.TheVariants.{Number}
 use Rattle.script_lex.specs.declared.token.Token.{Token}
 use Rattle.script_lex.specs.Shape as s
 use Rattle.script_lex.specs.Shape.{Text}

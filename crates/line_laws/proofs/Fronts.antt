@@ -10,8 +10,6 @@ use Rattle.script_lex.specs.Lex.{same_kind, tokens}
 use Rattle.script_tokens.specs.declared.fault.Fault.{Fault}
 use Rattle.script_tokens.specs.declared.fault.Fault.TheVariants.{Memory, At}
 use Rattle.script_tokens.specs.Input.{Input, Outcome, Reader, and_then, first_of, no_token, second_kind, start_of}
-use Rattle.script_blocks.specs.Blocks.{table_line}
-use Rattle.script_blocks.specs.Classes.{class_line}
 use Rattle.script_read.specs.Bindings.{binding}
 use Rattle.script_read.specs.Top.{top}
 use Rattle.script_read.specs.Line.{ends, line_of, outer}
