@@ -91,14 +91,12 @@ fn product_joint(kind: Kind) -> Option<Joint>
     }
 }
 
-fn joined(alloc: Global, joint: Joint, left: Syn, right: Syn) -> Result<Syn, AllocError>
-    ensures { IfOk result (λ e. e ≡ spec.joined joint left right) }
+fn joined(joint: Joint, left: Boxed<Syn>, right: Boxed<Syn>) -> Syn
+    ensures { result ≡ spec.joined joint left right }
 {
-    let left = Boxed::new(alloc, left)?;
-    let right = Boxed::new(alloc, right)?;
     match joint {
-        Joint::Arith(op) => Ok(Syn::Arith(op, left, right)),
-        Joint::Concat => Ok(Syn::Concat(left, right)),
+        Joint::Arith(op) => Syn::Arith(op, left, right),
+        Joint::Concat => Syn::Concat(left, right),
     }
 }
 
@@ -151,53 +149,6 @@ fn only(alloc: Global, item: Syn) -> Result<Items<Syn>, AllocError>
     Ok(all)
 }
 
-fn compare(alloc: Global, op: CompareOp, left: Syn, right: Syn) -> Result<Syn, AllocError>
-    ensures { IfOk result (λ e. e ≡ Syn.Compare op left right) }
-{
-    Ok(Syn::Compare(op, Boxed::new(alloc, left)?, Boxed::new(alloc, right)?))
-}
-
-fn is_null(alloc: Global, negated: bool, left: Syn) -> Result<Syn, AllocError>
-    ensures { IfOk result (λ e. e ≡ Syn.IsNull negated left) }
-{
-    Ok(Syn::IsNull(negated, Boxed::new(alloc, left)?))
-}
-
-fn like(alloc: Global, negated: bool, left: Syn, right: Syn) -> Result<Syn, AllocError>
-    ensures { IfOk result (λ e. e ≡ Syn.Like negated left right) }
-{
-    Ok(Syn::Like(negated, Boxed::new(alloc, left)?, Boxed::new(alloc, right)?))
-}
-
-fn ilike(alloc: Global, negated: bool, left: Syn, right: Syn) -> Result<Syn, AllocError>
-    ensures { IfOk result (λ e. e ≡ Syn.Ilike negated left right) }
-{
-    Ok(Syn::Ilike(negated, Boxed::new(alloc, left)?, Boxed::new(alloc, right)?))
-}
-
-fn in_list(alloc: Global, negated: bool, left: Syn, members: RowValues) -> Result<Syn, AllocError>
-    ensures { IfOk result (λ e. e ≡ Syn.InList negated left members) }
-{
-    Ok(Syn::InList(negated, Boxed::new(alloc, left)?, members))
-}
-
-fn between(alloc: Global, negated: bool, left: Syn, low: Syn, high: Syn) -> Result<Syn, AllocError>
-    ensures { IfOk result (λ e. e ≡ Syn.Between negated left low high) }
-{
-    Ok(Syn::Between(
-        negated,
-        Boxed::new(alloc, left)?,
-        Boxed::new(alloc, low)?,
-        Boxed::new(alloc, high)?,
-    ))
-}
-
-fn distinct(alloc: Global, negated: bool, left: Syn, right: Syn) -> Result<Syn, AllocError>
-    ensures { IfOk result (λ e. e ≡ Syn.Distinct negated left right) }
-{
-    Ok(Syn::Distinct(negated, Boxed::new(alloc, left)?, Boxed::new(alloc, right)?))
-}
-
 /// A source or class and its column or attribute, after the first name.
 fn path(tokens: &mut Tokens<'_>, first: Name) -> Result<Syn, Fault>
     ensures { Reads (spec.path first tokens.old) result tokens.new }
@@ -206,6 +157,8 @@ fn path(tokens: &mut Tokens<'_>, first: Name) -> Result<Syn, Fault>
     Ok(Syn::Path(first, name(tokens)?))
 }
 
+// An operand is boxed before more is read. A fault then drops a box, by a call of its `drop`; the drop of a `Syn` stands in
+// the function itself, form by form, and each form is a step to prove.
 impl<F: Fn(Global, &mut Tokens<'_>, usize, Level) -> Result<Syn, Fault>> Grammar<F> {
     #[tactic(auto, unfolding(crate::specs::Expr::deeper))]
     fn deeper(&self, tokens: &mut Tokens<'_>, kind: Kind) -> Result<(), Fault>
@@ -225,8 +178,7 @@ impl<F: Fn(Global, &mut Tokens<'_>, usize, Level) -> Result<Syn, Fault>> Grammar
     {
         self.deeper(tokens, Kind::LParen)?;
         let inner = self.inner(tokens, Level::Whole)?;
-        tokens.expect(Kind::RParen)?;
-        Ok(inner)
+        tokens.expect(Kind::RParen).and(Ok(inner))
     }
 
     #[tactic(auto, unfolding(crate::specs::Expr::exists))]
@@ -237,9 +189,9 @@ impl<F: Fn(Global, &mut Tokens<'_>, usize, Level) -> Result<Syn, Fault>> Grammar
         self.deeper(tokens, Kind::LParen)?;
         let from = source(tokens)?;
         tokens.expect(Kind::Where)?;
-        let inner = self.inner(tokens, Level::Whole)?;
+        let inner = Boxed::new(self.alloc, self.inner(tokens, Level::Whole)?)?;
         tokens.expect(Kind::RParen)?;
-        Ok(Syn::Exists(from, Boxed::new(self.alloc, inner)?))
+        Ok(Syn::Exists(from, inner))
     }
 
     fn arguments(&self, tokens: &mut Tokens<'_>) -> Result<Items<Syn>, Fault>
@@ -336,9 +288,10 @@ impl<F: Fn(Global, &mut Tokens<'_>, usize, Level) -> Result<Syn, Fault>> Grammar
             let Some(joint) = product_joint(tokens.kind()) else {
                 return Ok(left);
             };
+            let first = Boxed::new(self.alloc, left)?;
             tokens.operator()?;
             let right = self.unary(tokens)?;
-            left = joined(self.alloc, joint, left, right)?;
+            left = joined(joint, first, Boxed::new(self.alloc, right)?);
         }
         Ok(left)
     }
@@ -360,9 +313,10 @@ impl<F: Fn(Global, &mut Tokens<'_>, usize, Level) -> Result<Syn, Fault>> Grammar
             let Some(joint) = sum_joint(tokens.kind()) else {
                 return Ok(left);
             };
+            let first = Boxed::new(self.alloc, left)?;
             tokens.operator()?;
             let right = self.product(tokens)?;
-            left = joined(self.alloc, joint, left, right)?;
+            left = joined(joint, first, Boxed::new(self.alloc, right)?);
         }
         Ok(left)
     }
@@ -381,11 +335,12 @@ impl<F: Fn(Global, &mut Tokens<'_>, usize, Level) -> Result<Syn, Fault>> Grammar
         requires { Nests self.now.depth (F.pre self.now.expr) (F.post self.now.expr) }
         ensures { Reads (spec.compared self.now.depth (spec.expr self.now.depth) op left tokens.old) result tokens.new }
     {
+        let left = Boxed::new(self.alloc, left)?;
         if null_after(tokens, op) {
-            return Ok(is_null(self.alloc, is_unlike(op), left)?);
+            return Ok(Syn::IsNull(is_unlike(op), left));
         }
         let right = self.sum(tokens)?;
-        Ok(compare(self.alloc, op, left, right)?)
+        Ok(Syn::Compare(op, left, Boxed::new(self.alloc, right)?))
     }
 
     #[tactic(auto, unfolding(crate::specs::Expr::distinct))]
@@ -393,11 +348,12 @@ impl<F: Fn(Global, &mut Tokens<'_>, usize, Level) -> Result<Syn, Fault>> Grammar
         requires { Nests self.now.depth (F.pre self.now.expr) (F.post self.now.expr) }
         ensures { Reads (spec.distinct self.now.depth (spec.expr self.now.depth) left tokens.old) result tokens.new }
     {
+        let left = Boxed::new(self.alloc, left)?;
         let negated = tokens.eat(Kind::Not);
         tokens.expect(Kind::Distinct)?;
         tokens.expect(Kind::From)?;
         let right = self.sum(tokens)?;
-        Ok(distinct(self.alloc, negated, left, right)?)
+        Ok(Syn::Distinct(negated, left, Boxed::new(self.alloc, right)?))
     }
 
     #[tactic(auto, unfolding(crate::specs::Expr::members))]
@@ -419,10 +375,11 @@ impl<F: Fn(Global, &mut Tokens<'_>, usize, Level) -> Result<Syn, Fault>> Grammar
         requires { Nests self.now.depth (F.pre self.now.expr) (F.post self.now.expr) }
         ensures { Reads (spec.between self.now.depth (spec.expr self.now.depth) negated left tokens.old) result tokens.new }
     {
-        let low = self.sum(tokens)?;
+        let left = Boxed::new(self.alloc, left)?;
+        let low = Boxed::new(self.alloc, self.sum(tokens)?)?;
         tokens.expect(Kind::And)?;
         let high = self.sum(tokens)?;
-        Ok(between(self.alloc, negated, left, low, high)?)
+        Ok(Syn::Between(negated, left, low, Boxed::new(self.alloc, high)?))
     }
 
     #[tactic(auto, unfolding(crate::specs::Expr::liked))]
@@ -430,8 +387,9 @@ impl<F: Fn(Global, &mut Tokens<'_>, usize, Level) -> Result<Syn, Fault>> Grammar
         requires { Nests self.now.depth (F.pre self.now.expr) (F.post self.now.expr) }
         ensures { Reads (spec.liked self.now.depth (spec.expr self.now.depth) negated left tokens.old) result tokens.new }
     {
+        let left = Boxed::new(self.alloc, left)?;
         let right = self.sum(tokens)?;
-        Ok(like(self.alloc, negated, left, right)?)
+        Ok(Syn::Like(negated, left, Boxed::new(self.alloc, right)?))
     }
 
     #[tactic(auto, unfolding(crate::specs::Expr::iliked))]
@@ -439,8 +397,9 @@ impl<F: Fn(Global, &mut Tokens<'_>, usize, Level) -> Result<Syn, Fault>> Grammar
         requires { Nests self.now.depth (F.pre self.now.expr) (F.post self.now.expr) }
         ensures { Reads (spec.iliked self.now.depth (spec.expr self.now.depth) negated left tokens.old) result tokens.new }
     {
+        let left = Boxed::new(self.alloc, left)?;
         let right = self.sum(tokens)?;
-        Ok(ilike(self.alloc, negated, left, right)?)
+        Ok(Syn::Ilike(negated, left, Boxed::new(self.alloc, right)?))
     }
 
     #[tactic(auto, unfolding(crate::specs::Expr::among))]
@@ -448,8 +407,8 @@ impl<F: Fn(Global, &mut Tokens<'_>, usize, Level) -> Result<Syn, Fault>> Grammar
         requires { Nests self.now.depth (F.pre self.now.expr) (F.post self.now.expr) }
         ensures { Reads (spec.among self.now.depth (spec.expr self.now.depth) negated left tokens.old) result tokens.new }
     {
-        let found = self.members(tokens)?;
-        Ok(in_list(self.alloc, negated, left, found)?)
+        let left = Boxed::new(self.alloc, left)?;
+        Ok(Syn::InList(negated, left, self.members(tokens)?))
     }
 
     #[tactic(auto, unfolding(crate::specs::Expr::tested))]

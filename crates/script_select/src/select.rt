@@ -1,7 +1,8 @@
 //! Selects.
 
 ghost use Rattle.std.specs.Prelude.{◌≡◌};
-ghost use Rattle.script_tokens.specs.Input.{Reads};
+ghost use Rattle.script_tokens.specs.Input.{Reads, clause};
+ghost use Rattle.script_tokens.specs.Names.{name as called};
 ghost use Rattle.script_select.specs.Select as spec;
 
 use base_core::{ListOf, Name};
@@ -31,17 +32,23 @@ pub struct Grouping {
     pub having: Option<Syn>,
 }
 
+/// The name after `as`, where the word comes next.
+fn given_name(tokens: &mut Tokens<'_>) -> Result<Option<Name>, Fault>
+    ensures { Reads (clause Kind.As called tokens.old) result tokens.new }
+{
+    if tokens.eat(Kind::As) {
+        Ok(Some(name(tokens)?))
+    } else {
+        Ok(None)
+    }
+}
+
 #[tactic(auto, unfolding(crate::specs::Select::item))]
 fn item(alloc: Global, tokens: &mut Tokens<'_>) -> Result<(Syn, Option<Name>), Fault>
     ensures { Reads (spec.item tokens.old) result tokens.new }
 {
     let value = whole(alloc, tokens)?;
-    if tokens.eat(Kind::As) {
-        let called = name(tokens)?;
-        Ok((value, Some(called)))
-    } else {
-        Ok((value, None))
-    }
+    given_name(tokens).map(|called| (value, called))
 }
 
 #[tactic(auto, unfolding(crate::specs::Select::items))]
@@ -156,9 +163,8 @@ fn middle_part(alloc: Global, tokens: &mut Tokens<'_>) -> Result<Grouping, Fault
     ensures { Reads (spec.middle_part tokens.old) result tokens.new }
 {
     let filter = condition(alloc, tokens, Kind::Where)?;
-    let groups = groups(alloc, tokens)?;
-    let having = condition(alloc, tokens, Kind::Having)?;
-    Ok(Grouping {
+    let (filter, groups) = groups(alloc, tokens).map(|groups| (filter, groups))?;
+    condition(alloc, tokens, Kind::Having).map(|having| Grouping {
         filter,
         groups,
         having,
@@ -220,8 +226,7 @@ pub fn select(alloc: Global, tokens: &mut Tokens<'_>) -> Result<SynSelect, Fault
     let first = source(tokens)?;
     let joins = joins(alloc, tokens)?;
     let part = middle_part(alloc, tokens)?;
-    let end = last_part(alloc, tokens)?;
-    Ok(SynSelect {
+    last_part(alloc, tokens).map(|end| SynSelect {
         distinct,
         items,
         first,
