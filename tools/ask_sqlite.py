@@ -4,7 +4,8 @@
     python3 tools/ask_sqlite.py            # at the top of the repository; the module sqlite3 has the store
 
 The tables write an operator behind its operands; here each becomes a text of SQL. What SQLite answers otherwise stands in tables of its own
-there and is not asked: results outside 64 bits, and the order of groups. A select without an order is compared without one.
+there and is not asked: results outside 64 bits, and the order of groups. A select without an order is compared without one, and so are the
+rows of an UPDATE.
 """
 
 import pathlib
@@ -120,6 +121,14 @@ def query(text):
     return whole, bool(order)
 
 
+def updated(store, rows, written, condition):
+    """The rows of a table of these that an UPDATE of the second column takes, as it leaves them."""
+    create(store, "t0", rows)
+    where = f" where {sql(condition)}" if condition else ""
+    found = store.execute(f"update t0 as s0 set c1 = {sql(written)}{where} returning c0, c1").fetchall()
+    return sorted(found)
+
+
 def main():
     differ = 0
     expressions = (FOLDER / "expressions.rt").read_text()
@@ -145,7 +154,14 @@ def main():
         if not same:
             differ += 1
             print(f"{shows}: SQLite has {found}, the table {wanted}")
-    print(f"{len(values)} values, {len(cases)} selects, {differ} differ (SQLite {sqlite3.sqlite_version})")
+    bulk = (FOLDER / "bulk.rt").read_text()
+    updates = table(bulk, "UPDATES")
+    for written, condition, wanted in updates:
+        found = updated(sqlite3.connect(":memory:"), lines(constant(bulk, "ROWS")), written, condition)
+        if found != lines(wanted):
+            differ += 1
+            print(f"{written} where {condition}: SQLite has {found}, the table {wanted}")
+    print(f"{len(values)} values, {len(cases)} selects, {len(updates)} updates, {differ} differ (SQLite {sqlite3.sqlite_version})")
     return 1 if differ else 0
 
 

@@ -6,6 +6,3 @@ mod taken;
 
 pub use cells::inserted;
 pub use taken::{deleted, updated};
-
-#[cfg(test)]
-mod tests;

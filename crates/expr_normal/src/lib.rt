@@ -3,7 +3,5 @@
 
 mod form;
 mod level;
-#[cfg(test)]
-mod tests;
 
 pub use form::{negate, normal};

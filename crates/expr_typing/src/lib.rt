@@ -4,8 +4,6 @@
 mod aggregate;
 mod judge;
 mod kind;
-#[cfg(test)]
-mod tests;
 
 pub use aggregate::{has_aggregate, is_aggregate, some_aggregate};
 pub use judge::type_of;

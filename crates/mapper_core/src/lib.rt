@@ -3,8 +3,6 @@
 
 mod layout;
 mod mapping;
-#[cfg(test)]
-mod tests;
 
 pub use mapper_types::{Attribute, Cascade, ClassSpec, Relation, RelationSpec};
 pub use mapping::Mapping;

@@ -4,8 +4,6 @@
 mod arena;
 mod object;
 mod parts;
-#[cfg(test)]
-mod tests;
 
 pub use arena::Arena;
 pub use object::{Cell, CellRead, Link, Object, State};

@@ -91,7 +91,7 @@ fn without_row(alloc: Global, rows: &PlainRows, key: &Key) -> Result<PlainRows, 
 }
 
 /// The table that a statement writes.
-pub(crate) fn table_of(statement: &RowStmt) -> TableId
+fn table_of(statement: &RowStmt) -> TableId
     ensures { result ≡ table_of statement.now }
 {
     match statement {

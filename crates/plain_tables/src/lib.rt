@@ -8,6 +8,3 @@ mod entries;
 mod judging;
 
 pub use applying::{PlainRows, PlainTables, Unapplied, apply};
-
-#[cfg(test)]
-mod tests;

@@ -11,6 +11,3 @@ pub use names::Naming;
 pub use objects::{ObjectText, ObjectsText, RowNameText};
 pub use refusals::{RefusalText, WarningText};
 pub use values::{RowText, ValueText};
-
-#[cfg(test)]
-mod tests;

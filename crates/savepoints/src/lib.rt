@@ -4,8 +4,6 @@
 mod frames;
 mod restoring;
 mod scope;
-#[cfg(test)]
-mod tests;
 
 pub use frames::Frames;
 pub use scope::{Scope, Standing};

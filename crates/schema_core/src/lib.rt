@@ -17,6 +17,3 @@ pub use keys::has_generated_key;
 pub use schema::Schema;
 pub use statement::{Breach, RowStmt};
 pub use table::{ColumnKind, ColumnSpec, ForeignSpec, TableSpec};
-
-#[cfg(test)]
-mod tests;

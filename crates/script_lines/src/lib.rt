@@ -3,8 +3,6 @@
 
 mod cutting;
 mod lines;
-#[cfg(test)]
-mod tests;
 
 pub use cutting::{MOST_BYTES, MOST_IN_LINE};
 pub use lines::{LineBuffer, NextLine, ReadStop};

@@ -4,8 +4,6 @@
 mod bindings;
 mod line;
 mod terms;
-#[cfg(test)]
-mod tests;
 mod top;
 
 pub use line::read_line;

@@ -1,12 +1,14 @@
-use super::*;
+//! The texts of values, objects, refusals and warnings, as the script language has them.
+
 use base_core::{
     AttrNo, Blob, ClassId, ColumnNo, ListOf, Name, ObjId, Refusal, RelNo, TableId, Text, Value,
     Warning,
 };
-use std::alloc::{AllocError, Global};
+use printing::{Naming, ObjectsText, RefusalText, RowText, WarningText};
+use std::alloc::Global;
 use std::test::Fail;
 
-// One name for each kind of thing.
+/// One name for each kind of thing.
 struct OneName;
 
 impl Naming for OneName {
@@ -39,7 +41,7 @@ impl Naming for OneName {
     }
 }
 
-// The values of a row, one of each kind.
+/// The values of a row, one of each kind.
 fn row(alloc: Global) -> Result<ListOf<Value>, Refusal> {
     let mut row = ListOf::new(alloc);
     row.push(Value::Null)?;

@@ -1,8 +1,11 @@
 //! Statements on two small tables, worked by hand by SQL's rules.
 
-use crate::applying::table_of;
-use crate::{PlainRows, PlainTables, Unapplied, apply};
+ghost use Rattle.std.specs.Prelude.{◌≡◌};
+ghost use Rattle.schema_core.specs.Apply.{table_of};
+
+use crate::declaring::{declare, name};
 use base_core::{ColumnNo, Key, ListOf, Name, Refusal, RowValues, TableId, Text, Value};
+use plain_tables::{PlainRows, PlainTables, Unapplied, apply};
 use schema_core::{Breach, ColumnKind, ColumnSpec, ForeignSpec, RowStmt, Schema, TableSpec};
 use std::alloc::{AllocError, Global};
 use std::test::Fail;
@@ -158,10 +161,6 @@ const NODES: TableId = TableId(0);
 
 const PLACES: TableId = TableId(1);
 
-fn name(alloc: Global, text: &str) -> Result<Name, AllocError> {
-    Ok(Name::new(String::from_str(alloc, text)?))
-}
-
 fn names(alloc: Global, texts: &[&str]) -> Result<ListOf<Name>, Refusal> {
     let mut listed = ListOf::new(alloc);
     for text in texts {
@@ -227,9 +226,7 @@ fn places(alloc: Global) -> Result<TableSpec, Refusal> {
 fn schema(alloc: Global) -> Result<Schema, Refusal> {
     let mut schema = Schema::new(alloc);
     for spec in [nodes(alloc)?, places(alloc)?] {
-        if schema.count() < u32::MAX {
-            schema.declare_table(spec)?;
-        }
+        declare(&mut schema, spec)?;
     }
     Ok(schema)
 }
@@ -332,6 +329,17 @@ fn statement(alloc: Global, sent: Sent) -> Result<RowStmt, Refusal> {
             table: NODES,
             key: key(alloc, node)?,
         }),
+    }
+}
+
+/// The table that a statement writes.
+fn table_of(statement: &RowStmt) -> TableId
+    ensures { result ≡ table_of statement.now }
+{
+    match statement {
+        RowStmt::Insert { table, .. }
+        | RowStmt::Update { table, .. }
+        | RowStmt::Delete { table, .. } => *table,
     }
 }
 

@@ -1,13 +1,12 @@
 //! What lines say, beside what the language's grammar says by hand.
 
-use crate::read_line;
 use base_core::Refusal;
+use script_read::read_line;
 use script_types::Inside;
 use std::alloc::{AllocError, Global};
 use std::test::Fail;
 
 /// Lines, each with the block in which it stands and the column of its fault, or 0 where it has none.
-
 const LINES: [(Inside, &[u8], u32); 140] = [
     (Inside::Top, b"tabel x", 1),
     (Inside::Top, b"state", 6),

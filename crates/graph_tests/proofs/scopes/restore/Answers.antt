@@ -1,6 +1,6 @@
 use Rattle.std.proofs.Common.{◌+◌, ◌-◌, length}
 use Rattle.savepoints.proofs.CopyLemmas.{copies_kept, copies_left}
-use Rattle.savepoints.proofs.tests.restore.Goals as goal
+use Rattle.graph_tests.proofs.scopes.restore.Goals as goal
 
 pub returns : goal.returns
 returns c = record {

@@ -1,71 +1,20 @@
-ghost use Rattle.std.specs.Prelude.{IsTrue};
-ghost use Rattle.object_arena.specs.Graph.{IsObject};
+//! Cells of objects, and the keys that objects stand for.
 
-use super::*;
-use base_core::{AttrNo, ClassId, Key, Kind, ListOf, Name, ObjId, Refusal, RequestKind, Value};
-use mapper_core::{ClassSpec, Mapping};
-use schema_core::{ColumnKind, ColumnSpec, TableSpec};
-use std::alloc::{AllocError, Global};
+use crate::fixture::{is_made, key, keys_alone};
+use base_core::{AttrNo, ClassId, Kind, ObjId, Refusal, RequestKind, Value};
+use mapper_core::Mapping;
+use object_arena::{Arena, CellRead, State};
+use std::alloc::Global;
 use std::test::Fail;
 
-fn name(alloc: Global, text: &str) -> Result<Name, AllocError> {
-    Ok(Name::new(String::from_str(alloc, text)?))
-}
-
-// A table with an integer key alone, and a class over it.
-fn declared(alloc: Global) -> Result<Mapping, Refusal> {
-    let mut mapping = Mapping::new(alloc);
-    let mut columns = ListOf::new(alloc);
-    columns.push(ColumnSpec {
-        name: name(alloc, "id")?,
-        kind: ColumnKind::Integer,
-        key: true,
-        not_null: true,
-    })?;
-    if mapping.schema().count() < u32::MAX {
-        mapping.declare_table(TableSpec {
-            name: name(alloc, "users")?,
-            columns,
-            uniques: ListOf::new(alloc),
-            foreigns: ListOf::new(alloc),
-        })?;
-    }
-    if mapping.count() < u32::MAX {
-        mapping.declare_class(ClassSpec {
-            name: name(alloc, "User")?,
-            base: None,
-            table: Some(name(alloc, "users")?),
-            discriminator: None,
-            identity: None,
-            owned: ListOf::new(alloc),
-            relations: ListOf::new(alloc),
-            validators: ListOf::new(alloc),
-        })?;
-    }
-    mapping.configure()?;
-    Ok(mapping)
-}
-
-fn key(alloc: Global, number: i64) -> Result<Key, Refusal> {
-    let mut key = ListOf::new(alloc);
-    key.push(Value::Int(number))?;
-    Ok(key)
-}
-
-fn is_made(arena: &Arena, object: ObjId) -> bool
-    ensures { IsTrue result → IsObject arena.now object }
-{
-    0 < object.0 && object.0 <= arena.count()
-}
-
-// Whether the key's cell of a new object gives a value this answer, and holds this then.
+/// Whether the key's cell of a new object gives a value this answer, and holds this then.
 fn answers(
     alloc: Global,
     value: Value,
     answer: Result<(), Refusal>,
     held: Value,
 ) -> Result<bool, Refusal> {
-    let mapping = declared(alloc)?;
+    let mapping = keys_alone(alloc)?;
     if mapping.count() == 0 || !mapping.is_configured() {
         return Ok(false);
     }
@@ -78,7 +27,7 @@ fn answers(
     Ok(given == answer && shows(&arena, object, held))
 }
 
-// Whether the first cell of an object shows a value.
+/// Whether the first cell of an object shows a value.
 fn shows(arena: &Arena, object: ObjId, wanted: Value) -> bool {
     if !is_made(arena, object) || arena.object(object).cells.is_empty() {
         return false;
@@ -117,7 +66,7 @@ fn put_back(arena: &mut Arena, object: ObjId) {
     }
 }
 
-// Two objects of the class, and no more.
+/// Two objects of the class, and no more.
 fn two(alloc: Global, mapping: &Mapping) -> Result<Arena, Refusal> {
     let mut arena = Arena::new(alloc);
     if mapping.count() == 0 || !mapping.is_configured() {
@@ -128,7 +77,7 @@ fn two(alloc: Global, mapping: &Mapping) -> Result<Arena, Refusal> {
     Ok(arena)
 }
 
-// Whether the object stands for the key 7.
+/// Whether the object stands for the key 7.
 fn stands(alloc: Global, arena: &Arena, object: ObjId) -> Result<bool, Refusal> {
     Ok(arena.find_identity(ClassId(0), &key(alloc, 7)?) == Some(object))
 }
@@ -142,7 +91,7 @@ fn a_cell_takes_values_of_its_kind(rt: HostRuntime) -> Result<(), Fail> {
     Ok(())
 }
 
-// The first object takes a key, and the second is refused it.
+/// The first object takes a key, and the second is refused it.
 fn first_stands(alloc: Global, arena: &mut Arena) -> Result<bool, Refusal> {
     register(alloc, arena, ObjId(1), 7)?;
     let taken = register(alloc, arena, ObjId(2), 7);
@@ -150,7 +99,7 @@ fn first_stands(alloc: Global, arena: &mut Arena) -> Result<bool, Refusal> {
     Ok(taken == conflict && stands(alloc, arena, ObjId(1))?)
 }
 
-// The first object leaves, and the second takes the key.
+/// The first object leaves, and the second takes the key.
 fn second_stands(alloc: Global, arena: &mut Arena) -> Result<bool, Refusal> {
     expire(arena, ObjId(1));
     detach(arena, ObjId(1))?;
@@ -161,7 +110,7 @@ fn second_stands(alloc: Global, arena: &mut Arena) -> Result<bool, Refusal> {
 #[test]
 fn one_object_stands_for_a_key_until_it_leaves(rt: HostRuntime) -> Result<(), Fail> {
     let alloc = rt.alloc();
-    let mapping = declared(alloc)?;
+    let mapping = keys_alone(alloc)?;
     let mut arena = two(alloc, &mapping)?;
     assert!(rt; arena.count() == 2);
     assert!(rt; first_stands(alloc, &mut arena)?);

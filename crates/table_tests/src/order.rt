@@ -1,13 +1,12 @@
-use super::*;
-use base_core::{ListOf, Name, Refusal, TableId, Value};
-use std::alloc::{AllocError, Global};
+//! The order in which tables are created.
+
+use crate::declaring::{declare, name};
+use base_core::{ListOf, Refusal, TableId, Value};
+use schema_core::{ColumnKind, ColumnSpec, ForeignSpec, Schema, TableSpec};
+use std::alloc::Global;
 use std::test::Fail;
 
-fn name(alloc: Global, text: &str) -> Result<Name, AllocError> {
-    Ok(Name::new(String::from_str(alloc, text)?))
-}
-
-// A table with an integer key and an integer that refers to a table.
+/// A table with an integer key and an integer that refers to a table.
 fn referring(alloc: Global, own: &str, target: &str) -> Result<TableSpec, Refusal> {
     let mut columns = ListOf::new(alloc);
     for (text, key) in [("id", true), ("other", false)] {
@@ -33,16 +32,8 @@ fn referring(alloc: Global, own: &str, target: &str) -> Result<TableSpec, Refusa
     })
 }
 
-// Declares a table where a number is left for it.
-fn declare(schema: &mut Schema, spec: TableSpec) -> Result<(), Refusal> {
-    if schema.count() < u32::MAX {
-        schema.declare_table(spec)?;
-    }
-    Ok(())
-}
-
 // Table a refers to b, b to d, c to itself and d to c.
-#[tactic(auto, unfolding(crate::specs::Declaration::resolve))]
+#[tactic(auto, unfolding(schema_core::specs::Declaration::resolve))]
 #[test]
 fn tables_are_created_before_those_that_refer_to_them(rt: HostRuntime) -> Result<(), Fail> {
     let alloc = rt.alloc();

@@ -1,57 +1,21 @@
-ghost use Rattle.std.specs.Prelude.{◌≡◌, ◌<◌, ◌≤◌, true, length, IsTrue};
+//! Objects that go back to where they stood at the start of a scope.
+
+ghost use Rattle.std.specs.Prelude.{◌≡◌, true};
 ghost use Rattle.std.specs.List.{All};
 ghost use Rattle.object_arena.specs.Graph.{IsObject};
 ghost use Rattle.object_arena.specs.Every.{classes_of};
 ghost use Rattle.mapper_core.specs.Mapped.{IsClass};
 ghost use Rattle.savepoints.specs.Scopes.{IsCopy};
 
-use super::*;
-use base_core::{AttrNo, ClassId, Key, LimitKind, ListOf, Name, ObjId, Refusal, Value};
-use mapper_core::{ClassSpec, Mapping};
+use crate::fixture::{is_made, key, keys_alone};
+use base_core::{AttrNo, ClassId, Key, LimitKind, ObjId, Refusal, Value};
+use mapper_core::Mapping;
 use object_arena::{Arena, CellRead, State};
-use schema_core::{ColumnKind, ColumnSpec, TableSpec};
-use std::alloc::{AllocError, Global};
+use savepoints::Frames;
+use std::alloc::Global;
 use std::test::Fail;
 
-fn name(alloc: Global, text: &str) -> Result<Name, AllocError> {
-    Ok(Name::new(String::from_str(alloc, text)?))
-}
-
-// A table with an integer key alone, and a class over it.
-fn declared(alloc: Global) -> Result<Mapping, Refusal> {
-    let mut mapping = Mapping::new(alloc);
-    let mut columns = ListOf::new(alloc);
-    columns.push(ColumnSpec {
-        name: name(alloc, "id")?,
-        kind: ColumnKind::Integer,
-        key: true,
-        not_null: true,
-    })?;
-    if mapping.schema().count() < u32::MAX {
-        mapping.declare_table(TableSpec {
-            name: name(alloc, "users")?,
-            columns,
-            uniques: ListOf::new(alloc),
-            foreigns: ListOf::new(alloc),
-        })?;
-    }
-    if mapping.count() < u32::MAX {
-        mapping.declare_class(ClassSpec {
-            name: name(alloc, "User")?,
-            base: None,
-            table: Some(name(alloc, "users")?),
-            discriminator: None,
-            identity: None,
-            owned: ListOf::new(alloc),
-            relations: ListOf::new(alloc),
-            validators: ListOf::new(alloc),
-        })?;
-    }
-    mapping.configure()?;
-    Ok(mapping)
-}
-
-// What is done: to an object by its number, or to the scopes.
+/// What is done: to an object by its number, or to the scopes.
 #[derive(Clone, Copy)]
 enum Act {
     Make,
@@ -64,12 +28,6 @@ enum Act {
     Start,
     Release,
     Restore(u32),
-}
-
-fn is_made(arena: &Arena, object: ObjId) -> bool
-    ensures { IsTrue result → IsObject arena.now object }
-{
-    0 < object.0 && object.0 <= arena.count()
 }
 
 fn mark(arena: &mut Arena, object: ObjId) -> Result<(), Refusal>
@@ -125,12 +83,6 @@ fn expire(arena: &mut Arena, object: ObjId) -> Result<(), Refusal>
     }
 }
 
-fn key(alloc: Global, number: i64) -> Result<Key, Refusal> {
-    let mut key = ListOf::new(alloc);
-    key.push(Value::Int(number))?;
-    Ok(key)
-}
-
 fn register(alloc: Global, arena: &mut Arena, object: ObjId, number: i64) -> Result<(), Refusal>
     ensures { classes_of arena.new ≡ classes_of arena.old }
 {
@@ -140,7 +92,7 @@ fn register(alloc: Global, arena: &mut Arena, object: ObjId, number: i64) -> Res
     arena.register(object, key(alloc, number)?)
 }
 
-// Does an act to an object.
+/// Does an act to an object.
 fn change(alloc: Global, arena: &mut Arena, act: &Act) -> Result<(), Refusal>
     ensures { classes_of arena.new ≡ classes_of arena.old }
 {
@@ -183,7 +135,7 @@ fn release(arena: &Arena, frames: &mut Frames) -> Result<(), Refusal>
     Ok(())
 }
 
-#[tactic(auto, using(crate::proofs::CopyLemmas::copy_at))]
+#[tactic(auto, using(savepoints::proofs::CopyLemmas::copy_at))]
 fn restore(arena: &mut Arena, frames: &mut Frames, depth: u32) -> Result<(), Refusal>
     requires copies { All (IsCopy arena.old) frames.old }
     ensures copies { All (IsCopy arena.new) frames.new }
@@ -221,10 +173,10 @@ fn play_one(
     }
 }
 
-// The objects and the scopes after these acts.
-#[tactic(auto, using(crate::proofs::CopyLemmas::copies_none))]
+/// The objects and the scopes after these acts.
+#[tactic(auto, using(savepoints::proofs::CopyLemmas::copies_none))]
 fn played(alloc: Global, acts: &[Act]) -> Result<(Arena, u32), Refusal> {
-    let mapping = declared(alloc)?;
+    let mapping = keys_alone(alloc)?;
     let mut arena = Arena::new(alloc);
     let mut frames = Frames::new(alloc);
     if mapping.count() == 0 || !mapping.is_configured() {
@@ -237,7 +189,7 @@ fn played(alloc: Global, acts: &[Act]) -> Result<(Arena, u32), Refusal> {
     Ok((arena, depth))
 }
 
-// Whether an object stands so, without a mark, under the key or under none where it is 0, and has an expired cell or not.
+/// Whether an object stands so, without a mark, under the key or under none where it is 0, and has an expired cell or not.
 fn stands(arena: &Arena, number: u32, state: State, key: i64, expired: bool) -> bool {
     let object = ObjId(number);
     if !is_made(arena, object) {
@@ -345,7 +297,7 @@ fn what_was_released_goes_back_with_the_scope_around(rt: HostRuntime) -> Result<
     Ok(())
 }
 
-// Starts 65 scopes, and answers what the next one is refused with.
+/// Starts 65 scopes, and answers what the next one is refused with.
 fn one_too_many(alloc: Global) -> Result<Refusal, Refusal> {
     let arena = Arena::new(alloc);
     let mut frames = Frames::new(alloc);

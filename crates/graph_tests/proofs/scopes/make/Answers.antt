@@ -1,6 +1,6 @@
 use Rattle.base_core.specs.declared.ids.ClassId.{ClassId}
 use Rattle.savepoints.proofs.CopyLemmas.{copies_made}
-use Rattle.savepoints.proofs.tests.make.Goals as goal
+use Rattle.graph_tests.proofs.scopes.make.Goals as goal
 
 pub returns : goal.returns
 returns c =

@@ -1,7 +1,7 @@
 //! Lines against scripts cut by hand.
 
-use crate::{LineBuffer, NextLine, ReadStop};
 use byte_streams::MemSource;
+use script_lines::{LineBuffer, NextLine, ReadStop};
 use std::alloc::Global;
 use std::test::Fail;
 

@@ -1,0 +1,103 @@
+//! Rows that bulk statements take, against what SQLite answers.
+
+use crate::postfix::{expression, row, rows};
+use base_core::{ArithOp, ColumnNo, Key, ListOf, Refusal, RowValues};
+use bulk_rows::{deleted, inserted, updated};
+use expr_eval::TableRows;
+use expr_types::Expr;
+use std::alloc::Global;
+use std::test::Fail;
+
+/// The rows of the table.
+const ROWS: &str = "1 10; 2 null; 3 30;";
+
+/// What an UPDATE writes into the second column, the condition (none: an empty text), and the rows that it takes.
+const UPDATES: [(&str, &str, &str); 2] = [
+    ("0.1 5 +", "0.1 9 >", "1 15; 3 35;"),
+    ("0.1 5 +", "", "1 15; 2 null; 3 35;"),
+];
+
+/// Rows, each ended by a semicolon, under their first values.
+fn keyed(alloc: Global, text: &str) -> Result<ListOf<(Key, RowValues)>, Refusal> {
+    let mut all = ListOf::new(alloc);
+    for line in text.split(';') {
+        let line = line.trim();
+        if let Some((key, _)) = line.split_once(' ') {
+            all.push((row(alloc, key)?, row(alloc, line)?))?;
+        }
+    }
+    Ok(all)
+}
+
+fn filter(alloc: Global, text: &str) -> Result<Option<Expr>, Refusal> {
+    if text.is_empty() {
+        return Ok(None);
+    }
+    Ok(Some(expression(alloc, text)?))
+}
+
+/// The rows that an UPDATE of the second column takes, as it writes them.
+fn update(
+    alloc: Global,
+    written: &str,
+    condition: &str,
+) -> Result<ListOf<(Key, RowValues)>, Refusal> {
+    let tables: TableRows = ListOf::new(alloc);
+    let mut cells = ListOf::new(alloc);
+    cells.push((ColumnNo(1), Some(expression(alloc, written)?)))?;
+    let filter = filter(alloc, condition)?;
+    updated(alloc, &tables, &cells, &filter, &keyed(alloc, ROWS)?)
+}
+
+/// The keys of the rows that a DELETE takes.
+fn delete(alloc: Global, condition: &str) -> Result<ListOf<Key>, Refusal> {
+    let tables: TableRows = ListOf::new(alloc);
+    let filter = filter(alloc, condition)?;
+    deleted(alloc, &tables, &filter, &keyed(alloc, ROWS)?)
+}
+
+#[test]
+fn an_update_takes_the_rows_for_which_its_condition_is_true(rt: HostRuntime) -> Result<(), Fail> {
+    let alloc = rt.alloc();
+    for (written, condition, wanted) in UPDATES {
+        let wanted = keyed(alloc, wanted)?;
+        assert_eq!(rt;
+            update(alloc, written, condition),
+            Ok(wanted),
+            "where {condition}"
+        );
+    }
+    Ok(())
+}
+
+#[test]
+fn a_sum_outside_64_bits_is_refused_at_the_first_row_that_is_taken(
+    rt: HostRuntime,
+) -> Result<(), Fail> {
+    let answer = update(rt.alloc(), "0.1 9223372036854775807 +", "0.1 20 >");
+    let refusal = Refusal::DataError(ArithOp::Add, 30, i64::MAX);
+    assert_eq!(rt; answer, Err(refusal));
+    Ok(())
+}
+
+#[test]
+fn a_delete_takes_the_keys_of_its_rows(rt: HostRuntime) -> Result<(), Fail> {
+    let alloc = rt.alloc();
+    let wanted = rows(alloc, "3;")?;
+    assert_eq!(rt; delete(alloc, "0.1 10 >"), Ok(wanted));
+    Ok(())
+}
+
+#[test]
+fn an_insert_leaves_null_where_no_value_is_given(rt: HostRuntime) -> Result<(), Fail> {
+    let alloc = rt.alloc();
+    let mut columns = ListOf::new(alloc);
+    columns.push(ColumnNo(2))?;
+    columns.push(ColumnNo(0))?;
+    let values = row(alloc, "7 8")?;
+    assert_eq!(rt; columns.len(), values.len());
+    let given = inserted(alloc, 3, &columns, &values)?;
+    let wanted = row(alloc, "8 null 7")?;
+    assert_eq!(rt; given, wanted);
+    Ok(())
+}
