@@ -1,6 +1,11 @@
+pub mod Columns
+pub mod Declared
 pub mod Surveys
 pub mod Firsts
 pub mod ItemKinds
+pub mod Items
+pub mod Levels
+pub mod NotNull
 pub mod ValueKinds
 pub mod Refused
 pub mod Shapes

@@ -97,11 +97,11 @@ of_rows_data f s rows =
 -- ---- tables that were not created
 
 -- the refusal is of a table of the list
-abbrev CanMiss : List ℕ → Refusal → Type 0
+abbrev pub CanMiss : List ℕ → Refusal → Type 0
 CanMiss ts (OperationalError table) = IsTrue (list_any (λ t. t == table.0) ts)
 CanMiss ts e = ⊥
 
-abbrev OnlyMisses : {A : Type 0} → List ℕ → Checked A → Type 0
+abbrev pub OnlyMisses : {A : Type 0} → List ℕ → Checked A → Type 0
 OnlyMisses ts (Ok a) = Unit {0}
 OnlyMisses ts (Err e) = CanMiss ts e
 
@@ -122,7 +122,7 @@ created_by : (b : Bool) (t : ℕ) (ts : List ℕ) (r : Checked (Unit {0})) → O
 created_by true t ts r h = more_misses t ts r h
 created_by false t ts r h = true_or (t == t) (list_any (λ x. x == t) ts) (nat_eq_equiv.refl t)
 
-created_misses : (tables : Tables) (ts : List ℕ) → OnlyMisses ts (created tables ts)
+pub created_misses : (tables : Tables) (ts : List ℕ) → OnlyMisses ts (created tables ts)
 created_misses tables [] = tt
 created_misses tables (t ∷ ts) = created_by (is_created tables t) t ts (created tables ts) (created_misses tables ts)
 

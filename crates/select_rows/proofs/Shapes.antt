@@ -31,6 +31,10 @@ pub bind_sure : {A B : Type 0} (Q : A → Type 0) (P : B → Type 0) (r : Checke
 bind_sure Q P (Ok a) f h g = g a h
 bind_sure Q P (Err e) f h g = tt
 
+pub sure_all : {A : Type 0} (P Q : A → Type 0) (r : Checked A) → Sure P r → ((a : A) → P a → Q a) → Sure Q r
+sure_all P Q (Ok a) h g = g a h
+sure_all P Q (Err e) h g = tt
+
 pub always : {A : Type 0} (r : Checked A) → Sure (λ _. Unit {0}) r
 always (Ok a) = tt
 always (Err e) = tt
@@ -40,6 +44,10 @@ always (Err e) = tt
 pub every_more : {A : Type 0} (P : A → Type 0) (xs : List A) (x : A) → AllByRecursion P xs → P x → AllByRecursion P (xs ++ x ∷ [])
 every_more P [] x h p = (p, tt)
 every_more P (y ∷ ys) x h p = (h.0, every_more P ys x h.1 p)
+
+pub every_append : {A : Type 0} (P : A → Type 0) (xs ys : List A) → AllByRecursion P xs → AllByRecursion P ys → AllByRecursion P (xs ++ ys)
+every_append P [] ys h g = g
+every_append P (x ∷ xs) ys h g = (h.0, every_append P xs ys h.1 g)
 
 every_take : {A : Type 0} (P : A → Type 0) (n : ℕ) (xs : List A) → AllByRecursion P xs → AllByRecursion P (take n xs)
 every_take P zero xs h = tt

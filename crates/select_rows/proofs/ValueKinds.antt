@@ -1,10 +1,9 @@
 -- The value of an expression that stands in a scope is NULL or of the expression's kind.
-use Rattle.std.proofs.Common.{◌≡◌, ◌<◌, ℕ, zero, suc, ℤ, pos, Bool, true, false, not, cond, ◌&&◌, ◌||◌, if◌then◌else◌, List, [], ◌∷◌, ◌++◌, length, map, nat_lt, Option, Some, None, Ok, Err, refl, sym, ap, subst, ◌∙◌, arith}
-use Rattle.std.proofs.lemmas.Bool.{and_parts, lt-ltb}
+use Rattle.std.proofs.Common.{◌≡◌, ℕ, ℤ, pos, Bool, true, false, not, cond, ◌&&◌, ◌||◌, if◌then◌else◌, List, [], ◌∷◌, ◌++◌, length, map, nat_lt, Option, Some, None, Ok, Err, refl, sym, ap, subst, ◌∙◌}
+use Rattle.std.proofs.lemmas.Bool.{and_parts}
 use Rattle.std.specs.List.{list_all, slice_get, AllByRecursion}
-use Rattle.std.specs.Option.{is_some, option_and_then}
+use Rattle.std.specs.Option.{is_some}
 use Rattle.base_core.specs.declared.ids.ColumnNo.{ColumnNo}
-use Rattle.base_core.specs.declared.ids.TableId.{TableId}
 use Rattle.base_core.specs.declared.value.ArithOp.{ArithOp}
 use Rattle.base_core.specs.declared.value.ArithOp.TheVariants.{Add, Sub}
 use Rattle.base_core.specs.declared.value.Kind.{Kind}
@@ -13,37 +12,28 @@ use Rattle.base_core.specs.declared.value.Value.{Value}
 use Rattle.base_core.specs.declared.value.Value.TheVariants as value
 use Rattle.base_core.specs.declared.refusal.Refusal.{Refusal}
 use Rattle.schema_core.specs.declared.table.ColumnSpec.{ColumnSpec}
-use Rattle.schema_core.specs.Catalog.{Catalog, kind_of, same_kind, spec_of}
+use Rattle.schema_core.specs.Catalog.{Catalog, kind_of, same_kind}
 use Rattle.expr_types.specs.declared.expr.Func.{Func}
 use Rattle.expr_types.specs.declared.expr.Func.TheVariants.{Count, Sum, Min, Max, Lower, Upper, Length, Coalesce}
-use Rattle.expr_types.specs.declared.expr.Origin.{Origin}
 use Rattle.expr_types.specs.declared.expr.Expr.{Expr, roll-Expr}
 use Rattle.expr_types.specs.declared.expr.Expr.TheOpen.{Expr-F}
-use Rattle.expr_types.specs.declared.expr.Expr.TheFolds.{ind-Expr, map-Expr, fold-roll-Expr, para-roll-Expr}
-use Rattle.expr_types.specs.Level.{operands, scope_below}
+use Rattle.expr_types.specs.declared.expr.Expr.TheFolds.{ind-Expr, map-Expr}
 use Rattle.expr_typing.specs.Kinds.{Scope, Judged, judged, judged_level, then_judge, expected, gives, all_of, all_alike, in_scope, value_kind, column_in, column_kind, kind_where}
 use Rattle.expr_typing.specs.Kinds as typing
-use Rattle.expr_typing.specs.Plain.{Found, fits, fits_level, is_of_kind, settled, settled_level}
+use Rattle.expr_typing.specs.Plain.{Found, fits, is_of_kind, settled, settled_level}
 use Rattle.expr_eval.specs.Checked.{Checked, ◌>>=◌}
 use Rattle.expr_eval.specs.Truth.{value_of}
 use Rattle.expr_eval.specs.Eval.{Place, Meaning, Row, after, evaluated, meaning, truth, pair, all_from, along_from, called, calculated, int, arithmetic, negated, concatenated, added, total, known, least_from, greatest_from, below, is_null, first_known, lowered, raised, text_length, first_of, applied, aggregated, gathered, over, ungrouped, count_of}
+use Rattle.select_rows.proofs.Columns.{Columns, Fits, Members, Property, column_read}
+use Rattle.select_rows.proofs.Levels.{fits_rolled, fits_step, judged_rolled, rolled, settled_rolled, with_settled}
 use Rattle.select_rows.proofs.Shapes.{Sure, bind_sure, every_more, every_filter}
 
 abbrev pub OfKind : Kind → Value → Type 0
 OfKind kind v = is_of_kind kind v ≡ true
 
--- the values in the row for the columns of the sources in scope are NULL or of the columns' kinds
-abbrev pub Columns : Catalog → Scope → List ℕ → Row → Type 0
-Columns schema scope starts row = (s : ℕ) (c : ColumnNo) (column : ColumnSpec) → column_in schema scope s c ≡ Some column → OfKind (kind_of column.kind) (after row c.0 (slice_get starts s))
-
-abbrev Members : Catalog → Scope → List ℕ → Option (List Row) → Type 0
-Members schema scope starts None = Unit {0}
-Members schema scope starts (Some rows) = AllByRecursion (Columns schema scope starts) rows
-
--- A place in which columns read what they may hold. A blind one stands for no row: its own columns may not be read, but in aggregates.
-pub record Fits (schema : Catalog) (scope : Scope) (p : Place) (blind : Bool) : Type 0 where
-  pub columns : blind ≡ false → Columns schema scope p.starts p.row
-  pub members : Members schema scope p.starts p.group
+-- a value of a column is NULL or of the column's kind
+abbrev pub KindAt : Property
+KindAt source column v = OfKind (kind_of column.kind) v
 
 -- ---- judgements
 
@@ -174,7 +164,7 @@ abbrev Settled : ℕ → Expr → Bool → Type 0
 Settled own e blind = blind ≡ true → settled true [] own e ≡ true
 
 abbrev pub Claim : Expr → Type 0
-Claim e = (schema : Catalog) (scope : Scope) (p : Place) (blind : Bool) → Fits schema scope p blind → Settled (length scope) e blind → fits schema e scope ≡ true → (k : Kind) → judged schema e scope ≡ Ok k → Sure (OfKind k) (evaluated e p)
+Claim e = (schema : Catalog) (scope : Scope) (p : Place) (blind : Bool) → Fits KindAt schema scope p blind → Settled (length scope) e blind → fits schema e scope ≡ true → (k : Kind) → judged schema e scope ≡ Ok k → Sure (OfKind k) (evaluated e p)
 
 abbrev Known : Type 0
 Known = (e : Expr) × Claim e
@@ -196,21 +186,18 @@ all_judged : (schema : Catalog) (scope : Scope) (k : Kind) (es : List Expr) → 
 all_judged schema scope k [] h = tt
 all_judged schema scope k (e ∷ es) h = (h.0, all_judged schema scope k es h.1)
 
-abbrev with_settled : ℕ → Expr → Found
-with_settled own e = (e, settled true [] own e)
-
 all_settled : (own : ℕ) (es : List Expr) → list_all (λ (found : Found). found.1) (map (with_settled own) es) ≡ true → AllByRecursion (λ e. settled true [] own e ≡ true) es
 all_settled own [] h = tt
 all_settled own (e ∷ es) h = let both = and_parts (settled true [] own e) (list_all (λ (found : Found). found.1) (map (with_settled own) es)) h in (both.0, all_settled own es both.1)
 
-all_sure : (schema : Catalog) (scope : Scope) (p : Place) (blind : Bool) (k : Kind) → Fits schema scope p blind → (ks : List Known) → (blind ≡ true → AllByRecursion (λ e. settled true [] (length scope) e ≡ true) (plain ks))
+all_sure : (schema : Catalog) (scope : Scope) (p : Place) (blind : Bool) (k : Kind) → Fits KindAt schema scope p blind → (ks : List Known) → (blind ≡ true → AllByRecursion (λ e. settled true [] (length scope) e ≡ true) (plain ks))
     → AllFit schema scope (plain ks) → AllJudged schema scope k (plain ks) → (done : List Value) → AllByRecursion (OfKind k) done → Sure (AllByRecursion (OfKind k)) (all_from p done (map evaluated (plain ks)))
 all_sure schema scope p blind k h [] s f j done d = d
 all_sure schema scope p blind k h (x ∷ ks) s f j done d =
     bind_sure (OfKind k) (AllByRecursion (OfKind k)) (evaluated x.0 p) (λ v. all_from p (done ++ v ∷ []) (map evaluated (plain ks))) (x.1 schema scope p blind h (λ b. (s b).0) f.0 k j.0)
     (λ v g. all_sure schema scope p blind k h ks (λ b. (s b).1) f.1 j.1 (done ++ v ∷ []) (every_more (OfKind k) done v d g))
 
-along_sure : (schema : Catalog) (scope : Scope) (p : Place) (k : Kind) (x : Known) → fits schema x.0 scope ≡ true → judged schema x.0 scope ≡ Ok k → (rows : List Row) → AllByRecursion (Columns schema scope p.starts) rows
+along_sure : (schema : Catalog) (scope : Scope) (p : Place) (k : Kind) (x : Known) → fits schema x.0 scope ≡ true → judged schema x.0 scope ≡ Ok k → (rows : List Row) → AllByRecursion (Columns KindAt schema scope p.starts) rows
     → (done : List Value) → AllByRecursion (OfKind k) done → Sure (AllByRecursion (OfKind k)) (along_from (ungrouped p) (evaluated x.0) done rows)
 along_sure schema scope p k x f j [] m done d = d
 along_sure schema scope p k x f j (r ∷ rows) m done d =
@@ -222,14 +209,14 @@ abbrev Gathered : Kind → Option (List Value) → Type 0
 Gathered k None = Unit {0}
 Gathered k (Some vs) = AllByRecursion (OfKind k) vs
 
-over_sure : (schema : Catalog) (scope : Scope) (p : Place) (k : Kind) (x : Known) → fits schema x.0 scope ≡ true → judged schema x.0 scope ≡ Ok k → (g : Option (List Row)) → Members schema scope p.starts g
+over_sure : (schema : Catalog) (scope : Scope) (p : Place) (k : Kind) (x : Known) → fits schema x.0 scope ≡ true → judged schema x.0 scope ≡ Ok k → (g : Option (List Row)) → Members KindAt schema scope p.starts g
     → Sure (Gathered k) (over g p (evaluated x.0))
 over_sure schema scope p k x f j None m = tt
 over_sure schema scope p k x f j (Some rows) m =
     bind_sure (AllByRecursion (OfKind k)) (Gathered k) (along_from (ungrouped p) (evaluated x.0) [] rows) (λ vs. Ok (Some (known vs))) (along_sure schema scope p k x f j rows m [] tt)
     (λ vs h. every_filter (OfKind k) (λ v. not (is_null v)) vs h)
 
-gathered_sure : (schema : Catalog) (scope : Scope) (p : Place) (blind : Bool) (k : Kind) → Fits schema scope p blind → (ks : List Known) → AllFit schema scope (plain ks) → AllJudged schema scope k (plain ks)
+gathered_sure : (schema : Catalog) (scope : Scope) (p : Place) (blind : Bool) (k : Kind) → Fits KindAt schema scope p blind → (ks : List Known) → AllFit schema scope (plain ks) → AllJudged schema scope k (plain ks)
     → Sure (Gathered k) (gathered (map evaluated (plain ks)) p)
 gathered_sure schema scope p blind k h [] f j = tt
 gathered_sure schema scope p blind k h (x ∷ ks) f j = over_sure schema scope p k x f.0 j.0 p.group h.members
@@ -261,7 +248,7 @@ CallSettled own f es blind = blind ≡ true → settled_level true own (Expr-F.C
 coalesce_settled : (own : ℕ) (es : List Expr) → settled_level true own (Expr-F.Call Coalesce (map (with_settled own) es)) ≡ true → AllByRecursion (λ e. settled true [] own e ≡ true) es
 coalesce_settled own es h = all_settled own es h
 
-called_sure : (schema : Catalog) (scope : Scope) (p : Place) (blind : Bool) → Fits schema scope p blind → (f : Func) (ks : List Known) → CallSettled (length scope) f (plain ks) blind → AllFit schema scope (plain ks)
+called_sure : (schema : Catalog) (scope : Scope) (p : Place) (blind : Bool) → Fits KindAt schema scope p blind → (f : Func) (ks : List Known) → CallSettled (length scope) f (plain ks) blind → AllFit schema scope (plain ks)
     → (k : Kind) → typing.called f (in_scope scope (map (judged schema) (plain ks))) ≡ Ok k → Sure (OfKind k) (called f (map evaluated (plain ks)) p)
 called_sure schema scope p blind h Count ks s f k j =
     as_kind k kinds.Integer _ (gives_kind kinds.Integer (all_alike (in_scope scope (map (judged schema) (plain ks)))) k j) (made_sure kinds.Integer (gathered (map evaluated (plain ks)) p) (aggregated Count) count_sure)
@@ -286,38 +273,21 @@ called_sure schema scope p blind h Coalesce ks s f k j =
 
 -- ---- columns
 
-in_reach : {B : Type 0} (f : TableId → Option B) (scope : Scope) (s : ℕ) → is_some (option_and_then f (slice_get scope s)) ≡ true → s < length scope
-in_reach f [] s h = absurd (cc)
-in_reach f (t ∷ scope) zero h = omega arith
-in_reach f (t ∷ scope) (suc s) h = let rest = in_reach f scope s h in omega (arith, rest)
+column_by : (schema : Catalog) (scope : Scope) (p : Place) (blind : Bool) (s : ℕ) (c : ColumnNo) (o : Option ColumnSpec) → column_in schema scope s c ≡ o → is_some o ≡ true → Fits KindAt schema scope p blind
+    → (blind ≡ true → not (nat_lt s (length scope)) ≡ true) → OfKind (kind_where o) (after p.row c.0 (slice_get p.starts s))
+column_by schema scope p blind s c (Some column) is there h apart = column_read KindAt schema scope p blind s c column h apart is
+column_by schema scope p blind s c None is there h apart = absurd (cc)
 
-not_both : (b : Bool) → b ≡ true → not b ≡ true → ⊥
-not_both true e n = cc
-not_both false e n = cc
-
-column_by : (schema : Catalog) (scope : Scope) (p : Place) (s : ℕ) (c : ColumnNo) (o : Option ColumnSpec) → column_in schema scope s c ≡ o → is_some o ≡ true → Columns schema scope p.starts p.row
-    → OfKind (kind_where o) (after p.row c.0 (slice_get p.starts s))
-column_by schema scope p s c (Some column) is there h = h s c column is
-column_by schema scope p s c None is there h = absurd (cc)
-
-column_seen : (schema : Catalog) (scope : Scope) (p : Place) (blind : Bool) (s : ℕ) (c : ColumnNo) → Fits schema scope p blind → (blind ≡ true → not (nat_lt s (length scope)) ≡ true) → is_some (column_in schema scope s c) ≡ true
+column_seen : (schema : Catalog) (scope : Scope) (p : Place) (blind : Bool) (s : ℕ) (c : ColumnNo) → Fits KindAt schema scope p blind → (blind ≡ true → not (nat_lt s (length scope)) ≡ true) → is_some (column_in schema scope s c) ≡ true
     → OfKind (column_kind schema scope s c) (after p.row c.0 (slice_get p.starts s))
-column_seen schema scope p false s c h apart there = column_by schema scope p s c (column_in schema scope s c) refl there (h.columns refl)
-column_seen schema scope p true s c h apart there =
-    absurd (not_both (nat_lt s (length scope)) (lt-ltb s (length scope) (in_reach (λ table. slice_get (spec_of schema table).columns c.0) scope s there)) (apart refl))
+column_seen schema scope p blind s c h apart there = column_by schema scope p blind s c (column_in schema scope s c) refl there h apart
 
 -- ---- the levels
-
-abbrev enter : Scope → Origin → Scope
-enter scope origin = scope ++ origin.table ∷ []
-
-abbrev fits_step : Catalog → Expr-F (Scope → Bool) → Scope → Bool
-fits_step schema level scope = fits_level schema scope level && list_all (λ holds. holds (scope_below enter scope level)) (operands level)
 
 abbrev bare : Expr-F Known → Expr-F Expr
 bare = map-Expr Known Expr (λ k. k.0)
 
-level : (y : Expr-F Known) (schema : Catalog) (scope : Scope) (p : Place) (blind : Bool) → Fits schema scope p blind
+level : (y : Expr-F Known) (schema : Catalog) (scope : Scope) (p : Place) (blind : Bool) → Fits KindAt schema scope p blind
     → (blind ≡ true → settled_level true (length scope) (map-Expr Expr Found (with_settled (length scope)) (bare y)) ≡ true)
     → fits_step schema (map-Expr Expr (Scope → Bool) (fits schema) (bare y)) scope ≡ true → (k : Kind) → judged_level schema (map-Expr Expr (Scope → Judged) (judged schema) (bare y)) scope ≡ Ok k
     → Sure (OfKind k) (meaning (map-Expr Expr Meaning evaluated (bare y)) p)
@@ -342,22 +312,6 @@ level (Expr-F.Distinct g x y) schema scope p blind h a f k j = as_kind k kinds.B
 level (Expr-F.Call g es) schema scope p blind h a f k j = called_sure schema scope p blind h g es a (all_fit schema scope (plain es) (and_parts _ _ f).1) k j
 level Expr-F.CountAll schema scope p blind h a f k j = as_kind k kinds.Integer (Ok (count_of p.group)) (cc) (group_count p.group)
 level (Expr-F.Exists g o x) schema scope p blind h a f k j = as_kind k kinds.Boolean _ (all_of_kind kinds.Boolean k (judged schema x.0 (scope ++ o.table ∷ []) ∷ []) j) (truth_sure _ _)
-
-rolled : (x : Expr-F Expr) → evaluated (roll-Expr x) ≡ meaning (map-Expr Expr Meaning evaluated x)
-unfolding evaluated
-rolled x = fold-roll-Expr Meaning meaning x
-
-fits_rolled : (schema : Catalog) (scope : Scope) (x : Expr-F Expr) → fits schema (roll-Expr x) scope ≡ fits_step schema (map-Expr Expr (Scope → Bool) (fits schema) x) scope
-unfolding fits
-fits_rolled schema scope x = ap (λ (f : Scope → Bool). f scope) (fold-roll-Expr (Scope → Bool) (fits_step schema) x)
-
-judged_rolled : (schema : Catalog) (scope : Scope) (x : Expr-F Expr) → judged schema (roll-Expr x) scope ≡ judged_level schema (map-Expr Expr (Scope → Judged) (judged schema) x) scope
-unfolding judged
-judged_rolled schema scope x = ap (λ (j : Scope → Judged). j scope) (fold-roll-Expr (Scope → Judged) (judged_level schema) x)
-
-settled_rolled : (own : ℕ) (x : Expr-F Expr) → settled true [] own (roll-Expr x) ≡ settled_level true own (map-Expr Expr Found (with_settled own) x)
-unfolding settled
-settled_rolled own x = para-roll-Expr Bool (settled_level true own) x
 
 step : (y : Expr-F Known) → Claim (roll-Expr (bare y))
 step y schema scope p blind h a f k j =

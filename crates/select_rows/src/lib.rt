@@ -18,3 +18,5 @@ pub use basis::Basis;
 pub use frame::Frame;
 pub use order::SortKey;
 pub use rows::rows_of;
+pub use survey::named;
+pub use table::created;

@@ -7,10 +7,10 @@ use expr_types::Expr;
 use sqlite_items::Items;
 use std::alloc::AllocError;
 
-/// Appends the numbers of the tables of each `exists`, in reading order.
+/// Appends the numbers of the tables of each `exists`, in reading order. The only error is want of memory.
 #[tactic(auto, unfolding(crate::specs::Rows::named), using(crate::proofs::Surveys::all_named))]
 #[cycle(named)]
-pub(crate) fn named(e: &Expr, found: &mut Vec<u32>) -> Result<(), AllocError>
+pub fn named(e: &Expr, found: &mut Vec<u32>) -> Result<(), AllocError>
     ensures { OnOk result (found.new.items ≡ found.old.items ++ spec.named e.now) }
 {
     match e {

@@ -21,7 +21,11 @@ pub(crate) fn all_created(
     created(tables, &named)
 }
 
-fn created(tables: &[(TableId, RowList)], named: &[u32]) -> Result<(), Refusal>
+/// The first table of these numbers that is not among the tables is refused.
+///
+/// # Errors
+/// `OperationalError` with that table.
+pub fn created(tables: &[(TableId, RowList)], named: &[u32]) -> Result<(), Refusal>
     ensures { result ≡ spec.created tables.now named.now }
 {
     for table in named {
