@@ -1,1 +1,4 @@
+mod Behind
+pub mod Declared
 mod Pairs
+pub mod Refused

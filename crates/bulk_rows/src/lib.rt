@@ -2,7 +2,9 @@
 #![tactic(auto)]
 
 mod cells;
+mod named;
 mod taken;
 
 pub use cells::inserted;
+pub use named::all_created;
 pub use taken::{deleted, updated};

@@ -1,7 +1,6 @@
 //! The rows that a bulk statement takes.
 
 ghost use Rattle.std.specs.Prelude.{◌≡◌, [], ◌∷◌, ◌++◌, if◌then◌else◌, OnOk};
-ghost use Rattle.base_core.specs.Answers as base;
 ghost use Rattle.expr_eval.specs.Checked.{Gives};
 ghost use Rattle.bulk_rows.specs.Taken as spec;
 
@@ -70,7 +69,6 @@ fn updated_rows(
 /// # Errors
 /// `DataError` with the first result outside 64 bits: row by row in the order given, of each its condition and then its
 /// expressions in order; want of memory.
-#[tactic(auto, using(expr_eval::proofs::Told::gives_as_base))]
 pub fn updated(
     alloc: Global,
     tables: &TableRows,
@@ -78,7 +76,7 @@ pub fn updated(
     filter: &Option<Expr>,
     rows: &ListOf<(Key, RowValues)>,
 ) -> Result<ListOf<(Key, RowValues)>, Refusal>
-    ensures { base.Gives (λ x. x) result (spec.updated_from tables.now written.now filter.now [] rows.now) }
+    ensures { Gives (λ x. x) result (spec.updated_from tables.now written.now filter.now [] rows.now) }
 {
     Ok(ListOf::from_vec(updated_rows(
         alloc,
@@ -119,14 +117,13 @@ fn deleted_keys(
 ///
 /// # Errors
 /// `DataError` with the first result outside 64 bits, row by row in the order given; want of memory.
-#[tactic(auto, using(expr_eval::proofs::Told::gives_as_base))]
 pub fn deleted(
     alloc: Global,
     tables: &TableRows,
     filter: &Option<Expr>,
     rows: &ListOf<(Key, RowValues)>,
 ) -> Result<ListOf<Key>, Refusal>
-    ensures { base.Gives (λ x. x) result (spec.deleted_from tables.now filter.now [] rows.now) }
+    ensures { Gives (λ x. x) result (spec.deleted_from tables.now filter.now [] rows.now) }
 {
     Ok(ListOf::from_vec(deleted_keys(alloc, tables.as_slice(), filter, rows.as_slice())?))
 }

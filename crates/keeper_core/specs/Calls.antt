@@ -1,5 +1,6 @@
 -- What each call of a keeper does to a store that is told.
 use Rattle.std.specs.Prelude.{◌≡◌, ℕ, ◌-◌, Bool, true, false, List, [], ◌∷◌, map, length, drop, slice_index_or, Option, Result, Ok, Err, if◌then◌else◌, IfSome}
+use Rattle.std.specs.List.{AllByRecursion}
 use Rattle.std.specs.Option.{option_map}
 use Rattle.base_core.specs.declared.ids.TableId.{TableId}
 use Rattle.base_core.specs.declared.value.Value.{Value}
@@ -17,16 +18,19 @@ use Rattle.keeper_core.specs.declared.keeper.WriteRefusal.TheVariants as writes
 use Rattle.keeper_core.specs.declared.keeper.QueryRefusal.{QueryRefusal}
 use Rattle.keeper_core.specs.declared.keeper.QueryRefusal.TheVariants as queries
 use Rattle.keeper_core.specs.Acting.{Run, Sends, quiet, give, ends_early}
-use Rattle.schema_core.specs.declared.statement.Breach.{Breach}
-use Rattle.schema_core.specs.declared.statement.Breach.TheVariants as breaches
 use Rattle.schema_core.specs.Apply.{Outcome, apply, table_of}
-use Rattle.schema_core.specs.Catalog.{Catalog}
+use Rattle.schema_core.specs.Catalog.{Catalog, spec_of}
 use Rattle.schema_core.specs.Tables.{rows_in}
+use Rattle.schema_core.specs.WellFormed.{is_row}
 use Rattle.expr_types.specs.declared.select.Select.{Select}
 use Rattle.select_rows.specs.Created.{bare}
 use Rattle.select_rows.specs.Refusals as select
 use Rattle.select_rows.specs.Rows.{answer}
-use Rattle.select_rows.specs.Shapes.{AreRows}
+use Rattle.select_rows.specs.Shapes.{AreLegalRows, AreRows}
+use Rattle.expr_types.specs.declared.select.Bulk.{Bulk}
+use Rattle.bulk_rows.specs.Applied.{applied, breach_refusal}
+use Rattle.bulk_rows.specs.Applied as bulks
+use Rattle.bulk_rows.specs.Refusals as bulk_refusals
 use Rattle.keeper_core.specs.Moment.{Told}
 use Rattle.keeper_core.specs.Store.{Store, committed_of, is_created, created, dropped}
 
@@ -107,16 +111,6 @@ commit w = sends sent.Commit (record { tables = w.tables; scopes = [] }) (Ok tt)
 unfoldable pub scan : TableId → Store → Run Store (Option (List (List Value)))
 scan table w = give (option_map (λ rows. map (λ entry. entry.1) rows) (rows_in w.tables table)) w
 
--- why a statement that breaks a rule of its table is refused
-abbrev pub breach_refusal : TableId → Breach → Refusal
-breach_refusal table (breaches.NoTable absent) = refusals.OperationalError absent
-breach_refusal table breaches.Missing = refusals.StaleDataError table
-breach_refusal table breaches.NotNull = refusals.IntegrityError kinds.NotNull table
-breach_refusal table breaches.KeysSpent = refusals.KeysSpent table
-breach_refusal table breaches.PrimaryKey = refusals.IntegrityError kinds.PrimaryKey table
-breach_refusal table breaches.Unique = refusals.IntegrityError kinds.Unique table
-breach_refusal table breaches.Foreign = refusals.IntegrityError kinds.Foreign table
-
 abbrev pub written : RowStmt → Outcome → Store → Run Store (List Value)
 written statement (Ok done) w = sends (sent.Write statement) (record { tables = done.1; scopes = w.scopes }) (Ok done.0)
 written statement (Err breach) w = sends (sent.Write statement) w (Err (breach_refusal (table_of statement) breach))
@@ -124,6 +118,14 @@ written statement (Err breach) w = sends (sent.Write statement) w (Err (breach_r
 -- a statement on one row; a refused one changes nothing
 unfoldable pub write : Catalog → RowStmt → Store → Run Store (List Value)
 write schema statement w = written statement (apply schema w.tables statement) w
+
+abbrev pub bulked : Bulk → bulks.Outcome → Store → Run Store ℕ
+bulked statement (Ok done) w = sends (sent.Bulk statement) (record { tables = done.1; scopes = w.scopes }) (Ok done.0)
+bulked statement (Err refusal) w = sends (sent.Bulk statement) w (Err refusal)
+
+-- a bulk statement, which answers the number of its rows; a refused one changes nothing, and is sent too
+unfoldable pub bulk : Catalog → Bulk → Store → Run Store ℕ
+bulk schema statement w = bulked statement (applied schema w.tables statement) w
 
 -- the rows of a select over the tables now; it changes nothing, and a refused one is sent too
 unfoldable pub query : Catalog → Select → Store → Run Store (List (List Value))
@@ -173,9 +175,27 @@ CanRefuse statement e = Unit {0}
 abbrev pub IsRefusalOf : RowStmt → Refusal → Type 0
 IsRefusalOf statement e = (refusal : WriteRefusal) × (e ≡ write_refusal (table_of statement) refusal) × CanRefuse statement refusal
 
+-- which refusals a bulk statement may meet, whatever the keeper
+abbrev pub CanRefuseBulk : Bulk → WriteRefusal → Type 0
+CanRefuseBulk statement writes.Fault = Unit {0}
+CanRefuseBulk statement e = bulk_refusals.CanRefuse statement (write_refusal (bulks.table_of statement) e)
+
+-- the same, told in the words of the layers above
+abbrev pub IsRefusalOfBulk : Bulk → Refusal → Type 0
+IsRefusalOfBulk statement refusals.KeeperFault = Unit {0}
+IsRefusalOfBulk statement e = bulk_refusals.CanRefuse statement e
+
 -- the tables that are told, where any are, have rows that fit the schema
 abbrev pub HoldsRows : Catalog → Option (Told Store) → Type 0
 HoldsRows schema told = IfSome told (λ t. AreRows schema (bare t.world.tables))
+
+-- the tables that are told, where any are, have legal rows
+abbrev pub HoldsLegalRows : Catalog → Option (Told Store) → Type 0
+HoldsLegalRows schema told = IfSome told (λ t. AreLegalRows schema (bare t.world.tables))
+
+-- the rows of a table have one value for each of its columns, NULL or of its kind
+abbrev pub AreRowsOf : Catalog → TableId → List (List Value) → Type 0
+AreRowsOf schema table rows = AllByRecursion (λ row. is_row (spec_of schema table) row ≡ true) rows
 
 -- which refusals a select may meet, whatever the keeper: of a table of its text, or of a result outside 64 bits
 abbrev pub CanRefuseQuery : Select → QueryRefusal → Type 0

@@ -1,19 +1,21 @@
 //! A keeper's calls with the refusals of the layers above.
 
-ghost use Rattle.std.specs.Prelude.{◌≡◌, ◌+◌, ◌-◌, ◌<◌, ◌≤◌, ℕ, None, true, IfOk, IfErr};
+ghost use Rattle.std.specs.Prelude.{◌≡◌, ◌+◌, ◌-◌, ◌<◌, ◌≤◌, ℕ, None, true, IfOk, IfErr, IfSome};
 ghost use Rattle.schema_core.specs.Catalog.{IsTable};
 ghost use Rattle.schema_core.specs.WellFormed.{IsWellFormed, IsKeyFor};
 ghost use Rattle.keeper_core.specs.Moment.{Runs};
 ghost use Rattle.keeper_core.specs.Acting as acting;
 ghost use Rattle.keeper_core.specs.Calls as call;
 ghost use Rattle.schema_core.specs.Apply as apply;
-ghost use Rattle.keeper_core.specs.Calls.{depth_left, stop_refusal, HoldsRows, IsRefusalOf, IsRefusalOfQuery};
-ghost use Rattle.expr_typing.specs.Plain.{IsPlainSelect};
-ghost use Rattle.select_rows.specs.Shapes.{AreOfItems, AreWide};
+ghost use Rattle.keeper_core.specs.Calls.{depth_left, stop_refusal, AreRowsOf, HoldsLegalRows, HoldsRows, IsRefusalOf, IsRefusalOfBulk, IsRefusalOfQuery};
+ghost use Rattle.expr_typing.specs.Plain.{IsPlainBulk, IsPlainSelect};
+ghost use Rattle.bulk_rows.specs.Applied as bulk_rows;
+ghost use Rattle.select_rows.specs.Refusals.{IsOfDeclared};
+ghost use Rattle.select_rows.specs.Shapes.{AreGiven, AreOfItems, AreWide};
 
 use crate::{Keeper, KeeperStop, QueryRefusal, WriteRefusal};
 use base_core::{IntegrityKind, Key, Refusal, RowList, TableId};
-use expr_types::Select;
+use expr_types::{Bulk, Select};
 use schema_core::{RowStmt, Schema};
 use std::alloc::Global;
 
@@ -99,6 +101,27 @@ pub fn write<K: Keeper>(
     }
 }
 
+/// Does a bulk statement, and answers the number of its rows.
+pub fn bulk<K: Keeper>(
+    alloc: Global,
+    keeper: &mut K,
+    schema: &Schema,
+    statement: &Bulk,
+) -> Result<u64, Refusal>
+    requires attached { (K.moment keeper.old).attached ≡ true }
+    requires inside { 1 ≤ (K.moment keeper.old).depth }
+    requires plain { IsPlainBulk schema.now statement.now }
+    ensures step { Runs K.moment (λ count. count) (call.bulk schema.now statement.now) keeper.old result keeper.new }
+    ensures depth { (K.moment keeper.new).depth ≡ depth_left result (K.moment keeper.old).depth 0 }
+    ensures refuses { IfErr result (λ e. IsRefusalOfBulk statement.now e) }
+    ensures declared { IfErr result (λ e. IsOfDeclared schema.now e) }
+{
+    match keeper.bulk(alloc, schema, statement) {
+        Ok(count) => Ok(count),
+        Err(refusal) => Err(refusal_of(table_of_bulk(statement), refusal)),
+    }
+}
+
 /// The rows of a select.
 pub fn query<K: Keeper>(
     alloc: Global,
@@ -113,7 +136,9 @@ pub fn query<K: Keeper>(
     ensures depth { (K.moment keeper.new).depth ≡ depth_left result (K.moment keeper.old).depth 0 }
     ensures wide { IfOk result (λ rows. AreWide select.now rows) }
     ensures kinds { HoldsRows schema.now (K.moment keeper.old).told → IfOk result (λ rows. AreOfItems schema.now select.now rows) }
+    ensures given { HoldsLegalRows schema.now (K.moment keeper.old).told → IfOk result (λ rows. AreGiven schema.now select.now rows) }
     ensures refuses { IfErr result (λ e. IsRefusalOfQuery select.now e) }
+    ensures declared { IfErr result (λ e. IsOfDeclared schema.now e) }
 {
     match keeper.query(alloc, schema, select) {
         Ok(rows) => Ok(rows),
@@ -132,9 +157,21 @@ pub fn scan<K: Keeper>(
     requires declared { IsTable schema.now table }
     ensures step { Runs K.moment (λ rows. rows) (call.scan table) keeper.old result keeper.new }
     ensures depth { (K.moment keeper.new).depth ≡ depth_left result (K.moment keeper.old).depth 0 }
+    ensures kinds { HoldsRows schema.now (K.moment keeper.old).told → IfOk result (λ found. IfSome found (λ rows. AreRowsOf schema.now table rows)) }
     ensures stops { IfErr result (λ e. acting.ends_early e ≡ true) }
 {
     Ok(keeper.scan(alloc, schema, table)?)
+}
+
+/// The table that a bulk statement writes.
+pub fn table_of_bulk(statement: &Bulk) -> TableId
+    ensures { result ≡ bulk_rows.table_of statement.now }
+{
+    match statement {
+        Bulk::Insert { table, .. } => *table,
+        Bulk::Update { table, .. } => *table,
+        Bulk::Delete { table, .. } => *table,
+    }
 }
 
 /// The table that a statement writes.

@@ -1,18 +1,20 @@
 //! The trait of keepers of tables.
 
-ghost use Rattle.std.specs.Prelude.{◌≡◌, ◌+◌, ◌-◌, ◌<◌, ◌≤◌, ℕ, [], None, Some, true, false, length, is_ok, IfErr, IsErrOf, IfOk};
+ghost use Rattle.std.specs.Prelude.{◌≡◌, ◌+◌, ◌-◌, ◌<◌, ◌≤◌, ℕ, [], None, Some, true, false, length, is_ok, IfErr, IsErrOf, IfOk, IfSome};
 ghost use Rattle.schema_core.specs.Catalog.{IsTable};
 ghost use Rattle.schema_core.specs.Apply.{table_of};
 ghost use Rattle.schema_core.specs.WellFormed.{IsWellFormed, IsKeyFor};
-ghost use Rattle.expr_typing.specs.Plain.{IsPlainSelect};
-ghost use Rattle.select_rows.specs.Shapes.{AreOfItems, AreWide};
+ghost use Rattle.expr_typing.specs.Plain.{IsPlainBulk, IsPlainSelect};
+ghost use Rattle.select_rows.specs.Refusals.{IsOfDeclared};
+ghost use Rattle.select_rows.specs.Shapes.{AreGiven, AreOfItems, AreWide};
+ghost use Rattle.bulk_rows.specs.Applied as bulk;
 ghost use Rattle.keeper_core.specs.Moment.{Moment, Runs, IsAttached, IsCoherent};
 ghost use Rattle.keeper_core.specs.Store.{Store};
 ghost use Rattle.keeper_core.specs.Calls as call;
-ghost use Rattle.keeper_core.specs.Calls.{as_refusal, stop_refusal, write_refusal, query_refusal, depth_after, depth_after_write, depth_after_query, CanRefuse, CanRefuseQuery, HoldsRows};
+ghost use Rattle.keeper_core.specs.Calls.{as_refusal, stop_refusal, write_refusal, query_refusal, depth_after, depth_after_write, depth_after_query, AreRowsOf, CanRefuse, CanRefuseBulk, CanRefuseQuery, HoldsLegalRows, HoldsRows};
 
 use base_core::{ArithOp, Key, Name, RowList, TableId};
-use expr_types::Select;
+use expr_types::{Bulk, Select};
 use schema_core::{RowStmt, Schema};
 use std::alloc::Global;
 
@@ -151,6 +153,21 @@ pub trait Keeper {
         ensures key { IfOk result (λ key. IsKeyFor schema.now statement.now key) }
         ensures refuses { IfErr result (λ e. CanRefuse statement.now e) };
 
+    /// Does a bulk statement, judged on the tables that it leaves, and answers the number of its rows.
+    fn bulk(
+        &mut self,
+        alloc: Global,
+        schema: &Schema,
+        statement: &Bulk,
+    ) -> Result<u64, WriteRefusal>
+        requires attached { (moment self.old).attached ≡ true }
+        requires inside { 1 ≤ (moment self.old).depth }
+        requires plain { IsPlainBulk schema.now statement.now }
+        ensures step { Runs moment (λ count. count) (call.bulk schema.now statement.now) self.old (as_refusal (write_refusal (bulk.table_of statement.now)) result) self.new }
+        ensures depth { (moment self.new).depth ≡ depth_after_write result (moment self.old).depth }
+        ensures refuses { IfErr result (λ e. CanRefuseBulk statement.now e) }
+        ensures declared { IfErr result (λ e. IsOfDeclared schema.now (write_refusal (bulk.table_of statement.now) e)) };
+
     /// The rows of a select, over the tables now. A select changes nothing, and a refused one is a statement too.
     fn query(
         &mut self,
@@ -165,7 +182,9 @@ pub trait Keeper {
         ensures depth { (moment self.new).depth ≡ depth_after_query result (moment self.old).depth }
         ensures wide { IfOk result (λ rows. AreWide select.now rows) }
         ensures kinds { HoldsRows schema.now (moment self.old).told → IfOk result (λ rows. AreOfItems schema.now select.now rows) }
-        ensures refuses { IfErr result (λ e. CanRefuseQuery select.now e) };
+        ensures given { HoldsLegalRows schema.now (moment self.old).told → IfOk result (λ rows. AreGiven schema.now select.now rows) }
+        ensures refuses { IfErr result (λ e. CanRefuseQuery select.now e) }
+        ensures declared { IfErr result (λ e. IsOfDeclared schema.now (query_refusal e)) };
 
     /// The rows of a table, rising by key, or none where it was not created. This is no statement.
     fn scan(
@@ -177,7 +196,8 @@ pub trait Keeper {
         requires attached { (moment self.old).attached ≡ true }
         requires declared { IsTable schema.now table }
         ensures step { Runs moment (λ rows. rows) (call.scan table) self.old (as_refusal stop_refusal result) self.new }
-        ensures depth { (moment self.new).depth ≡ depth_after result (moment self.old).depth };
+        ensures depth { (moment self.new).depth ≡ depth_after result (moment self.old).depth }
+        ensures kinds { HoldsRows schema.now (moment self.old).told → IfOk result (λ found. IfSome found (λ rows. AreRowsOf schema.now table rows)) };
 
     /// 0 without a scope, 1 in the transaction, one more for each savepoint.
     fn depth(&self) -> u32

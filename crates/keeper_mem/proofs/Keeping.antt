@@ -16,17 +16,18 @@ use Rattle.schema_core.specs.Tables.{Tables, rows_in}
 use Rattle.expr_types.specs.declared.select.Select.{Select}
 use Rattle.select_rows.specs.Created.{bare}
 use Rattle.select_rows.specs.Rows.{answer}
-use Rattle.select_rows.specs.Shapes.{AreRows}
+use Rattle.select_rows.specs.Shapes.{AreLegalRows, AreRows}
 use Rattle.keeper_core.specs.declared.sent.Sent.{Sent}
 use Rattle.keeper_core.specs.declared.sent.Sent.TheVariants as sent
 use Rattle.keeper_core.specs.Acting.{Run, after_events, ends_early, is_of_tables, quiet, give}
+use Rattle.bulk_rows.specs.Applied.{breach_refusal}
 use Rattle.keeper_core.specs.Calls as call
 use Rattle.keeper_core.specs.declared.keeper.WriteRefusal.{WriteRefusal}
 use Rattle.keeper_core.specs.declared.keeper.QueryRefusal.{QueryRefusal}
 use Rattle.keeper_core.specs.declared.keeper.QueryRefusal.TheVariants as queries
 use Rattle.keeper_core.specs.declared.keeper.Target.{Target}
 use Rattle.keeper_core.specs.declared.keeper.Target.TheVariants as targets
-use Rattle.keeper_core.specs.Calls.{HoldsRows, sends, breach_refusal, depth_after_query, query_refusal, write_refusal, written}
+use Rattle.keeper_core.specs.Calls.{HoldsLegalRows, HoldsRows, sends, depth_after_query, query_refusal, write_refusal, written}
 use Rattle.keeper_core.specs.Moment.{AsTold, IsAttached, IsToldAnew, new_store, IsCutOff, IsRun, Outcome, Ran, Refused, Runs, Stops, Told}
 use Rattle.keeper_core.specs.Store.{Store, committed_of, created, dropped, is_created}
 use Rattle.table_store.specs.declared.writing.Unwritten.{Unwritten}
@@ -77,7 +78,7 @@ more n small = omega arith
 -- ---- one call
 
 -- a statement was sent, and answered
-sent_ok : {A X : Type 0} (v : X → A) (m : Store → Run Store A) (statement : Sent) (after : Store) (x : X) (old new : Kept) → is_taken old.attachment ≡ true
+pub sent_ok : {A X : Type 0} (v : X → A) (m : Store → Run Store A) (statement : Sent) (after : Store) (x : X) (old new : Kept) → is_taken old.attachment ≡ true
     → m old.store ≡ sends statement after (Ok (v x)) → new ≡ sent_by (counted old) statement after → Runs moment_of v m old (Ok x) new
 unfolding after_events
 sent_ok v m statement after x old new taken ran is = subst (Runs moment_of v m old (Ok x)) (sym is) (Ran (record {
@@ -123,7 +124,7 @@ own_stop A statement e old own =
     subst (λ b. MatchBool b (IsCutOff run (told_of old).log now) (IsRun run (told_of old).log (Err e) now)) (sym own) whole
 
 -- a statement was sent, and refused
-refused : {A X : Type 0} (v : X → A) (m : Store → Run Store A) (statement : Sent) (e : Refusal) (old new : Kept) → is_taken old.attachment ≡ true → old.refusals < 2 ^ 64
+pub refused : {A X : Type 0} (v : X → A) (m : Store → Run Store A) (statement : Sent) (e : Refusal) (old new : Kept) → is_taken old.attachment ≡ true → old.refusals < 2 ^ 64
     → ends_early e ≡ false → m old.store ≡ sends statement old.store (Err e) → new ≡ refused_by (counted old) statement e → Runs moment_of v m old (Err e) new
 unfolding after_events
 refused {A = A} v m statement e old new taken small own ran is = subst (Runs moment_of v m old (Err e)) (sym is) (Ran (record {
@@ -289,6 +290,9 @@ not_asked schema select refusal old new taken small own told is =
 pub held_rows : (schema : Catalog) (kept : Kept) → is_taken kept.attachment ≡ true → HoldsRows schema (moment_of kept).told → AreRows schema (bare kept.store.tables)
 held_rows schema kept taken h = subst (λ (t : Told Store). AreRows schema (bare t.world.tables)) (sym (told_taken kept.attachment kept taken)) h
 
+pub held_legal : (schema : Catalog) (kept : Kept) → is_taken kept.attachment ≡ true → HoldsLegalRows schema (moment_of kept).told → AreLegalRows schema (bare kept.store.tables)
+held_legal schema kept taken h = subst (λ (t : Told Store). AreLegalRows schema (bare t.world.tables)) (sym (told_taken kept.attachment kept taken)) h
+
 -- a refused select is no fault
 pub asked_no_fault : (refusal : QueryRefusal) → ends_early (query_refusal refusal) ≡ false → is_query_fault {A = List (List Value)} (Err refusal) ≡ false
 asked_no_fault (queries.NoTable table) own = refl
@@ -386,7 +390,7 @@ pub ruleset dropping = (removed, not_removed, ends)
 
 pub ruleset scanning = (scanned, ends)
 
-pub ruleset asking = (asked, not_asked, asked_no_fault, depth_asked, held_rows, ends)
+pub ruleset asking = (asked, not_asked, asked_no_fault, depth_asked, held_rows, held_legal, ends)
 
 pub ruleset writing = (wrote, not_written, ends)
 

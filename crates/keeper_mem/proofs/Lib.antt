@@ -1,3 +1,4 @@
+mod Bulks
 mod Keeping
-mod Pairs
-mod Plain
+mod Queries
+mod Scanned

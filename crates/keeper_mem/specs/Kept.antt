@@ -2,6 +2,8 @@
 use Rattle.std.specs.Prelude.{◌≡◌, ℕ, Bool, true, false, nat_eq, List, [], ◌∷◌, ◌++◌, length, Option, None, Some, Result, Ok, Err, refl}
 use Rattle.std.specs.List.{list_any}
 use Rattle.base_core.specs.declared.refusal.Refusal.{Refusal}
+use Rattle.base_core.specs.declared.refusal.Refusal.TheVariants as from
+use Rattle.base_core.specs.declared.refusal.IntegrityKind.TheVariants as kinds
 use Rattle.base_core.specs.Counts.{one_more}
 use Rattle.keeper_core.specs.declared.keeper.Target.{Target}
 use Rattle.keeper_core.specs.declared.sent.Sent.{Sent}
@@ -16,10 +18,12 @@ use Rattle.keeper_core.specs.declared.keeper.WriteRefusal.{WriteRefusal}
 use Rattle.keeper_core.specs.declared.keeper.WriteRefusal.TheVariants as refusals
 use Rattle.keeper_core.specs.declared.keeper.QueryRefusal.{QueryRefusal}
 use Rattle.keeper_core.specs.declared.keeper.QueryRefusal.TheVariants as queries
-use Rattle.keeper_core.specs.declared.sent.Sent.TheVariants.{Query, Write}
+use Rattle.keeper_core.specs.declared.sent.Sent.TheVariants.{Bulk as BulkSent, Query, Write}
 use Rattle.keeper_core.specs.Acting.{ends_early}
-use Rattle.keeper_core.specs.Calls.{CanRefuseQuery, query_refusal, write_refusal}
+use Rattle.keeper_core.specs.Calls.{CanRefuseBulk, CanRefuseQuery, query_refusal, write_refusal}
+use Rattle.expr_types.specs.declared.select.Bulk.{Bulk}
 use Rattle.expr_types.specs.declared.select.Select.{Select}
+use Rattle.bulk_rows.specs.Applied as bulk
 use Rattle.select_rows.specs.Created.{bare}
 use Rattle.select_rows.specs.Rows.{answer}
 use Rattle.table_store.specs.declared.writing.Unwritten.{Unwritten}
@@ -27,6 +31,8 @@ use Rattle.table_store.specs.declared.writing.Unwritten.TheVariants.{Breaks, Mem
 use Rattle.table_store.specs.Written.{broken, given_up}
 use Rattle.keeper_core.specs.Moment.{IsCoherent, Moment, Refused, Told, new_store}
 use Rattle.keeper_core.specs.Store.{Store, committed_of}
+use Rattle.keeper_mem.specs.declared.keeper.Undone.{Undone}
+use Rattle.keeper_mem.specs.declared.keeper.Undone.TheVariants as undone
 use Rattle.keeper_mem.specs.declared.keeper.Unasked.{Unasked}
 use Rattle.keeper_mem.specs.declared.keeper.Unasked.TheVariants as unasked
 use Rattle.keeper_mem.specs.declared.keeper.Attachment.{Attachment}
@@ -169,10 +175,42 @@ Asked schema select old (Err (unasked.Refused refusal)) new =
     (ends_early (query_refusal refusal) ≡ false) × (answer schema (bare old.store.tables) select ≡ Err (query_refusal refusal)) × (new ≡ refused_by old (Query select) (query_refusal refusal))
 Asked schema select old (Err unasked.Memory) new = ended new ≡ ended old
 
+-- a bulk statement was done, or refused; where memory ran out, what a keeper that gives up is left with is the same
+abbrev pub Took : Catalog → Bulk → Kept → Result ℕ Undone → Kept → Type 0
+Took schema statement old (Ok count) new =
+    (bulk.applied schema old.store.tables statement ≡ Ok (count, new.store.tables)) × (new ≡ sent_by old (BulkSent statement) (record { tables = new.store.tables; scopes = old.store.scopes }))
+Took schema statement old (Err undone.Memory) new = ended new ≡ ended old
+Took schema statement old (Err (undone.Refused refusal)) new =
+    (ends_early (write_refusal (bulk.table_of statement) refusal) ≡ false)
+    × (bulk.applied schema old.store.tables statement ≡ Err (write_refusal (bulk.table_of statement) refusal))
+    × (new ≡ refused_by old (BulkSent statement) (write_refusal (bulk.table_of statement) refusal))
+
 -- what may refuse a select; want of memory may end any
 abbrev pub MayRefuseQuery : Select → Unasked → Type 0
 MayRefuseQuery select (unasked.Refused refusal) = CanRefuseQuery select refusal
 MayRefuseQuery select unasked.Memory = Unit {0}
+
+-- what may refuse a bulk statement; want of memory may end any
+abbrev pub MayRefuseBulk : Bulk → Undone → Type 0
+MayRefuseBulk statement (undone.Refused refusal) = CanRefuseBulk statement refusal
+MayRefuseBulk statement undone.Memory = Unit {0}
+
+-- a store's refusal of a select in the words of a keeper
+abbrev pub asked_refusal : Refusal → QueryRefusal
+asked_refusal (from.OperationalError absent) = queries.NoTable absent
+asked_refusal (from.DataError op a b) = queries.Range op a b
+asked_refusal e = queries.Memory
+
+-- a store's refusal of a bulk statement in the words of a keeper
+abbrev pub keeper_refusal : Refusal → WriteRefusal
+keeper_refusal (from.OperationalError absent) = refusals.NoTable absent
+keeper_refusal (from.DataError op a b) = refusals.Range op a b
+keeper_refusal (from.KeysSpent table) = refusals.KeysSpent
+keeper_refusal (from.IntegrityError kinds.NotNull table) = refusals.NotNull
+keeper_refusal (from.IntegrityError kinds.PrimaryKey table) = refusals.PrimaryKey
+keeper_refusal (from.IntegrityError kinds.Unique table) = refusals.Unique
+keeper_refusal (from.IntegrityError kinds.Foreign table) = refusals.Foreign
+keeper_refusal e = refusals.Memory
 
 told_coherent : (attachment : Attachment) (kept : Kept) → (depth_by attachment kept ≡ length (told_by attachment kept).world.scopes) × ((told_by attachment kept).log.committed ≡ committed_of (told_by attachment kept).world) × ((told_by attachment kept).log.written ≡ [])
 told_coherent Fresh kept = (refl, refl, refl)

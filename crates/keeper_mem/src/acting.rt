@@ -1,21 +1,23 @@
 //! The calls of a keeper, done in memory.
 
-ghost use Rattle.std.specs.Prelude.{◌≡◌, ◌+◌, ◌-◌, ◌<◌, ◌≤◌, ◌||◌, None, true, IfErr, IfOk};
+ghost use Rattle.std.specs.Prelude.{◌≡◌, ◌+◌, ◌-◌, ◌<◌, ◌≤◌, ◌||◌, None, true, IfErr, IfOk, IfSome};
 ghost use Rattle.schema_core.specs.Apply.{table_of};
 ghost use Rattle.schema_core.specs.Catalog.{IsTable};
 ghost use Rattle.schema_core.specs.WellFormed.{IsKeyFor, IsWellFormed};
-ghost use Rattle.expr_typing.specs.Plain.{IsPlainSelect};
-ghost use Rattle.select_rows.specs.Shapes.{AreOfItems, AreWide};
+ghost use Rattle.expr_typing.specs.Plain.{IsPlainBulk, IsPlainSelect};
+ghost use Rattle.bulk_rows.specs.Applied as bulk;
+ghost use Rattle.select_rows.specs.Refusals.{IsOfDeclared};
+ghost use Rattle.select_rows.specs.Shapes.{AreGiven, AreOfItems, AreWide};
 ghost use Rattle.keeper_core.specs.declared.keeper.KeeperStop.TheVariants as stops;
 ghost use Rattle.keeper_core.specs.Calls as call;
-ghost use Rattle.keeper_core.specs.Calls.{as_refusal, depth_after, depth_after_query, depth_after_write, query_refusal, stop_refusal, write_refusal, CanRefuse, CanRefuseQuery, HoldsRows};
+ghost use Rattle.keeper_core.specs.Calls.{as_refusal, depth_after, depth_after_query, depth_after_write, query_refusal, stop_refusal, write_refusal, AreRowsOf, CanRefuse, CanRefuseBulk, CanRefuseQuery, HoldsLegalRows, HoldsRows};
 ghost use Rattle.keeper_core.specs.Moment.{IsAttached, Runs};
 ghost use Rattle.keeper_mem.specs.Kept.{IsCounted, IsNumbered, coherent, is_failing, is_fault, is_file, is_query_fault, is_write_fault, moment_of};
 
 use crate::MemKeeper;
-use crate::keeper::{Unasked, broken};
+use crate::keeper::{Unasked, Undone, broken};
 use base_core::{Key, RowList, TableId};
-use expr_types::Select;
+use expr_types::{Bulk, Select};
 use keeper_core::{Keeper, KeeperStop, QueryRefusal, Sent, Target, WriteRefusal};
 use schema_core::{RowStmt, Schema};
 use std::alloc::Global;
@@ -227,7 +229,36 @@ impl Keeper for MemKeeper {
         }
     }
 
-    #[tactic(auto, using(crate::proofs::Keeping::asking))]
+    #[tactic(auto, using(crate::proofs::Bulks::taking, crate::proofs::Bulks::bulk_declared))]
+    fn bulk(
+        &mut self,
+        alloc: Global,
+        schema: &Schema,
+        statement: &Bulk,
+    ) -> Result<u64, WriteRefusal>
+        requires attached { (moment_of self.old).attached ≡ true }
+        requires inside { 1 ≤ (moment_of self.old).depth }
+        requires plain { IsPlainBulk schema.now statement.now }
+        ensures step { Runs moment_of (λ count. count) (call.bulk schema.now statement.now) self.old (as_refusal (write_refusal (bulk.table_of statement.now)) result) self.new }
+        ensures depth { (moment_of self.new).depth ≡ depth_after_write result (moment_of self.old).depth }
+        ensures refuses { IfErr result (λ e. CanRefuseBulk statement.now e) }
+        ensures declared { IfErr result (λ e. IsOfDeclared schema.now (write_refusal (bulk.table_of statement.now) e)) }
+        ensures numbered { IsNumbered self.old (is_write_fault result) self.new }
+    {
+        let Ok(()) = self.count_call() else {
+            return Err(WriteRefusal::Fault);
+        };
+        match self.take_rows(alloc, schema, statement) {
+            Ok(count) => return Ok(count),
+            Err(Undone::Refused(refusal)) => return Err(refusal),
+            Err(Undone::Memory) => {
+                self.give_up();
+                return Err(WriteRefusal::Memory);
+            }
+        }
+    }
+
+    #[tactic(auto, using(crate::proofs::Keeping::asking, crate::proofs::Queries::query_declared))]
     fn query(
         &mut self,
         alloc: Global,
@@ -241,7 +272,9 @@ impl Keeper for MemKeeper {
         ensures depth { (moment_of self.new).depth ≡ depth_after_query result (moment_of self.old).depth }
         ensures wide { IfOk result (λ rows. AreWide select.now rows) }
         ensures kinds { HoldsRows schema.now (moment_of self.old).told → IfOk result (λ rows. AreOfItems schema.now select.now rows) }
+        ensures given { HoldsLegalRows schema.now (moment_of self.old).told → IfOk result (λ rows. AreGiven schema.now select.now rows) }
         ensures refuses { IfErr result (λ e. CanRefuseQuery select.now e) }
+        ensures declared { IfErr result (λ e. IsOfDeclared schema.now (query_refusal e)) }
         ensures numbered { IsNumbered self.old (is_query_fault result) self.new }
     {
         let Ok(()) = self.count_call() else {
@@ -268,6 +301,7 @@ impl Keeper for MemKeeper {
         requires declared { IsTable schema.now table }
         ensures step { Runs moment_of (λ rows. rows) (call.scan table) self.old (as_refusal stop_refusal result) self.new }
         ensures depth { (moment_of self.new).depth ≡ depth_after result (moment_of self.old).depth }
+        ensures kinds { HoldsRows schema.now (moment_of self.old).told → IfOk result (λ found. IfSome found (λ rows. AreRowsOf schema.now table rows)) }
         ensures numbered { IsNumbered self.old (is_fault result) self.new }
     {
         let Ok(()) = self.count_call() else {

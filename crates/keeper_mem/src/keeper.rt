@@ -10,14 +10,14 @@ ghost use Rattle.keeper_core.specs.declared.keeper.KeeperStop.TheVariants as sto
 ghost use Rattle.keeper_core.specs.declared.sent.Sent.TheVariants as statements;
 ghost use Rattle.keeper_core.specs.Store.{committed_of, created, dropped, is_created};
 ghost use Rattle.table_store.specs.Written.{MayRefuse, broken};
-ghost use Rattle.expr_typing.specs.Plain.{IsPlainSelect};
+ghost use Rattle.expr_typing.specs.Plain.{IsPlainBulk, IsPlainSelect};
 ghost use Rattle.select_rows.specs.Created.{bare};
-ghost use Rattle.select_rows.specs.Shapes.{AreOfItems, AreRows, AreWide};
-ghost use Rattle.keeper_mem.specs.Kept.{Asked, MayRefuseQuery, Wrote, counted, depth_by, ended, failed, is_failing, is_listed, is_taken, new_keeper, refused_by, sent_by, taken_by, untaken_by};
+ghost use Rattle.select_rows.specs.Shapes.{AreGiven, AreLegalRows, AreOfItems, AreRows, AreWide};
+ghost use Rattle.keeper_mem.specs.Kept.{Asked, MayRefuseBulk, MayRefuseQuery, Took, Wrote, asked_refusal, counted, depth_by, ended, failed, is_failing, is_listed, is_taken, keeper_refusal, new_keeper, refused_by, sent_by, taken_by, untaken_by};
 
-use base_core::{Copied, Key, Refusal, RowList, TableId};
-use expr_types::{CopiedIn, Select};
-use keeper_core::calls::{refusal_of, table_of};
+use base_core::{Copied, IntegrityKind, Key, Refusal, RowList, TableId};
+use expr_types::{Bulk, CopiedIn, Select};
+use keeper_core::calls::{ends_early, refusal_of, refusal_of_query, table_of, table_of_bulk};
 use keeper_core::{KeeperStop, QueryRefusal, Sent, Target, WriteRefusal};
 use schema_core::{Breach, RowStmt, Schema};
 use std::alloc::{AllocError, Global};
@@ -43,6 +43,13 @@ struct Rejected {
 #[derive(Clone, Copy, Debug, PartialEq, Eq)]
 pub enum Unasked {
     Refused(QueryRefusal),
+    Memory,
+}
+
+/// Why a bulk statement was not done.
+#[derive(Clone, Copy, Debug, PartialEq, Eq)]
+pub enum Undone {
+    Refused(WriteRefusal),
     Memory,
 }
 
@@ -346,7 +353,61 @@ impl MemKeeper {
         }
     }
 
+    /// Keeps a refused bulk statement.
+    pub(crate) fn keep_refused_bulk(
+        &mut self,
+        alloc: Global,
+        statement: &Bulk,
+        refused: Bulk,
+        refusal: Refusal,
+    ) -> Result<(), AllocError>
+        requires same { refused ≡ statement.now }
+        ensures ok { OnOk result (self.new ≡ refused_by self.old (statements.Bulk statement.now) refusal) }
+        ensures err { IfErr result (λ _. self.new ≡ self.old) }
+    {
+        let last = Sent::Bulk(statement.copied_in(alloc)?);
+        self.keep_refusal(Sent::Bulk(refused), last, refusal)
+    }
+
+    /// Does a bulk statement, and keeps it.
+    #[tactic(auto, using(crate::proofs::Bulks::bulk_steps))]
+    pub(crate) fn take_rows(
+        &mut self,
+        alloc: Global,
+        schema: &Schema,
+        statement: &Bulk,
+    ) -> Result<u64, Undone>
+        requires plain { IsPlainBulk schema.now statement.now }
+        ensures step { Took schema.now statement.now self.old result self.new }
+        ensures refuses { IfErr result (λ e. MayRefuseBulk statement.now e) }
+    {
+        let Ok(sent) = statement.copied_in(alloc) else {
+            return Err(Undone::Memory);
+        };
+        let Ok(()) = self.log.reserve(self.store.depth() + 1) else {
+            return Err(Undone::Memory);
+        };
+        match self.store.bulk(alloc, schema, statement) {
+            Ok(count) => {
+                self.log.push_reserved(Sent::Bulk(sent));
+                return Ok(count);
+            }
+            Err(e) => {
+                if ends_early(&e) {
+                    return Err(Undone::Memory);
+                }
+                let refusal = keeper_refusal(&e);
+                let told = refusal_of(table_of_bulk(statement), refusal);
+                let Ok(()) = self.keep_refused_bulk(alloc, statement, sent, told) else {
+                    return Err(Undone::Memory);
+                };
+                return Err(Undone::Refused(refusal));
+            }
+        }
+    }
+
     /// Answers a select, and keeps it.
+    #[tactic(auto, using(crate::proofs::Queries::query_steps))]
     pub(crate) fn ask(
         &mut self,
         alloc: Global,
@@ -356,6 +417,7 @@ impl MemKeeper {
         ensures step { Asked schema.now select.now self.old result self.new }
         ensures wide { IfOk result (λ rows. AreWide select.now rows) }
         ensures kinds { IsPlainSelect schema.now select.now → AreRows schema.now (bare self.old.store.tables) → IfOk result (λ rows. AreOfItems schema.now select.now rows) }
+        ensures given { IsPlainSelect schema.now select.now → AreLegalRows schema.now (bare self.old.store.tables) → IfOk result (λ rows. AreGiven schema.now select.now rows) }
         ensures refuses { IfErr result (λ e. MayRefuseQuery select.now e) }
     {
         let Ok(sent) = select.copied_in(alloc) else {
@@ -369,21 +431,17 @@ impl MemKeeper {
                 self.log.push_reserved(Sent::Query(sent));
                 return Ok(rows);
             }
-            Err(Refusal::OperationalError(table)) => {
-                let refusal = Refusal::OperationalError(table);
-                let Ok(()) = self.keep_refused_query(alloc, select, sent, refusal) else {
+            Err(e) => {
+                if ends_early(&e) {
+                    return Err(Unasked::Memory);
+                }
+                let refusal = asked_refusal(&e);
+                let told = refusal_of_query(refusal);
+                let Ok(()) = self.keep_refused_query(alloc, select, sent, told) else {
                     return Err(Unasked::Memory);
                 };
-                return Err(Unasked::Refused(QueryRefusal::NoTable(table)));
+                return Err(Unasked::Refused(refusal));
             }
-            Err(Refusal::DataError(op, a, b)) => {
-                let refusal = Refusal::DataError(op, a, b);
-                let Ok(()) = self.keep_refused_query(alloc, select, sent, refusal) else {
-                    return Err(Unasked::Memory);
-                };
-                return Err(Unasked::Refused(QueryRefusal::Range(op, a, b)));
-            }
-            Err(_) => return Err(Unasked::Memory),
         }
     }
 }
@@ -394,6 +452,33 @@ fn is_listed(number: u64, numbers: &[u64]) -> bool
     ensures { result ≡ is_listed number numbers.now }
 {
     numbers.iter().any(|other| *other == number)
+}
+
+/// A store's refusal of a select in the words of a keeper.
+fn asked_refusal(refusal: &Refusal) -> QueryRefusal
+    ensures { result ≡ asked_refusal refusal.now }
+{
+    match refusal {
+        Refusal::OperationalError(absent) => QueryRefusal::NoTable(*absent),
+        Refusal::DataError(op, a, b) => QueryRefusal::Range(*op, *a, *b),
+        _ => QueryRefusal::Memory,
+    }
+}
+
+/// A store's refusal of a bulk statement in the words of a keeper.
+fn keeper_refusal(refusal: &Refusal) -> WriteRefusal
+    ensures { result ≡ keeper_refusal refusal.now }
+{
+    match refusal {
+        Refusal::OperationalError(absent) => WriteRefusal::NoTable(*absent),
+        Refusal::DataError(op, a, b) => WriteRefusal::Range(*op, *a, *b),
+        Refusal::KeysSpent(_) => WriteRefusal::KeysSpent,
+        Refusal::IntegrityError(IntegrityKind::NotNull, _) => WriteRefusal::NotNull,
+        Refusal::IntegrityError(IntegrityKind::PrimaryKey, _) => WriteRefusal::PrimaryKey,
+        Refusal::IntegrityError(IntegrityKind::Unique, _) => WriteRefusal::Unique,
+        Refusal::IntegrityError(IntegrityKind::Foreign, _) => WriteRefusal::Foreign,
+        _ => WriteRefusal::Memory,
+    }
 }
 
 /// The refusal of a statement that breaks a rule of its table.

@@ -3,7 +3,5 @@
 
 mod acting;
 mod keeper;
-#[cfg(test)]
-mod tests;
 
 pub use keeper::{Attachment, MemKeeper};

@@ -1,4 +1,5 @@
 mod AnySteps
+mod BulkSteps
 mod CellSteps
 mod Copies
 mod Entries

@@ -1,11 +1,15 @@
 -- What a statement on one row did to tables with scopes, and what may refuse it.
-use Rattle.std.specs.Prelude.{◌≡◌, List, [], Result, Ok, Err}
+use Rattle.std.specs.Prelude.{◌≡◌, ℕ, List, [], Result, Ok, Err}
+use Rattle.base_core.specs.declared.refusal.Refusal.{Refusal}
 use Rattle.base_core.specs.declared.value.Value.{Value}
 use Rattle.schema_core.specs.declared.statement.Breach.{Breach}
 use Rattle.schema_core.specs.declared.statement.Breach.TheVariants as breaches
 use Rattle.schema_core.specs.declared.statement.RowStmt.{RowStmt}
 use Rattle.schema_core.specs.Apply.{apply}
 use Rattle.schema_core.specs.Catalog.{Catalog}
+use Rattle.expr_types.specs.declared.select.Bulk.{Bulk}
+use Rattle.expr_eval.specs.Checked.{Refuses}
+use Rattle.bulk_rows.specs.Applied.{applied}
 use Rattle.keeper_core.specs.declared.keeper.WriteRefusal.{WriteRefusal}
 use Rattle.keeper_core.specs.declared.keeper.WriteRefusal.TheVariants as refusals
 use Rattle.keeper_core.specs.Calls.{CanRefuse}
@@ -23,6 +27,11 @@ abbrev pub Wrote : Catalog → RowStmt → Store → Result (List Value) Unwritt
 Wrote schema statement old (Ok key) new = (apply schema old.tables statement ≡ Ok (key, new.tables)) × (new.scopes ≡ old.scopes)
 Wrote schema statement old (Err (Breaks breach)) new = (apply schema old.tables statement ≡ Err breach) × (new ≡ old)
 Wrote schema statement old (Err Memory) new = new ≡ given_up old
+
+-- What a bulk statement did to a store: a refused one changes nothing, nor does one that finds no memory.
+abbrev pub Bulked : Catalog → Bulk → Store → Result ℕ Refusal → Store → Type 0
+Bulked schema statement old (Ok count) new = (applied schema old.tables statement ≡ Ok (count, new.tables)) × (new.scopes ≡ old.scopes)
+Bulked schema statement old (Err e) new = Refuses e (applied schema old.tables statement) × (new ≡ old)
 
 -- the refusal of a statement that breaks a rule of its table
 abbrev pub broken : Breach → WriteRefusal

@@ -103,6 +103,17 @@ impl TableRows {
         Ok(ListOf::from_vec(rows))
     }
 
+    /// Copies of the rows, each with its key before it.
+    pub(crate) fn pairs(&self, alloc: Global) -> Result<ListOf<(Key, RowValues)>, AllocError>
+        ensures { IfOk result (λ pairs. pairs ≡ self.now) }
+    {
+        let mut pairs = Vec::new(alloc);
+        for (key, row) in &self.rows {
+            pairs.push((key.copied()?, row.copied()?))?;
+        }
+        Ok(ListOf::from_vec(pairs))
+    }
+
     #[tactic(auto, using(crate::proofs::NextKey::next_keys))]
     /// One above the greatest key, 1 where there are no rows; none where the greatest key is the greatest integer.
     pub fn next_key(&self) -> Option<i64>

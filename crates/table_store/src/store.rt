@@ -4,19 +4,21 @@ ghost use Rattle.std.specs.Prelude.{◌≡◌, ◌-◌, ◌<◌, [], ◌∷◌, 
 ghost use Rattle.std.specs.Option.{option_map, option_copied};
 ghost use Rattle.base_core.specs.Answers.{Gives};
 ghost use Rattle.schema_core.specs.Tables.{rows_in};
-ghost use Rattle.expr_typing.specs.Plain.{IsPlainSelect};
+ghost use Rattle.expr_typing.specs.Plain.{IsPlainBulk, IsPlainSelect};
+ghost use Rattle.bulk_rows.specs.Refusals as bulk;
 ghost use Rattle.select_rows.specs.Created.{bare};
 ghost use Rattle.select_rows.specs.Refusals.{CanRefuse};
 ghost use Rattle.select_rows.specs.Rows.{answer};
-ghost use Rattle.select_rows.specs.Shapes.{AreOfItems, AreRows, AreWide};
+ghost use Rattle.select_rows.specs.Shapes.{AreGiven, AreLegalRows, AreOfItems, AreRows, AreWide};
 ghost use Rattle.schema_core.specs.WellFormed.{IsKeyFor, IsWellFormed};
 ghost use Rattle.keeper_core.specs.Store.{created, dropped, is_created};
-ghost use Rattle.table_store.specs.Written.{MayRefuse, Wrote, given_up};
+ghost use Rattle.table_store.specs.Written.{Bulked, MayRefuse, Wrote, given_up};
 
+use crate::bulk::applied;
 use crate::tables::TableMap;
 use crate::writing::{Unwritten, apply};
 use base_core::{Copied, Key, Refusal, RowList, TableId};
-use expr_types::Select;
+use expr_types::{Bulk, Select};
 use schema_core::{RowStmt, Schema};
 use select_rows::rows_of;
 use std::alloc::{AllocError, Global};
@@ -153,6 +155,28 @@ impl TableStore {
         }
     }
 
+    /// Does a bulk statement, and answers the number of its rows. A refused one changes nothing.
+    ///
+    /// # Errors
+    /// The first that holds: `OperationalError` with the first table of the statement's text that is not created,
+    /// `DataError` with the first result outside 64 bits, `IntegrityError` where a NULL is written into a column that takes
+    /// none, `KeysSpent`, and `IntegrityError` for a key that is there, a unique value that stands twice, and a foreign key
+    /// that names no row; want of memory.
+    #[tactic(auto, using(bulk_rows::proofs::Refused::refused))]
+    pub fn bulk(&mut self, alloc: Global, schema: &Schema, statement: &Bulk) -> Result<u64, Refusal>
+        requires plain { IsPlainBulk schema.now statement.now }
+        ensures step { Bulked schema.now statement.now self.old result self.new }
+        ensures refuses { IfErr result (λ e. bulk.CanRefuse statement.now e) }
+    {
+        match applied(alloc, schema, &self.tables, statement) {
+            Ok((count, after)) => {
+                self.tables = after;
+                Ok(count)
+            }
+            Err(refusal) => Err(refusal),
+        }
+    }
+
     /// The rows of a select over the tables.
     ///
     /// # Errors
@@ -163,6 +187,7 @@ impl TableStore {
         ensures refuses { IfErr result (λ e. CanRefuse select.now e) }
         ensures wide { IfOk result (λ rows. AreWide select.now rows) }
         ensures kinds { IsPlainSelect schema.now select.now → AreRows schema.now (bare self.now.tables) → IfOk result (λ rows. AreOfItems schema.now select.now rows) }
+        ensures given { IsPlainSelect schema.now select.now → AreLegalRows schema.now (bare self.now.tables) → IfOk result (λ rows. AreGiven schema.now select.now rows) }
     {
         let tables = self.tables.bare(alloc)?;
         rows_of(alloc, schema, &tables, select)

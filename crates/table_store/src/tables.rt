@@ -75,6 +75,15 @@ impl TableMap {
         Ok(())
     }
 
+    /// Puts rows in the place of a table's. At an error nothing changes.
+    pub(crate) fn set(&mut self, table: TableId, rows: TableRows) -> Result<(), AllocError>
+        ensures ok { OnOk result (self.new ≡ with_rows self.old table rows) }
+        ensures err { OnErr result (self.new ≡ self.old) }
+    {
+        self.tables.insert(table, rows)?;
+        Ok(())
+    }
+
     /// Drops a table.
     pub fn drop_table(&mut self, table: TableId)
         ensures { self.new ≡ dropped self.old table }

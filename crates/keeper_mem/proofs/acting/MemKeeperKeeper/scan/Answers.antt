@@ -1,7 +1,10 @@
--- A fault, or want of memory, ends the call.
-use Rattle.std.proofs.Common.{ap, ◌∙◌}
-use Rattle.keeper_mem.specs.Kept.{ended}
+-- A fault, or want of memory, ends the call; what is found is a table's rows.
+use Rattle.std.proofs.Common.{ap, map, ◌∙◌}
+use Rattle.std.specs.Option.{option_map}
+use Rattle.schema_core.specs.Tables.{rows_in}
+use Rattle.keeper_mem.specs.Kept.{Kept, ended}
 use Rattle.keeper_mem.proofs.Keeping.{faulted, ran_out}
+use Rattle.keeper_mem.proofs.Scanned.{scanned_kinds}
 use Rattle.keeper_mem.proofs.acting.MemKeeperKeeper.scan.Goals as goal
 
 pub returns-in_default-clause-step : goal.returns-in_default-clause-step
@@ -9,3 +12,8 @@ returns-in_default-clause-step c = faulted c.requires.attached c.count_call.ensu
 
 pub returns-in_default-rows-clause-step : goal.returns-in_default-rows-clause-step
 returns-in_default-rows-clause-step c = ran_out c.requires.attached (c.give_up.ensures ∙ ap ended (c.in-Ok.ensures.ok.1))
+
+pub returns-clause-kinds : goal.returns-clause-kinds
+returns-clause-kinds c h =
+    scanned_kinds c.args.schema.now c.args.table c.args.self.now c.in-Ok-rows.rows c.requires.attached h
+    (c.in-Ok-rows.ensures ∙ ap (λ (kept : Kept). option_map (λ rows. map (λ entry. entry.1) rows) (rows_in kept.store.tables c.args.table)) (c.in-Ok.ensures.ok.1))

@@ -1,0 +1,4 @@
+-- Tables that stand behind others.
+use Rattle.std.proofs.Common.{append_assoc, append-nil}
+
+pub ruleset all_named = (append_assoc, append-nil)

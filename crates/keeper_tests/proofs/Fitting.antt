@@ -1,0 +1,64 @@
+-- Tables of two integer columns, and statements on their rows.
+use Rattle.std.proofs.Common.{◌≡◌, ℤ, true, false, not, cond, ◌&&◌, ◌||◌, List, [], ◌∷◌, length, get_or, Option, Some, None, refl, sym, ap, ◌∙◌, arith}
+use Rattle.std.specs.List.{filter}
+use Rattle.std.specs.Cmp.Lexicographic.{pointwise}
+use Rattle.base_core.specs.declared.ids.TableId.{TableId}
+use Rattle.base_core.specs.declared.value.Kind.TheVariants.{Integer}
+use Rattle.base_core.specs.declared.value.Value.TheVariants.{Int}
+use Rattle.schema_core.specs.declared.table.ColumnSpec.{ColumnSpec}
+use Rattle.schema_core.specs.Catalog.{Catalog, IsTable, kind_of, same_kind, spec_of}
+use Rattle.schema_core.specs.Tables.{fits}
+use Rattle.schema_core.specs.WellFormed.{IsWellFormed, are_cells, may_hold}
+use Rattle.keeper_tests.specs.Pair.{IsPair, cell, delete, insert, update}
+
+two_items : {A : Type 0} (xs : List A) (a b : A) → length xs ≡ 2 → a ≡ get_or xs 0 a → b ≡ get_or xs 1 b → xs ≡ a ∷ b ∷ []
+two_items [] a b len p q = absurd (omega arith)
+two_items (x ∷ []) a b len p q = absurd (omega arith)
+two_items (x ∷ y ∷ []) a b len p q = ap (λ c. c ∷ y ∷ []) (sym p) ∙ ap (λ c. a ∷ c ∷ []) (sym q)
+two_items (x ∷ y ∷ z ∷ xs) a b len p q = absurd (omega arith)
+
+pub pair_of : (schema : Catalog) (table : TableId) (a b : ColumnSpec) → IsTable schema table → length (spec_of schema table).columns ≡ 2 → a ≡ get_or (spec_of schema table).columns 0 a → b ≡ get_or (spec_of schema table).columns 1 b
+    → a.key ≡ true → b.key ≡ false → kind_of a.kind ≡ Integer → kind_of b.kind ≡ Integer → IsPair schema table
+pair_of schema table a b declared two p q key free number integer = record {
+  declared = declared;
+  first = a;
+  second = b;
+  columns = two_items (spec_of schema table).columns a b two p q;
+  key = key;
+  free = free;
+  number = number;
+  integer = integer;
+}
+
+fits_int : (column : ColumnSpec) (n : ℤ) → kind_of column.kind ≡ Integer → fits column (Int n) ≡ true
+fits_int column n is = ap (λ kind. same_kind kind Integer) is
+
+holds_cell : (column : ColumnSpec) (n : Option ℤ) → kind_of column.kind ≡ Integer → may_hold column (cell n) ≡ true
+holds_cell column None is = refl
+holds_cell column (Some n) is = fits_int column n is
+
+pub insert_fits : (schema : Catalog) (table : TableId) (id n : Option ℤ) → IsPair schema table → IsWellFormed schema (insert table id n)
+insert_fits schema table id n is = (
+  is.declared,
+  ap (λ columns. pointwise may_hold columns (cell id ∷ cell n ∷ [])) is.columns ∙ ap (λ h. h && (may_hold is.second (cell n) && true)) (holds_cell is.first id is.number)
+      ∙ ap (λ h. h && true) (holds_cell is.second n is.integer),
+)
+
+key_fits : (schema : Catalog) (table : TableId) (id : ℤ) → IsPair schema table → pointwise fits (filter (λ column. column.key) (spec_of schema table).columns) (Int id ∷ []) ≡ true
+key_fits schema table id is =
+    ap (λ columns. pointwise fits (filter (λ column. column.key) columns) (Int id ∷ [])) is.columns
+    ∙ ap (λ k. pointwise fits (cond k (is.first ∷ cond is.second.key (is.second ∷ []) []) (cond is.second.key (is.second ∷ []) [])) (Int id ∷ [])) is.key
+    ∙ ap (λ k. pointwise fits (is.first ∷ cond k (is.second ∷ []) []) (Int id ∷ [])) is.free ∙ ap (λ h. h && true) (fits_int is.first id is.number)
+
+cells_fit : (schema : Catalog) (table : TableId) (n : Option ℤ) → IsPair schema table → are_cells 0 (spec_of schema table).columns ((record { 0 = 1 }, cell n) ∷ []) ≡ true
+cells_fit schema table n is =
+    ap (λ columns. are_cells 0 columns ((record { 0 = 1 }, cell n) ∷ [])) is.columns ∙ ap (λ k. ((not k && may_hold is.second (cell n)) && true) || false) is.free
+    ∙ ap (λ h. (h && true) || false) (holds_cell is.second n is.integer)
+
+pub update_fits : (schema : Catalog) (table : TableId) (id : ℤ) (n : Option ℤ) → IsPair schema table → IsWellFormed schema (update table id n)
+update_fits schema table id n is = (is.declared, key_fits schema table id is, omega arith, cells_fit schema table n is)
+
+pub delete_fits : (schema : Catalog) (table : TableId) (id : ℤ) → IsPair schema table → IsWellFormed schema (delete table id)
+delete_fits schema table id is = (is.declared, key_fits schema table id is)
+
+pub ruleset row_shapes = (insert_fits, update_fits, delete_fits)
