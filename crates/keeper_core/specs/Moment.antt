@@ -129,6 +129,20 @@ pub record IsAttached (old : Moment Store) (target : Target) (result : Result (U
 abbrev pub IsCoherent : Moment Store → Type 0
 IsCoherent moment = IfSome moment.told (λ told. (moment.depth ≡ length told.world.scopes) × (told.log.committed ≡ committed_of told.world) × (told.log.written ≡ []))
 
+-- what the outside has seen is what it had seen before, where that is told
+abbrev pub IsUnseen : Option (Told Store) → Option (Told Store) → Type 0
+IsUnseen (Some told) (Some now) = now.log ≡ told.log
+IsUnseen told now = Unit {0}
+
+-- a fault or want of memory ended the call: nothing was sent, and nothing refused
+abbrev pub IsUndone : Moment Store → Moment Store → Type 0
+IsUndone old new = IsCalm old new × IsUnseen old.told new.told
+
+-- What is left of a statement that was not done: nothing, where the call ended early; else one refusal more, which is the last
+-- one, with its statement.
+abbrev pub IsLeft : Sent → Refusal → Moment Store → Moment Store → Type 0
+IsLeft statement e old new = MatchBool (ends_early e) (IsUndone old new) (Rose old.refusals new.refusals × (new.last ≡ Some (record { statement = statement; refusal = e })))
+
 -- What every acting call keeps, whatever it does: counts never fall, a failure of the store is told only where its count
 -- rose, and the keeper keeps its target.
 pub record ActsParts {W X : Type 0} (old : Moment W) (result : Result X Refusal) (new : Moment W) : Type 0 where

@@ -3,7 +3,8 @@
 ghost use Rattle.std.specs.Prelude.{◌≡◌, ◌+◌, ◌-◌, ◌<◌, ◌≤◌, ℕ, None, true, IfOk, IfErr, IfSome};
 ghost use Rattle.schema_core.specs.Catalog.{IsTable};
 ghost use Rattle.schema_core.specs.WellFormed.{IsWellFormed, IsKeyFor};
-ghost use Rattle.keeper_core.specs.Moment.{Runs};
+ghost use Rattle.keeper_core.specs.Moment.{Runs, IsLeft, IsUndone};
+ghost use Rattle.keeper_core.specs.declared.sent.Sent.TheVariants as sent;
 ghost use Rattle.keeper_core.specs.Acting as acting;
 ghost use Rattle.keeper_core.specs.Calls as call;
 ghost use Rattle.schema_core.specs.Apply as apply;
@@ -43,6 +44,7 @@ pub fn create<K: Keeper>(
     ensures step { Runs K.moment (λ b. b) (call.create table) keeper.old result keeper.new }
     ensures depth { (K.moment keeper.new).depth ≡ 0 }
     ensures stops { IfErr result (λ e. acting.ends_early e ≡ true) }
+    ensures undone { IfErr result (λ _. IsUndone (K.moment keeper.old) (K.moment keeper.new)) }
 {
     Ok(keeper.create(alloc, schema, table)?)
 }
@@ -54,6 +56,7 @@ pub fn begin<K: Keeper>(alloc: Global, keeper: &mut K) -> Result<(), Refusal>
     ensures step { Runs K.moment (λ u. u) call.begin keeper.old result keeper.new }
     ensures depth { (K.moment keeper.new).depth ≡ depth_left result 1 0 }
     ensures stops { IfErr result (λ e. acting.ends_early e ≡ true) }
+    ensures undone { IfErr result (λ _. IsUndone (K.moment keeper.old) (K.moment keeper.new)) }
 {
     Ok(keeper.begin(alloc)?)
 }
@@ -65,6 +68,7 @@ pub fn rollback<K: Keeper>(keeper: &mut K) -> Result<(), Refusal>
     ensures step { Runs K.moment (λ u. u) call.rollback keeper.old result keeper.new }
     ensures depth { (K.moment keeper.new).depth ≡ 0 }
     ensures stops { IfErr result (λ e. acting.ends_early e ≡ true) }
+    ensures undone { IfErr result (λ _. IsUndone (K.moment keeper.old) (K.moment keeper.new)) }
 {
     Ok(keeper.rollback()?)
 }
@@ -76,6 +80,7 @@ pub fn commit<K: Keeper>(keeper: &mut K) -> Result<(), Refusal>
     ensures step { Runs K.moment (λ u. u) call.commit keeper.old result keeper.new }
     ensures depth { (K.moment keeper.new).depth ≡ 0 }
     ensures stops { IfErr result (λ e. acting.ends_early e ≡ true) }
+    ensures undone { IfErr result (λ _. IsUndone (K.moment keeper.old) (K.moment keeper.new)) }
 {
     Ok(keeper.commit()?)
 }
@@ -94,6 +99,7 @@ pub fn write<K: Keeper>(
     ensures depth { (K.moment keeper.new).depth ≡ depth_left result (K.moment keeper.old).depth 0 }
     ensures key { IfOk result (λ key. IsKeyFor schema.now statement.now key) }
     ensures refuses { IfErr result (λ e. IsRefusalOf statement.now e) }
+    ensures left { IfErr result (λ e. IsLeft (sent.Write statement.now) e (K.moment keeper.old) (K.moment keeper.new)) }
 {
     match keeper.write(alloc, schema, statement) {
         Ok(key) => Ok(key),
@@ -115,6 +121,7 @@ pub fn bulk<K: Keeper>(
     ensures depth { (K.moment keeper.new).depth ≡ depth_left result (K.moment keeper.old).depth 0 }
     ensures refuses { IfErr result (λ e. IsRefusalOfBulk statement.now e) }
     ensures declared { IfErr result (λ e. IsOfDeclared schema.now e) }
+    ensures left { IfErr result (λ e. IsLeft (sent.Bulk statement.now) e (K.moment keeper.old) (K.moment keeper.new)) }
 {
     match keeper.bulk(alloc, schema, statement) {
         Ok(count) => Ok(count),
@@ -139,6 +146,7 @@ pub fn query<K: Keeper>(
     ensures given { HoldsLegalRows schema.now (K.moment keeper.old).told → IfOk result (λ rows. AreGiven schema.now select.now rows) }
     ensures refuses { IfErr result (λ e. IsRefusalOfQuery select.now e) }
     ensures declared { IfErr result (λ e. IsOfDeclared schema.now e) }
+    ensures left { IfErr result (λ e. IsLeft (sent.Query select.now) e (K.moment keeper.old) (K.moment keeper.new)) }
 {
     match keeper.query(alloc, schema, select) {
         Ok(rows) => Ok(rows),
@@ -159,6 +167,7 @@ pub fn scan<K: Keeper>(
     ensures depth { (K.moment keeper.new).depth ≡ depth_left result (K.moment keeper.old).depth 0 }
     ensures kinds { HoldsRows schema.now (K.moment keeper.old).told → IfOk result (λ found. IfSome found (λ rows. AreRowsOf schema.now table rows)) }
     ensures stops { IfErr result (λ e. acting.ends_early e ≡ true) }
+    ensures undone { IfErr result (λ _. IsUndone (K.moment keeper.old) (K.moment keeper.new)) }
 {
     Ok(keeper.scan(alloc, schema, table)?)
 }

@@ -2,3 +2,4 @@ mod Bulks
 mod Keeping
 mod Queries
 mod Scanned
+mod Undone

@@ -11,7 +11,8 @@ ghost use Rattle.select_rows.specs.Shapes.{AreGiven, AreOfItems, AreWide};
 ghost use Rattle.keeper_core.specs.declared.keeper.KeeperStop.TheVariants as stops;
 ghost use Rattle.keeper_core.specs.Calls as call;
 ghost use Rattle.keeper_core.specs.Calls.{as_refusal, depth_after, depth_after_query, depth_after_write, query_refusal, stop_refusal, write_refusal, AreRowsOf, CanRefuse, CanRefuseBulk, CanRefuseQuery, HoldsLegalRows, HoldsRows};
-ghost use Rattle.keeper_core.specs.Moment.{IsAttached, Runs};
+ghost use Rattle.keeper_core.specs.Moment.{IsAttached, IsLeft, IsUndone, Runs};
+ghost use Rattle.keeper_core.specs.declared.sent.Sent.TheVariants as sent;
 ghost use Rattle.keeper_mem.specs.Kept.{IsCounted, IsNumbered, coherent, is_failing, is_fault, is_file, is_query_fault, is_write_fault, moment_of};
 
 use crate::MemKeeper;
@@ -57,6 +58,7 @@ impl Keeper for MemKeeper {
         ensures step { Runs moment_of (λ b. b) (call.create table) self.old (as_refusal stop_refusal result) self.new }
         ensures depth { (moment_of self.new).depth ≡ 0 }
         ensures numbered { IsNumbered self.old (is_fault result) self.new }
+        ensures undone { IfErr result (λ _. IsUndone (moment_of self.old) (moment_of self.new)) }
     {
         let Ok(()) = self.count_call() else {
             return Err(KeeperStop::Fault);
@@ -84,6 +86,7 @@ impl Keeper for MemKeeper {
         ensures step { Runs moment_of (λ b. b) (call.drop_table table) self.old (as_refusal stop_refusal result) self.new }
         ensures depth { (moment_of self.new).depth ≡ 0 }
         ensures numbered { IsNumbered self.old (is_fault result) self.new }
+        ensures undone { IfErr result (λ _. IsUndone (moment_of self.old) (moment_of self.new)) }
     {
         let Ok(()) = self.count_call() else {
             return Err(KeeperStop::Fault);
@@ -105,6 +108,7 @@ impl Keeper for MemKeeper {
         ensures step { Runs moment_of (λ u. u) call.begin self.old (as_refusal stop_refusal result) self.new }
         ensures depth { (moment_of self.new).depth ≡ depth_after result 1 }
         ensures numbered { IsNumbered self.old (is_fault result) self.new }
+        ensures undone { IfErr result (λ _. IsUndone (moment_of self.old) (moment_of self.new)) }
     {
         let Ok(()) = self.count_call() else {
             return Err(KeeperStop::Fault);
@@ -123,6 +127,7 @@ impl Keeper for MemKeeper {
         ensures step { Runs moment_of (λ u. u) call.savepoint self.old (as_refusal stop_refusal result) self.new }
         ensures depth { (moment_of self.new).depth ≡ depth_after result ((moment_of self.old).depth + 1) }
         ensures numbered { IsNumbered self.old (is_fault result) self.new }
+        ensures undone { IfErr result (λ _. IsUndone (moment_of self.old) (moment_of self.new)) }
     {
         let Ok(()) = self.count_call() else {
             return Err(KeeperStop::Fault);
@@ -143,6 +148,7 @@ impl Keeper for MemKeeper {
         ensures depth { (moment_of self.new).depth ≡ depth_after result ((moment_of self.old).depth - 1) }
         ensures numbered { IsNumbered self.old (is_fault result) self.new }
         ensures calm { IfErr result (λ e. e ≡ stops.Fault) }
+        ensures undone { IfErr result (λ _. IsUndone (moment_of self.old) (moment_of self.new)) }
     {
         let Ok(()) = self.count_call() else {
             return Err(KeeperStop::Fault);
@@ -160,6 +166,7 @@ impl Keeper for MemKeeper {
         ensures depth { (moment_of self.new).depth ≡ depth_after result depth }
         ensures numbered { IsNumbered self.old (is_fault result) self.new }
         ensures calm { IfErr result (λ e. e ≡ stops.Fault) }
+        ensures undone { IfErr result (λ _. IsUndone (moment_of self.old) (moment_of self.new)) }
     {
         let Ok(()) = self.count_call() else {
             return Err(KeeperStop::Fault);
@@ -176,6 +183,7 @@ impl Keeper for MemKeeper {
         ensures depth { (moment_of self.new).depth ≡ 0 }
         ensures numbered { IsNumbered self.old (is_fault result) self.new }
         ensures calm { IfErr result (λ e. e ≡ stops.Fault) }
+        ensures undone { IfErr result (λ _. IsUndone (moment_of self.old) (moment_of self.new)) }
     {
         let Ok(()) = self.count_call() else {
             return Err(KeeperStop::Fault);
@@ -192,6 +200,7 @@ impl Keeper for MemKeeper {
         ensures depth { (moment_of self.new).depth ≡ 0 }
         ensures numbered { IsNumbered self.old (is_fault result) self.new }
         ensures calm { IfErr result (λ e. e ≡ stops.Fault) }
+        ensures undone { IfErr result (λ _. IsUndone (moment_of self.old) (moment_of self.new)) }
     {
         let Ok(()) = self.count_call() else {
             return Err(KeeperStop::Fault);
@@ -215,6 +224,7 @@ impl Keeper for MemKeeper {
         ensures key { IfOk result (λ key. IsKeyFor schema.now statement.now key) }
         ensures refuses { IfErr result (λ e. CanRefuse statement.now e) }
         ensures numbered { IsNumbered self.old (is_write_fault result) self.new }
+        ensures left { IfErr result (λ e. IsLeft (sent.Write statement.now) (write_refusal (table_of statement.now) e) (moment_of self.old) (moment_of self.new)) }
     {
         let Ok(()) = self.count_call() else {
             return Err(WriteRefusal::Fault);
@@ -244,6 +254,7 @@ impl Keeper for MemKeeper {
         ensures refuses { IfErr result (λ e. CanRefuseBulk statement.now e) }
         ensures declared { IfErr result (λ e. IsOfDeclared schema.now (write_refusal (bulk.table_of statement.now) e)) }
         ensures numbered { IsNumbered self.old (is_write_fault result) self.new }
+        ensures left { IfErr result (λ e. IsLeft (sent.Bulk statement.now) (write_refusal (bulk.table_of statement.now) e) (moment_of self.old) (moment_of self.new)) }
     {
         let Ok(()) = self.count_call() else {
             return Err(WriteRefusal::Fault);
@@ -276,6 +287,7 @@ impl Keeper for MemKeeper {
         ensures refuses { IfErr result (λ e. CanRefuseQuery select.now e) }
         ensures declared { IfErr result (λ e. IsOfDeclared schema.now (query_refusal e)) }
         ensures numbered { IsNumbered self.old (is_query_fault result) self.new }
+        ensures left { IfErr result (λ e. IsLeft (sent.Query select.now) (query_refusal e) (moment_of self.old) (moment_of self.new)) }
     {
         let Ok(()) = self.count_call() else {
             return Err(QueryRefusal::Fault);
@@ -303,6 +315,7 @@ impl Keeper for MemKeeper {
         ensures depth { (moment_of self.new).depth ≡ depth_after result (moment_of self.old).depth }
         ensures kinds { HoldsRows schema.now (moment_of self.old).told → IfOk result (λ found. IfSome found (λ rows. AreRowsOf schema.now table rows)) }
         ensures numbered { IsNumbered self.old (is_fault result) self.new }
+        ensures undone { IfErr result (λ _. IsUndone (moment_of self.old) (moment_of self.new)) }
     {
         let Ok(()) = self.count_call() else {
             return Err(KeeperStop::Fault);

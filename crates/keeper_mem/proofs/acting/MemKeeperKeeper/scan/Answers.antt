@@ -5,6 +5,7 @@ use Rattle.schema_core.specs.Tables.{rows_in}
 use Rattle.keeper_mem.specs.Kept.{Kept, ended}
 use Rattle.keeper_mem.proofs.Keeping.{faulted, ran_out}
 use Rattle.keeper_mem.proofs.Scanned.{scanned_kinds}
+use Rattle.keeper_mem.proofs.Undone.{ended_left, failed_left}
 use Rattle.keeper_mem.proofs.acting.MemKeeperKeeper.scan.Goals as goal
 
 pub returns-in_default-clause-step : goal.returns-in_default-clause-step
@@ -17,3 +18,9 @@ pub returns-clause-kinds : goal.returns-clause-kinds
 returns-clause-kinds c h =
     scanned_kinds c.args.schema.now c.args.table c.args.self.now c.in-Ok-rows.rows c.requires.attached h
     (c.in-Ok-rows.ensures ∙ ap (λ (kept : Kept). option_map (λ rows. map (λ entry. entry.1) rows) (rows_in kept.store.tables c.args.table)) (c.in-Ok.ensures.ok.1))
+
+pub returns-in_default-clause-undone : goal.returns-in_default-clause-undone
+returns-in_default-clause-undone c = failed_left c.args.self.now c.count_call.new.self c.in_default.ensures.err.2
+
+pub returns-in_default-rows-clause-undone : goal.returns-in_default-rows-clause-undone
+returns-in_default-rows-clause-undone c = ended_left c.args.self.now c.give_up.new.self (c.give_up.ensures ∙ ap ended (c.in-Ok.ensures.ok.1))
