@@ -1,1 +1,3 @@
-pub mod RisingLemmas
+pub mod Lists
+pub mod Pushing
+pub mod Tests

@@ -1,12 +1,15 @@
 -- What a call answers beside what its definition tells: the same, unless memory ran out.
-use Rattle.std.specs.Prelude.{◌≡◌, Result, Ok, Err}
+use Rattle.std.specs.Prelude.{◌≡◌, Bool, true, false, MatchBool, Result, Ok, Err}
 use Rattle.base_core.specs.declared.refusal.Refusal.{Refusal}
 use Rattle.base_core.specs.declared.refusal.Refusal.TheVariants.{Memory}
 
+abbrev pub is_memory : Refusal → Bool
+is_memory Memory = true
+is_memory e = false
+
 -- the refusal is what is told, or memory ran out
 abbrev pub Refuses : {A : Type 0} → Refusal → Result A Refusal → Type 0
-Refuses Memory told = Unit {0}
-Refuses e told = told ≡ Err e
+Refuses e told = MatchBool (is_memory e) (Unit {0}) (told ≡ Err e)
 
 -- the answer, seen by view, is what is told, unless memory ran out
 abbrev pub Gives : {A X : Type 0} → (X → A) → Result X Refusal → Result A Refusal → Type 0

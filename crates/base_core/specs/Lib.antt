@@ -1,5 +1,5 @@
 pub mod Answers
+pub mod Ascending
 pub mod Counts
 pub mod Order
 pub mod OrderLaws
-pub mod Rising

@@ -1,19 +1,29 @@
 //! Copies that equal what they copy.
 
-ghost use Rattle.std.specs.Prelude.{◌≡◌, IfOk};
+ghost use Rattle.std.specs.Prelude.{◌≡◌, Ok, IfOk};
 
 use std::alloc::AllocError;
 
 /// A type whose copies equal the original.
 pub trait Copied: Sized {
-    /// A value equal to this one. The only error is want of memory.
+    /// A value equal to this one. The only error is that memory ran out.
     fn copied(&self) -> Result<Self, AllocError>
         ensures { IfOk result (λ copy. copy ≡ self.now) };
 }
 
+/// Both values, where both are there. One exit in place of two, at which no value is held that its caller would have to drop.
+pub fn both<A: Drop, B: Drop>(
+    a: Result<A, AllocError>,
+    b: Result<B, AllocError>,
+) -> Result<(A, B), AllocError>
+    ensures { IfOk result (λ it. (a ≡ Ok it.0) × (b ≡ Ok it.1)) }
+{
+    Ok((a?, b?))
+}
+
 impl<A: Copied + Drop, B: Copied + Drop> Copied for (A, B) {
     fn copied(&self) -> Result<(A, B), AllocError> {
-        Ok((self.0.copied()?, self.1.copied()?))
+        both(self.0.copied(), self.1.copied())
     }
 }
 

@@ -1,4 +1,4 @@
-//! Values, names, numbers, lists, refusals, sources of bytes and sinks for them.
+//! Values in their order, names, lists, the numbers of objects and tables, and one refusal for all layers.
 #![tactic(auto)]
 
 mod copied;
@@ -9,10 +9,10 @@ mod refusal;
 mod text;
 mod value;
 
-pub use copied::Copied;
+pub use copied::{Copied, both};
 pub use ids::{AttrNo, ClassId, ColumnNo, ObjId, RelNo, TableId};
 pub use list::ListOf;
 pub use objects::{ObjList, ObjSet};
 pub use refusal::{ArgumentKind, IntegrityKind, LimitKind, Refusal, RequestKind, RowName, Warning};
 pub use text::{Blob, Name, Text};
-pub use value::{ArithOp, Key, Kind, RowList, RowValues, Value, compare};
+pub use value::{ArithOp, Key, KeyList, Kind, RowList, RowValues, Value, compare};

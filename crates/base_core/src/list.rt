@@ -98,7 +98,7 @@ impl<T> ListOf<T> {
 }
 
 impl<T: Drop> ListOf<T> {
-    /// The item goes to the end. The only refusal is want of memory, and it leaves the list as it was.
+    /// The item goes to the end. The only refusal is `Memory`, and it leaves the list as it was.
     pub fn push(&mut self, item: T) -> Result<(), Refusal>
         ensures ok { OnOk result (self.new ≡ self.old ++ item ∷ []) }
         ensures err { OnErr result (self.new ≡ self.old) }

@@ -10,7 +10,7 @@ use std::marker::Model;
 /// A list of objects.
 pub type ObjList = ListOf<ObjId>;
 
-/// A set of objects, as the rising list of its members.
+/// A set of objects, as the ascending list of its members.
 #[derive(Debug, Drop)]
 pub struct ObjSet {
     members: ListOf<ObjId>,
@@ -19,17 +19,17 @@ pub struct ObjSet {
 impl Model for ObjSet {
     ghost use Rattle.std.specs.Prelude.{List};
     ghost use Rattle.base_core.specs.declared.ids.ObjId.{ObjId};
-    ghost use Rattle.base_core.specs.Rising.{IsRising};
+    ghost use Rattle.base_core.specs.Ascending.{IsAscending};
 
     ghost Value = { List ObjId };
 
     ghost view = { λ s. s.members };
 
-    ghost invariant = { λ s. IsRising s.members };
+    ghost invariant = { λ s. IsAscending s.members };
 }
 
 impl ObjSet {
-    ghost use Rattle.base_core.specs.Rising.{IsRising, IsAbove};
+    ghost use Rattle.base_core.specs.Ascending.{IsAscending, IsAbove};
 
     /// No members.
     pub fn new(alloc: Global) -> ObjSet
@@ -40,8 +40,8 @@ impl ObjSet {
         }
     }
 
-    #[tactic(auto, using(crate::proofs::RisingLemmas::rising_push))]
-    /// The object becomes the last member. The only refusal is want of memory, and it leaves the set as it was.
+    #[tactic(auto, using(crate::proofs::Pushing::ascending_push))]
+    /// The object becomes the last member. The only refusal is `Memory`, and it leaves the set as it was.
     pub fn push(&mut self, object: ObjId) -> Result<(), Refusal>
         requires { IsAbove self.old object }
         ensures ok { OnOk result (self.new ≡ self.old ++ object ∷ []) }
@@ -80,10 +80,10 @@ impl ObjSet {
         self.members.at(place)
     }
 
-    /// The members, rising.
+    /// The members, ascending.
     pub fn as_slice(&self) -> &[ObjId]
         ensures members { result.now ≡ self.now }
-        ensures rising { IsRising self.now }
+        ensures ascending { IsAscending self.now }
     {
         self.members.as_slice()
     }

@@ -32,7 +32,7 @@ pub enum ArgumentKind {
 }
 
 /// A request does not fit the state that it meets.
-#[derive(Clone, Debug, Drop, PartialEq, Eq)]
+#[derive(Debug, Drop, PartialEq, Eq)]
 pub enum RequestKind {
     NotConfigured,
     Configured,
@@ -99,7 +99,7 @@ impl Copied for Warning {
 }
 
 /// Why a call is refused. `Memory` and `KeeperFault` end a run, and every other refusal is a command's answer.
-#[derive(Clone, Debug, Drop, PartialEq, Eq)]
+#[derive(Debug, Drop, PartialEq, Eq)]
 pub enum Refusal {
     /// Memory ran out.
     Memory,

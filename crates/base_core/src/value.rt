@@ -91,6 +91,9 @@ impl Copied for Value {
 /// The values of a primary key, column by column.
 pub type Key = ListOf<Value>;
 
+/// Keys.
+pub type KeyList = ListOf<Key>;
+
 /// The values of a row, column by column.
 pub type RowValues = ListOf<Value>;
 

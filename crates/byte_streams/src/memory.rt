@@ -1,6 +1,6 @@
 //! A source and a sink in memory, with lists of the calls that fail.
 
-ghost use Rattle.std.specs.Prelude.{min, take, ◌≡◌, ◌<◌, ◌≤◌, ◌↔◌, ℕ, [], length, IfErr, IfOk, IsErr, IsErrOf, Contains, Some};
+ghost use Rattle.std.specs.Prelude.{min, take, ◌≡◌, ◌≢◌, ◌<◌, ◌≤◌, ◌↔◌, ℕ, [], length, Err, IfErr, IfOk, IsOk, IsErr, IsErrOf, Contains, Some};
 ghost use Rattle.std.specs.Io.{ReadsAtMost, WritesAtMost};
 ghost use Rattle.std.specs.Io.KnownBytes.{ReadConsumes, WriteAppends};
 ghost use Rattle.base_core.specs.Counts.{Rose, one_more};
@@ -34,7 +34,7 @@ impl Model for MemSource {
 }
 
 impl MemSource {
-    /// A source of these bytes; its reads of these numbers, from 1, fail. The only refusal is want of memory.
+    /// A source of these bytes; its reads of these numbers, from 1, fail. The only refusal is that memory ran out.
     pub fn new(alloc: Global, bytes: &[u8], failing: &[u64]) -> Result<MemSource, Refusal>
         ensures cause { IfErr result (λ e. e ≡ Memory) }
         ensures made { IfOk result (λ s. s ≡ record { left = bytes.now; calls = 0; failing = failing.now; faults = 0 }) }
@@ -54,12 +54,13 @@ impl Source for MemSource {
 
     ghost faults = { λ s. s.faults };
 
-    #[tactic(auto, using(crate::proofs::ReadingLemmas::reads_front))]
+    #[tactic(auto, using(crate::proofs::ReadingLemmas::reads_prefix))]
     fn read(&mut self, buffer: &mut [u8]) -> Result<usize, ReadFault>
         ensures bound { ReadsAtMost result buffer.new }
         ensures bytes { ReadConsumes (Some self.old.left) (Some self.new.left) result buffer.new }
         ensures later { self.old.faults ≤ self.new.faults }
         ensures cause { IsErr result → Rose self.old.faults self.new.faults }
+        ensures quiet { IsOk result → self.new.faults ≡ self.old.faults }
         ensures counted { self.new.calls ≡ one_more self.old.calls }
         ensures fails { IsErr result ↔ Contains self.old.failing self.new.calls }
         ensures listed { self.new.failing ≡ self.old.failing }
@@ -75,11 +76,11 @@ impl Source for MemSource {
     }
 }
 
-#[tactic(auto, using(crate::proofs::ReadingLemmas::same_front))]
-/// Copies a front of the bytes to the front of the buffer, as long as both allow, and answers its length.
+#[tactic(auto, using(crate::proofs::ReadingLemmas::same_prefix))]
+/// Copies a prefix of the bytes to the beginning of the buffer, as long as both allow, and answers its length.
 fn fill(buffer: &mut [u8], bytes: &[u8]) -> usize
     ensures count { result ≡ min (length bytes.now) (length buffer.old) }
-    ensures front { take result buffer.new ≡ take result bytes.now }
+    ensures prefix { take result buffer.new ≡ take result bytes.now }
 {
     let count = bytes.len().min(buffer.len());
     buffer[..count].copy_from_slice(&bytes[..count]);
@@ -104,7 +105,7 @@ impl Model for MemSink {
 }
 
 impl MemSink {
-    /// An empty sink; its writes of these numbers, from 1, fail. The only refusal is want of memory.
+    /// An empty sink; its writes of these numbers, from 1, fail. The only refusal is that memory ran out.
     pub fn new(alloc: Global, failing: &[u64]) -> Result<MemSink, Refusal>
         ensures cause { IfErr result (λ e. e ≡ Memory) }
         ensures made { IfOk result (λ s. s ≡ record { written = []; calls = 0; failing = failing.now; faults = 0 }) }
@@ -136,6 +137,7 @@ impl Sink for MemSink {
         ensures bytes { WriteAppends (Some self.old.written) (Some self.new.written) result piece.now }
         ensures later { self.old.faults ≤ self.new.faults }
         ensures cause { IsErrOf result SinkStop.Fault → Rose self.old.faults self.new.faults }
+        ensures quiet { result ≢ Err SinkStop.Fault → self.new.faults ≡ self.old.faults }
         ensures counted { self.new.calls ≡ one_more self.old.calls }
         ensures fails { IsErrOf result SinkStop.Fault ↔ Contains self.old.failing self.new.calls }
         ensures listed { self.new.failing ≡ self.old.failing }

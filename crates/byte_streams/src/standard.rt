@@ -1,11 +1,13 @@
 //! Any reader as a source and any writer as a sink: the edge at which standard input and output are reached.
 
-ghost use Rattle.std.specs.Prelude.{◌≡◌, ◌<◌, ◌≤◌, length, if◌then◌else◌, is_ok, IfOk, IsErr, IsErrOf};
+ghost use Rattle.std.specs.Prelude.{◌≡◌, ◌≢◌, ◌<◌, ◌≤◌, length, Ok, Err, is_ok, IfOk, IsOk, IsErr, IsErrOf, MatchResult};
 ghost use Rattle.std.specs.Io.{ReadsAtMost, WritesAtMost};
 ghost use Rattle.std.specs.Io.KnownBytes.{ReadConsumes, WriteAppends};
-ghost use Rattle.base_core.specs.Counts.{Rose, one_more};
+ghost use Rattle.base_core.specs.Counts.{Rose};
+ghost use Rattle.byte_streams.specs.Streams.{count_after, written_of};
 
 use crate::{ReadFault, Sink, SinkStop, Source};
+use std::io;
 use std::io::{Read, Write};
 
 /// A source over a reader. It counts each failure, and tells the bytes that the reader tells: of standard input none.
@@ -22,6 +24,21 @@ impl<R: Read + Drop> StdSource<R> {
     {
         StdSource { reader, faults: 0 }
     }
+
+    /// Keeps what the reader answered, and counts its failure.
+    fn counted(&mut self, answer: io::Result<usize>) -> Result<usize, ReadFault>
+        ensures kept { MatchResult answer (λ count. result ≡ Ok count) (λ _. IsErr result) }
+        ensures counts { self.new ≡ record self.old { faults = count_after (is_ok answer) self.old.faults } }
+        ensures later { self.old.faults ≤ self.new.faults }
+    {
+        match answer {
+            Ok(count) => Ok(count),
+            Err(_) => {
+                self.faults = self.faults.saturating_add(1);
+                Err(ReadFault)
+            }
+        }
+    }
 }
 
 impl<R: Read + Drop> Source for StdSource<R> {
@@ -34,15 +51,11 @@ impl<R: Read + Drop> Source for StdSource<R> {
         ensures bytes { ReadConsumes (R.remaining self.old.reader) (R.remaining self.new.reader) result buffer.new }
         ensures later { self.old.faults ≤ self.new.faults }
         ensures cause { IsErr result → Rose self.old.faults self.new.faults }
-        ensures counted { self.new.faults ≡ (if is_ok result then self.old.faults else one_more self.old.faults) }
+        ensures quiet { IsOk result → self.new.faults ≡ self.old.faults }
+        ensures counts { self.new.faults ≡ count_after (is_ok result) self.old.faults }
     {
-        match self.reader.read(buffer) {
-            Ok(count) => Ok(count),
-            Err(_) => {
-                self.faults = self.faults.saturating_add(1);
-                Err(ReadFault)
-            }
-        }
+        let answer = self.reader.read(buffer);
+        self.counted(answer)
     }
 }
 
@@ -61,6 +74,21 @@ impl<W: Write + Drop> StdSink<W> {
     {
         StdSink { writer, faults: 0 }
     }
+
+    /// Keeps what the writer answered to a piece that is empty or not, and counts its failure, or that it took no byte of some.
+    fn counted(&mut self, answer: io::Result<usize>, nothing: bool) -> Result<usize, SinkStop>
+        ensures kept { MatchResult answer (λ count. result ≡ written_of nothing count) (λ _. result ≡ Err SinkStop.Fault) }
+        ensures counts { self.new ≡ record self.old { faults = count_after (is_ok result) self.old.faults } }
+        ensures later { self.old.faults ≤ self.new.faults }
+    {
+        match answer {
+            Ok(count) if count > 0 || nothing => Ok(count),
+            _ => {
+                self.faults = self.faults.saturating_add(1);
+                Err(SinkStop::Fault)
+            }
+        }
+    }
 }
 
 impl<W: Write + Drop> Sink for StdSink<W> {
@@ -74,14 +102,10 @@ impl<W: Write + Drop> Sink for StdSink<W> {
         ensures bytes { WriteAppends (W.contents self.old.writer) (W.contents self.new.writer) result piece.now }
         ensures later { self.old.faults ≤ self.new.faults }
         ensures cause { IsErrOf result SinkStop.Fault → Rose self.old.faults self.new.faults }
-        ensures counted { self.new.faults ≡ (if is_ok result then self.old.faults else one_more self.old.faults) }
+        ensures quiet { result ≢ Err SinkStop.Fault → self.new.faults ≡ self.old.faults }
+        ensures counts { self.new.faults ≡ count_after (is_ok result) self.old.faults }
     {
-        match self.writer.write(piece) {
-            Ok(count) if count > 0 || piece.is_empty() => Ok(count),
-            _ => {
-                self.faults = self.faults.saturating_add(1);
-                Err(SinkStop::Fault)
-            }
-        }
+        let answer = self.writer.write(piece);
+        self.counted(answer, piece.is_empty())
     }
 }

@@ -1,6 +1,6 @@
 //! The traits of sources and sinks.
 
-ghost use Rattle.std.specs.Prelude.{◌≡◌, ◌<◌, ◌≤◌, ℕ, List, Option, length, IfOk, IsErr, IsErrOf};
+ghost use Rattle.std.specs.Prelude.{◌≡◌, ◌≢◌, ◌<◌, ◌≤◌, ℕ, List, Option, Err, length, IfOk, IsOk, IsErr, IsErrOf};
 ghost use Rattle.std.specs.Io.{ReadsAtMost, WritesAtMost};
 ghost use Rattle.std.specs.Io.KnownBytes.{ReadConsumes, WriteAppends};
 ghost use Rattle.base_core.specs.Counts.{Rose};
@@ -16,7 +16,7 @@ pub enum SinkStop {
     Memory,
 }
 
-/// Where bytes are read from. Its count of faults never falls, and a fault is answered only where it rose.
+/// Where bytes are read from. Its count of faults never falls: it rises where a fault is answered, and nowhere else.
 pub trait Source {
     /// The bytes that are left, where the source tells them.
     ghost left: { Self → Option (List ℕ) };
@@ -29,10 +29,11 @@ pub trait Source {
         ensures bound { ReadsAtMost result buffer.new }
         ensures bytes { ReadConsumes (left self.old) (left self.new) result buffer.new }
         ensures later { faults self.old ≤ faults self.new }
-        ensures cause { IsErr result → Rose (faults self.old) (faults self.new) };
+        ensures cause { IsErr result → Rose (faults self.old) (faults self.new) }
+        ensures quiet { IsOk result → faults self.new ≡ faults self.old };
 }
 
-/// Where bytes are written to. Its count of faults never falls, and a fault is answered only where it rose.
+/// Where bytes are written to. Its count of faults never falls: it rises where a fault is answered, and nowhere else.
 pub trait Sink {
     /// The bytes written so far, where the sink tells them.
     ghost written: { Self → Option (List ℕ) };
@@ -45,5 +46,6 @@ pub trait Sink {
         ensures takes { IfOk result (λ n. 0 < length piece.now → 0 < n) }
         ensures bytes { WriteAppends (written self.old) (written self.new) result piece.now }
         ensures later { faults self.old ≤ faults self.new }
-        ensures cause { IsErrOf result SinkStop.Fault → Rose (faults self.old) (faults self.new) };
+        ensures cause { IsErrOf result SinkStop.Fault → Rose (faults self.old) (faults self.new) }
+        ensures quiet { result ≢ Err SinkStop.Fault → faults self.new ≡ faults self.old };
 }

@@ -54,12 +54,25 @@ abbrev pub bool_text : Bool → List ℕ
 bool_text true = codes "true"
 bool_text false = codes "false"
 
+-- a text in quotes
+abbrev pub quoted : List ℕ → List ℕ
+quoted text = 39 ∷ doubled text ++ 39 ∷ []
+
+abbrev pub bytes_text : List ℕ → List ℕ
+bytes_text bytes = codes "x'" ++ flat_map hex_byte bytes ++ 39 ∷ []
+
 abbrev pub value_text : Value → List ℕ
 value_text Null = codes "null"
 value_text (BoolValue b) = bool_text b
 value_text (Int n) = signed_decimal n
-value_text (Text t) = 39 ∷ doubled t ++ 39 ∷ []
-value_text (Bytes bytes) = codes "x'" ++ flat_map hex_byte bytes ++ 39 ∷ []
+value_text (Text t) = quoted t
+value_text (Bytes bytes) = bytes_text bytes
+
+-- the word that is written of NULL or of a boolean; nothing of other values
+abbrev pub word_of : Value → List ℕ
+word_of Null = codes "null"
+word_of (BoolValue b) = bool_text b
+word_of _ = []
 
 -- ---- lists
 
@@ -120,25 +133,34 @@ argument_text argument.PartnerDiffers = codes "PartnerDiffers"
 argument_text argument.KeyForeign = codes "KeyForeign"
 argument_text argument.BadPostUpdate = codes "BadPostUpdate"
 
+-- the word of a request that does not fit the state that it meets
+abbrev pub request_word : RequestKind → List ℕ
+request_word request.NotConfigured = codes "NotConfigured"
+request_word request.Configured = codes "Configured"
+request_word (request.Unknown name) = codes "Unknown "
+request_word request.WrongKind = codes "WrongKind"
+request_word request.NotGrouped = codes "NotGrouped"
+request_word request.DuplicateFrom = codes "DuplicateFrom"
+request_word request.JoinedLimit = codes "JoinedLimit"
+request_word request.InTransaction = codes "InTransaction"
+request_word request.NotPersistent = codes "NotPersistent"
+request_word request.NotInSession = codes "NotInSession"
+request_word request.Deleted = codes "Deleted"
+request_word request.IdentityConflict = codes "IdentityConflict"
+request_word request.BadOwner = codes "BadOwner"
+request_word request.BadMember = codes "BadMember"
+request_word request.NotAMember = codes "NotAMember"
+request_word request.KeyChange = codes "KeyChange"
+request_word request.Discriminator = codes "Discriminator"
+request_word request.NoSuchIdentity = codes "NoSuchIdentity"
+
+-- the name that stands for nothing, where that is what does not fit
+abbrev pub request_name : RequestKind → List ℕ
+request_name (request.Unknown name) = name
+request_name _ = []
+
 abbrev pub request_text : RequestKind → List ℕ
-request_text request.NotConfigured = codes "NotConfigured"
-request_text request.Configured = codes "Configured"
-request_text (request.Unknown name) = codes "Unknown " ++ name
-request_text request.WrongKind = codes "WrongKind"
-request_text request.NotGrouped = codes "NotGrouped"
-request_text request.DuplicateFrom = codes "DuplicateFrom"
-request_text request.JoinedLimit = codes "JoinedLimit"
-request_text request.InTransaction = codes "InTransaction"
-request_text request.NotPersistent = codes "NotPersistent"
-request_text request.NotInSession = codes "NotInSession"
-request_text request.Deleted = codes "Deleted"
-request_text request.IdentityConflict = codes "IdentityConflict"
-request_text request.BadOwner = codes "BadOwner"
-request_text request.BadMember = codes "BadMember"
-request_text request.NotAMember = codes "NotAMember"
-request_text request.KeyChange = codes "KeyChange"
-request_text request.Discriminator = codes "Discriminator"
-request_text request.NoSuchIdentity = codes "NoSuchIdentity"
+request_text kind = request_word kind ++ request_name kind
 
 abbrev pub limit_text : LimitKind → List ℕ
 limit_text limit.Objects = codes "objects"

@@ -9,7 +9,7 @@ use base_core::{ListOf, ObjId, RowName};
 use std::fmt;
 
 /// Writes an object: the name of its class, `@`, and its number.
-#[derive(Clone, Copy)]
+#[derive(Drop)]
 pub struct ObjectText<'a, N> {
     pub names: &'a N,
     pub object: ObjId,
@@ -43,8 +43,29 @@ fn write_led<W: fmt::Write, N: Naming>(
     Ok(())
 }
 
+/// Writes the objects with a comma between each two.
+fn write_objects<W: fmt::Write, N: Naming>(
+    f: &mut fmt::Formatter<W>,
+    names: &N,
+    objects: &[ObjId],
+) -> fmt::Result
+    ensures { DisplaysOnOk W.write_str_gives f.old result (Some (joined (codes ", ") (object_text (N.names names.now)) objects.now)) f.new }
+{
+    match objects.split_first() {
+        Some((first, rest)) => {
+            let shown = ObjectText {
+                names,
+                object: *first,
+            };
+            write!(f, "{shown}")?;
+            write_led(f, names, rest)
+        }
+        None => Ok(()),
+    }
+}
+
 /// Writes a list of objects in brackets.
-#[derive(Clone, Copy)]
+#[derive(Drop)]
 pub struct ObjectsText<'a, N> {
     pub names: &'a N,
     pub objects: &'a ListOf<ObjId>,
@@ -55,20 +76,13 @@ impl<'a, N: Naming> fmt::Display for ObjectsText<'a, N> {
 
     fn fmt<W: fmt::Write>(&self, f: &mut fmt::Formatter<W>) -> fmt::Result {
         f.write_str("[")?;
-        if let Some((first, rest)) = self.objects.as_slice().split_first() {
-            let shown = ObjectText {
-                names: self.names,
-                object: *first,
-            };
-            write!(f, "{shown}")?;
-            write_led(f, self.names, rest)?;
-        }
+        write_objects(f, self.names, self.objects.as_slice())?;
         f.write_str("]")
     }
 }
 
 /// Writes a row of a cycle: its table's name, `@`, and its object's number.
-#[derive(Clone, Copy)]
+#[derive(Drop)]
 pub struct RowNameText<'a, N> {
     pub names: &'a N,
     pub row: RowName,

@@ -5,7 +5,9 @@ ghost use Rattle.std.specs.Fmt.{DisplaysOnOk};
 ghost use Rattle.printing.specs.Texts.{breach_text, circular_text, compile_text, invalid_text, mismatch_text, object_text, outside_text, refusal_text, request_text, skipped_text, spent_text, told, validation_text, warning_text};
 
 use crate::objects::write_cycle;
-use crate::words::{argument_word, integrity_word, kind_word, limit_word, op_word};
+use crate::words::{
+    argument_word, integrity_word, kind_word, limit_word, op_word, request_name, request_word,
+};
 use crate::{Naming, ObjectText};
 use base_core::{
     ArithOp, AttrNo, ClassId, ColumnNo, IntegrityKind, Kind, Name, ObjId, Refusal, RequestKind,
@@ -17,29 +19,8 @@ use std::fmt;
 fn write_request<W: fmt::Write>(f: &mut fmt::Formatter<W>, kind: &RequestKind) -> fmt::Result
     ensures { DisplaysOnOk W.write_str_gives f.old result (Some (request_text kind.now)) f.new }
 {
-    match kind {
-        RequestKind::NotConfigured => f.write_str("NotConfigured"),
-        RequestKind::Configured => f.write_str("Configured"),
-        RequestKind::Unknown(name) => {
-            f.write_str("Unknown ")?;
-            f.write_str(name.get())
-        }
-        RequestKind::WrongKind => f.write_str("WrongKind"),
-        RequestKind::NotGrouped => f.write_str("NotGrouped"),
-        RequestKind::DuplicateFrom => f.write_str("DuplicateFrom"),
-        RequestKind::JoinedLimit => f.write_str("JoinedLimit"),
-        RequestKind::InTransaction => f.write_str("InTransaction"),
-        RequestKind::NotPersistent => f.write_str("NotPersistent"),
-        RequestKind::NotInSession => f.write_str("NotInSession"),
-        RequestKind::Deleted => f.write_str("Deleted"),
-        RequestKind::IdentityConflict => f.write_str("IdentityConflict"),
-        RequestKind::BadOwner => f.write_str("BadOwner"),
-        RequestKind::BadMember => f.write_str("BadMember"),
-        RequestKind::NotAMember => f.write_str("NotAMember"),
-        RequestKind::KeyChange => f.write_str("KeyChange"),
-        RequestKind::Discriminator => f.write_str("Discriminator"),
-        RequestKind::NoSuchIdentity => f.write_str("NoSuchIdentity"),
-    }
+    f.write_str(request_word(kind))?;
+    f.write_str(request_name(kind))
 }
 
 /// Writes a refusal's name, and a text in parentheses behind it.
@@ -179,7 +160,7 @@ fn write_integrity<W: fmt::Write, N: Naming>(
 }
 
 /// Writes a refusal, with the names of what it has by number.
-#[derive(Clone, Copy)]
+#[derive(Drop)]
 pub struct RefusalText<'a, N> {
     pub names: &'a N,
     pub refusal: &'a Refusal,
@@ -234,7 +215,7 @@ fn write_skipped<W: fmt::Write>(
 
 /// Writes what a warning says behind its line's number: the object that is outside the session, and the relationship
 /// that skipped it.
-#[derive(Clone, Copy)]
+#[derive(Drop)]
 pub struct WarningText<'a, N> {
     pub names: &'a N,
     pub warning: Warning,

@@ -1,16 +1,15 @@
 //! The texts of values and rows.
 
-ghost use Rattle.std.specs.Prelude.{Some};
+ghost use Rattle.std.specs.Prelude.{◌≡◌, Some, codes};
 ghost use Rattle.std.specs.Fmt.{DisplaysOnOk};
 ghost use Rattle.std.specs.List.{flat_map};
-ghost use Rattle.std.specs.Prelude.{codes};
-ghost use Rattle.printing.specs.Texts.{bool_text, doubled, hex_byte, led, row_text, value_text};
+ghost use Rattle.printing.specs.Texts.{bytes_text, doubled, hex_byte, joined, led, quoted, row_text, value_text, word_of};
 
 use base_core::{RowValues, Value};
 use std::fmt;
 
 /// Writes a value: `null`, a decimal number, `'text'` with `'` doubled, `true` or `false`, `x'0aff'` in lower case.
-#[derive(Clone, Copy)]
+#[derive(Drop)]
 pub struct ValueText<'a>(pub &'a Value);
 
 /// Writes the text with each of its quotes doubled.
@@ -38,32 +37,48 @@ fn write_hex<W: fmt::Write>(f: &mut fmt::Formatter<W>, bytes: &[u8]) -> fmt::Res
     Ok(())
 }
 
+/// Writes a text in quotes.
+fn write_quoted<W: fmt::Write>(f: &mut fmt::Formatter<W>, text: &str) -> fmt::Result
+    ensures { DisplaysOnOk W.write_str_gives f.old result (Some (quoted text.now)) f.new }
+{
+    f.write_str("'")?;
+    write_doubled(f, text)?;
+    f.write_str("'")
+}
+
+/// Writes bytes as they are written in a script.
+fn write_bytes<W: fmt::Write>(f: &mut fmt::Formatter<W>, bytes: &[u8]) -> fmt::Result
+    ensures { DisplaysOnOk W.write_str_gives f.old result (Some (bytes_text bytes.now)) f.new }
+{
+    f.write_str("x'")?;
+    write_hex(f, bytes)?;
+    f.write_str("'")
+}
+
+/// The word that is written of NULL or of a boolean; nothing of other values.
+fn word(value: &Value) -> &'static str
+    ensures { result.now ≡ word_of value.now }
+{
+    match value {
+        Value::Null => "null",
+        Value::Bool(true) => "true",
+        Value::Bool(false) => "false",
+        Value::Int(_) | Value::Text(_) | Value::Bytes(_) => "",
+    }
+}
+
 impl<'a> fmt::Display for ValueText<'a> {
     ghost output = { λ v. Some (value_text v.0.now) };
 
     fn fmt<W: fmt::Write>(&self, f: &mut fmt::Formatter<W>) -> fmt::Result {
         match self.0 {
-            Value::Null => f.write_str("null"),
-            Value::Bool(true) => f.write_str("true"),
-            Value::Bool(false) => f.write_str("false"),
             Value::Int(number) => write!(f, "{number}"),
-            Value::Text(text) => {
-                f.write_str("'")?;
-                write_doubled(f, text.get())?;
-                f.write_str("'")
-            }
-            Value::Bytes(bytes) => {
-                f.write_str("x'")?;
-                write_hex(f, bytes.get())?;
-                f.write_str("'")
-            }
+            Value::Text(text) => write_quoted(f, text.get()),
+            Value::Bytes(bytes) => write_bytes(f, bytes.get()),
+            Value::Null | Value::Bool(_) => f.write_str(word(self.0)),
         }
     }
 }
-
-/// Writes a row: its values in parentheses.
-#[derive(Clone, Copy)]
-pub struct RowText<'a>(pub &'a RowValues);
 
 /// Writes each value with a comma before it.
 fn write_led<W: fmt::Write>(f: &mut fmt::Formatter<W>, values: &[Value]) -> fmt::Result
@@ -76,16 +91,30 @@ fn write_led<W: fmt::Write>(f: &mut fmt::Formatter<W>, values: &[Value]) -> fmt:
     Ok(())
 }
 
+/// Writes the values with a comma between each two.
+fn write_values<W: fmt::Write>(f: &mut fmt::Formatter<W>, values: &[Value]) -> fmt::Result
+    ensures { DisplaysOnOk W.write_str_gives f.old result (Some (joined (codes ", ") value_text values.now)) f.new }
+{
+    match values.split_first() {
+        Some((first, rest)) => {
+            let shown = ValueText(first);
+            write!(f, "{shown}")?;
+            write_led(f, rest)
+        }
+        None => Ok(()),
+    }
+}
+
+/// Writes a row: its values in parentheses.
+#[derive(Drop)]
+pub struct RowText<'a>(pub &'a RowValues);
+
 impl<'a> fmt::Display for RowText<'a> {
     ghost output = { λ r. Some (row_text r.0.now) };
 
     fn fmt<W: fmt::Write>(&self, f: &mut fmt::Formatter<W>) -> fmt::Result {
         f.write_str("(")?;
-        if let Some((first, rest)) = self.0.as_slice().split_first() {
-            let shown = ValueText(first);
-            write!(f, "{shown}")?;
-            write_led(f, rest)?;
-        }
+        write_values(f, self.0.as_slice())?;
         f.write_str(")")
     }
 }

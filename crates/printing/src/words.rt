@@ -1,9 +1,9 @@
 //! The words of kinds.
 
 ghost use Rattle.std.specs.Prelude.{◌≡◌};
-ghost use Rattle.printing.specs.Texts.{argument_text, integrity_text, kind_text, limit_text, op_text};
+ghost use Rattle.printing.specs.Texts.{argument_text, integrity_text, kind_text, limit_text, op_text, request_name as request_name_of, request_word as request_word_of};
 
-use base_core::{ArgumentKind, ArithOp, IntegrityKind, Kind, LimitKind};
+use base_core::{ArgumentKind, ArithOp, IntegrityKind, Kind, LimitKind, RequestKind};
 
 /// The word of a kind of values.
 pub fn kind_word(kind: Kind) -> &'static str
@@ -73,5 +73,41 @@ pub fn argument_word(kind: ArgumentKind) -> &'static str
         ArgumentKind::PartnerDiffers => "PartnerDiffers",
         ArgumentKind::KeyForeign => "KeyForeign",
         ArgumentKind::BadPostUpdate => "BadPostUpdate",
+    }
+}
+
+/// The word of a request that does not fit the state that it meets.
+pub fn request_word(kind: &RequestKind) -> &'static str
+    ensures { result.now ≡ request_word_of kind.now }
+{
+    match kind {
+        RequestKind::NotConfigured => "NotConfigured",
+        RequestKind::Configured => "Configured",
+        RequestKind::Unknown(_) => "Unknown ",
+        RequestKind::WrongKind => "WrongKind",
+        RequestKind::NotGrouped => "NotGrouped",
+        RequestKind::DuplicateFrom => "DuplicateFrom",
+        RequestKind::JoinedLimit => "JoinedLimit",
+        RequestKind::InTransaction => "InTransaction",
+        RequestKind::NotPersistent => "NotPersistent",
+        RequestKind::NotInSession => "NotInSession",
+        RequestKind::Deleted => "Deleted",
+        RequestKind::IdentityConflict => "IdentityConflict",
+        RequestKind::BadOwner => "BadOwner",
+        RequestKind::BadMember => "BadMember",
+        RequestKind::NotAMember => "NotAMember",
+        RequestKind::KeyChange => "KeyChange",
+        RequestKind::Discriminator => "Discriminator",
+        RequestKind::NoSuchIdentity => "NoSuchIdentity",
+    }
+}
+
+/// The name that stands for nothing, where that is what does not fit.
+pub fn request_name(kind: &RequestKind) -> &str
+    ensures { result.now ≡ request_name_of kind.now }
+{
+    match kind {
+        RequestKind::Unknown(name) => name.get(),
+        _ => "",
     }
 }

@@ -7,27 +7,27 @@ use Rattle.std.proofs.lemmas.Bool.Decides.{nat_tests}
 use Rattle.std.specs.Io.BufRead.{strip_last}
 use Rattle.script_lines.specs.Cutting.{is_newline, carriage_return, line_width, has_newline, whole_line, last_line, passes_limit, most_bytes, cut, TooLong, Ended, Line, Cut}
 
-when_true : (test : Bool) (x y : Cut) → test ≡ true → cond test x y ≡ x
+pub when_true : (test : Bool) (x y : Cut) → test ≡ true → cond test x y ≡ x
 when_true true x y is = refl
 when_true false x y is = cc
 
-when_false : (test : Bool) (x y : Cut) → test ≡ false → cond test x y ≡ y
+pub when_false : (test : Bool) (x y : Cut) → test ≡ false → cond test x y ≡ y
 when_false true x y is = cc
 when_false false x y is = refl
 
-below : (a b : ℕ) → a < b → ltb a b ≡ true
+pub below : (a b : ℕ) → a < b → ltb a b ≡ true
 below a b is = grind (arith, nat_tests)
 
-not_below : (a b : ℕ) → b ≤ a → ltb a b ≡ false
+pub not_below : (a b : ℕ) → b ≤ a → ltb a b ≡ false
 not_below a b is = grind (arith, nat_tests)
 
-stands : (a b : ℕ) → ltb a b ≡ true → a < b
+pub stands : (a b : ℕ) → ltb a b ≡ true → a < b
 stands a b is = grind (arith, nat_tests)
 
-reaches : (a b : ℕ) → ltb a b ≡ false → b ≤ a
+pub reaches : (a b : ℕ) → ltb a b ≡ false → b ≤ a
 reaches a b is = grind (arith, nat_tests)
 
-same : (a b : ℕ) → a ≡ b → eqb a b ≡ true
+pub same : (a b : ℕ) → a ≡ b → eqb a b ≡ true
 same a b is = grind (arith, nat_tests)
 
 other : (a b : ℕ) → b < a → eqb a b ≡ false
@@ -40,7 +40,7 @@ passes_some : (width taken : ℕ) → taken ≤ most_bytes → passes_limit widt
 passes_some width taken few long = grind (arith, nat_tests)
 
 -- bytes behind a newline leave the first one where it is
-width_more : (bytes more : List ℕ) → line_width bytes < length bytes → line_width (bytes ++ more) ≡ line_width bytes
+pub width_more : (bytes more : List ℕ) → line_width bytes < length bytes → line_width (bytes ++ more) ≡ line_width bytes
 width_more bytes more within =
     let e = prefix_len-append (λ (b : ℕ). not (is_newline b)) bytes more in
     grind (arith, nat_tests)
@@ -55,26 +55,26 @@ width_past bytes more bare =
 pub has_more : (bytes more : List ℕ) → line_width bytes < length bytes → has_newline (bytes ++ more) ≡ true
 has_more bytes more within = below (line_width (bytes ++ more)) (length (bytes ++ more)) (omega (arith, width_more bytes more within, length-append bytes more))
 
-cut_whole : (taken : ℕ) (bytes : List ℕ) → line_width bytes < length bytes → cut taken bytes ≡ whole_line taken bytes
+pub cut_whole : (taken : ℕ) (bytes : List ℕ) → line_width bytes < length bytes → cut taken bytes ≡ whole_line taken bytes
 unfolding cut
 cut_whole taken bytes within = when_true (has_newline bytes) _ _ (below _ _ within)
 
-cut_last : (taken : ℕ) (bytes : List ℕ) → length bytes ≤ line_width bytes → 0 < length bytes → cut taken bytes ≡ last_line taken bytes
+pub cut_last : (taken : ℕ) (bytes : List ℕ) → length bytes ≤ line_width bytes → 0 < length bytes → cut taken bytes ≡ last_line taken bytes
 unfolding cut
 cut_last taken bytes bare some = when_false (has_newline bytes) _ _ (not_below _ _ bare) ∙ when_false (eqb (length bytes) 0) _ _ (other _ _ some)
 
-cut_none : (taken : ℕ) (bytes : List ℕ) → length bytes ≡ 0 → cut taken bytes ≡ Ended
+pub cut_none : (taken : ℕ) (bytes : List ℕ) → length bytes ≡ 0 → cut taken bytes ≡ Ended
 unfolding cut
 cut_none taken bytes none = when_false (has_newline bytes) _ _ (not_below _ _ (omega arith)) ∙ when_true (eqb (length bytes) 0) _ _ (same _ _ none)
 
-whole_too_long_at : (taken : ℕ) (bytes : List ℕ) → passes_limit (line_width bytes) (taken + (line_width bytes + 1)) ≡ true → whole_line taken bytes ≡ TooLong
+pub whole_too_long_at : (taken : ℕ) (bytes : List ℕ) → passes_limit (line_width bytes) (taken + (line_width bytes + 1)) ≡ true → whole_line taken bytes ≡ TooLong
 whole_too_long_at taken bytes long = when_true (passes_limit (line_width bytes) (taken + (line_width bytes + 1))) _ _ long
 
-whole_line_at : (taken width : ℕ) (bytes : List ℕ) → width ≡ line_width bytes → passes_limit width (taken + (width + 1)) ≡ false
+pub whole_line_at : (taken width : ℕ) (bytes : List ℕ) → width ≡ line_width bytes → passes_limit width (taken + (width + 1)) ≡ false
     → whole_line taken bytes ≡ Line (strip_last carriage_return (take width bytes)) (taken + (width + 1)) (drop (width + 1) bytes)
 whole_line_at taken width bytes is short = subst (λ (w : ℕ). passes_limit w (taken + (w + 1)) ≡ false → whole_line taken bytes ≡ Line (strip_last carriage_return (take w bytes)) (taken + (w + 1)) (drop (w + 1) bytes)) (sym is) (λ h. when_false (passes_limit (line_width bytes) (taken + (line_width bytes + 1))) _ _ h) short
 
-last_too_long : (taken : ℕ) (bytes : List ℕ) → passes_limit (length bytes) (taken + length bytes) ≡ true → last_line taken bytes ≡ TooLong
+pub last_too_long : (taken : ℕ) (bytes : List ℕ) → passes_limit (length bytes) (taken + length bytes) ≡ true → last_line taken bytes ≡ TooLong
 last_too_long taken bytes long = when_true (passes_limit (length bytes) (taken + length bytes)) _ _ long
 
 -- the line that a newline ends

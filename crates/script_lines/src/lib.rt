@@ -2,7 +2,9 @@
 #![tactic(auto)]
 
 mod cutting;
+mod laws;
 mod lines;
 
 pub use cutting::{MOST_BYTES, MOST_IN_LINE};
+pub use laws::a_script_is_its_lines;
 pub use lines::{LineBuffer, NextLine, ReadStop};

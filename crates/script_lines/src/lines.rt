@@ -1,6 +1,6 @@
 //! The buffer between a source and the lines of its script.
 
-ghost use Rattle.std.specs.Prelude.{◌≡◌, ◌≤◌, ℕ, [], length, true, false, None, Some, OnOk, IfOk, IfErr, OnErr};
+ghost use Rattle.std.specs.Prelude.{◌≡◌, ◌≢◌, ◌≤◌, ℕ, [], length, true, false, None, Some, Err, OnOk, IfOk, IfErr, OnErr};
 ghost use Rattle.std.specs.Io.KnownBytes.{Keeps};
 ghost use Rattle.base_core.specs.Counts.{Rose};
 ghost use Rattle.script_lines.specs.declared.lines.ReadStop.TheVariants.{Memory};
@@ -90,8 +90,8 @@ impl LineBuffer {
     /// The next line of the script whose bytes are pending here or left with the source.
     ///
     /// # Errors
-    /// `Fault` where the source failed, and then no line of the bytes that it gave is left whole; and want of memory.
-    /// Both leave what was read pending.
+    /// `Fault` where the source failed, and then no line of the bytes that it gave is left whole; and `Memory` where memory ran
+    /// out. Both leave what was read pending.
     pub fn next_line<S: Source>(&mut self, source: &mut S) -> Result<NextLine, ReadStop>
         requires { FitsSource self.old (S.left source.old) }
         ensures next { IfOk result (λ answer. IsNextTold self.old (S.left source.old) answer self.new (S.left source.new)) }
@@ -103,6 +103,7 @@ impl LineBuffer {
         ensures bare { IfErr result (λ stop. stop ≡ ReadStop.Fault → (self.new.ended ≡ false) × (has_newline self.new.bytes ≡ false)) }
         ensures faults { S.faults source.old ≤ S.faults source.new }
         ensures cause { IfErr result (λ stop. stop ≡ ReadStop.Fault → Rose (S.faults source.old) (S.faults source.new)) }
+        ensures quiet { result ≢ Err ReadStop.Fault → S.faults source.new ≡ S.faults source.old }
     {
         loop {
             if let Some(answer) = self.take_line()? {
@@ -138,6 +139,7 @@ impl LineBuffer {
         ensures stop { OnErr result ((self.new ≡ self.old) × Keeps (S.left source.old) (S.left source.new)) }
         ensures faults { S.faults source.old ≤ S.faults source.new }
         ensures cause { IfErr result (λ stop. stop ≡ ReadStop.Fault → Rose (S.faults source.old) (S.faults source.new)) }
+        ensures quiet { result ≢ Err ReadStop.Fault → S.faults source.new ≡ S.faults source.old }
     {
         let mut bytes = Vec::from_slice(*self.bytes.allocator(), &self.bytes[self.start..])?;
         let kept = bytes.len();

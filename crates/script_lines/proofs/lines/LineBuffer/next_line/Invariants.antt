@@ -1,4 +1,4 @@
-use Rattle.std.proofs.Common.{◌≡◌, true, ◌+◌, ◌-◌, ◌≤◌, cond, length}
+use Rattle.std.proofs.Common.{◌≡◌, true, ◌+◌, ◌-◌, cond, length}
 use Rattle.script_lines.specs.Cutting.{IsKept, FitsSource, most_in_line}
 use Rattle.script_lines.proofs.lines.LineBuffer.next_line.Given as goal
 
@@ -7,7 +7,7 @@ invariant-loop-answer g l = record {
   kept : IsKept l.fn.self (g.S.Source.left l.fn.source) l.self (g.S.Source.left l.source);
   fits : FitsSource l.self (g.S.Source.left l.source);
   ended : l.fn.self.ended ≡ true → l.self.ended ≡ true;
-  faults : g.S.Source.faults l.fn.source ≤ g.S.Source.faults l.source;
+  faults : g.S.Source.faults l.source ≡ g.S.Source.faults l.fn.source;
 }
 
 -- each turn brings a byte, or finds the end

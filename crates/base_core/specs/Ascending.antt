@@ -1,4 +1,4 @@
--- Lists of objects in rising order of their numbers.
+-- Lists of objects in ascending order of their numbers.
 use Rattle.std.specs.Prelude.{◌<◌, List, [], ◌∷◌}
 use Rattle.base_core.specs.declared.ids.ObjId.{ObjId}
 
@@ -13,6 +13,6 @@ IsBelow object [] = Unit {0}
 IsBelow object (x ∷ xs) = (object.0 < x.0) × IsBelow object xs
 
 -- each object is below all later ones
-abbrev pub IsRising : List ObjId → Type 0
-IsRising [] = Unit {0}
-IsRising (x ∷ xs) = IsBelow x xs × IsRising xs
+abbrev pub IsAscending : List ObjId → Type 0
+IsAscending [] = Unit {0}
+IsAscending (x ∷ xs) = IsBelow x xs × IsAscending xs
