@@ -1,4 +1,1 @@
-pub mod AnySteps
-pub mod ApplySteps
 pub mod CellLemmas
-pub mod NextKey

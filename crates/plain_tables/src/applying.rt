@@ -1,49 +1,27 @@
-//! A statement on one row, done on tables that are lists.
+//! A statement on rows, done on tables that are lists.
 
-ghost use Rattle.std.specs.Prelude.{◌≡◌, ◌+ℤ◌, pos, if◌then◌else◌, IfOk};
+ghost use Rattle.std.specs.Prelude.{◌≡◌, ◌+ℤ◌, pos, if◌then◌else◌, [], ◌∷◌, IfOk};
 ghost use Rattle.std.specs.Option.{option_copied};
-ghost use Rattle.schema_core.specs.Tables.{row_under, rows_in, with_row, with_rows, without_row};
+ghost use Rattle.schema_core.specs.Tables.{row_under, rows_in, with_row, with_rows};
+ghost use Rattle.std.specs.List.{list_any};
 ghost use Rattle.std.specs.Ordering.{int_eq};
-ghost use Rattle.schema_core.specs.Apply.{apply, deleted, inserted, is_demanded, key_after, lacks_value, next_key, put_in, table_of, unless_dangling, updated, wants_key, written};
+ghost use Rattle.schema_core.specs.Apply.{apply, delete_row, entries_of, entry_of, insert_rows, is_demanded, key_after, keys_of_entries, next_key, table_of, update_row, wants_key, with_own_key};
 ghost use Rattle.schema_core.specs.Catalog.{spec_of, IsTable};
-ghost use Rattle.plain_tables.specs.Told.{Told};
-ghost use Rattle.plain_tables.specs.declared.applying.Unapplied.TheVariants.{Memory};
+ghost use Rattle.schema_core.specs.Judged.{change_all, lacks_value, remove_all, with_all, without_all, write_all};
+ghost use Rattle.schema_core.specs.Told.{Told};
 
-use crate::cells::{has_null, key_of, lacks_required, lacks_value, with_cells, with_key};
-use crate::entries::{value_of, with_entry, without_entry};
-use crate::judging::{has_dangling, repeats_unique};
-use base_core::{ColumnNo, Copied, Key, ListOf, RowValues, TableId, Value};
-use schema_core::{Breach, ColumnSpec, RowStmt, Schema};
-use std::alloc::{AllocError, AllocFailed, Global};
+use crate::cells::{has_null, key_of, lacks_value, some_lacks, with_cells, with_key};
+use crate::entries::{copy_of, value_of, with_entry, without_entry};
+use crate::judging::{some_loses_row, some_repeats, some_written_dangles};
+use base_core::{ColumnNo, Copied, Key, KeyList, ListOf, RowValues, TableId, Value};
+use schema_core::{ColumnSpec, RowStmt, Schema, Unwritten, Violation};
+use std::alloc::{AllocError, Global};
 
-/// The rows of a table, each with its key before it, rising by key.
+/// The rows of a table, each with its key before it, ascending by key.
 pub type PlainRows = ListOf<(Key, RowValues)>;
 
-/// Each created table with its rows, rising by number.
+/// Each created table with its rows, ascending by number.
 pub type PlainTables = ListOf<(TableId, PlainRows)>;
-
-/// Why a statement was not done.
-#[derive(Clone, Copy, Debug, PartialEq, Eq)]
-pub enum Unapplied {
-    Breaks(Breach),
-    Memory,
-}
-
-impl From<AllocError> for Unapplied {
-    ghost from_gives = { λ _ e. e ≡ Memory };
-
-    fn from(_e: AllocError) -> Unapplied {
-        Unapplied::Memory
-    }
-}
-
-impl<T: Drop> From<AllocFailed<T>> for Unapplied {
-    ghost from_gives = { λ _ e. e ≡ Memory };
-
-    fn from(_e: AllocFailed<T>) -> Unapplied {
-        Unapplied::Memory
-    }
-}
 
 /// The rows of a table, where it is created.
 pub fn rows_in<'a>(tables: &'a [(TableId, PlainRows)], table: TableId) -> Option<&'a PlainRows>
@@ -83,22 +61,54 @@ fn with_row(
     with_entry(alloc, rows.as_slice(), key, row)
 }
 
-/// The rows without the one of a key.
-fn without_row(alloc: Global, rows: &PlainRows, key: &Key) -> Result<PlainRows, AllocError>
-    ensures { IfOk result (λ changed. changed ≡ without_row rows.now key.now) }
+/// The rows with these written, each under its key.
+fn with_all(
+    alloc: Global,
+    rows: &[(Key, RowValues)],
+    entries: &[(Key, RowValues)],
+) -> Result<PlainRows, AllocError>
+    ensures { IfOk result (λ left. left ≡ with_all rows.now entries.now) }
 {
-    without_entry(alloc, rows.as_slice(), key)
+    let Some((entry, entries)) = entries.split_first() else {
+        return copy_of(alloc, rows);
+    };
+    let rows = with_entry(alloc, rows, entry.0.copied()?, entry.1.copied()?)?;
+    with_all(alloc, rows.as_slice(), entries)
 }
 
-/// The table that a statement writes.
-fn table_of(statement: &RowStmt) -> TableId
-    ensures { result ≡ table_of statement.now }
+/// The rows without those of these keys.
+fn without_all(
+    alloc: Global,
+    rows: &[(Key, RowValues)],
+    keys: &[Key],
+) -> Result<PlainRows, AllocError>
+    ensures { IfOk result (λ left. left ≡ without_all rows.now keys.now) }
 {
-    match statement {
-        RowStmt::Insert { table, .. }
-        | RowStmt::Update { table, .. }
-        | RowStmt::Delete { table, .. } => *table,
+    let Some((key, keys)) = keys.split_first() else {
+        return copy_of(alloc, rows);
+    };
+    let rows = without_entry(alloc, rows, key)?;
+    without_all(alloc, rows.as_slice(), keys)
+}
+
+/// The keys of rows.
+fn keys_of_entries(alloc: Global, entries: &[(Key, RowValues)]) -> Result<KeyList, AllocError>
+    ensures { IfOk result (λ keys. keys ≡ keys_of_entries entries.now) }
+{
+    let mut keys = Vec::new(alloc);
+    for entry in entries {
+        keys.push(entry.0.copied()?)?;
     }
+    Ok(ListOf::from_vec(keys))
+}
+
+/// A list of one key.
+fn one_key(alloc: Global, key: &Key) -> Result<KeyList, AllocError>
+    ensures { IfOk result (λ keys. keys ≡ key.now ∷ []) }
+{
+    let mut keys = Vec::new(alloc);
+    keys.push(key.copied()?)?;
+    Ok(ListOf::from_vec(keys))
 }
 
 /// The integer above the one that a key is, if there is one.
@@ -121,7 +131,7 @@ fn above(n: i64) -> Option<i64>
     Some(n + 1)
 }
 
-#[tactic(auto, using(crate::proofs::NextKey::next_keys))]
+#[tactic(auto, using(schema_core::proofs::NextKey::next_keys))]
 /// One above the greatest key, 1 where there are no rows; none where the greatest key is the greatest integer.
 fn next_key(rows: &[(Key, RowValues)]) -> Option<i64>
     ensures { result ≡ next_key rows.now }
@@ -150,51 +160,55 @@ impl<'a> Target<'a> {
         self.schema.spec(self.table).columns.as_slice()
     }
 
-    #[tactic(auto, unfolding(schema_core::specs::Apply::unless_dangling))]
-    /// The tables that are left, unless a foreign key names no row of them.
-    fn unless_dangling(
-        &self,
-        key: Key,
-        tables: PlainTables,
-    ) -> Result<(Key, PlainTables), Unapplied>
-        ensures { Told (unless_dangling self.now.schema.now key tables) result }
-    {
-        if has_dangling(self.schema, tables.as_slice()) {
-            return Err(Unapplied::Breaks(Breach::Foreign));
-        }
-        Ok((key, tables))
-    }
-
-    #[tactic(auto, using(crate::proofs::ApplySteps::written_steps))]
-    /// The tables with a row written, unless it repeats a unique value or leaves a foreign key that names no row.
-    fn written(
+    #[tactic(auto, using(schema_core::proofs::ApplySteps::write_steps))]
+    /// The tables with these rows written, unless one of these repeats a unique value or refers to no row.
+    fn write_all(
         &self,
         alloc: Global,
-        key: Key,
-        row: RowValues,
-    ) -> Result<(Key, PlainTables), Unapplied>
+        entries: &[(Key, RowValues)],
+    ) -> Result<PlainTables, Unwritten>
         requires { IsTable self.now.schema.now self.now.table }
-        ensures { Told (written self.now.schema.now self.now.tables.now self.now.table self.now.rows.now key row) result }
+        ensures { Told (write_all self.now.schema.now self.now.tables.now self.now.table self.now.rows.now entries.now) result }
     {
-        let rows = with_row(alloc, self.rows, key.copied()?, row.copied()?)?;
-        if repeats_unique(self.schema.spec(self.table), rows.as_slice(), &key, &row) {
-            return Err(Unapplied::Breaks(Breach::Unique));
+        let spec = self.schema.spec(self.table);
+        let rows = with_all(alloc, self.rows.as_slice(), entries)?;
+        if some_repeats(spec, rows.as_slice(), entries) {
+            return Err(Unwritten::Violates(Violation::Unique));
         }
         let tables = with_rows(alloc, self.tables, self.table, rows)?;
-        self.unless_dangling(key, tables)
+        if some_written_dangles(self.schema, tables.as_slice(), spec, entries) {
+            return Err(Unwritten::Violates(Violation::Foreign));
+        }
+        Ok(tables)
     }
 
-    #[tactic(auto, using(crate::proofs::ApplySteps::put_in_steps))]
-    /// The tables with a row whose key is known.
-    fn put_in(&self, alloc: Global, row: RowValues) -> Result<(Key, PlainTables), Unapplied>
+    #[tactic(auto, using(schema_core::proofs::ApplySteps::change_steps))]
+    /// The same, unless one of these lacks a value.
+    fn change_all(
+        &self,
+        alloc: Global,
+        entries: &[(Key, RowValues)],
+    ) -> Result<PlainTables, Unwritten>
         requires { IsTable self.now.schema.now self.now.table }
-        ensures { Told (put_in self.now.schema.now self.now.tables.now self.now.table self.now.rows.now row) result }
+        ensures { Told (change_all self.now.schema.now self.now.tables.now self.now.table self.now.rows.now entries.now) result }
     {
-        let key = key_of(alloc, self.columns(), row.as_slice())?;
-        if row_under(self.rows, &key).is_some() {
-            return Err(Unapplied::Breaks(Breach::PrimaryKey));
+        if some_lacks(self.schema.spec(self.table), entries) {
+            return Err(Unwritten::Violates(Violation::NotNull));
         }
-        self.written(alloc, key, row)
+        self.write_all(alloc, entries)
+    }
+
+    #[tactic(auto, using(schema_core::proofs::ApplySteps::remove_steps))]
+    /// The tables without the rows of these keys, unless a row that is left refers to one of them.
+    fn remove_all(&self, alloc: Global, keys: &[Key]) -> Result<PlainTables, Unwritten>
+        ensures { Told (remove_all self.now.schema.now self.now.tables.now self.now.table self.now.rows.now keys.now) result }
+    {
+        let rows = without_all(alloc, self.rows.as_slice(), keys)?;
+        let tables = with_rows(alloc, self.tables, self.table, rows)?;
+        if some_loses_row(self.schema, self.tables.as_slice(), tables.as_slice()) {
+            return Err(Unwritten::Violates(Violation::Foreign));
+        }
+        Ok(tables)
     }
 
     /// Whether the key of a new row is to be generated.
@@ -209,87 +223,149 @@ impl<'a> Target<'a> {
         Ok(has_null(key.as_slice()))
     }
 
-    #[tactic(auto, using(crate::proofs::ApplySteps::demanded))]
-    /// Whether a new row has a NULL in a column that takes none; a key that is generated may be left open.
-    fn lacks_demanded(&self, row: &RowValues) -> bool
+    #[tactic(auto, using(schema_core::proofs::ApplySteps::own_key_steps))]
+    /// A new row with its key, which is the next one of these rows where the row leaves it open.
+    fn with_own_key(
+        &self,
+        alloc: Global,
+        rows: &PlainRows,
+        row: &RowValues,
+    ) -> Result<Option<RowValues>, AllocError>
         requires { IsTable self.now.schema.now self.now.table }
-        ensures { result ≡ lacks_value (is_demanded (spec_of self.now.schema.now self.now.table)) (spec_of self.now.schema.now self.now.table).columns row.now }
+        ensures { IfOk result (λ keyed. keyed ≡ with_own_key (spec_of self.now.schema.now self.now.table) rows.now row.now) }
+    {
+        if !self.wants_key(alloc, row)? {
+            return Ok(Some(row.copied()?));
+        }
+        let Some(key) = next_key(rows.as_slice()) else {
+            return Ok(None);
+        };
+        Ok(Some(with_key(alloc, self.columns(), key, row.as_slice())?))
+    }
+
+    #[tactic(auto, using(schema_core::proofs::ApplySteps::entry_steps))]
+    /// A new row under its key, which none of these rows has.
+    fn entry_of(
+        &self,
+        alloc: Global,
+        rows: &PlainRows,
+        row: Option<RowValues>,
+    ) -> Result<(Key, RowValues), Unwritten>
+        requires { IsTable self.now.schema.now self.now.table }
+        ensures { Told (entry_of (spec_of self.now.schema.now self.now.table) rows.now row) result }
+    {
+        let Some(row) = row else {
+            return Err(Unwritten::Violates(Violation::KeysSpent));
+        };
+        let key = key_of(alloc, self.columns(), row.as_slice())?;
+        if row_under(rows, &key).is_some() {
+            return Err(Unwritten::Violates(Violation::PrimaryKey));
+        }
+        Ok((key, row))
+    }
+
+    #[tactic(auto, using(schema_core::proofs::ApplySteps::entries_steps))]
+    /// New rows under their keys, one after another.
+    fn entries_of(
+        &self,
+        alloc: Global,
+        rows: &PlainRows,
+        new: &[RowValues],
+    ) -> Result<PlainRows, Unwritten>
+        requires { IsTable self.now.schema.now self.now.table }
+        ensures { Told (entries_of (spec_of self.now.schema.now self.now.table) rows.now new.now) result }
+    {
+        let Some((row, more)) = new.split_first() else {
+            return Ok(ListOf::new(alloc));
+        };
+        let keyed = self.with_own_key(alloc, rows, row)?;
+        let entry = self.entry_of(alloc, rows, keyed)?;
+        let rows = with_row(alloc, rows, entry.0.copied()?, entry.1.copied()?)?;
+        let mut entries = self.entries_of(alloc, &rows, more)?.into_vec();
+        entries.insert(0, entry)?;
+        Ok(ListOf::from_vec(entries))
+    }
+
+    /// Whether a new row has a NULL in a column that takes none; a key that is generated may be left open.
+    fn some_lacks_demanded(&self, new: &[RowValues]) -> bool
+        requires { IsTable self.now.schema.now self.now.table }
+        ensures { result ≡ list_any (lacks_value (is_demanded (spec_of self.now.schema.now self.now.table)) (spec_of self.now.schema.now self.now.table).columns) new.now }
     {
         let generated = self.schema.generated(self.table);
-        lacks_value(self.columns(), row.as_slice(), generated)
+        let columns = self.columns();
+        new.iter()
+            .any(|row| lacks_value(columns, row.as_slice(), generated))
     }
 
-    #[tactic(auto, using(crate::proofs::ApplySteps::inserted_steps))]
-    /// The tables with a new row.
-    fn inserted(&self, alloc: Global, row: &RowValues) -> Result<(Key, PlainTables), Unapplied>
+    #[tactic(auto, using(schema_core::proofs::ApplySteps::insert_steps))]
+    /// The tables with new rows.
+    fn insert_rows(
+        &self,
+        alloc: Global,
+        new: &[RowValues],
+    ) -> Result<(KeyList, PlainTables), Unwritten>
         requires { IsTable self.now.schema.now self.now.table }
-        ensures { Told (inserted self.now.schema.now self.now.tables.now self.now.table self.now.rows.now row.now) result }
+        ensures { Told (insert_rows self.now.schema.now self.now.tables.now self.now.table self.now.rows.now new.now) result }
     {
-        if self.lacks_demanded(row) {
-            return Err(Unapplied::Breaks(Breach::NotNull));
+        if self.some_lacks_demanded(new) {
+            return Err(Unwritten::Violates(Violation::NotNull));
         }
-        if !self.wants_key(alloc, row)? {
-            return self.put_in(alloc, row.copied()?);
-        }
-        let Some(key) = next_key(self.rows.as_slice()) else {
-            return Err(Unapplied::Breaks(Breach::KeysSpent));
-        };
-        self.put_in(alloc, with_key(alloc, self.columns(), key, row.as_slice())?)
+        let entries = self.entries_of(alloc, self.rows, new)?;
+        let tables = self.write_all(alloc, entries.as_slice())?;
+        Ok((keys_of_entries(alloc, entries.as_slice())?, tables))
     }
 
-    #[tactic(auto, using(crate::proofs::ApplySteps::updated_steps))]
+    #[tactic(auto, using(schema_core::proofs::ApplySteps::update_steps))]
     /// The tables with cells of the row of a key written.
-    fn updated(
+    fn update_row(
         &self,
         alloc: Global,
         key: &Key,
         cells: &ListOf<(ColumnNo, Value)>,
-    ) -> Result<(Key, PlainTables), Unapplied>
+    ) -> Result<(KeyList, PlainTables), Unwritten>
         requires { IsTable self.now.schema.now self.now.table }
-        ensures { Told (updated self.now.schema.now self.now.tables.now self.now.table self.now.rows.now key.now cells.now) result }
+        ensures { Told (update_row self.now.schema.now self.now.tables.now self.now.table self.now.rows.now key.now cells.now) result }
     {
         let Some(row) = row_under(self.rows, key) else {
-            return Err(Unapplied::Breaks(Breach::Missing));
+            return Err(Unwritten::Violates(Violation::Missing));
         };
         let row = with_cells(row, cells.as_slice())?;
-        if lacks_required(self.columns(), row.as_slice()) {
-            return Err(Unapplied::Breaks(Breach::NotNull));
-        }
-        self.written(alloc, key.copied()?, row)
+        let tables = self.change_all(alloc, &[(key.copied()?, row)])?;
+        Ok((one_key(alloc, key)?, tables))
     }
 
-    #[tactic(auto, using(crate::proofs::ApplySteps::deleted_steps))]
+    #[tactic(auto, using(schema_core::proofs::ApplySteps::delete_steps))]
     /// The tables without the row of a key, which may be absent.
-    fn deleted(&self, alloc: Global, key: &Key) -> Result<(Key, PlainTables), Unapplied>
-        ensures { Told (deleted self.now.schema.now self.now.tables.now self.now.table self.now.rows.now key.now) result }
+    fn delete_row(&self, alloc: Global, key: &Key) -> Result<(KeyList, PlainTables), Unwritten>
+        ensures { Told (delete_row self.now.schema.now self.now.tables.now self.now.table self.now.rows.now key.now) result }
     {
-        let Some(_) = row_under(self.rows, key) else {
-            return Ok((key.copied()?, self.tables.copied()?));
-        };
-        let rows = without_row(alloc, self.rows, key)?;
-        let tables = with_rows(alloc, self.tables, self.table, rows)?;
-        self.unless_dangling(key.copied()?, tables)
+        let keys = one_key(alloc, key)?;
+        if row_under(self.rows, key).is_none() {
+            return Ok((keys, self.tables.copied()?));
+        }
+        let tables = self.remove_all(alloc, keys.as_slice())?;
+        Ok((keys, tables))
     }
 }
 
-#[tactic(auto, using(crate::proofs::ApplySteps::applied_steps))]
-/// The row's key and the tables that a statement leaves, or what it breaks first. The tables are left alone.
+#[tactic(auto, using(schema_core::proofs::ApplySteps::apply_steps))]
+/// The keys of a statement's rows and the tables that it leaves, or what it violates first. The tables are left alone.
 ///
 /// # Errors
-/// `Breaks` with the first breach in the order `NoTable`, `Missing`, `NotNull`, `KeysSpent`, `PrimaryKey`, `Unique`,
-/// `Foreign`, as SQL's constraints are judged at the end of the statement; and want of memory.
+/// `Violates` with the first violation in the order `NoTable`, `Missing`, `NotNull`, `KeysSpent`, `PrimaryKey`, `Unique`,
+/// `Foreign`, as SQL's constraints are judged at the end of the statement; and out of memory.
 pub fn apply(
     alloc: Global,
     schema: &Schema,
     tables: &PlainTables,
     statement: &RowStmt,
-) -> Result<(Key, PlainTables), Unapplied>
+) -> Result<(KeyList, PlainTables), Unwritten>
     requires { IsTable schema.now (table_of statement.now) }
     ensures { Told (apply schema.now tables.now statement.now) result }
 {
-    let table = table_of(statement);
+    let table = statement.table();
     let Some(rows) = rows_in(tables.as_slice(), table) else {
-        return Err(Unapplied::Breaks(Breach::NoTable(table)));
+        return Err(Unwritten::Violates(Violation::NoTable(table)));
     };
     let target = Target {
         schema,
@@ -298,8 +374,8 @@ pub fn apply(
         rows,
     };
     match statement {
-        RowStmt::Insert { row, .. } => target.inserted(alloc, row),
-        RowStmt::Update { key, cells, .. } => target.updated(alloc, key, cells),
-        RowStmt::Delete { key, .. } => target.deleted(alloc, key),
+        RowStmt::Insert { rows, .. } => target.insert_rows(alloc, rows.as_slice()),
+        RowStmt::Update { key, cells, .. } => target.update_row(alloc, key, cells),
+        RowStmt::Delete { key, .. } => target.delete_row(alloc, key),
     }
 }

@@ -5,12 +5,13 @@ ghost use Rattle.std.specs.Option.{option_copied};
 ghost use Rattle.std.specs.Ordering.{is_eq};
 ghost use Rattle.base_core.specs.Order.{value_cmp};
 ghost use Rattle.plain_tables.specs.Cells.{held};
-ghost use Rattle.schema_core.specs.Apply.{lacks_value, with_cells, with_key};
+ghost use Rattle.schema_core.specs.Apply.{with_cells, with_key};
+ghost use Rattle.schema_core.specs.Judged.{lacks_value, some_lacks};
 ghost use Rattle.schema_core.specs.Catalog.{is_required};
 ghost use Rattle.schema_core.specs.Tables.{cell_of, has_null, is_null, key_cells, same_values};
 
 use base_core::{ColumnNo, Copied, Key, ListOf, Name, RowValues, Value, compare};
-use schema_core::{ColumnSpec, is_required};
+use schema_core::{ColumnSpec, TableSpec, is_required};
 use std::alloc::{AllocError, Global};
 
 /// Whether a cell is NULL, as one that is not there is.
@@ -114,10 +115,20 @@ pub fn lacks_value(columns: &[ColumnSpec], row: &[Value], generated: bool) -> bo
 
 #[tactic(auto, using(crate::proofs::CellLemmas::all_wanted))]
 /// Whether a NULL stands in a column that takes none.
-pub fn lacks_required(columns: &[ColumnSpec], row: &[Value]) -> bool
+fn lacks_required(columns: &[ColumnSpec], row: &[Value]) -> bool
     ensures { result ≡ lacks_value is_required columns.now row.now }
 {
     lacks_value(columns, row, false)
+}
+
+/// Whether a written row has a NULL in a column that takes none.
+pub fn some_lacks(spec: &TableSpec, entries: &[(Key, RowValues)]) -> bool
+    ensures { result ≡ some_lacks spec.now entries.now }
+{
+    let columns = spec.columns.as_slice();
+    entries
+        .iter()
+        .any(|entry| lacks_required(columns, entry.1.as_slice()))
 }
 
 /// The cells of the primary key.

@@ -1,4 +1,4 @@
-//! Lists of keys with their values, rising by key.
+//! Lists of keys with their values, ascending by key.
 
 ghost use Rattle.std.specs.Prelude.{◌≡◌, ◌++◌, IfOk, OnOk};
 ghost use Rattle.std.specs.BTreeMap.{insert_entry, is_at};
@@ -92,6 +92,18 @@ fn push_without<K: Ord + Copied + Drop, V: Copied + Drop>(
     }
     changed.push(entry.copied()?)?;
     push_without(changed, rest, key)
+}
+
+/// Copies of entries.
+pub fn copy_of<K: Copied + Drop, V: Copied + Drop>(
+    alloc: Global,
+    entries: &[(K, V)],
+) -> Result<ListOf<(K, V)>, AllocError>
+    ensures { IfOk result (λ copy. copy ≡ entries.now) }
+{
+    let mut copy = Vec::new(alloc);
+    push_all(&mut copy, entries)?;
+    Ok(ListOf::from_vec(copy))
 }
 
 /// Puts copies of entries behind others.

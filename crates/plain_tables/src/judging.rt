@@ -3,7 +3,8 @@
 ghost use Rattle.std.specs.Prelude.{◌≡◌, ◌&&◌, not, map, is_some};
 ghost use Rattle.std.specs.List.{list_any};
 ghost use Rattle.schema_core.specs.Catalog.{spec_of};
-ghost use Rattle.schema_core.specs.Tables.{cell_of, cells_of, collide, dangles, has_dangling, names_row, repeats_unique, row_under, same_values, some_dangles};
+ghost use Rattle.schema_core.specs.Judged.{loses_row, some_loses_row, some_repeats, some_written_dangles};
+ghost use Rattle.schema_core.specs.Tables.{cell_of, cells_of, collide, dangles, names_row, repeats_unique, row_under, same_values, some_dangles};
 
 use crate::applying::{PlainRows, rows_in};
 use crate::cells::{are_cells, has_null_in, same_cells};
@@ -32,7 +33,7 @@ fn some_collides(
     rows.iter().any(|other| !key.cmp(&other.0).is_eq() && collide(spec, unique, row, &other.1))
 }
 
-#[tactic(auto, using(crate::proofs::AnySteps::any_steps))]
+#[tactic(auto, using(schema_core::proofs::AnySteps::any_steps))]
 /// Whether a row under another key collides with this one.
 pub fn repeats_unique(
     spec: &TableSpec,
@@ -50,7 +51,7 @@ pub fn repeats_unique(
     false
 }
 
-#[tactic(auto, using(crate::proofs::AnySteps::some_or))]
+#[tactic(auto, using(schema_core::proofs::AnySteps::some_or))]
 /// Whether a row stands under the cells that another row has in the columns of a list.
 fn has_row(rows: &[(Key, RowValues)], columns: &[ColumnSpec], row: &[Value], names: &[Name]) -> bool
     ensures { result ≡ is_some (row_under rows.now (map (cell_of columns.now row.now) names.now)) }
@@ -116,30 +117,90 @@ fn some_dangles(
         .any(|foreign| dangles(schema, tables, spec, row, foreign))
 }
 
-/// Whether some row of a created table has a foreign key that dangles; a table that is not declared has none.
-fn some_row_dangles(
+/// Whether a written row has a unique value of another row that is left.
+pub fn some_repeats(
+    spec: &TableSpec,
+    left: &[(Key, RowValues)],
+    entries: &[(Key, RowValues)],
+) -> bool
+    ensures { result ≡ some_repeats spec.now left.now entries.now }
+{
+    entries
+        .iter()
+        .any(|entry| repeats_unique(spec, left, &entry.0, &entry.1))
+}
+
+/// Whether a foreign key of a written row names no row of the tables that are left.
+pub fn some_written_dangles(
     schema: &Schema,
-    tables: &[(TableId, PlainRows)],
+    left: &[(TableId, PlainRows)],
+    spec: &TableSpec,
+    entries: &[(Key, RowValues)],
+) -> bool
+    ensures { result ≡ some_written_dangles schema.now left.now spec.now entries.now }
+{
+    entries
+        .iter()
+        .any(|entry| some_dangles(schema, left, spec, &entry.1))
+}
+
+/// Whether a row's foreign key named a row before, and names none of the tables that are left.
+fn loses_row(
+    schema: &Schema,
+    before: &[(TableId, PlainRows)],
+    left: &[(TableId, PlainRows)],
+    spec: &TableSpec,
+    row: &RowValues,
+    foreign: &ForeignSpec,
+) -> bool
+    ensures { result ≡ loses_row schema.now before.now left.now spec.now row.now foreign.now }
+{
+    names_row(schema, before, spec, row, foreign) && dangles(schema, left, spec, row, foreign)
+}
+
+/// Whether one of a row's foreign keys does.
+fn row_loses(
+    schema: &Schema,
+    before: &[(TableId, PlainRows)],
+    left: &[(TableId, PlainRows)],
+    spec: &TableSpec,
+    row: &RowValues,
+) -> bool
+    ensures { result ≡ list_any (loses_row schema.now before.now left.now spec.now row.now) spec.now.foreigns }
+{
+    let foreigns = spec.foreigns.as_slice();
+    foreigns.iter().any(|foreign| loses_row(schema, before, left, spec, row, foreign))
+}
+
+/// Whether a row of a created table does; a table that is not declared has no foreign keys.
+fn table_loses(
+    schema: &Schema,
+    before: &[(TableId, PlainRows)],
+    left: &[(TableId, PlainRows)],
     table: TableId,
     rows: &[(Key, RowValues)],
 ) -> bool
-    ensures { result ≡ list_any (λ row. some_dangles schema.now tables.now (spec_of schema.now table) row.1) rows.now }
+    ensures { result ≡ list_any (λ row. list_any (loses_row schema.now before.now left.now (spec_of schema.now table) row.1) (spec_of schema.now table).foreigns) rows.now }
 {
     if schema.count() <= table.0 {
         return false;
     }
     let spec = schema.spec(table);
     rows.iter()
-        .any(|row| some_dangles(schema, tables, spec, &row.1))
+        .any(|row| row_loses(schema, before, left, spec, &row.1))
 }
 
-#[tactic(auto, using(crate::proofs::AnySteps::any_steps))]
-/// Whether some row of the tables has a foreign key that dangles.
-pub fn has_dangling(schema: &Schema, tables: &[(TableId, PlainRows)]) -> bool
-    ensures { result ≡ has_dangling schema.now tables.now }
+#[tactic(auto, using(schema_core::proofs::AnySteps::any_steps))]
+/// Whether a row that is left refers to one that was taken out.
+pub fn some_loses_row(
+    schema: &Schema,
+    before: &[(TableId, PlainRows)],
+    left: &[(TableId, PlainRows)],
+) -> bool
+    ensures { result ≡ some_loses_row schema.now before.now left.now }
 {
-    for (table, rows) in tables {
-        if some_row_dangles(schema, tables, *table, rows.as_slice()) {
+    for (table, rows) in left {
+        if table_loses(schema, before, left, *table, rows.as_slice()) {
             return true;
         }
     }

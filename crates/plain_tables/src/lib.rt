@@ -1,4 +1,4 @@
-//! What a statement on one row does to tables that are plain lists: the definition as a program, slow and without
+//! What a statement on rows does to tables that are plain lists: the definition as a program, slow and without
 //! maps, indexes or invariants. It is there to try the definition.
 #![tactic(auto)]
 
@@ -7,4 +7,4 @@ mod cells;
 mod entries;
 mod judging;
 
-pub use applying::{PlainRows, PlainTables, Unapplied, apply};
+pub use applying::{PlainRows, PlainTables, apply};

@@ -1,4 +1,9 @@
+pub mod AnySteps
+pub mod ApplySteps
+pub mod NewKeys
+pub mod NextKey
 pub mod Placing
 pub mod SomeTwo
 pub mod Steps
 pub mod Targets
+pub mod Violations

@@ -1,28 +1,31 @@
--- What a statement on one row does: the row's key and the tables that it leaves, or what it breaks first.
-use Rattle.std.specs.Prelude.{ℕ, ℤ, pos, ◌+ℤ◌, Bool, true, false, not, cond, ◌&&◌, ◌||◌, List, [], ◌∷◌, slice_set, Option, None, Some, is_some, Result, Ok, Err, if◌then◌else◌}
+-- What a statement on rows does: the keys of its rows and the tables that it leaves, or the first rule that it violates.
+use Rattle.std.specs.Prelude.{ℕ, ℤ, pos, ◌+ℤ◌, Bool, true, false, not, cond, ◌&&◌, List, [], ◌∷◌, map, slice_set, Option, None, Some, is_some, Result, Ok, Err, if◌then◌else◌}
+use Rattle.std.specs.List.{list_any}
+use Rattle.std.specs.Option.{option_map}
 use Rattle.std.specs.Ordering.{int_eq}
 use Rattle.base_core.specs.declared.ids.ColumnNo.{ColumnNo}
 use Rattle.base_core.specs.declared.ids.TableId.{TableId}
 use Rattle.base_core.specs.declared.value.Value.{Value}
 use Rattle.base_core.specs.declared.value.Value.TheVariants.{Null, Bool as BoolValue, Int, Text, Bytes}
-use Rattle.schema_core.specs.declared.statement.Breach.{Breach}
-use Rattle.schema_core.specs.declared.statement.Breach.TheVariants.{NoTable, Missing, NotNull, KeysSpent, PrimaryKey, Unique, Foreign}
+use Rattle.schema_core.specs.declared.statement.Violation.{Violation}
+use Rattle.schema_core.specs.declared.statement.Violation.TheVariants.{NoTable, Missing, NotNull, KeysSpent, PrimaryKey}
 use Rattle.schema_core.specs.declared.statement.RowStmt.{RowStmt}
 use Rattle.schema_core.specs.declared.statement.RowStmt.TheVariants.{Insert, Update, Delete}
 use Rattle.schema_core.specs.declared.table.ColumnSpec.{ColumnSpec}
 use Rattle.schema_core.specs.declared.table.TableSpec.{TableSpec}
 use Rattle.schema_core.specs.Catalog.{Catalog, has_generated_key, is_required, spec_of}
-use Rattle.schema_core.specs.Tables.{Rows, Tables, has_dangling, has_null, is_null, key_of, repeats_unique, row_under, rows_in, with_row, with_rows, without_row}
+use Rattle.schema_core.specs.Judged.{Judged, and_then, change_all, lacks_value, remove_all, write_all}
+use Rattle.schema_core.specs.Tables.{Rows, Tables, has_null, key_of, row_under, rows_in, with_row}
 
--- the row's key and the tables then, or the first breach
+-- the keys of the statement's rows and the tables then, or the first violation
 abbrev pub Outcome : Type 0
-Outcome = Result (List Value × Tables) Breach
+Outcome = Judged (List (List Value) × Tables)
 
--- a NULL stands in a column that takes none
-abbrev pub lacks_value : (ColumnSpec → Bool) → List ColumnSpec → List Value → Bool
-lacks_value required [] row = false
-lacks_value required (column ∷ columns) [] = false
-lacks_value required (column ∷ columns) (cell ∷ row) = (required column && is_null cell) || lacks_value required columns row
+-- the outcome with these keys
+abbrev pub answer_keys : List (List Value) → Judged Tables → Outcome
+answer_keys keys left = and_then left (λ tables. Ok (keys, tables))
+
+-- ---- an INSERT
 
 -- the key is to be generated
 abbrev pub wants_key : TableSpec → List Value → Bool
@@ -48,68 +51,69 @@ with_key [] key row = []
 with_key (column ∷ columns) key [] = []
 with_key (column ∷ columns) key (cell ∷ row) = cond column.key key cell ∷ with_key columns key row
 
+-- a new row with its key, which is the next one of these rows where the row leaves it open
+abbrev pub with_own_key : TableSpec → Rows → List Value → Option (List Value)
+with_own_key spec rows row = if wants_key spec row then option_map (λ key. with_key spec.columns (Int key) row) (next_key rows) else Some row
+
+-- a new row under its key, which none of these rows has
+abbrev pub entry_of : TableSpec → Rows → Option (List Value) → Judged (List Value × List Value)
+entry_of spec rows None = Err KeysSpent
+entry_of spec rows (Some row) = if is_some (row_under rows (key_of spec row)) then Err PrimaryKey else Ok (key_of spec row, row)
+
+-- New rows under their keys, one after another: a key is above those of the old rows and the rows before it where it is generated, and else none of them has it.
+-- The rows of one statement all give their keys or all leave them open, so it violates one of the two rules at most.
+abbrev pub entries_of : TableSpec → Rows → List (List Value) → Judged Rows
+entries_of spec rows [] = Ok []
+entries_of spec rows (row ∷ more) =
+    and_then (entry_of spec rows (with_own_key spec rows row)) (λ entry. and_then (entries_of spec (with_row rows entry.0 entry.1) more) (λ entries. Ok (entry ∷ entries)))
+
+-- the keys of rows
+abbrev pub keys_of_entries : Rows → List (List Value)
+keys_of_entries entries = map (λ entry. entry.0) entries
+
+unfoldable pub insert_rows : Catalog → Tables → TableId → Rows → List (List Value) → Outcome
+insert_rows schema tables table rows new =
+    if list_any (lacks_value (is_demanded (spec_of schema table)) (spec_of schema table).columns) new then Err NotNull
+    else and_then (entries_of (spec_of schema table) rows new) (λ entries. answer_keys (keys_of_entries entries) (write_all schema tables table rows entries))
+
+-- ---- an UPDATE
+
 -- the row with these cells written
 abbrev pub with_cells : List Value → List (ColumnNo × Value) → List Value
 with_cells row [] = row
 with_cells row (cell ∷ cells) = with_cells (slice_set row cell.0.0 cell.1) cells
 
--- the tables that are left, unless a foreign key names no row of them
-unfoldable pub unless_dangling : Catalog → List Value → Tables → Outcome
-unless_dangling schema key tables = if has_dangling schema tables then Err Foreign else Ok (key, tables)
+abbrev pub update_found : Catalog → Tables → TableId → Rows → List Value → List (ColumnNo × Value) → Option (List Value) → Outcome
+update_found schema tables table rows key cells None = Err Missing
+update_found schema tables table rows key cells (Some row) = answer_keys (key ∷ []) (change_all schema tables table rows ((key, with_cells row cells) ∷ []))
 
--- the tables with the row written, unless it repeats a unique value or leaves a foreign key that names no row
-unfoldable pub written : Catalog → Tables → TableId → Rows → List Value → List Value → Outcome
-written schema tables table rows key row =
-    if repeats_unique (spec_of schema table) (with_row rows key row) key row then Err Unique
-    else unless_dangling schema key (with_rows tables table (with_row rows key row))
+unfoldable pub update_row : Catalog → Tables → TableId → Rows → List Value → List (ColumnNo × Value) → Outcome
+update_row schema tables table rows key cells = update_found schema tables table rows key cells (row_under rows key)
 
--- a row whose key is known, put in
-unfoldable pub put_in : Catalog → Tables → TableId → Rows → List Value → Outcome
-put_in schema tables table rows row =
-    if is_some (row_under rows (key_of (spec_of schema table) row)) then Err PrimaryKey
-    else written schema tables table rows (key_of (spec_of schema table) row) row
+-- ---- a DELETE
 
-abbrev pub put_under : Catalog → Tables → TableId → Rows → List Value → Option ℤ → Outcome
-put_under schema tables table rows row None = Err KeysSpent
-put_under schema tables table rows row (Some key) = put_in schema tables table rows (with_key (spec_of schema table).columns (Int key) row)
+-- that of an absent key changes nothing
+abbrev pub delete_found : Catalog → Tables → TableId → Rows → List Value → Option (List Value) → Outcome
+delete_found schema tables table rows key None = Ok (key ∷ [], tables)
+delete_found schema tables table rows key (Some row) = answer_keys (key ∷ []) (remove_all schema tables table rows (key ∷ []))
 
--- an INSERT
-unfoldable pub inserted : Catalog → Tables → TableId → Rows → List Value → Outcome
-inserted schema tables table rows row =
-    if lacks_value (is_demanded (spec_of schema table)) (spec_of schema table).columns row then Err NotNull
-    else if wants_key (spec_of schema table) row then put_under schema tables table rows row (next_key rows)
-    else put_in schema tables table rows row
+unfoldable pub delete_row : Catalog → Tables → TableId → Rows → List Value → Outcome
+delete_row schema tables table rows key = delete_found schema tables table rows key (row_under rows key)
 
-abbrev pub changed : Catalog → Tables → TableId → Rows → List Value → List (ColumnNo × Value) → Option (List Value) → Outcome
-changed schema tables table rows key cells None = Err Missing
-changed schema tables table rows key cells (Some row) =
-    if lacks_value is_required (spec_of schema table).columns (with_cells row cells) then Err NotNull
-    else written schema tables table rows key (with_cells row cells)
-
--- an UPDATE
-unfoldable pub updated : Catalog → Tables → TableId → Rows → List Value → List (ColumnNo × Value) → Outcome
-updated schema tables table rows key cells = changed schema tables table rows key cells (row_under rows key)
-
-abbrev pub taken : Catalog → Tables → TableId → Rows → List Value → Option (List Value) → Outcome
-taken schema tables table rows key None = Ok (key, tables)
-taken schema tables table rows key (Some row) = unless_dangling schema key (with_rows tables table (without_row rows key))
-
--- a DELETE; that of an absent key changes nothing
-unfoldable pub deleted : Catalog → Tables → TableId → Rows → List Value → Outcome
-deleted schema tables table rows key = taken schema tables table rows key (row_under rows key)
+-- ---- a statement
 
 -- the table that is written
 abbrev pub table_of : RowStmt → TableId
-table_of (Insert table row) = table
+table_of (Insert table rows) = table
 table_of (Update table key cells) = table
 table_of (Delete table key) = table
 
-abbrev pub applied : Catalog → Tables → RowStmt → Option Rows → Outcome
-applied schema tables statement None = Err (NoTable (table_of statement))
-applied schema tables (Insert table row) (Some rows) = inserted schema tables table rows row
-applied schema tables (Update table key cells) (Some rows) = updated schema tables table rows key cells
-applied schema tables (Delete table key) (Some rows) = deleted schema tables table rows key
+abbrev pub apply_found : Catalog → Tables → RowStmt → Option Rows → Outcome
+apply_found schema tables statement None = Err (NoTable (table_of statement))
+apply_found schema tables (Insert table new) (Some rows) = insert_rows schema tables table rows new
+apply_found schema tables (Update table key cells) (Some rows) = update_row schema tables table rows key cells
+apply_found schema tables (Delete table key) (Some rows) = delete_row schema tables table rows key
 
--- a statement on one row, done in one step and judged on the tables that it leaves
+-- a statement on rows, done in one step and judged on the tables that it leaves
 unfoldable pub apply : Catalog → Tables → RowStmt → Outcome
-apply schema tables statement = applied schema tables statement (rows_in tables (table_of statement))
+apply schema tables statement = apply_found schema tables statement (rows_in tables (table_of statement))

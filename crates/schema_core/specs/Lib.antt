@@ -2,5 +2,8 @@ pub mod Apply
 pub mod Catalog
 pub mod Declaration
 pub mod DependencyOrder
+pub mod Judged
+pub mod Refusals
 pub mod Tables
+pub mod Told
 pub mod WellFormed

@@ -2,7 +2,8 @@
 use Rattle.std.specs.Prelude.{◌≡◌, ◌<◌, ℕ, Bool, true, false, not, cond, ◌&&◌, ◌||◌, List, [], ◌∷◌, map, length, Option, None, Some, MatchOption, is_some, IsTrue}
 use Rattle.std.specs.List.{list_any, AllByRecursion}
 use Rattle.std.specs.Option.{option_and_then}
-use Rattle.std.specs.Map.{lookup, remove_entry}
+use Rattle.std.specs.List.Sorted.{IsStrictlySortedBy}
+use Rattle.std.specs.Map.{keys_of, lookup, remove_entry}
 use Rattle.std.specs.BTreeMap.{insert_entry, is_at}
 use Rattle.std.specs.declared.cmp.Ordering.{Ordering}
 use Rattle.std.specs.declared.cmp.Ordering.TheVariants.{Less}
@@ -19,11 +20,11 @@ use Rattle.schema_core.specs.declared.table.ForeignSpec.{ForeignSpec}
 use Rattle.schema_core.specs.declared.table.TableSpec.{TableSpec}
 use Rattle.schema_core.specs.Catalog.{Catalog, is_required, kind_of, same_kind, same_name, spec_of, target_of, IsTable}
 
--- The rows of a table, each with its key before it, rising by key.
+-- The rows of a table, each with its key before it, ascending by key.
 abbrev pub Rows : Type 0
 Rows = List (List Value × List Value)
 
--- Each created table with its rows, rising by number.
+-- Each created table with its rows, ascending by number.
 abbrev pub Tables : Type 0
 Tables = List (TableId × Rows)
 
@@ -131,6 +132,11 @@ has_dangling schema tables = list_any (λ created. list_any (λ row. some_dangle
 -- each row of each created table meets the fact, given the table's number and its rows
 abbrev pub EachRow : (TableId → Rows → List Value × List Value → Type 0) → Tables → Type 0
 EachRow P tables = AllByRecursion (λ created. AllByRecursion (P created.0 created.1) created.1) tables
+
+-- tables are ascending by number, and the rows of each by key
+pub record AreAscending (tables : Tables) : Type 0 where
+  pub numbers : IsStrictlySortedBy table_cmp (keys_of tables)
+  pub keys : AllByRecursion (λ created. IsStrictlySortedBy values_cmp (keys_of created.1)) tables
 
 -- What the tables of a schema keep.
 pub record Legal (schema : Catalog) (tables : Tables) : Type 0 where

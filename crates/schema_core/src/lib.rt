@@ -1,4 +1,4 @@
-//! Tables as they are declared, statements on single rows, and the changes that a flush makes.
+//! Tables as they are declared, statements on rows, and the changes that a flush makes.
 #![tactic(auto)]
 
 mod cells;
@@ -15,5 +15,5 @@ pub use changes::{ChangedRow, GoneRow, NewRow, Plan, Planned, RowCell, RowChange
 pub use declaration::{kind_of, same_kind};
 pub use keys::has_generated_key;
 pub use schema::Schema;
-pub use statement::{Breach, RowStmt};
+pub use statement::{RowStmt, Unwritten, Violation};
 pub use table::{ColumnKind, ColumnSpec, ForeignSpec, TableSpec};

@@ -3,7 +3,7 @@
 ghost use Rattle.std.specs.Prelude.{◌≡◌, ◌<◌, ◌++◌, [], ◌∷◌, length, true, false, Some, IfErr};
 ghost use Rattle.base_core.specs.Answers.{Takes};
 ghost use Rattle.schema_core.specs.Catalog.{find_table, spec_of, foreign_of, target_of, IsTable, has_generated_key};
-ghost use Rattle.schema_core.specs.Declaration.{declare, resolve};
+ghost use Rattle.schema_core.specs.Declaration.{declare, has_targets, resolve};
 ghost use Rattle.base_core.specs.declared.refusal.Refusal.TheVariants.{ArgumentError};
 ghost use Rattle.base_core.specs.declared.refusal.ArgumentKind.TheVariants.{BadTarget};
 
@@ -103,6 +103,13 @@ impl Schema {
         ensures { result ≡ has_generated_key (spec_of self.now table) }
     {
         has_generated_key(self.spec(table))
+    }
+
+    /// Whether every foreign key has its target.
+    pub fn has_targets(&self) -> bool
+        ensures { result ≡ has_targets self.now.tables }
+    {
+        has_targets(self.tables.as_slice())
     }
 
     #[tactic(auto, unfolding(crate::specs::Declaration::resolve))]

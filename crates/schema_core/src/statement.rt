@@ -1,15 +1,21 @@
-//! Statements on single rows.
+//! Statements on rows that are given by their values and keys.
 
-use base_core::{ColumnNo, Copied, Key, ListOf, RowValues, TableId, Value};
-use std::alloc::AllocError;
+ghost use Rattle.std.specs.Prelude.{◌≡◌};
+ghost use Rattle.schema_core.specs.Apply.{table_of};
+ghost use Rattle.schema_core.specs.Refusals.{violation_refusal};
+ghost use Rattle.schema_core.specs.declared.statement.Unwritten.TheVariants as unwritten;
 
-/// A statement that writes one row.
+use base_core::{ColumnNo, Copied, IntegrityKind, Key, ListOf, Refusal, RowList, TableId, Value};
+use std::alloc::{AllocError, AllocFailed};
+
+/// A statement that writes rows.
 #[derive(Clone, Debug, Drop, PartialEq, Eq)]
 pub enum RowStmt {
-    /// One value for each column; a NULL in a generated key draws one.
+    /// One value for each column in every row, of which there are 1 to 1000. A NULL in a generated key draws one, in all rows
+    /// or in none.
     Insert {
         table: TableId,
-        row: RowValues,
+        rows: RowList,
     },
     /// The cells that are written, each column once and in order, none of the key.
     Update {
@@ -29,9 +35,22 @@ impl Copied for RowStmt {
     }
 }
 
-/// Why a statement on one row is refused, in the order in which the reasons are told.
+impl RowStmt {
+    /// The table that is written.
+    pub fn table(&self) -> TableId
+        ensures { result ≡ table_of self.now }
+    {
+        match self {
+            RowStmt::Insert { table, .. }
+            | RowStmt::Update { table, .. }
+            | RowStmt::Delete { table, .. } => *table,
+        }
+    }
+}
+
+/// The rule that a statement on rows violates, in the order in which they are told.
 #[derive(Clone, Copy, Debug, PartialEq, Eq)]
-pub enum Breach {
+pub enum Violation {
     /// The table was not created.
     NoTable(TableId),
     /// An UPDATE names an absent key.
@@ -42,4 +61,44 @@ pub enum Breach {
     PrimaryKey,
     Unique,
     Foreign,
+}
+
+impl Violation {
+    /// The refusal of a statement on this table.
+    pub fn refusal(self, table: TableId) -> Refusal
+        ensures { result ≡ violation_refusal table self }
+    {
+        match self {
+            Violation::NoTable(absent) => Refusal::OperationalError(absent),
+            Violation::Missing => Refusal::StaleDataError(table),
+            Violation::NotNull => Refusal::IntegrityError(IntegrityKind::NotNull, table),
+            Violation::KeysSpent => Refusal::KeysSpent(table),
+            Violation::PrimaryKey => Refusal::IntegrityError(IntegrityKind::PrimaryKey, table),
+            Violation::Unique => Refusal::IntegrityError(IntegrityKind::Unique, table),
+            Violation::Foreign => Refusal::IntegrityError(IntegrityKind::Foreign, table),
+        }
+    }
+}
+
+/// Why a statement on rows was not done.
+#[derive(Clone, Copy, Debug, PartialEq, Eq)]
+pub enum Unwritten {
+    Violates(Violation),
+    Memory,
+}
+
+impl From<AllocError> for Unwritten {
+    ghost from_gives = { λ _ e. e ≡ unwritten.Memory };
+
+    fn from(_e: AllocError) -> Unwritten {
+        Unwritten::Memory
+    }
+}
+
+impl<T: Drop> From<AllocFailed<T>> for Unwritten {
+    ghost from_gives = { λ _ e. e ≡ unwritten.Memory };
+
+    fn from(_e: AllocFailed<T>) -> Unwritten {
+        Unwritten::Memory
+    }
 }

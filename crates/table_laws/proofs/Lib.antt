@@ -1,5 +1,7 @@
 pub mod Entries
 pub mod Legality
+mod Members
+mod OneByOne
 pub mod OrderLemmas
 pub mod RowFits
 pub mod SameValues

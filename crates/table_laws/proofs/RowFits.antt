@@ -9,7 +9,8 @@ use Rattle.base_core.specs.declared.value.Kind.TheVariants as kinds
 use Rattle.base_core.specs.declared.value.Value.{Value}
 use Rattle.base_core.specs.declared.value.Value.TheVariants.{Null, Int, Text, Bool as BoolValue, Bytes}
 use Rattle.schema_core.specs.declared.table.ColumnSpec.{ColumnSpec}
-use Rattle.schema_core.specs.Apply.{lacks_value, with_cells, with_key}
+use Rattle.schema_core.specs.Apply.{with_cells, with_key}
+use Rattle.schema_core.specs.Judged.{lacks_value}
 use Rattle.schema_core.specs.Catalog.{is_required, kind_of, same_kind}
 use Rattle.schema_core.specs.Tables.{fits, has_null, is_null, key_cells}
 use Rattle.schema_core.specs.WellFormed.{are_cells, may_hold}

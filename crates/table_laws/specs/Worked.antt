@@ -65,10 +65,13 @@ abbrev pub both : Rows → Rows → Tables
 both of_nodes of_places = (nodes_id, of_nodes) ∷ (places_id, of_places) ∷ []
 
 abbrev pub insert_node : Value → List ℕ → Value → RowStmt
-insert_node id tag next = statement.Insert nodes_id (node id tag next)
+insert_node id tag next = statement.Insert nodes_id (node id tag next ∷ [])
+
+abbrev pub insert_nodes : List (List Value) → RowStmt
+insert_nodes rows = statement.Insert nodes_id rows
 
 abbrev pub insert_place : ℕ → List ℕ → ℕ → RowStmt
-insert_place row side to = statement.Insert places_id (placed row side to).1
+insert_place row side to = statement.Insert places_id ((placed row side to).1 ∷ [])
 
 abbrev pub delete_node : ℕ → RowStmt
 delete_node id = statement.Delete nodes_id (int id ∷ [])

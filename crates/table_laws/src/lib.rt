@@ -6,6 +6,8 @@ mod legal;
 mod order;
 mod worked;
 
-pub use legal::{accepted_is_legal, one_cause};
+pub use legal::{
+    accepted_is_legal, many_rows_as_one_by_one, one_by_one_as_many_rows, rule_over_all_rows,
+};
 pub use order::one_order;
-pub use worked::{worked_inserts, worked_others};
+pub use worked::{worked_inserts, worked_many, worked_others};

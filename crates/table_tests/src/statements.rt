@@ -1,12 +1,11 @@
 //! Statements on two small tables, worked by hand by SQL's rules.
 
-ghost use Rattle.std.specs.Prelude.{◌≡◌};
-ghost use Rattle.schema_core.specs.Apply.{table_of};
-
 use crate::declaring::{declare, name};
-use base_core::{ColumnNo, Key, ListOf, Name, Refusal, RowValues, TableId, Text, Value};
-use plain_tables::{PlainRows, PlainTables, Unapplied, apply};
-use schema_core::{Breach, ColumnKind, ColumnSpec, ForeignSpec, RowStmt, Schema, TableSpec};
+use base_core::{ColumnNo, Key, KeyList, ListOf, Name, Refusal, RowValues, TableId, Text, Value};
+use plain_tables::{PlainRows, PlainTables, apply};
+use schema_core::{
+    ColumnKind, ColumnSpec, ForeignSpec, RowStmt, Schema, TableSpec, Unwritten, Violation,
+};
 use std::alloc::{AllocError, Global};
 use std::test::Fail;
 
@@ -19,93 +18,99 @@ type Place = (i64, u8, i64);
 /// The rows of both tables.
 type Both = (&'static [Node], &'static [Place]);
 
+/// A node that is to be put in.
+type NewNode = (Option<i64>, Option<u8>, Option<i64>);
+
 #[derive(Clone, Copy)]
 enum Sent {
-    NewNode(Option<i64>, Option<u8>, Option<i64>),
+    NewNodes(&'static [NewNode]),
     NewPlace(i64, u8, i64),
     PointNode(i64, Option<i64>),
     UntagNode(i64),
     DropNode(i64),
 }
 
-/// The rows before, the statement, and the first value of its row's key with the rows after it, or what it breaks.
-type Case = (Both, Sent, Result<(i64, Both), Breach>);
+/// The rows before, the statement, and the first value of each of its keys with the rows after it, or what it violates.
+type Case = (Both, Sent, Result<(&'static [i64], Both), Violation>);
 
 const MOST: i64 = i64::MAX;
 
-const CASES: [Case; 21] = [
+const CASES: [Case; 31] = [
     // A NULL in a column that is NOT NULL is told before a key that is spent.
     (
         (&[(MOST, b'z', None)], &[]),
-        Sent::NewNode(None, None, None),
-        Err(Breach::NotNull),
+        Sent::NewNodes(&[(None, None, None)]),
+        Err(Violation::NotNull),
     ),
     (
         (&[(MOST, b'z', None)], &[]),
-        Sent::NewNode(None, Some(b'a'), None),
-        Err(Breach::KeysSpent),
+        Sent::NewNodes(&[(None, Some(b'a'), None)]),
+        Err(Violation::KeysSpent),
     ),
     // The first key, the key below the greatest, and a gap that is not used again.
     (
         (&[], &[]),
-        Sent::NewNode(None, Some(b'a'), None),
-        Ok((1, (&[(1, b'a', None)], &[]))),
+        Sent::NewNodes(&[(None, Some(b'a'), None)]),
+        Ok((&[1], (&[(1, b'a', None)], &[]))),
     ),
     (
         (&[(MOST - 1, b'a', None)], &[]),
-        Sent::NewNode(None, Some(b'b'), None),
-        Ok((MOST, (&[(MOST - 1, b'a', None), (MOST, b'b', None)], &[]))),
+        Sent::NewNodes(&[(None, Some(b'b'), None)]),
+        Ok((
+            &[MOST],
+            (&[(MOST - 1, b'a', None), (MOST, b'b', None)], &[]),
+        )),
     ),
     (
         (&[(2, b'a', None), (5, b'b', None)], &[]),
-        Sent::NewNode(None, Some(b'c'), None),
+        Sent::NewNodes(&[(None, Some(b'c'), None)]),
         Ok((
-            6,
+            &[6],
             (&[(2, b'a', None), (5, b'b', None), (6, b'c', None)], &[]),
         )),
     ),
     // A key that is given goes to its place in the order, and is there once.
     (
         (&[(2, b'a', None), (5, b'b', None)], &[]),
-        Sent::NewNode(Some(3), Some(b'c'), None),
+        Sent::NewNodes(&[(Some(3), Some(b'c'), None)]),
         Ok((
-            3,
+            &[3],
             (&[(2, b'a', None), (3, b'c', None), (5, b'b', None)], &[]),
         )),
     ),
     (
         (&[(1, b'a', None)], &[]),
-        Sent::NewNode(Some(1), Some(b'b'), None),
-        Err(Breach::PrimaryKey),
+        Sent::NewNodes(&[(Some(1), Some(b'b'), None)]),
+        Err(Violation::PrimaryKey),
     ),
     // A unique value with a NULL never collides.
     (
         (&[(1, b'a', None)], &[]),
-        Sent::NewNode(Some(2), Some(b'a'), None),
-        Ok((2, (&[(1, b'a', None), (2, b'a', None)], &[]))),
+        Sent::NewNodes(&[(Some(2), Some(b'a'), None)]),
+        Ok((&[2], (&[(1, b'a', None), (2, b'a', None)], &[]))),
     ),
     (
         (&[(1, b'a', Some(1))], &[]),
-        Sent::NewNode(Some(2), Some(b'a'), Some(1)),
-        Err(Breach::Unique),
+        Sent::NewNodes(&[(Some(2), Some(b'a'), Some(1))]),
+        Err(Violation::Unique),
     ),
     // A row may refer to itself: what the statement leaves is judged.
     (
         (&[], &[]),
-        Sent::NewNode(Some(3), Some(b'a'), Some(3)),
-        Ok((3, (&[(3, b'a', Some(3))], &[]))),
+        Sent::NewNodes(&[(Some(3), Some(b'a'), Some(3))]),
+        Ok((&[3], (&[(3, b'a', Some(3))], &[]))),
     ),
     (
         (&[], &[]),
-        Sent::NewNode(Some(3), Some(b'a'), Some(4)),
-        Err(Breach::Foreign),
+        Sent::NewNodes(&[(Some(3), Some(b'a'), Some(4))]),
+        Err(Violation::Foreign),
     ),
     // A key of a number and a text is compared column by column.
     (
         (&[(1, b'a', None)], &[(1, b'r', 1), (2, b'a', 1)]),
         Sent::NewPlace(1, b'l', 1),
         Ok((
-            1,
+            &[1],
             (
                 &[(1, b'a', None)],
                 &[(1, b'l', 1), (1, b'r', 1), (2, b'a', 1)],
@@ -115,45 +120,124 @@ const CASES: [Case; 21] = [
     (
         (&[(1, b'a', None)], &[(1, b'r', 1)]),
         Sent::NewPlace(1, b'r', 1),
-        Err(Breach::PrimaryKey),
+        Err(Violation::PrimaryKey),
     ),
     // An UPDATE wants its key, and is judged as an INSERT is.
-    ((&[], &[]), Sent::PointNode(7, None), Err(Breach::Missing)),
+    (
+        (&[], &[]),
+        Sent::PointNode(7, None),
+        Err(Violation::Missing),
+    ),
     (
         (&[(1, b'a', None)], &[]),
         Sent::PointNode(1, Some(1)),
-        Ok((1, (&[(1, b'a', Some(1))], &[]))),
+        Ok((&[1], (&[(1, b'a', Some(1))], &[]))),
     ),
     (
         (&[(1, b'a', None)], &[]),
         Sent::PointNode(1, Some(2)),
-        Err(Breach::Foreign),
+        Err(Violation::Foreign),
     ),
     (
         (&[(1, b'a', None)], &[]),
         Sent::UntagNode(1),
-        Err(Breach::NotNull),
+        Err(Violation::NotNull),
     ),
     // A DELETE of an absent key is accepted, and one of a row to which another refers is not.
     (
         (&[(1, b'a', None)], &[]),
         Sent::DropNode(7),
-        Ok((7, (&[(1, b'a', None)], &[]))),
+        Ok((&[7], (&[(1, b'a', None)], &[]))),
     ),
     (
         (&[(1, b'a', Some(1)), (2, b'b', None)], &[]),
         Sent::DropNode(1),
-        Ok((1, (&[(2, b'b', None)], &[]))),
+        Ok((&[1], (&[(2, b'b', None)], &[]))),
     ),
     (
         (&[(1, b'a', None), (2, b'b', Some(1))], &[]),
         Sent::DropNode(1),
-        Err(Breach::Foreign),
+        Err(Violation::Foreign),
     ),
     (
         (&[(1, b'a', None)], &[(1, b'r', 1)]),
         Sent::DropNode(1),
-        Err(Breach::Foreign),
+        Err(Violation::Foreign),
+    ),
+    // Keys of one statement are drawn row by row, also from below 0, and answered in the order of its rows.
+    (
+        (&[(-5, b'a', None)], &[]),
+        Sent::NewNodes(&[
+            (None, Some(b'b'), None),
+            (None, Some(b'c'), None),
+            (None, Some(b'd'), None),
+        ]),
+        Ok((
+            &[-4, -3, -2],
+            (
+                &[
+                    (-5, b'a', None),
+                    (-4, b'b', None),
+                    (-3, b'c', None),
+                    (-2, b'd', None),
+                ],
+                &[],
+            ),
+        )),
+    ),
+    (
+        (&[(0, b'a', None)], &[]),
+        Sent::NewNodes(&[(None, Some(b'b'), None), (None, Some(b'c'), None)]),
+        Ok((
+            &[1, 2],
+            (&[(0, b'a', None), (1, b'b', None), (2, b'c', None)], &[]),
+        )),
+    ),
+    (
+        (&[], &[]),
+        Sent::NewNodes(&[(Some(8), Some(b'a'), None), (Some(7), Some(b'b'), None)]),
+        Ok((&[8, 7], (&[(7, b'b', None), (8, b'a', None)], &[]))),
+    ),
+    // What the last row breaks leaves nothing of the first.
+    (
+        (&[(MOST - 1, b'a', None)], &[]),
+        Sent::NewNodes(&[(None, Some(b'b'), None), (None, Some(b'c'), None)]),
+        Err(Violation::KeysSpent),
+    ),
+    (
+        (&[], &[]),
+        Sent::NewNodes(&[(Some(7), Some(b'a'), None), (Some(7), Some(b'b'), None)]),
+        Err(Violation::PrimaryKey),
+    ),
+    (
+        (&[(1, b'a', Some(1))], &[]),
+        Sent::NewNodes(&[(Some(2), Some(b'a'), Some(1)), (Some(3), None, None)]),
+        Err(Violation::NotNull),
+    ),
+    (
+        (&[(1, b'a', None)], &[]),
+        Sent::NewNodes(&[
+            (Some(2), Some(b'b'), Some(1)),
+            (Some(3), Some(b'b'), Some(1)),
+        ]),
+        Err(Violation::Unique),
+    ),
+    // A row may refer to a later one.
+    (
+        (&[], &[]),
+        Sent::NewNodes(&[(Some(1), Some(b'a'), Some(2)), (Some(2), Some(b'b'), None)]),
+        Ok((&[1, 2], (&[(1, b'a', Some(2)), (2, b'b', None)], &[]))),
+    ),
+    // A reference that dangled before is not judged: the statement neither wrote the row nor took out what it names.
+    (
+        (&[(1, b'a', Some(9))], &[]),
+        Sent::NewNodes(&[(Some(2), Some(b'b'), None)]),
+        Ok((&[2], (&[(1, b'a', Some(9)), (2, b'b', None)], &[]))),
+    ),
+    (
+        (&[(1, b'a', Some(9)), (2, b'b', None)], &[]),
+        Sent::DropNode(2),
+        Ok((&[2], (&[(1, b'a', Some(9))], &[]))),
     ),
 ];
 
@@ -306,22 +390,30 @@ fn update(alloc: Global, node: i64, column: u32, value: Value) -> Result<RowStmt
     })
 }
 
-fn insert(table: TableId, row: RowValues) -> RowStmt {
-    RowStmt::Insert { table, row }
+/// The INSERT of one row.
+fn insert(alloc: Global, table: TableId, row: RowValues) -> Result<RowStmt, Refusal> {
+    let mut rows = ListOf::new(alloc);
+    rows.push(row)?;
+    Ok(RowStmt::Insert { table, rows })
+}
+
+fn new_nodes(alloc: Global, nodes: &[NewNode]) -> Result<RowStmt, Refusal> {
+    let mut rows = ListOf::new(alloc);
+    for (id, tag, next) in nodes {
+        let tag = letter(alloc, *tag)?;
+        rows.push(values(alloc, [integer(*id), tag, integer(*next)])?)?;
+    }
+    Ok(RowStmt::Insert { table: NODES, rows })
 }
 
 fn new_place(alloc: Global, one: Place) -> Result<RowStmt, Refusal> {
     let (_, row) = place(alloc, &one)?;
-    Ok(insert(PLACES, row))
+    insert(alloc, PLACES, row)
 }
 
 fn statement(alloc: Global, sent: Sent) -> Result<RowStmt, Refusal> {
     match sent {
-        Sent::NewNode(id, tag, next) => {
-            let tag = letter(alloc, tag)?;
-            let row = values(alloc, [integer(id), tag, integer(next)])?;
-            Ok(insert(NODES, row))
-        }
+        Sent::NewNodes(nodes) => new_nodes(alloc, nodes),
         Sent::NewPlace(number, side, node) => new_place(alloc, (number, side, node)),
         Sent::PointNode(node, next) => update(alloc, node, 2, integer(next)),
         Sent::UntagNode(node) => update(alloc, node, 1, Value::Null),
@@ -332,39 +424,38 @@ fn statement(alloc: Global, sent: Sent) -> Result<RowStmt, Refusal> {
     }
 }
 
-/// The table that a statement writes.
-fn table_of(statement: &RowStmt) -> TableId
-    ensures { result ≡ table_of statement.now }
-{
-    match statement {
-        RowStmt::Insert { table, .. }
-        | RowStmt::Update { table, .. }
-        | RowStmt::Delete { table, .. } => *table,
-    }
-}
-
-/// What the program answers: the key and the tables that a statement leaves, or what it breaks; nothing where the
+/// What the program answers: the keys and the tables that a statement leaves, or what it violates; nothing where the
 /// statement names no table.
 fn answer(
     alloc: Global,
     schema: &Schema,
     tables: &PlainTables,
     statement: &RowStmt,
-) -> Option<Result<(Key, PlainTables), Unapplied>> {
-    if schema.count() <= table_of(statement).0 {
+) -> Option<Result<(KeyList, PlainTables), Unwritten>> {
+    if schema.count() <= statement.table().0 {
         return None;
     }
     Some(apply(alloc, schema, tables, statement))
 }
 
-/// Whether the answer is a key that begins with a number, and these tables.
+/// Whether keys begin with these numbers, one with each.
+fn are_keys(keys: &KeyList, numbers: &[i64]) -> bool {
+    keys.len() == numbers.len()
+        && keys
+            .as_slice()
+            .iter()
+            .zip(numbers)
+            .all(|(key, number)| key.get(0) == Some(&Value::Int(*number)))
+}
+
+/// Whether the answer is keys that begin with these numbers, and these tables.
 fn leaves(
-    answer: Option<Result<(Key, PlainTables), Unapplied>>,
-    number: i64,
+    answer: Option<Result<(KeyList, PlainTables), Unwritten>>,
+    numbers: &[i64],
     after: &PlainTables,
 ) -> bool {
     match answer {
-        Some(Ok((key, left))) => key.get(0) == Some(&Value::Int(number)) && left == *after,
+        Some(Ok((keys, left))) => are_keys(&keys, numbers) && left == *after,
         _ => false,
     }
 }
@@ -376,8 +467,8 @@ fn is_right(alloc: Global, schema: &Schema, case: &Case) -> Result<bool, Refusal
     let statement = statement(alloc, sent)?;
     let answer = answer(alloc, schema, &before, &statement);
     match told {
-        Ok((number, after)) => Ok(leaves(answer, number, &tables(alloc, after)?)),
-        Err(breach) => Ok(answer == Some(Err(Unapplied::Breaks(breach)))),
+        Ok((numbers, after)) => Ok(leaves(answer, numbers, &tables(alloc, after)?)),
+        Err(violation) => Ok(answer == Some(Err(Unwritten::Violates(violation)))),
     }
 }
 
@@ -396,7 +487,7 @@ fn without_places(alloc: Global, schema: &Schema) -> Result<bool, Refusal> {
     let mut created: PlainTables = ListOf::new(alloc);
     created.push((NODES, ListOf::new(alloc)))?;
     let statement = new_place(alloc, (1, b'l', 1))?;
-    let wanted = Err(Unapplied::Breaks(Breach::NoTable(PLACES)));
+    let wanted = Err(Unwritten::Violates(Violation::NoTable(PLACES)));
     Ok(answer(alloc, schema, &created, &statement) == Some(wanted))
 }
 

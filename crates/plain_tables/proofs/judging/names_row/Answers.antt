@@ -1,7 +1,7 @@
 -- The target is created, and its rows were looked through.
 use Rattle.std.proofs.Common.{sym, ◌∙◌}
 use Rattle.schema_core.specs.Tables.{cells_of}
-use Rattle.plain_tables.proofs.AnySteps.{named}
+use Rattle.schema_core.proofs.AnySteps.{named}
 use Rattle.plain_tables.proofs.judging.names_row.Goals as goal
 
 pub returns : goal.returns

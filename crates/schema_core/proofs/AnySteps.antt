@@ -6,8 +6,9 @@ use Rattle.base_core.specs.declared.ids.TableId.{TableId}
 use Rattle.std.specs.Option.{option_and_then}
 use Rattle.base_core.specs.declared.value.Value.{Value}
 use Rattle.schema_core.specs.declared.table.ForeignSpec.{ForeignSpec}
+use Rattle.schema_core.specs.declared.table.TableSpec.{TableSpec}
 use Rattle.schema_core.specs.Catalog.{Catalog, no_table, spec_of, target_of}
-use Rattle.schema_core.specs.Tables.{Rows, Tables, has_row, names_row, row_under, rows_in, some_dangles}
+use Rattle.schema_core.specs.Tables.{Rows, Tables, has_row, names_row, row_under, rows_in}
 
 any_at : {A : Type 0} (test : A → Bool) (xs : List A) (i : ℕ) (d : A) → i < length xs → list_any test (drop i xs) ≡ (test (get_or xs i d) || list_any test (drop (i + 1) xs))
 any_at test xs i d h = rw (add-one, drop-cons xs i d) refl
@@ -40,6 +41,6 @@ any_never [] = refl
 any_never (x ∷ xs) = any_never xs
 
 -- a table that is not declared has no foreign keys
-pub undeclared : (schema : Catalog) (tables : Tables) (table : TableId) (rows : Rows) → length schema.tables ≤ table.0
-    → list_any (λ row. some_dangles schema tables (spec_of schema table) row.1) rows ≡ false
-undeclared schema tables table rows h = ap (λ spec. list_any (λ row. some_dangles schema tables spec row.1) rows) (get_or_past schema.tables table.0 no_table h) ∙ any_never rows
+pub undeclared : (test : TableSpec → List Value → ForeignSpec → Bool) (schema : Catalog) (table : TableId) (rows : Rows) → length schema.tables ≤ table.0
+    → list_any (λ row. list_any (test (spec_of schema table) row.1) (spec_of schema table).foreigns) rows ≡ false
+undeclared test schema table rows h = ap (λ spec. list_any (λ row. list_any (test spec row.1) spec.foreigns) rows) (get_or_past schema.tables table.0 no_table h) ∙ any_never rows
