@@ -9,12 +9,12 @@ use Rattle.schema_core.specs.Catalog.{Catalog}
 use Rattle.expr_types.specs.declared.expr.Expr.{Expr}
 use Rattle.expr_types.specs.declared.select.Bulk.{Bulk}
 use Rattle.expr_types.specs.declared.select.Bulk.TheVariants as bulk
-use Rattle.expr_typing.specs.Plain.{IfSet, IsFilter, IsPlainBulk, IsWritten, alone}
-use Rattle.select_rows.specs.Refusals.{IsOfDeclared}
-use Rattle.select_rows.specs.Rows.{flat, named_where}
+use Rattle.sql_semantics.specs.Plain.{IfSet, IsFilter, IsPlainBulk, IsWritten, alone}
+use Rattle.sql_semantics.specs.SelectRefusals.{IsOfDeclared}
+use Rattle.sql_semantics.specs.Rows.{flat, named_where}
 use Rattle.select_rows.proofs.Declared.{AreTables, both_tables, filter_tables, stands_tables, table_among}
-use Rattle.bulk_rows.specs.Applied.{named_in}
-use Rattle.bulk_rows.specs.Refusals.{CanRefuse, tables_of}
+use Rattle.sql_semantics.specs.Applied.{named_in}
+use Rattle.sql_semantics.specs.BulkRefusals.{CanRefuse, tables_of}
 
 abbrev Cell : Type 0
 Cell = ColumnNo × Option Expr

@@ -3,7 +3,7 @@ use Rattle.std.proofs.Common.{◌≡◌, ◌<◌, ◌≤◌, ◌+◌, ℕ, List,
 use Rattle.std.proofs.lemmas.List.{drop_more, drop_all}
 use Rattle.base_core.specs.declared.ids.ColumnNo.{ColumnNo}
 use Rattle.base_core.specs.declared.value.Value.{Value}
-use Rattle.bulk_rows.specs.Taken.{paired}
+use Rattle.sql_semantics.specs.Taken.{paired}
 
 pub pair_more : (columns : List ColumnNo) (values : List Value) (i : ℕ) (c : ColumnNo) (v : Value) → i < length columns → i < length values → c ≡ get_or columns i c → v ≡ get_or values i v
     → paired (drop i columns) (drop i values) ≡ (c, v) ∷ paired (drop (i + 1) columns) (drop (i + 1) values)

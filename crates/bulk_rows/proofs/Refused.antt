@@ -1,32 +1,34 @@
 -- What may refuse a bulk statement.
-use Rattle.std.proofs.Common.{◌≡◌, ℕ, ℤ, Bool, true, false, ◌||◌, ◌==◌, if◌then◌else◌, List, [], ◌∷◌, ◌++◌, length, Option, Some, None, Ok, Err, IsTrue, is_some, refl, subst, sym}
+use Rattle.std.proofs.Common.{◌≡◌, ℕ, ℤ, Bool, true, false, ◌||◌, ◌==◌, if◌then◌else◌, List, [], ◌∷◌, ◌++◌, length, Option, Some, None, Ok, Err, IfErr, IsTrue, refl, subst, sym}
 use Rattle.std.proofs.lemmas.Cmp.{nat_eq_equiv}
 use Rattle.std.specs.List.{list_any}
 use Rattle.base_core.specs.declared.ids.ColumnNo.{ColumnNo}
 use Rattle.base_core.specs.declared.ids.TableId.{TableId}
 use Rattle.base_core.specs.declared.value.Value.{Value}
-use Rattle.base_core.specs.declared.value.Value.TheVariants as value
 use Rattle.base_core.specs.declared.refusal.Refusal.{Refusal}
 use Rattle.base_core.specs.declared.refusal.Refusal.TheVariants.{Memory, DataError, OperationalError}
-use Rattle.schema_core.specs.declared.statement.Breach.TheVariants as breaches
+use Rattle.schema_core.specs.declared.statement.Violation.{Violation}
 use Rattle.schema_core.specs.Apply as row
-use Rattle.schema_core.specs.Apply.{is_demanded, lacks_value, next_key, wants_key, with_cells, with_key}
+use Rattle.schema_core.specs.Apply.{with_cells}
 use Rattle.schema_core.specs.Catalog.{Catalog, spec_of}
-use Rattle.schema_core.specs.Tables.{Rows, Tables, has_dangling, key_of, repeats_unique, row_under, rows_in, with_row, with_rows}
+use Rattle.schema_core.specs.Judged.{Judged, change_all, remove_all}
+use Rattle.schema_core.specs.Refusals.{violation_refusal}
+use Rattle.schema_core.proofs.Violations.{change_errs, insert_errs, remove_errs}
+use Rattle.schema_core.specs.Tables.{Rows, Tables, rows_in}
 use Rattle.expr_types.specs.declared.expr.Expr.{Expr}
 use Rattle.expr_types.specs.declared.select.Bulk.{Bulk}
 use Rattle.expr_types.specs.declared.select.Bulk.TheVariants as bulk
-use Rattle.expr_eval.specs.Checked.{Checked, ◌>>=◌, Refuses}
-use Rattle.expr_eval.specs.Truth.{passes}
-use Rattle.expr_eval.specs.Eval as eval
+use Rattle.sql_semantics.specs.Checked.{Checked, ◌>>=◌, Refuses}
+use Rattle.sql_semantics.specs.Truth.{passes}
+use Rattle.sql_semantics.specs.Eval as eval
 use Rattle.expr_eval.proofs.Refused.{OnlyData, bind_data, evaluated_data}
-use Rattle.select_rows.specs.Created.{bare}
-use Rattle.select_rows.specs.Rows.{created}
+use Rattle.sql_semantics.specs.Created.{bare}
+use Rattle.sql_semantics.specs.Rows.{created}
 use Rattle.select_rows.proofs.Refused.{OnlyMisses, created_misses}
-use Rattle.bulk_rows.specs.Applied as spec
-use Rattle.bulk_rows.specs.Applied.{Outcome, applied, breach_refusal, found, named_in, of_row, some_lacks, some_repeats, table_of, unless_dangling, with_all, without_all}
-use Rattle.bulk_rows.specs.Refusals.{CanRefuse, has_expressions, tables_of}
-use Rattle.bulk_rows.specs.Taken.{at, cells_from, deleted_from, inserted, one_more, rewritten, takes, updated_from, value_for}
+use Rattle.sql_semantics.specs.Applied as spec
+use Rattle.sql_semantics.specs.Applied.{Outcome, applied, count_rows, found, named_in, of_judged, table_of}
+use Rattle.sql_semantics.specs.BulkRefusals.{CanRefuse, has_expressions, tables_of}
+use Rattle.sql_semantics.specs.Taken.{at, cells_from, deleted_from, inserted, one_more, rewritten, takes, updated_from, value_for}
 
 -- ---- nothing but a result outside 64 bits refuses what is evaluated
 
@@ -94,88 +96,49 @@ found_of : (s : Bulk) (table : TableId) (more : List ℕ) (rows : Option Rows) �
 found_of s table more None is = subst (λ ts. IsTrue (list_any (λ t. t == table.0) ts)) (sym is) (true_or (table.0 == table.0) (list_any (λ t. t == table.0) more) (nat_eq_equiv.refl table.0))
 found_of s table more (Some rows) is = tt
 
--- ---- an INSERT
+-- ---- the judgement on what is left
 
-abbrev OnlyInserts : row.Outcome → Type 0
-OnlyInserts (Ok done) = Unit {0}
-OnlyInserts (Err (breaches.NoTable table)) = ⊥
-OnlyInserts (Err breaches.Missing) = ⊥
-OnlyInserts (Err breach) = Unit {0}
+-- why a statement on the table is refused where it violates a rule
+abbrev OnlyBy : Bulk → TableId → Violation → Type 0
+OnlyBy s table violation = CanRefuse s (violation_refusal table violation)
 
-choose : (b : Bool) (x y : row.Outcome) → OnlyInserts x → OnlyInserts y → OnlyInserts (if b then x else y)
-choose true x y p q = p
-choose false x y p q = q
+judged_of : {A : Type 0} (s : Bulk) (table : TableId) (r : Judged A) → IfErr r (OnlyBy s table) → OnlyOf s (of_judged table r)
+judged_of s table (Ok a) h = tt
+judged_of s table (Err violation) h = h
 
-written_of : (schema : Catalog) (tables : Tables) (table : TableId) (rows : Rows) (key r : List Value) → OnlyInserts (row.written schema tables table rows key r)
-unfolding row.written row.unless_dangling
-written_of schema tables table rows key r =
-    choose (repeats_unique (spec_of schema table) (with_row rows key r) key r) (Err breaches.Unique) (row.unless_dangling schema key (with_rows tables table (with_row rows key r))) tt
-    (choose (has_dangling schema (with_rows tables table (with_row rows key r))) (Err breaches.Foreign) (Ok (key, with_rows tables table (with_row rows key r))) tt tt)
+insert_of : (schema : Catalog) (tables : Tables) (table : TableId) (columns : List ColumnNo) (values : List Value) (rows : Rows) → OnlyOf (bulk.Insert table columns values) (spec.insert schema tables table columns values rows)
+insert_of schema tables table columns values rows =
+    let s : Bulk = bulk.Insert table columns values in
+    let done : row.Outcome = row.insert_rows schema tables table rows (inserted (length (spec_of schema table).columns) columns values ∷ []) in
+    bind_of s (of_judged table done) (λ answer. Ok (1, answer.1))
+    (judged_of s table done (insert_errs (OnlyBy s table) schema tables table rows (inserted (length (spec_of schema table).columns) columns values ∷ []) (refl, refl) (refl, refl) (refl, refl) (refl, refl) (refl, refl)))
+    (λ answer. tt)
 
-put_of : (schema : Catalog) (tables : Tables) (table : TableId) (rows : Rows) (r : List Value) → OnlyInserts (row.put_in schema tables table rows r)
-unfolding row.put_in
-put_of schema tables table rows r =
-    choose (is_some (row_under rows (key_of (spec_of schema table) r))) (Err breaches.PrimaryKey) (row.written schema tables table rows (key_of (spec_of schema table) r) r) tt
-    (written_of schema tables table rows (key_of (spec_of schema table) r) r)
-
-under_of : (schema : Catalog) (tables : Tables) (table : TableId) (rows : Rows) (r : List Value) (key : Option ℤ) → OnlyInserts (row.put_under schema tables table rows r key)
-under_of schema tables table rows r None = tt
-under_of schema tables table rows r (Some key) = put_of schema tables table rows (with_key (spec_of schema table).columns (value.Int key) r)
-
-inserted_of : (schema : Catalog) (tables : Tables) (table : TableId) (rows : Rows) (r : List Value) → OnlyInserts (row.inserted schema tables table rows r)
-unfolding row.inserted
-inserted_of schema tables table rows r =
-    choose (lacks_value (is_demanded (spec_of schema table)) (spec_of schema table).columns r) (Err breaches.NotNull)
-    (if wants_key (spec_of schema table) r then row.put_under schema tables table rows r (next_key rows) else row.put_in schema tables table rows r) tt
-    (choose (wants_key (spec_of schema table) r) (row.put_under schema tables table rows r (next_key rows)) (row.put_in schema tables table rows r)
-    (under_of schema tables table rows r (next_key rows)) (put_of schema tables table rows r))
-
-insert_of : (table : TableId) (columns : List ColumnNo) (values : List Value) (r : row.Outcome) → OnlyInserts r → OnlyOf (bulk.Insert table columns values) (of_row table r)
-insert_of table columns values (Ok done) h = tt
-insert_of table columns values (Err (breaches.NoTable absent)) h = absurd h
-insert_of table columns values (Err breaches.Missing) h = absurd h
-insert_of table columns values (Err breaches.NotNull) h = (refl, refl)
-insert_of table columns values (Err breaches.KeysSpent) h = (refl, refl)
-insert_of table columns values (Err breaches.PrimaryKey) h = (refl, refl)
-insert_of table columns values (Err breaches.Unique) h = (refl, refl)
-insert_of table columns values (Err breaches.Foreign) h = (refl, refl)
-
--- ---- an UPDATE and a DELETE
-
-choose_of : {A : Type 0} (s : Bulk) (b : Bool) (x y : Checked A) → OnlyOf s x → OnlyOf s y → OnlyOf s (if b then x else y)
-choose_of s true x y p q = p
-choose_of s false x y p q = q
+count_of : (s : Bulk) (table : TableId) (count : ℕ) (left : Judged Tables) → IfErr left (OnlyBy s table) → OnlyOf s (count_rows table count left)
+count_of s table count left h = bind_of s (of_judged table left) (λ tables. Ok (count, tables)) (judged_of s table left h) (λ tables. tt)
 
 update_of : (schema : Catalog) (tables : Tables) (table : TableId) (cells : List (ColumnNo × Option Expr)) (filter : Option Expr) (rows entries : Rows)
-    → OnlyOf (bulk.Update table cells filter) (spec.updated schema tables table rows entries)
-unfolding spec.written unless_dangling
+    → OnlyOf (bulk.Update table cells filter) (spec.update_entries schema tables table rows entries)
 update_of schema tables table cells filter rows [] = tt
 update_of schema tables table cells filter rows (e ∷ es) =
     let s : Bulk = bulk.Update table cells filter in
-    let left : Rows = with_all rows (e ∷ es) in
-    choose_of s (some_lacks (spec_of schema table) (e ∷ es)) (Err (breach_refusal table breaches.NotNull))
-    (if some_repeats (spec_of schema table) left (e ∷ es) then Err (breach_refusal table breaches.Unique) else unless_dangling schema tables table (length (e ∷ es)) left) (refl, refl)
-    (choose_of s (some_repeats (spec_of schema table) left (e ∷ es)) (Err (breach_refusal table breaches.Unique)) (unless_dangling schema tables table (length (e ∷ es)) left) (refl, refl)
-    (choose_of s (has_dangling schema (with_rows tables table left)) (Err (breach_refusal table breaches.Foreign)) (Ok (length (e ∷ es), with_rows tables table left)) (refl, refl) tt))
+    count_of s table (length (e ∷ es)) (change_all schema tables table rows (e ∷ es)) (change_errs (OnlyBy s table) schema tables table rows (e ∷ es) (refl, refl) (refl, refl) (refl, refl))
 
-delete_of : (schema : Catalog) (tables : Tables) (table : TableId) (filter : Option Expr) (rows : Rows) (keys : List (List Value)) → OnlyOf (bulk.Delete table filter) (spec.deleted schema tables table rows keys)
-unfolding unless_dangling
+delete_of : (schema : Catalog) (tables : Tables) (table : TableId) (filter : Option Expr) (rows : Rows) (keys : List (List Value)) → OnlyOf (bulk.Delete table filter) (spec.delete_keys schema tables table rows keys)
 delete_of schema tables table filter rows [] = tt
 delete_of schema tables table filter rows (k ∷ ks) =
-    choose_of (bulk.Delete table filter) (has_dangling schema (with_rows tables table (without_all rows (k ∷ ks)))) (Err (breach_refusal table breaches.Foreign))
-    (Ok (length (k ∷ ks), with_rows tables table (without_all rows (k ∷ ks)))) (refl, refl) tt
+    let s : Bulk = bulk.Delete table filter in
+    count_of s table (length (k ∷ ks)) (remove_all schema tables table rows (k ∷ ks)) (remove_errs (OnlyBy s table) schema tables table rows (k ∷ ks) (refl, refl))
 
 applied_of : (schema : Catalog) (tables : Tables) (s : Bulk) → OnlyOf s (applied schema tables s)
 unfolding applied
 applied_of schema tables (bulk.Insert table columns values) =
     let s : Bulk = bulk.Insert table columns values in
-    let given : Rows → Outcome = λ rows. of_row table (row.inserted schema tables table rows (inserted (length (spec_of schema table).columns) columns values)) in
-    bind_of s (found table (rows_in tables table)) given (found_of s table [] (rows_in tables table) refl)
-    (λ rows. insert_of table columns values (row.inserted schema tables table rows (inserted (length (spec_of schema table).columns) columns values))
-    (inserted_of schema tables table rows (inserted (length (spec_of schema table).columns) columns values)))
+    bind_of s (found table (rows_in tables table)) (spec.insert schema tables table columns values) (found_of s table [] (rows_in tables table) refl)
+    (λ rows. insert_of schema tables table columns values rows)
 applied_of schema tables (bulk.Update table cells filter) =
     let s : Bulk = bulk.Update table cells filter in
-    let judged : Rows → Rows → Outcome = λ rows entries. spec.updated schema tables table rows entries in
+    let judged : Rows → Rows → Outcome = λ rows entries. spec.update_entries schema tables table rows entries in
     let taken : Rows → Outcome = λ rows. updated_from (bare tables) cells filter [] rows >>= judged rows in
     bind_of s (found table (rows_in tables table)) (λ rows. created (bare tables) (named_in cells filter) >>= λ _. taken rows) (found_of s table (named_in cells filter) (rows_in tables table) refl)
     (λ rows. bind_of s (created (bare tables) (named_in cells filter)) (λ _. taken rows) (of_misses s table.0 (named_in cells filter) (created (bare tables) (named_in cells filter)) refl (created_misses (bare tables) (named_in cells filter)))
@@ -183,7 +146,7 @@ applied_of schema tables (bulk.Update table cells filter) =
     (λ entries. update_of schema tables table cells filter rows entries)))
 applied_of schema tables (bulk.Delete table filter) =
     let s : Bulk = bulk.Delete table filter in
-    let judged : Rows → List (List Value) → Outcome = λ rows keys. spec.deleted schema tables table rows keys in
+    let judged : Rows → List (List Value) → Outcome = λ rows keys. spec.delete_keys schema tables table rows keys in
     let taken : Rows → Outcome = λ rows. deleted_from (bare tables) filter [] rows >>= judged rows in
     bind_of s (found table (rows_in tables table)) (λ rows. created (bare tables) (named_in [] filter) >>= λ _. taken rows) (found_of s table (named_in [] filter) (rows_in tables table) refl)
     (λ rows. bind_of s (created (bare tables) (named_in [] filter)) (λ _. taken rows) (of_misses s table.0 (named_in [] filter) (created (bare tables) (named_in [] filter)) refl (created_misses (bare tables) (named_in [] filter)))

@@ -3,9 +3,9 @@
 ghost use Rattle.std.specs.Prelude.{◌≡◌, [], ◌∷◌, length, replicate, IfOk};
 ghost use Rattle.base_core.specs.declared.value.Value.TheVariants.{Null};
 ghost use Rattle.schema_core.specs.Apply.{with_cells};
-ghost use Rattle.expr_eval.specs.Checked.{Gives};
+ghost use Rattle.sql_semantics.specs.Checked.{Gives};
 ghost use Rattle.expr_eval.specs.Place.{place_of};
-ghost use Rattle.bulk_rows.specs.Taken as spec;
+ghost use Rattle.sql_semantics.specs.Taken as spec;
 
 use base_core::{ColumnNo, Copied, ListOf, Refusal, RowList, RowValues, TableId, Value};
 use expr_eval::{Scope, value_in};

@@ -1,9 +1,9 @@
 //! Tables in the expressions of a bulk statement.
 
 ghost use Rattle.std.specs.Prelude.{◌≡◌, ◌++◌, map, OnOk};
-ghost use Rattle.expr_eval.specs.Checked.{Gives};
-ghost use Rattle.select_rows.specs.Rows.{created, flat, named_where};
-ghost use Rattle.bulk_rows.specs.Applied as spec;
+ghost use Rattle.sql_semantics.specs.Checked.{Gives};
+ghost use Rattle.sql_semantics.specs.Rows.{created, flat, named_where};
+ghost use Rattle.sql_semantics.specs.Applied as spec;
 
 use base_core::{ColumnNo, ListOf, Refusal};
 use expr_eval::TableRows;

@@ -1,8 +1,8 @@
 //! The rows that a bulk statement takes.
 
 ghost use Rattle.std.specs.Prelude.{◌≡◌, [], ◌∷◌, ◌++◌, if◌then◌else◌, OnOk};
-ghost use Rattle.expr_eval.specs.Checked.{Gives};
-ghost use Rattle.bulk_rows.specs.Taken as spec;
+ghost use Rattle.sql_semantics.specs.Checked.{Gives};
+ghost use Rattle.sql_semantics.specs.Taken as spec;
 
 use crate::cells::{rewritten, scope_at};
 use base_core::{ColumnNo, Copied, Key, ListOf, Refusal, RowList, RowValues, TableId, Value};

@@ -2,7 +2,7 @@
 use Rattle.std.proofs.Common.{◌≡◌, ℕ, ◌+◌, ◌-◌, ◌<◌, ◌≤◌, Bool, true, false, ◌&&◌, ◌||◌, cond, eqb, List, [], ◌∷◌, ◌++◌, length, get_or, drop, refl, sym, ◌∙◌, ap, arith, length-append}
 use Rattle.std.proofs.lemmas.List.{drop_more, drop_all}
 use Rattle.std.proofs.lemmas.Grind.{common_steps}
-use Rattle.expr_eval.specs.Texts.{fits, stands_for}
+use Rattle.sql_semantics.specs.Texts.{fits, stands_for}
 use Rattle.expr_eval.specs.Ends.{AreEndsTo, AreEnds, next_end}
 
 ends_push_at : (i : ℕ) (p t : List ℕ) (ends : List Bool) (b : Bool) (len : length ends ≡ i + 1) (each : (k : ℕ) → k ≤ i → get_or ends k false ≡ fits p (drop (length t - k) t)) → b ≡ fits p (drop (length t - (i + 1)) t) → (k : ℕ) → k ≤ i + 1 → get_or (ends ++ b ∷ []) k false ≡ fits p (drop (length t - k) t)

@@ -1,5 +1,4 @@
 pub mod Ends
 pub mod Operands
 pub mod Refused
-pub mod Told
 pub mod Truths

@@ -10,10 +10,12 @@ use Rattle.expr_types.specs.declared.expr.Func.{Func}
 use Rattle.expr_types.specs.declared.expr.Func.TheVariants.{Count, Sum, Min, Max, Lower, Upper, Length, Coalesce}
 use Rattle.expr_types.specs.declared.expr.Expr.{Expr, roll-Expr}
 use Rattle.expr_types.specs.declared.expr.Expr.TheOpen.{Expr-F}
-use Rattle.expr_types.specs.declared.expr.Expr.TheFolds.{ind-Expr, map-Expr, fold-roll-Expr}
-use Rattle.expr_eval.specs.Checked.{Checked, ◌>>=◌}
-use Rattle.expr_eval.specs.Truth.{passes}
-use Rattle.expr_eval.specs.Eval.{Place, Meaning, Row, evaluated, meaning, all_from, along_from, called, calculated, int, exact, fits_i64, arithmetic, negated, aggregated, applied, is_aggregate, gathered, over, known, ungrouped, added, total, some_from, inside, pair, two, rows_in}
+use Rattle.expr_types.specs.declared.expr.Expr.TheFolds.{ind-Expr, map-Expr}
+use Rattle.expr_types.specs.Level.{is_aggregate_function}
+use Rattle.sql_semantics.specs.Checked.{Checked, ◌>>=◌}
+use Rattle.sql_semantics.specs.Truth.{passes}
+use Rattle.sql_semantics.specs.Eval.{Place, Meaning, Row, evaluated, meaning, all_from, along_from, called, calculated, int, exact, fits_i64, arithmetic, negated, aggregated, applied, gathered, over, known, ungrouped, added, total, some_from, inside, pair, two, rows_in}
+use Rattle.sql_semantics.proofs.Equations.{rolled}
 
 -- the refusal is of a result outside 64 bits
 abbrev pub IsData : Refusal → Type 0
@@ -99,7 +101,7 @@ called_by false r s h g = g
 
 called_data : (f : Func) (p : Place) (ks : List Known) → OnlyData (called f (map evaluated (plain ks)) p)
 called_data f p ks =
-    called_by (is_aggregate f) (gathered (map evaluated (plain ks)) p >>= aggregated f) (all_from p [] (map evaluated (plain ks)) >>= λ vs. Ok (applied f vs))
+    called_by (is_aggregate_function f) (gathered (map evaluated (plain ks)) p >>= aggregated f) (all_from p [] (map evaluated (plain ks)) >>= λ vs. Ok (applied f vs))
     (bind_data (gathered (map evaluated (plain ks)) p) (aggregated f) (gathered_data p ks) (aggregated_data f))
     (bind_data (all_from p [] (map evaluated (plain ks))) (λ vs. Ok (applied f vs)) (all_data p ks []) (λ vs. tt))
 
@@ -132,10 +134,6 @@ level (Expr-F.Distinct g a b) p = two_data (evaluated a.0) (evaluated b.0) _ p a
 level (Expr-F.Call f es) p = called_data f p es
 level Expr-F.CountAll p = tt
 level (Expr-F.Exists g o a) p = bind_data (some_from p (evaluated a.0) false (rows_in p.tables o.table.0)) _ (some_data p (evaluated a.0) a.1 false (rows_in p.tables o.table.0)) (λ found. tt)
-
-rolled : (x : Expr-F Expr) → evaluated (roll-Expr x) ≡ meaning (map-Expr Expr Meaning evaluated x)
-unfolding evaluated
-rolled x = fold-roll-Expr Meaning meaning x
 
 -- in every place an expression has a value, or a result outside 64 bits
 pub evaluated_data : (e : Expr) (p : Place) → OnlyData (evaluated e p)

@@ -1,6 +1,6 @@
 -- Which ends of a text fit a pattern.
 use Rattle.std.specs.Prelude.{◌≡◌, ℕ, ◌+◌, ◌-◌, ◌≤◌, Bool, false, ◌&&◌, ◌||◌, if◌then◌else◌, ◌==◌, List, length, drop, slice_index_or, slice_index}
-use Rattle.expr_eval.specs.Texts.{fits, stands_for}
+use Rattle.sql_semantics.specs.Texts.{fits, stands_for}
 
 -- at each k up to a number, whether the last k characters of the text fit the pattern
 pub record AreEndsTo (high : ℕ) (pattern text : List ℕ) (ends : List Bool) : Type 0 where

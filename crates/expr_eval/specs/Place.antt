@@ -1,7 +1,7 @@
 -- What a scope of the code stands for.
 use Rattle.std.specs.Option.{option_copied}
 use Rattle.expr_eval.specs.declared.scope.Scope.{Scope}
-use Rattle.expr_eval.specs.Eval.{Place}
+use Rattle.sql_semantics.specs.Eval.{Place}
 
 abbrev pub place_of : Scope → Place
 place_of s = record { row = s.row.now; starts = s.starts.now; tables = s.tables.now; group = option_copied s.group }

@@ -2,8 +2,8 @@
 
 ghost use Rattle.std.specs.Prelude.{◌≡◌, IfOk};
 ghost use Rattle.std.specs.Option.{option_map};
-ghost use Rattle.expr_eval.specs.Checked.{Gives};
-ghost use Rattle.expr_eval.specs.Eval as spec;
+ghost use Rattle.base_core.specs.Answers.{Gives};
+ghost use Rattle.sql_semantics.specs.Eval as spec;
 
 use crate::compare::{below, is_null};
 use crate::number::arithmetic;

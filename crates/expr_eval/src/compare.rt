@@ -1,7 +1,8 @@
 //! Comparisons, with NULL not known.
 
 ghost use Rattle.std.specs.Prelude.{◌≡◌};
-ghost use Rattle.expr_eval.specs.Eval as spec;
+ghost use Rattle.base_core.specs.Order.{same_value};
+ghost use Rattle.sql_semantics.specs.Eval as spec;
 
 use crate::truth::{and3, or3};
 use base_core::{Value, compare};
@@ -18,7 +19,7 @@ pub fn is_null(value: &Value) -> bool
 
 /// NULL is the same as NULL here.
 pub fn same(a: &Value, b: &Value) -> bool
-    ensures { result ≡ spec.same a.now b.now }
+    ensures { result ≡ same_value a.now b.now }
 {
     compare(a, b).is_eq()
 }

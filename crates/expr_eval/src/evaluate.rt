@@ -2,16 +2,16 @@
 
 ghost use Rattle.std.specs.Prelude.{◌≡◌, [], false, not, map, Some, Ok};
 ghost use Rattle.std.specs.Option.{option_map, option_copied};
-ghost use Rattle.base_core.specs.Answers as base;
-ghost use Rattle.expr_eval.specs.Checked.{Gives};
-ghost use Rattle.expr_eval.specs.Eval as spec;
-ghost use Rattle.expr_eval.specs.Eval.{evaluated};
+ghost use Rattle.base_core.specs.Answers.{Gives};
+ghost use Rattle.base_core.specs.Order.{same_value};
+ghost use Rattle.sql_semantics.specs.Eval as spec;
+ghost use Rattle.sql_semantics.specs.Eval.{evaluated};
 ghost use Rattle.expr_eval.specs.Place.{place_of};
-ghost use Rattle.expr_eval.specs.Truth as truth;
+ghost use Rattle.sql_semantics.specs.Truth as truth;
 
 use crate::aggregate::{aggregated, known};
 use crate::compare::{among, between, compared, is_null, same};
-use crate::function::{applied, is_aggregate};
+use crate::function::applied;
 use crate::number::{arithmetic, negated};
 use crate::scope::{Scope, counted, joined, more_starts, rows_in};
 use crate::text::{concatenated, is_like};
@@ -22,7 +22,7 @@ use sqlite_items::{Boxed, Items};
 use std::alloc::Global;
 
 /// The value of an expression in a scope. Operands are evaluated from left to right, with no short cut.
-#[tactic(auto, unfolding(crate::specs::Eval::evaluated))]
+#[tactic(auto, unfolding(sql_semantics::specs::Eval::evaluated))]
 #[cycle(eval)]
 pub fn value_in(alloc: Global, e: &Expr, scope: &Scope<'_>) -> Result<Value, Refusal>
     ensures { Gives (λ x. x) result (evaluated e.now (place_of scope.now)) }
@@ -51,7 +51,6 @@ pub fn value_in(alloc: Global, e: &Expr, scope: &Scope<'_>) -> Result<Value, Ref
     }
 }
 
-#[tactic(auto, using(crate::proofs::Told::gives_as_base))]
 /// The value of an expression at a row, without tables and groups: an `exists` finds nothing there, and an aggregate is NULL. `starts` has the
 /// place in the row at which each source begins; a column that is not there is NULL. A result outside 64 bits is DataError, the first one met
 /// from left to right, with its operator and operands: 0 and x for a unary minus.
@@ -61,7 +60,7 @@ pub fn eval<'x>(
     row: &'x RowValues,
     starts: &'x [u32],
 ) -> Result<Value, Refusal>
-    ensures { base.Gives (λ x. x) result (evaluated e.now (spec.at_row row.now starts.now)) }
+    ensures { Gives (λ x. x) result (evaluated e.now (spec.at_row row.now starts.now)) }
 {
     let scope = Scope {
         row: row.as_slice(),
@@ -210,7 +209,7 @@ fn difference(
     b: &Boxed<Expr>,
     scope: &Scope<'_>,
 ) -> Result<Value, Refusal>
-    ensures { Gives (λ x. x) result (spec.two (evaluated a.now) (evaluated b.now) (λ x y. spec.truth (truth.signed negated (Some (not (spec.same x y))))) (place_of scope.now)) }
+    ensures { Gives (λ x. x) result (spec.two (evaluated a.now) (evaluated b.now) (λ x y. spec.truth (truth.signed negated (Some (not (same_value x y))))) (place_of scope.now)) }
 {
     let (x, y) = both(alloc, a, b, scope)?;
     Ok(value_of(signed(negated, Some(!same(&x, &y)))))
@@ -265,7 +264,7 @@ fn called(
 ) -> Result<Value, Refusal>
     ensures { Gives (λ x. x) result (spec.called function (map evaluated operands.now) (place_of scope.now)) }
 {
-    if is_aggregate(function) {
+    if function.is_aggregate() {
         let values = gathered(alloc, operands, scope)?;
         aggregated(function, values)
     } else {

@@ -1,22 +1,13 @@
 //! Functions of several values.
 
 ghost use Rattle.std.specs.Prelude.{◌≡◌, IfOk};
-ghost use Rattle.expr_eval.specs.Eval as spec;
+ghost use Rattle.sql_semantics.specs.Eval as spec;
 
 use crate::compare::is_null;
 use crate::text::{lowered, raised, text_length};
 use base_core::{Copied, Value};
 use expr_types::Func;
 use std::alloc::{AllocError, Global};
-
-pub(crate) fn is_aggregate(function: Func) -> bool
-    ensures { result ≡ spec.is_aggregate function }
-{
-    match function {
-        Func::Count | Func::Sum | Func::Min | Func::Max => true,
-        _ => false,
-    }
-}
 
 /// A function that is no aggregate, of the values of its operands.
 pub(crate) fn applied(alloc: Global, function: Func, values: &[Value]) -> Result<Value, AllocError>

@@ -1,7 +1,7 @@
 //! Integers of 64 bits.
 
 ghost use Rattle.std.specs.Prelude.{◌≡◌};
-ghost use Rattle.expr_eval.specs.Eval as spec;
+ghost use Rattle.sql_semantics.specs.Eval as spec;
 
 use base_core::{ArithOp, Refusal, Value};
 

@@ -1,12 +1,12 @@
 //! Patterns of `like`.
 
 ghost use Rattle.std.specs.Prelude.{◌≡◌, ℕ, ◌+◌, ◌<◌, List, [], ◌∷◌, length, IfOk};
-ghost use Rattle.expr_eval.specs.Texts as spec;
+ghost use Rattle.sql_semantics.specs.Texts as spec;
 ghost use Rattle.expr_eval.specs.Ends.{AreEnds, next_end as spec_next_end};
 
 use std::alloc::{AllocError, Global};
 
-#[tactic(auto, unfolding(crate::specs::Texts::like))]
+#[tactic(auto, unfolding(sql_semantics::specs::Texts::like))]
 /// Whether the text fits the pattern: `%` stands for any characters, `_` for one, and the case of ASCII letters is ignored.
 pub(crate) fn like(alloc: Global, text: &str, pattern: &str) -> Result<bool, AllocError>
     ensures { IfOk result (λ b. b ≡ spec.like text.now pattern.now) }

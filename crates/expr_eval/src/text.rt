@@ -2,7 +2,7 @@
 
 ghost use Rattle.std.specs.Prelude.{pos, ◌≡◌, IfOk, length};
 ghost use Rattle.std.specs.Str.{chars};
-ghost use Rattle.expr_eval.specs.Eval as spec;
+ghost use Rattle.sql_semantics.specs.Eval as spec;
 
 use crate::pattern::like;
 use base_core::{Text, Value};

@@ -1,7 +1,7 @@
 //! Truth with three values: true, false, and not known, which is `None`.
 
 ghost use Rattle.std.specs.Prelude.{◌≡◌, map};
-ghost use Rattle.expr_eval.specs.Truth as spec;
+ghost use Rattle.sql_semantics.specs.Truth as spec;
 
 use base_core::Value;
 

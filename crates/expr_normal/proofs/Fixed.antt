@@ -15,6 +15,7 @@ use Rattle.expr_types.specs.declared.expr.Expr.TheViews.{roll-out-Expr, size-Exp
 use Rattle.expr_types.specs.declared.expr.Expr.TheFolds.{ind-Expr, map-Expr}
 use Rattle.expr_types.specs.declared.expr.Func.TheVariants.{Lower}
 use Rattle.expr_types.specs.Normal.{normal, negated, negated_at, liked, like_by, lowered, lowered_at, lowered_by, joined_parts, and_parts, and_parts_at, or_parts, or_parts_at, opposite}
+use Rattle.expr_types.proofs.Folds.{whole_is}
 use Rattle.expr_normal.proofs.Steps.{normal-Column, normal-Lit, normal-Compare, normal-IsNull, normal-And, normal-Or, normal-Not, normal-Arith, normal-Neg, normal-Concat, normal-Like, normal-Ilike, normal-InList, normal-Between, normal-Distinct, normal-Call, normal-CountAll, normal-Exists}
 
 -- what stands below a `not` is in normal form and has no opposite of its own
@@ -143,9 +144,6 @@ negated_by : (n : Expr) (x : Expr-F Expr) → out-Expr n ≡ x → negated n ≡
 unfolding negated
 negated_by n x is = ap (negated_at n) is
 
-whole_is : (n : Expr) (x : Expr-F Expr) → out-Expr n ≡ x → roll-Expr x ≡ n
-whole_is n x is = ap roll-Expr (sym is) ∙ roll-out-Expr n
-
 -- the level of a fixed form, once more
 level_again : (n m : Expr) (x : Expr-F Expr) → out-Expr n ≡ x → normal n ≡ n → normal n ≡ m → out-Expr m ≡ x
 level_again n m x is same e = ap out-Expr (sym e ∙ same) ∙ is
@@ -153,43 +151,43 @@ level_again n m x is same e = ap out-Expr (sym e ∙ same) ∙ is
 below-Compare : (n : Expr) (op : CompareOp) (a : Expr) (b : Expr) → out-Expr n ≡ Expr-F.Compare op a b → normal n ≡ n → (normal a ≡ a) × (normal b ≡ b)
 below-Compare n op a b is same =
     let e : Expr-F.Compare op (normal a) (normal b) ≡ Expr-F.Compare op a b =
-    sym (expr.outs-Compare op (normal a) (normal b)) ∙ level_again n (expr.Compare op (normal a) (normal b)) (Expr-F.Compare op a b) is same (ap normal (sym (sym (expr.rolls-Compare op a b) ∙ whole_is n (Expr-F.Compare op a b) is)) ∙ normal-Compare op a b) in
+    sym (expr.outs-Compare op (normal a) (normal b)) ∙ level_again n (expr.Compare op (normal a) (normal b)) (Expr-F.Compare op a b) is same (ap normal (sym (sym (expr.rolls-Compare op a b) ∙ sym (whole_is n (Expr-F.Compare op a b) is))) ∙ normal-Compare op a b) in
     (cc, cc)
 
 below-IsNull : (n : Expr) (g : Bool) (a : Expr) → out-Expr n ≡ Expr-F.IsNull g a → normal n ≡ n → (normal a ≡ a)
 below-IsNull n g a is same =
     let e : Expr-F.IsNull g (normal a) ≡ Expr-F.IsNull g a =
-    sym (expr.outs-IsNull g (normal a)) ∙ level_again n (expr.IsNull g (normal a)) (Expr-F.IsNull g a) is same (ap normal (sym (sym (expr.rolls-IsNull g a) ∙ whole_is n (Expr-F.IsNull g a) is)) ∙ normal-IsNull g a) in
+    sym (expr.outs-IsNull g (normal a)) ∙ level_again n (expr.IsNull g (normal a)) (Expr-F.IsNull g a) is same (ap normal (sym (sym (expr.rolls-IsNull g a) ∙ sym (whole_is n (Expr-F.IsNull g a) is))) ∙ normal-IsNull g a) in
     cc
 
 below-Ilike : (n : Expr) (g : Bool) (a : Expr) (b : Expr) → out-Expr n ≡ Expr-F.Ilike g a b → normal n ≡ n → (normal a ≡ a) × (normal b ≡ b)
 below-Ilike n g a b is same =
     let e : Expr-F.Ilike g (normal a) (normal b) ≡ Expr-F.Ilike g a b =
-    sym (expr.outs-Ilike g (normal a) (normal b)) ∙ level_again n (expr.Ilike g (normal a) (normal b)) (Expr-F.Ilike g a b) is same (ap normal (sym (sym (expr.rolls-Ilike g a b) ∙ whole_is n (Expr-F.Ilike g a b) is)) ∙ normal-Ilike g a b) in
+    sym (expr.outs-Ilike g (normal a) (normal b)) ∙ level_again n (expr.Ilike g (normal a) (normal b)) (Expr-F.Ilike g a b) is same (ap normal (sym (sym (expr.rolls-Ilike g a b) ∙ sym (whole_is n (Expr-F.Ilike g a b) is))) ∙ normal-Ilike g a b) in
     (cc, cc)
 
 below-InList : (n : Expr) (g : Bool) (a : Expr) (vs : List Value) → out-Expr n ≡ Expr-F.InList g a vs → normal n ≡ n → (normal a ≡ a)
 below-InList n g a vs is same =
     let e : Expr-F.InList g (normal a) vs ≡ Expr-F.InList g a vs =
-    sym (expr.outs-InList g (normal a) vs) ∙ level_again n (expr.InList g (normal a) vs) (Expr-F.InList g a vs) is same (ap normal (sym (sym (expr.rolls-InList g a vs) ∙ whole_is n (Expr-F.InList g a vs) is)) ∙ normal-InList g a vs) in
+    sym (expr.outs-InList g (normal a) vs) ∙ level_again n (expr.InList g (normal a) vs) (Expr-F.InList g a vs) is same (ap normal (sym (sym (expr.rolls-InList g a vs) ∙ sym (whole_is n (Expr-F.InList g a vs) is))) ∙ normal-InList g a vs) in
     cc
 
 below-Between : (n : Expr) (g : Bool) (a : Expr) (low : Expr) (high : Expr) → out-Expr n ≡ Expr-F.Between g a low high → normal n ≡ n → (normal a ≡ a) × (normal low ≡ low) × (normal high ≡ high)
 below-Between n g a low high is same =
     let e : Expr-F.Between g (normal a) (normal low) (normal high) ≡ Expr-F.Between g a low high =
-    sym (expr.outs-Between g (normal a) (normal low) (normal high)) ∙ level_again n (expr.Between g (normal a) (normal low) (normal high)) (Expr-F.Between g a low high) is same (ap normal (sym (sym (expr.rolls-Between g a low high) ∙ whole_is n (Expr-F.Between g a low high) is)) ∙ normal-Between g a low high) in
+    sym (expr.outs-Between g (normal a) (normal low) (normal high)) ∙ level_again n (expr.Between g (normal a) (normal low) (normal high)) (Expr-F.Between g a low high) is same (ap normal (sym (sym (expr.rolls-Between g a low high) ∙ sym (whole_is n (Expr-F.Between g a low high) is))) ∙ normal-Between g a low high) in
     (cc, cc, cc)
 
 below-Distinct : (n : Expr) (g : Bool) (a : Expr) (b : Expr) → out-Expr n ≡ Expr-F.Distinct g a b → normal n ≡ n → (normal a ≡ a) × (normal b ≡ b)
 below-Distinct n g a b is same =
     let e : Expr-F.Distinct g (normal a) (normal b) ≡ Expr-F.Distinct g a b =
-    sym (expr.outs-Distinct g (normal a) (normal b)) ∙ level_again n (expr.Distinct g (normal a) (normal b)) (Expr-F.Distinct g a b) is same (ap normal (sym (sym (expr.rolls-Distinct g a b) ∙ whole_is n (Expr-F.Distinct g a b) is)) ∙ normal-Distinct g a b) in
+    sym (expr.outs-Distinct g (normal a) (normal b)) ∙ level_again n (expr.Distinct g (normal a) (normal b)) (Expr-F.Distinct g a b) is same (ap normal (sym (sym (expr.rolls-Distinct g a b) ∙ sym (whole_is n (Expr-F.Distinct g a b) is))) ∙ normal-Distinct g a b) in
     (cc, cc)
 
 below-Exists : (n : Expr) (g : Bool) (o : Origin) (a : Expr) → out-Expr n ≡ Expr-F.Exists g o a → normal n ≡ n → (normal a ≡ a)
 below-Exists n g o a is same =
     let e : Expr-F.Exists g o (normal a) ≡ Expr-F.Exists g o a =
-    sym (expr.outs-Exists g o (normal a)) ∙ level_again n (expr.Exists g o (normal a)) (Expr-F.Exists g o a) is same (ap normal (sym (sym (expr.rolls-Exists g o a) ∙ whole_is n (Expr-F.Exists g o a) is)) ∙ normal-Exists g o a) in
+    sym (expr.outs-Exists g o (normal a)) ∙ level_again n (expr.Exists g o (normal a)) (Expr-F.Exists g o a) is same (ap normal (sym (sym (expr.rolls-Exists g o a) ∙ sym (whole_is n (Expr-F.Exists g o a) is))) ∙ normal-Exists g o a) in
     cc
 
 -- ---- `like`
@@ -206,7 +204,7 @@ lowered_normal_by f es x is = absurd (cc)
 
 lowered_normal_at : (a : Expr) (l : Expr-F Expr) → out-Expr a ≡ l → (x : Expr) → lowered_at l ≡ Some x → lowered (normal a) ≡ Some (normal x)
 lowered_normal_at a (Expr-F.Call f es) is x e =
-    ap lowered (ap normal (sym (sym (expr.rolls-Call f es) ∙ whole_is a (Expr-F.Call f es) is)) ∙ normal-Call f es)
+    ap lowered (ap normal (sym (sym (expr.rolls-Call f es) ∙ sym (whole_is a (Expr-F.Call f es) is))) ∙ normal-Call f es)
     ∙ lowered_is (expr.Call f (map normal es)) _ (expr.outs-Call f (map normal es)) ∙ lowered_normal_by f es x e
 lowered_normal_at a level is x e = absurd (cc)
 
@@ -247,7 +245,7 @@ like_below_by g a b None t es et e =
 
 like_negated : (n : Expr) (g : Bool) (a b : Expr) → out-Expr n ≡ Expr-F.Like g a b → normal n ≡ n → Fixed (expr.Like (not g) a b)
 like_negated n g a b is same =
-    let n_is : expr.Like g a b ≡ n = sym (expr.rolls-Like g a b) ∙ whole_is n (Expr-F.Like g a b) is in
+    let n_is : expr.Like g a b ≡ n = sym (expr.rolls-Like g a b) ∙ sym (whole_is n (Expr-F.Like g a b) is) in
     let e : like_by g (normal a) (normal b) (lowered (normal a)) (lowered (normal b)) ≡ expr.Like g a b =
     sym (liked_by g (normal a) (normal b) (lowered (normal a)) (lowered (normal b)) refl refl) ∙ sym (normal-Like g a b) ∙ ap normal n_is ∙ same ∙ sym n_is in
     let below : (normal a ≡ a) × (normal b ≡ b) × (liked (not g) a b ≡ expr.Like (not g) a b) = like_below_by g a b (lowered (normal a)) (lowered (normal b)) refl refl e in
@@ -259,7 +257,7 @@ not_endless b is = omega (arith, ap size-Expr is, sized-Not b, sized-Not (expr.N
 
 below_not : (a : Expr) (x : Expr-F Expr) → out-Expr a ≡ x → negated a ≡ expr.Not a → OverNot x
 below_not a (Expr-F.Not b) is e =
-    absurd (not_endless b (sym (negated_by a (Expr-F.Not b) is) ∙ e ∙ ap expr.Not (sym (sym (expr.rolls-Not b) ∙ whole_is a (Expr-F.Not b) is))))
+    absurd (not_endless b (sym (negated_by a (Expr-F.Not b) is) ∙ e ∙ ap expr.Not (sym (sym (expr.rolls-Not b) ∙ sym (whole_is a (Expr-F.Not b) is)))))
 below_not a level is e = tt
 
 negated_fixed_at : (n : Expr) (x : Expr-F Expr) → out-Expr n ≡ x → Fixed n → Fixed (negated_at n x)
@@ -312,4 +310,4 @@ normal_again e = (fixed e).again
 pub not_below : (e b c : Expr) → out-Expr (normal e) ≡ Expr-F.Not b → out-Expr b ≡ Expr-F.Not c → ⊥
 not_below e b c is below =
     let over : OverNot (Expr-F.Not b) = subst OverNot is (fixed e).below in
-    not_endless c (sym (negated_by b (Expr-F.Not c) below) ∙ over.1 ∙ ap expr.Not (sym (sym (expr.rolls-Not c) ∙ whole_is b (Expr-F.Not c) below)))
+    not_endless c (sym (negated_by b (Expr-F.Not c) below) ∙ over.1 ∙ ap expr.Not (sym (sym (expr.rolls-Not c) ∙ sym (whole_is b (Expr-F.Not c) below))))

@@ -1,13 +1,12 @@
 //! The normal form.
 
-ghost use Rattle.std.specs.Prelude.{◌≡◌, map, reverse, IfOk};
-ghost use Rattle.std.specs.Prelude.{Ok};
+ghost use Rattle.std.specs.Prelude.{◌≡◌, map, reverse, Ok, IfOk};
 ghost use Rattle.base_core.specs.Answers.{Gives};
 ghost use Rattle.expr_types.specs.Normal as spec;
 ghost use Rattle.expr_types.specs.declared.expr.Expr.TheVariants as expr;
 
-use crate::level::{and_list, liked, negated, or_list, turned};
-use base_core::Refusal;
+use crate::level::{and_list, called, liked, negated, or_list};
+use base_core::{Refusal, both};
 use expr_types::Expr;
 use sqlite_items::{Boxed, Items};
 use std::alloc::{AllocError, Global};
@@ -18,44 +17,49 @@ fn form(alloc: Global, e: Expr) -> Result<Expr, AllocError>
     ensures { IfOk result (λ n. n ≡ spec.normal e) }
 {
     match e {
-        Expr::Column(source, column) => Ok(Expr::Column(source, column)),
+        leaf @ (Expr::Column(_, _) | Expr::CountAll) => Ok(leaf),
         Expr::Lit(value) => Ok(Expr::Lit(value)),
-        Expr::Compare(op, a, b) => Ok(Expr::Compare(op, boxed(alloc, a)?, boxed(alloc, b)?)),
+        Expr::Compare(op, a, b) => {
+            let (a, b) = both(boxed(alloc, a), boxed(alloc, b))?;
+            Ok(Expr::Compare(op, a, b))
+        }
         Expr::IsNull(negated, a) => Ok(Expr::IsNull(negated, boxed(alloc, a)?)),
         Expr::And(parts) => Ok(Expr::And(and_list(alloc, reversed(alloc, parts)?)?)),
         Expr::Or(parts) => Ok(Expr::Or(or_list(alloc, reversed(alloc, parts)?)?)),
         Expr::Not(a) => negated(alloc, form(alloc, a.into_inner())?),
-        Expr::Arith(op, a, b) => Ok(Expr::Arith(op, boxed(alloc, a)?, boxed(alloc, b)?)),
+        Expr::Arith(op, a, b) => {
+            let (a, b) = both(boxed(alloc, a), boxed(alloc, b))?;
+            Ok(Expr::Arith(op, a, b))
+        }
         Expr::Neg(a) => Ok(Expr::Neg(boxed(alloc, a)?)),
-        Expr::Concat(a, b) => Ok(Expr::Concat(boxed(alloc, a)?, boxed(alloc, b)?)),
+        Expr::Concat(a, b) => {
+            let (a, b) = both(boxed(alloc, a), boxed(alloc, b))?;
+            Ok(Expr::Concat(a, b))
+        }
         Expr::Like(negated, a, b) => {
-            let a = form(alloc, a.into_inner())?;
-            let b = form(alloc, b.into_inner())?;
+            let (a, b) = both(boxed(alloc, a), boxed(alloc, b))?;
             liked(alloc, negated, a, b)
         }
-        Expr::Ilike(negated, a, b) => Ok(Expr::Ilike(negated, boxed(alloc, a)?, boxed(alloc, b)?)),
-        Expr::InList(negated, a, values) => Ok(Expr::InList(negated, boxed(alloc, a)?, values)),
-        Expr::Between(negated, a, low, high) => Ok(Expr::Between(
-            negated,
-            boxed(alloc, a)?,
-            boxed(alloc, low)?,
-            boxed(alloc, high)?,
-        )),
-        Expr::Distinct(negated, a, b) => Ok(Expr::Distinct(
-            negated,
-            boxed(alloc, a)?,
-            boxed(alloc, b)?,
-        )),
-        Expr::Call(function, operands) => {
-            let operands = reversed(alloc, operands)?;
-            Ok(Expr::Call(function, turned(alloc, operands)?))
+        Expr::Ilike(negated, a, b) => {
+            let (a, b) = both(boxed(alloc, a), boxed(alloc, b))?;
+            Ok(Expr::Ilike(negated, a, b))
         }
-        Expr::CountAll => Ok(Expr::CountAll),
-        Expr::Exists(negated, origin, condition) => Ok(Expr::Exists(
-            negated,
-            origin,
-            boxed(alloc, condition)?,
-        )),
+        Expr::InList(negated, a, values) => Ok(Expr::InList(negated, boxed(alloc, a)?, values)),
+        Expr::Between(negated, a, low, high) => {
+            let (a, (low, high)) = both(
+                boxed(alloc, a),
+                both(boxed(alloc, low), boxed(alloc, high)),
+            )?;
+            Ok(Expr::Between(negated, a, low, high))
+        }
+        Expr::Distinct(negated, a, b) => {
+            let (a, b) = both(boxed(alloc, a), boxed(alloc, b))?;
+            Ok(Expr::Distinct(negated, a, b))
+        }
+        Expr::Call(function, operands) => called(alloc, function, reversed(alloc, operands)?),
+        Expr::Exists(negated, origin, condition) => {
+            Ok(Expr::Exists(negated, origin, boxed(alloc, condition)?))
+        }
     }
 }
 
@@ -82,7 +86,7 @@ fn reversed(alloc: Global, operands: Items<Expr>) -> Result<Items<Expr>, AllocEr
 
 /// The normal form: `not` over a comparison, a null test, `like`, `ilike`, `in`, `between`, `is distinct from` or
 /// `exists` becomes the opposite operator, `not not x` is x, an `and` in an `and` and an `or` in an `or` become one
-/// list, and `lower(a) like lower(b)` becomes `a ilike b`. The only refusal is want of memory.
+/// list, and `lower(a) like lower(b)` becomes `a ilike b`. The only refusal is `Memory`.
 #[tactic(auto, using(crate::proofs::Fixed::normal_again))]
 pub fn normal(alloc: Global, e: Expr) -> Result<Expr, Refusal>
     ensures form { Gives (λ n. n) result (Ok (spec.normal e)) }
@@ -92,7 +96,7 @@ pub fn normal(alloc: Global, e: Expr) -> Result<Expr, Refusal>
     Ok(form(alloc, e)?)
 }
 
-/// The normal form of `not e`. The only refusal is want of memory.
+/// The normal form of `not e`. The only refusal is `Memory`.
 #[tactic(auto, using(crate::proofs::Negates::normal_of_not, crate::proofs::Negates::negated_again))]
 pub fn negate(alloc: Global, e: Expr) -> Result<Expr, Refusal>
     ensures form { Gives (λ n. n) result (Ok (spec.normal (expr.Not e))) }

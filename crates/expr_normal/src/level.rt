@@ -3,7 +3,9 @@
 ghost use Rattle.std.specs.Prelude.{◌≡◌, ◌++◌, reverse, is_some, IfOk, OnOk};
 ghost use Rattle.std.specs.Option.{unwrap_or};
 ghost use Rattle.expr_types.specs.Normal as spec;
+ghost use Rattle.expr_types.specs.declared.expr.Expr.TheVariants as expr;
 
+use base_core::both;
 use expr_types::{CompareOp, Expr, Func};
 use sqlite_items::{Boxed, Items};
 use std::alloc::{AllocError, Global};
@@ -88,9 +90,20 @@ pub(crate) fn or_list(alloc: Global, operands: Items<Expr>) -> Result<Items<Expr
     Ok(out)
 }
 
+/// A function of the operands, which stand in reverse order.
+pub(crate) fn called(
+    alloc: Global,
+    function: Func,
+    operands: Items<Expr>,
+) -> Result<Expr, AllocError>
+    ensures { IfOk result (λ n. n ≡ expr.Call function (reverse operands)) }
+{
+    Ok(Expr::Call(function, turned(alloc, operands)?))
+}
+
 /// The items in reverse order.
 #[tactic(auto, using(crate::proofs::Reversed::from_the_end))]
-pub(crate) fn turned(alloc: Global, items: Items<Expr>) -> Result<Items<Expr>, AllocError>
+fn turned(alloc: Global, items: Items<Expr>) -> Result<Items<Expr>, AllocError>
     ensures { IfOk result (λ back. back ≡ reverse items) }
 {
     let mut items = items;
@@ -131,16 +144,21 @@ fn text_in(e: Expr) -> Expr
 
 /// `a like b`.
 #[tactic(auto, unfolding(expr_types::specs::Normal::liked))]
-pub(crate) fn liked(alloc: Global, negated: bool, a: Expr, b: Expr) -> Result<Expr, AllocError>
+pub(crate) fn liked(
+    alloc: Global,
+    negated: bool,
+    a: Boxed<Expr>,
+    b: Boxed<Expr>,
+) -> Result<Expr, AllocError>
     ensures { IfOk result (λ n. n ≡ spec.liked negated a b) }
 {
-    if is_lowered(&a) && is_lowered(&b) {
-        Ok(Expr::Ilike(
-            negated,
-            Boxed::new(alloc, text_in(a))?,
-            Boxed::new(alloc, text_in(b))?,
-        ))
+    if is_lowered(a.get()) && is_lowered(b.get()) {
+        let (a, b) = both(
+            Boxed::new(alloc, text_in(a.into_inner())),
+            Boxed::new(alloc, text_in(b.into_inner())),
+        )?;
+        Ok(Expr::Ilike(negated, a, b))
     } else {
-        Ok(Expr::Like(negated, Boxed::new(alloc, a)?, Boxed::new(alloc, b)?))
+        Ok(Expr::Like(negated, a, b))
     }
 }

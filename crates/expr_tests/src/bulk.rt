@@ -5,7 +5,8 @@ use base_core::{ArithOp, ColumnNo, Key, ListOf, Refusal, RowValues};
 use bulk_rows::{deleted, inserted, updated};
 use expr_eval::TableRows;
 use expr_types::Expr;
-use std::alloc::Global;
+use sqlite_items::Boxed;
+use std::alloc::{AllocError, Global};
 use std::test::Fail;
 
 /// The rows of the table.
@@ -29,11 +30,11 @@ fn keyed(alloc: Global, text: &str) -> Result<ListOf<(Key, RowValues)>, Refusal>
     Ok(all)
 }
 
-fn filter(alloc: Global, text: &str) -> Result<Option<Expr>, Refusal> {
+fn filter(alloc: Global, text: &str) -> Result<Boxed<Option<Expr>>, AllocError> {
     if text.is_empty() {
-        return Ok(None);
+        return Boxed::new(alloc, None);
     }
-    Ok(Some(expression(alloc, text)?))
+    Boxed::new(alloc, Some(expression(alloc, text)?.into_inner()))
 }
 
 /// The rows that an UPDATE of the second column takes, as it writes them.
@@ -44,16 +45,16 @@ fn update(
 ) -> Result<ListOf<(Key, RowValues)>, Refusal> {
     let tables: TableRows = ListOf::new(alloc);
     let mut cells = ListOf::new(alloc);
-    cells.push((ColumnNo(1), Some(expression(alloc, written)?)))?;
+    cells.push((ColumnNo(1), Some(expression(alloc, written)?.into_inner())))?;
     let filter = filter(alloc, condition)?;
-    updated(alloc, &tables, &cells, &filter, &keyed(alloc, ROWS)?)
+    updated(alloc, &tables, &cells, filter.get(), &keyed(alloc, ROWS)?)
 }
 
 /// The keys of the rows that a DELETE takes.
 fn delete(alloc: Global, condition: &str) -> Result<ListOf<Key>, Refusal> {
     let tables: TableRows = ListOf::new(alloc);
     let filter = filter(alloc, condition)?;
-    deleted(alloc, &tables, &filter, &keyed(alloc, ROWS)?)
+    deleted(alloc, &tables, filter.get(), &keyed(alloc, ROWS)?)
 }
 
 #[test]

@@ -108,7 +108,8 @@ const RANGES: &[(&str, ArithOp, i64, i64)] = &[
 
 fn value(alloc: Global, text: &str) -> Result<Value, Refusal> {
     let row: RowValues = row(alloc, ROW)?;
-    eval(alloc, &expression(alloc, text)?, &row, STARTS.as_slice())
+    let e = expression(alloc, text)?;
+    eval(alloc, e.get(), &row, STARTS.as_slice())
 }
 
 #[test]

@@ -1,22 +1,60 @@
 //! Normal forms, as the rules for them say.
 
 use crate::postfix::expression;
+use base_core::Refusal;
 use expr_normal::{negate, normal};
 use expr_types::{CompareOp, Expr};
+use sqlite_items::Boxed;
+use std::alloc::Global;
 use std::test::Fail;
+
+/// Expressions, whether they are negated first, and what stands at the head of the normal form.
+const FORMS: [(&str, bool, Head); 4] = [
+    ("0.0 0.1 <", true, Head::GreaterEqual),
+    ("0.0 0.1 < not not", false, Head::Less),
+    (
+        "0.0 0.1 < count-all and count-all and",
+        false,
+        Head::ListOfThree,
+    ),
+    ("0.0 lower 0.1 lower like", true, Head::NotIlike),
+];
+
+#[derive(Clone, Copy, Debug, PartialEq, Eq)]
+enum Head {
+    Less,
+    GreaterEqual,
+    ListOfThree,
+    NotIlike,
+    Other,
+}
+
+fn kind_of_head(e: &Expr) -> Head {
+    match e {
+        Expr::Compare(CompareOp::Less, _, _) => Head::Less,
+        Expr::Compare(CompareOp::GreaterEqual, _, _) => Head::GreaterEqual,
+        Expr::And(parts) if parts.len() == 3 => Head::ListOfThree,
+        Expr::Ilike(true, _, _) => Head::NotIlike,
+        _ => Head::Other,
+    }
+}
+
+fn formed(alloc: Global, text: &str, negated: bool) -> Result<Boxed<Expr>, Refusal> {
+    let e = expression(alloc, text)?.into_inner();
+    let form = if negated {
+        negate(alloc, e)
+    } else {
+        normal(alloc, e)
+    };
+    Ok(Boxed::new(alloc, form?)?)
+}
 
 // `not (a < b)` is `a >= b`, `not not x` is x, `(x and y) and z` is one list, and `lower(a) like lower(b)` is `a ilike b`.
 #[test]
 fn normal_forms_are_those_of_the_rules(rt: HostRuntime) -> Result<(), Fail> {
-    let alloc = rt.alloc();
-    let not_less = negate(alloc, expression(alloc, "0.0 0.1 <")?)?;
-    assert!(rt; matches!(&not_less, Expr::Compare(CompareOp::GreaterEqual, _, _)));
-    let twice = normal(alloc, expression(alloc, "0.0 0.1 < not not")?)?;
-    assert!(rt; matches!(&twice, Expr::Compare(CompareOp::Less, _, _)));
-    let nested = expression(alloc, "0.0 0.1 < count-all and count-all and")?;
-    let flat = normal(alloc, nested)?;
-    assert!(rt; matches!(&flat, Expr::And(parts) if parts.len() == 3));
-    let liked = negate(alloc, expression(alloc, "0.0 lower 0.1 lower like")?)?;
-    assert!(rt; matches!(&liked, Expr::Ilike(true, _, _)));
+    for (text, negated, wanted) in FORMS {
+        let form = formed(rt.alloc(), text, negated)?;
+        assert_eq!(rt; kind_of_head(form.get()), wanted, "{text}");
+    }
     Ok(())
 }

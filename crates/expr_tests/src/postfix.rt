@@ -1,6 +1,8 @@
 //! Expressions and rows as tables of tests write them: words, of which an operator stands behind its operands.
 
-use base_core::{ArithOp, ColumnNo, ListOf, Refusal, RowList, RowValues, TableId, Text, Value};
+use base_core::{
+    ArithOp, ColumnNo, ListOf, Refusal, RowList, RowValues, TableId, Text, Value, both,
+};
 use expr_types::{CompareOp, Expr, Func, Origin};
 use sqlite_items::{Boxed, Items};
 use std::alloc::{AllocError, Global};
@@ -50,42 +52,45 @@ pub(crate) fn rows(alloc: Global, text: &str) -> Result<RowList, Refusal> {
 }
 
 /// The expression that a text says.
-pub(crate) fn expression(alloc: Global, text: &str) -> Result<Expr, AllocError> {
+pub(crate) fn expression(alloc: Global, text: &str) -> Result<Boxed<Expr>, AllocError> {
     let mut stack = Vec::new(alloc);
     for word in text.split_whitespace() {
-        let e = operator(alloc, &mut stack, word)?;
+        let e = Boxed::new(alloc, operator(alloc, &mut stack, word)?)?;
         stack.push(e)?;
     }
-    Ok(top(&mut stack))
+    top(alloc, &mut stack)
 }
 
-fn top(stack: &mut Vec<Expr>) -> Expr {
+fn top(alloc: Global, stack: &mut Vec<Boxed<Expr>>) -> Result<Boxed<Expr>, AllocError> {
     match stack.pop() {
-        Some(e) => e,
-        None => Expr::CountAll,
+        Some(e) => Ok(e),
+        None => Boxed::new(alloc, Expr::CountAll),
     }
 }
 
-fn one(alloc: Global, stack: &mut Vec<Expr>) -> Result<Boxed<Expr>, AllocError> {
-    Boxed::new(alloc, top(stack))
-}
-
-fn two(alloc: Global, stack: &mut Vec<Expr>) -> Result<(Boxed<Expr>, Boxed<Expr>), AllocError> {
-    let b = one(alloc, stack)?;
-    let a = one(alloc, stack)?;
+/// The last two operands, in the order in which they were written.
+fn two(
+    alloc: Global,
+    stack: &mut Vec<Boxed<Expr>>,
+) -> Result<(Boxed<Expr>, Boxed<Expr>), AllocError> {
+    let (b, a) = both(top(alloc, stack), top(alloc, stack))?;
     Ok((a, b))
 }
 
-fn list(alloc: Global, stack: &mut Vec<Expr>, count: usize) -> Result<Items<Expr>, AllocError> {
+fn list(
+    alloc: Global,
+    stack: &mut Vec<Boxed<Expr>>,
+    count: usize,
+) -> Result<Items<Expr>, AllocError> {
     let mut parts = Vec::new(alloc);
     for _ in 0..count {
-        parts.push(top(stack))?;
+        parts.push(top(alloc, stack)?.into_inner())?;
     }
     parts.reverse();
     Ok(Items::from_vec(parts))
 }
 
-fn operator(alloc: Global, stack: &mut Vec<Expr>, word: &str) -> Result<Expr, AllocError> {
+fn operator(alloc: Global, stack: &mut Vec<Boxed<Expr>>, word: &str) -> Result<Expr, AllocError> {
     if let Some(op) = comparison(word) {
         let (a, b) = two(alloc, stack)?;
         return Ok(Expr::Compare(op, a, b));
@@ -100,10 +105,10 @@ fn operator(alloc: Global, stack: &mut Vec<Expr>, word: &str) -> Result<Expr, Al
     match word {
         "and" => Ok(Expr::And(list(alloc, stack, 2)?)),
         "or" => Ok(Expr::Or(list(alloc, stack, 2)?)),
-        "not" => Ok(Expr::Not(one(alloc, stack)?)),
-        "neg" => Ok(Expr::Neg(one(alloc, stack)?)),
-        "is-null" => Ok(Expr::IsNull(false, one(alloc, stack)?)),
-        "is-not-null" => Ok(Expr::IsNull(true, one(alloc, stack)?)),
+        "not" => Ok(Expr::Not(top(alloc, stack)?)),
+        "neg" => Ok(Expr::Neg(top(alloc, stack)?)),
+        "is-null" => Ok(Expr::IsNull(false, top(alloc, stack)?)),
+        "is-not-null" => Ok(Expr::IsNull(true, top(alloc, stack)?)),
         _ => test(alloc, stack, word),
     }
 }
@@ -144,7 +149,7 @@ fn function(word: &str) -> Option<(Func, usize)> {
     }
 }
 
-fn test(alloc: Global, stack: &mut Vec<Expr>, word: &str) -> Result<Expr, AllocError> {
+fn test(alloc: Global, stack: &mut Vec<Boxed<Expr>>, word: &str) -> Result<Expr, AllocError> {
     let (negated, word) = match word.strip_prefix("not-") {
         Some(rest) => (true, rest),
         None => (false, word),
@@ -167,8 +172,8 @@ fn test(alloc: Global, stack: &mut Vec<Expr>, word: &str) -> Result<Expr, AllocE
             Ok(Expr::Distinct(negated, a, b))
         }
         "between" => {
-            let (low, high) = two(alloc, stack)?;
-            Ok(Expr::Between(negated, one(alloc, stack)?, low, high))
+            let ((low, high), a) = both(two(alloc, stack), top(alloc, stack))?;
+            Ok(Expr::Between(negated, a, low, high))
         }
         _ => operand(alloc, stack, negated, word),
     }
@@ -177,7 +182,7 @@ fn test(alloc: Global, stack: &mut Vec<Expr>, word: &str) -> Result<Expr, AllocE
 /// `in:` with literals, `exists:` with the number of a table, a column as its source and place, `*` as what `count` counts, or a literal.
 fn operand(
     alloc: Global,
-    stack: &mut Vec<Expr>,
+    stack: &mut Vec<Boxed<Expr>>,
     negated: bool,
     word: &str,
 ) -> Result<Expr, AllocError> {
@@ -185,14 +190,14 @@ fn operand(
         let Ok(values) = row(alloc, literals) else {
             return Err(AllocError);
         };
-        return Ok(Expr::InList(negated, one(alloc, stack)?, values));
+        return Ok(Expr::InList(negated, top(alloc, stack)?, values));
     }
     if let Some(table) = word.strip_prefix("exists:") {
         let origin = Origin {
             table: TableId(place(table)),
             alias: None,
         };
-        return Ok(Expr::Exists(negated, origin, one(alloc, stack)?));
+        return Ok(Expr::Exists(negated, origin, top(alloc, stack)?));
     }
     match word.split_once('.') {
         Some((source, column)) => Ok(Expr::Column(place(source), ColumnNo(place(column)))),

@@ -1,9 +1,10 @@
 use crate::postfix::{expression, place, rows};
 use base_core::{ArithOp, ListOf, Name, Refusal, RowList, TableId};
-use expr_types::{Joined, Origin, Select};
+use expr_eval::TableRows;
+use expr_types::{Expr, Joined, Origin, Select};
 use schema_core::{ColumnKind, ColumnSpec, Schema, TableSpec};
 use select_rows::rows_of;
-use sqlite_items::Items;
+use sqlite_items::{Boxed, Items};
 use std::alloc::{AllocError, Global};
 use std::test::Fail;
 
@@ -133,16 +134,30 @@ fn origin(table: &str) -> Origin {
     }
 }
 
-/// A select that says nothing yet.
-fn plain(alloc: Global) -> Select {
-    Select {
+/// The clauses of a select as they are read; of several conditions the last one counts.
+#[derive(Drop)]
+struct Clauses {
+    distinct: bool,
+    items: ListOf<(Expr, Option<Name>)>,
+    first: Origin,
+    joins: ListOf<Joined>,
+    filters: Items<Expr>,
+    groups: Items<Expr>,
+    havings: Items<Expr>,
+    order: ListOf<(Expr, bool)>,
+    limit: Option<u64>,
+    offset: Option<u64>,
+}
+
+fn no_clauses(alloc: Global) -> Clauses {
+    Clauses {
         distinct: false,
         items: ListOf::new(alloc),
         first: origin("0"),
         joins: ListOf::new(alloc),
-        filter: None,
+        filters: Items::new(alloc),
         groups: Items::new(alloc),
-        having: None,
+        havings: Items::new(alloc),
         order: ListOf::new(alloc),
         limit: None,
         offset: None,
@@ -151,53 +166,95 @@ fn plain(alloc: Global) -> Select {
 
 fn joined(alloc: Global, left: bool, text: &str) -> Result<Joined, AllocError> {
     let (table, on) = text.split_once(':').unwrap_or((text, ""));
+    let on = expression(alloc, on)?.into_inner();
     Ok(Joined {
         left,
         origin: origin(table),
-        on: expression(alloc, on)?,
+        on,
     })
 }
 
-fn add_clause(alloc: Global, select: &mut Select, word: &str, text: &str) -> Result<(), Refusal> {
+fn add_clause(alloc: Global, clauses: &mut Clauses, word: &str, text: &str) -> Result<(), Refusal> {
     match word {
-        "distinct" => select.distinct = true,
-        "item" => select.items.push((expression(alloc, text)?, None))?,
-        "from" => select.first = origin(text),
-        "join" => select.joins.push(joined(alloc, false, text)?)?,
-        "left" => select.joins.push(joined(alloc, true, text)?)?,
-        "where" => select.filter = Some(expression(alloc, text)?),
-        "group" => select.groups.push(expression(alloc, text)?)?,
-        "having" => select.having = Some(expression(alloc, text)?),
-        "up" => select.order.push((expression(alloc, text)?, false))?,
-        "down" => select.order.push((expression(alloc, text)?, true))?,
-        "limit" => select.limit = Some(place(text) as u64),
-        _ => select.offset = Some(place(text) as u64),
+        "distinct" => clauses.distinct = true,
+        "from" => clauses.first = origin(text),
+        "join" => clauses.joins.push(joined(alloc, false, text)?)?,
+        "left" => clauses.joins.push(joined(alloc, true, text)?)?,
+        "limit" => clauses.limit = Some(place(text) as u64),
+        "offset" => clauses.offset = Some(place(text) as u64),
+        _ => add_expression(clauses, word, expression(alloc, text)?)?,
+    }
+    Ok(())
+}
+
+fn add_expression(clauses: &mut Clauses, word: &str, e: Boxed<Expr>) -> Result<(), Refusal> {
+    match word {
+        "item" => clauses.items.push((e.into_inner(), None))?,
+        "where" => clauses.filters.push(e.into_inner())?,
+        "group" => clauses.groups.push(e.into_inner())?,
+        "having" => clauses.havings.push(e.into_inner())?,
+        "up" => clauses.order.push((e.into_inner(), false))?,
+        _ => clauses.order.push((e.into_inner(), true))?,
     }
     Ok(())
 }
 
 /// The select with these clauses, each ended by a semicolon.
-fn select(alloc: Global, text: &str) -> Result<Select, Refusal> {
-    let mut select = plain(alloc);
+fn select(alloc: Global, text: &str) -> Result<Boxed<Select>, Refusal> {
+    let mut clauses = no_clauses(alloc);
     for clause in text.split(';') {
         let clause = clause.trim();
         if !clause.is_empty() {
             let (word, rest) = clause.split_once(' ').unwrap_or((clause, ""));
-            add_clause(alloc, &mut select, word, rest)?;
+            add_clause(alloc, &mut clauses, word, rest)?;
         }
     }
-    Ok(select)
+    Ok(Boxed::new(alloc, of_clauses(clauses))?)
 }
 
-/// The rows of a select over people and teams.
-fn answer(alloc: Global, people: &str, text: &str) -> Result<RowList, Refusal> {
+fn of_clauses(clauses: Clauses) -> Select {
+    let Clauses {
+        distinct,
+        items,
+        first,
+        joins,
+        mut filters,
+        groups,
+        mut havings,
+        order,
+        limit,
+        offset,
+    } = clauses;
+    Select {
+        distinct,
+        items,
+        first,
+        joins,
+        filter: filters.pop(),
+        groups,
+        having: havings.pop(),
+        order,
+        limit,
+        offset,
+    }
+}
+
+/// People and teams as they are declared, and their rows.
+fn people_and_teams(alloc: Global, people: &str) -> Result<(Schema, TableRows), Refusal> {
     let mut schema = Schema::new(alloc);
     let first = declared(&mut schema, table(alloc, "people", ["id", "name", "team"])?)?;
     let second = declared(&mut schema, table(alloc, "teams", ["id", "title", "size"])?)?;
     let mut tables = ListOf::new(alloc);
     tables.push((first, rows(alloc, people)?))?;
     tables.push((second, rows(alloc, TEAMS)?))?;
-    rows_of(alloc, &schema, &tables, &select(alloc, text)?)
+    Ok((schema, tables))
+}
+
+/// The rows of a select over people and teams.
+fn answer(alloc: Global, people: &str, text: &str) -> Result<RowList, Refusal> {
+    let select = select(alloc, text)?;
+    let (schema, tables) = people_and_teams(alloc, people)?;
+    rows_of(alloc, &schema, &tables, select.get())
 }
 
 #[test]

@@ -34,7 +34,8 @@ fn flags(alloc: Global) -> Result<TableSpec, Refusal> {
 /// The kind of the expression that a text says, or its first mismatch.
 fn kind(alloc: Global, schema: &Schema, text: &str) -> Result<Kind, Refusal> {
     let scope: [TableId; 0] = [];
-    type_of(alloc, schema, scope.as_slice(), &expression(alloc, text)?)
+    let e = expression(alloc, text)?;
+    type_of(alloc, schema, scope.as_slice(), e.get())
 }
 
 #[test]

@@ -1,15 +1,28 @@
--- The equations of a fold over expressions, one for each variant.
-use Rattle.std.proofs.Common.{◌≡◌, ℕ, Bool, List, map, sym, ap, ◌∙◌}
+-- Inductions over expressions, level by level, and the equations of a fold, one for each variant.
+use Rattle.std.proofs.Common.{◌≡◌, ℕ, Bool, List, map, sym, ap, subst, ◌∙◌}
 use Rattle.base_core.specs.declared.ids.ColumnNo.{ColumnNo}
 use Rattle.base_core.specs.declared.value.Value.{Value}
 use Rattle.base_core.specs.declared.value.ArithOp.{ArithOp}
 use Rattle.expr_types.specs.declared.expr.CompareOp.{CompareOp}
 use Rattle.expr_types.specs.declared.expr.Func.{Func}
 use Rattle.expr_types.specs.declared.expr.Origin.{Origin}
-use Rattle.expr_types.specs.declared.expr.Expr.{Expr}
+use Rattle.expr_types.specs.declared.expr.Expr.{Expr, out-Expr, roll-Expr}
 use Rattle.expr_types.specs.declared.expr.Expr.TheOpen.{Expr-F}
-use Rattle.expr_types.specs.declared.expr.Expr.TheFolds.{fold-Expr, fold-roll-Expr}
+use Rattle.expr_types.specs.declared.expr.Expr.TheFolds.{fold-Expr, fold-roll-Expr, ind-Expr, map-Expr}
 use Rattle.expr_types.specs.declared.expr.Expr.TheVariants as expr
+use Rattle.expr_types.specs.declared.expr.Expr.TheViews.{roll-out-Expr}
+
+-- an expression by its level
+pub whole_is : (n : Expr) (x : Expr-F Expr) → out-Expr n ≡ x → n ≡ roll-Expr x
+whole_is n x is = sym (roll-out-Expr n) ∙ ap roll-Expr is
+
+-- a level of operands of which something is known, without what is known
+abbrev pub bare : {P : Expr → Type 0} → Expr-F ((e : Expr) × P e) → Expr-F Expr
+bare {P} = map-Expr ((e : Expr) × P e) Expr (λ k. k.0)
+
+-- what each level has whose operands have it every expression has
+pub by_levels : (P : Expr → Type 0) → ((y : Expr-F ((e : Expr) × P e)) → P (roll-Expr (bare y))) → (e : Expr) → P e
+by_levels P step = ind-Expr P (λ x y is. subst (λ z. P (roll-Expr z)) is (step y))
 
 pub fold-Column : (A : Type 0) (step : Expr-F A → A) (s : ℕ) (c : ColumnNo) → fold-Expr A step (expr.Column s c) ≡ step (Expr-F.Column s c)
 fold-Column A step s c = ap (fold-Expr A step) (sym (expr.rolls-Column s c)) ∙ fold-roll-Expr A step (Expr-F.Column s c)

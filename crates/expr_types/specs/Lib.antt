@@ -1,3 +1,4 @@
 pub mod Level
 pub mod Normal
+pub mod NormalSelect
 pub mod Same

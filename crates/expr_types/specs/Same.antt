@@ -1,11 +1,11 @@
 -- A test whether two expressions are one.
-use Rattle.std.specs.Prelude.{ℕ, Bool, true, false, not, ◌&&◌, ◌==◌, if◌then◌else◌, List, [], ◌∷◌, Option, Some, None, nat_eq}
-use Rattle.std.specs.Ordering.{is_eq}
+use Rattle.std.specs.Prelude.{ℕ, Bool, true, false, not, ◌&&◌, ◌==◌, if◌then◌else◌, List, [], ◌∷◌, Option, Some, None}
 use Rattle.std.specs.Cmp.Lexicographic.{pointwise}
 use Rattle.base_core.specs.declared.value.Value.{Value}
 use Rattle.base_core.specs.declared.value.ArithOp.{ArithOp}
 use Rattle.base_core.specs.declared.value.ArithOp.TheVariants.{Add, Sub, Mul}
-use Rattle.base_core.specs.Order.{value_cmp}
+use Rattle.base_core.specs.Order.{same_value}
+use Rattle.schema_core.specs.Catalog.{same_name}
 use Rattle.expr_types.specs.declared.expr.Expr.{Expr, out-Expr}
 use Rattle.expr_types.specs.declared.expr.Expr.TheOpen.{Expr-F}
 use Rattle.expr_types.specs.declared.expr.Expr.TheFolds.{fold-Expr}
@@ -40,12 +40,6 @@ arith_place Mul = 2
 
 abbrev pub same_bool : Bool → Bool → Bool
 same_bool a b = if a then b else not b
-
-abbrev pub same_value : Value → Value → Bool
-same_value a b = is_eq (value_cmp a b)
-
-abbrev pub same_name : List ℕ → List ℕ → Bool
-same_name = pointwise nat_eq
 
 abbrev pub same_alias : Option (List ℕ) → Option (List ℕ) → Bool
 same_alias None None = true

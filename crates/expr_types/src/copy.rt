@@ -3,13 +3,13 @@
 ghost use Rattle.std.specs.Prelude.{◌≡◌, IfOk};
 
 use crate::{Bulk, Expr, Joined, ObjectQuery, Select, Statement};
-use base_core::{ColumnNo, Copied, ListOf, Name, RelNo};
+use base_core::{ColumnNo, Copied, ListOf, Name, RelNo, both};
 use sqlite_items::{Boxed, Items};
 use std::alloc::{AllocError, Global};
 
 /// A type whose copies, made in memory that is given, equal the original.
 pub trait CopiedIn: Sized {
-    /// A value equal to this one. The only error is want of memory.
+    /// A value equal to this one. The only error is that memory ran out.
     fn copied_in(&self, alloc: Global) -> Result<Self, AllocError>
         ensures { IfOk result (λ copy. copy ≡ self.now) };
 }
@@ -39,39 +39,52 @@ fn expression(alloc: Global, e: &Expr) -> Result<Expr, AllocError>
     match e {
         Expr::Column(source, column) => Ok(Expr::Column(*source, *column)),
         Expr::Lit(value) => Ok(Expr::Lit(value.copied()?)),
-        Expr::Compare(op, a, b) => Ok(Expr::Compare(*op, boxed(alloc, a)?, boxed(alloc, b)?)),
+        Expr::Compare(op, a, b) => {
+            let (a, b) = both(boxed(alloc, a), boxed(alloc, b))?;
+            Ok(Expr::Compare(*op, a, b))
+        }
         Expr::IsNull(negated, a) => Ok(Expr::IsNull(*negated, boxed(alloc, a)?)),
         Expr::And(es) => Ok(Expr::And(parts(alloc, es)?)),
         Expr::Or(es) => Ok(Expr::Or(parts(alloc, es)?)),
         Expr::Not(a) => Ok(Expr::Not(boxed(alloc, a)?)),
-        Expr::Arith(op, a, b) => Ok(Expr::Arith(*op, boxed(alloc, a)?, boxed(alloc, b)?)),
+        Expr::Arith(op, a, b) => {
+            let (a, b) = both(boxed(alloc, a), boxed(alloc, b))?;
+            Ok(Expr::Arith(*op, a, b))
+        }
         Expr::Neg(a) => Ok(Expr::Neg(boxed(alloc, a)?)),
-        Expr::Concat(a, b) => Ok(Expr::Concat(boxed(alloc, a)?, boxed(alloc, b)?)),
-        Expr::Like(negated, a, b) => Ok(Expr::Like(*negated, boxed(alloc, a)?, boxed(alloc, b)?)),
-        Expr::Ilike(negated, a, b) => Ok(Expr::Ilike(*negated, boxed(alloc, a)?, boxed(alloc, b)?)),
-        Expr::InList(negated, a, values) => Ok(Expr::InList(
-            *negated,
-            boxed(alloc, a)?,
-            values.copied()?,
-        )),
-        Expr::Between(negated, a, low, high) => Ok(Expr::Between(
-            *negated,
-            boxed(alloc, a)?,
-            boxed(alloc, low)?,
-            boxed(alloc, high)?,
-        )),
-        Expr::Distinct(negated, a, b) => Ok(Expr::Distinct(
-            *negated,
-            boxed(alloc, a)?,
-            boxed(alloc, b)?,
-        )),
+        Expr::Concat(a, b) => {
+            let (a, b) = both(boxed(alloc, a), boxed(alloc, b))?;
+            Ok(Expr::Concat(a, b))
+        }
+        Expr::Like(negated, a, b) => {
+            let (a, b) = both(boxed(alloc, a), boxed(alloc, b))?;
+            Ok(Expr::Like(*negated, a, b))
+        }
+        Expr::Ilike(negated, a, b) => {
+            let (a, b) = both(boxed(alloc, a), boxed(alloc, b))?;
+            Ok(Expr::Ilike(*negated, a, b))
+        }
+        Expr::InList(negated, a, values) => {
+            let (a, values) = both(boxed(alloc, a), values.copied())?;
+            Ok(Expr::InList(*negated, a, values))
+        }
+        Expr::Between(negated, a, low, high) => {
+            let (a, (low, high)) = both(
+                boxed(alloc, a),
+                both(boxed(alloc, low), boxed(alloc, high)),
+            )?;
+            Ok(Expr::Between(*negated, a, low, high))
+        }
+        Expr::Distinct(negated, a, b) => {
+            let (a, b) = both(boxed(alloc, a), boxed(alloc, b))?;
+            Ok(Expr::Distinct(*negated, a, b))
+        }
         Expr::Call(function, es) => Ok(Expr::Call(*function, parts(alloc, es)?)),
         Expr::CountAll => Ok(Expr::CountAll),
-        Expr::Exists(negated, origin, a) => Ok(Expr::Exists(
-            *negated,
-            origin.copied()?,
-            boxed(alloc, a)?,
-        )),
+        Expr::Exists(negated, origin, a) => {
+            let (origin, a) = both(origin.copied(), boxed(alloc, a))?;
+            Ok(Expr::Exists(*negated, origin, a))
+        }
     }
 }
 
@@ -98,7 +111,7 @@ impl CopiedIn for Option<Expr> {
 
 impl CopiedIn for (Expr, Option<Name>) {
     fn copied_in(&self, alloc: Global) -> Result<(Expr, Option<Name>), AllocError> {
-        Ok((self.0.copied_in(alloc)?, Copied::copied(&self.1)?))
+        both(self.0.copied_in(alloc), Copied::copied(&self.1))
     }
 }
 
@@ -142,15 +155,25 @@ impl CopiedIn for Joined {
 
 impl CopiedIn for Select {
     fn copied_in(&self, alloc: Global) -> Result<Select, AllocError> {
+        let ((items, first), ((joins, filter), ((groups, having), order))) = both(
+            both(self.items.copied_in(alloc), self.first.copied()),
+            both(
+                both(self.joins.copied_in(alloc), self.filter.copied_in(alloc)),
+                both(
+                    both(self.groups.copied_in(alloc), self.having.copied_in(alloc)),
+                    self.order.copied_in(alloc),
+                ),
+            ),
+        )?;
         Ok(Select {
             distinct: self.distinct,
-            items: self.items.copied_in(alloc)?,
-            first: self.first.copied()?,
-            joins: self.joins.copied_in(alloc)?,
-            filter: self.filter.copied_in(alloc)?,
-            groups: self.groups.copied_in(alloc)?,
-            having: self.having.copied_in(alloc)?,
-            order: self.order.copied_in(alloc)?,
+            items,
+            first,
+            joins,
+            filter,
+            groups,
+            having,
+            order,
             limit: self.limit,
             offset: self.offset,
         })
@@ -164,20 +187,26 @@ impl CopiedIn for Bulk {
                 table,
                 columns,
                 values,
-            } => Ok(Bulk::Insert {
-                table: *table,
-                columns: columns.copied()?,
-                values: values.copied()?,
-            }),
+            } => {
+                let (columns, values) = both(columns.copied(), values.copied())?;
+                Ok(Bulk::Insert {
+                    table: *table,
+                    columns,
+                    values,
+                })
+            }
             Bulk::Update {
                 table,
                 cells,
                 filter,
-            } => Ok(Bulk::Update {
-                table: *table,
-                cells: cells.copied_in(alloc)?,
-                filter: filter.copied_in(alloc)?,
-            }),
+            } => {
+                let (cells, filter) = both(cells.copied_in(alloc), filter.copied_in(alloc))?;
+                Ok(Bulk::Update {
+                    table: *table,
+                    cells,
+                    filter,
+                })
+            }
             Bulk::Delete { table, filter } => Ok(Bulk::Delete {
                 table: *table,
                 filter: filter.copied_in(alloc)?,
@@ -198,11 +227,15 @@ impl CopiedIn for Statement {
 
 impl CopiedIn for ObjectQuery {
     fn copied_in(&self, alloc: Global) -> Result<ObjectQuery, AllocError> {
+        let (select, (joined, selectin)) = both(
+            self.select.copied_in(alloc),
+            both(self.joined.copied_in(alloc), self.selectin.copied_in(alloc)),
+        )?;
         Ok(ObjectQuery {
             class: self.class,
-            select: self.select.copied_in(alloc)?,
-            joined: self.joined.copied_in(alloc)?,
-            selectin: self.selectin.copied_in(alloc)?,
+            select,
+            joined,
+            selectin,
         })
     }
 }

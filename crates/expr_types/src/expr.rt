@@ -1,5 +1,8 @@
 //! Expressions.
 
+ghost use Rattle.std.specs.Prelude.{◌≡◌};
+ghost use Rattle.expr_types.specs.Level.{is_aggregate_function};
+
 use base_core::{ArithOp, ColumnNo, Copied, ListOf, Name, RowValues, TableId, Value};
 use sqlite_items::{Boxed, Items};
 use std::alloc::AllocError;
@@ -27,6 +30,18 @@ pub enum Func {
     Coalesce,
 }
 
+impl Func {
+    /// Whether the function is an aggregate: `count`, `sum`, `min` or `max`.
+    pub fn is_aggregate(self) -> bool
+        ensures { result ≡ is_aggregate_function self }
+    {
+        match self {
+            Func::Count | Func::Sum | Func::Min | Func::Max => true,
+            Func::Lower | Func::Upper | Func::Length | Func::Coalesce => false,
+        }
+    }
+}
+
 /// A source of rows: a table, and the name under which it stands where it has one of its own.
 #[derive(Clone, Debug, Drop, PartialEq, Eq)]
 pub struct Origin {
@@ -44,7 +59,7 @@ impl Copied for Origin {
 pub type OriginList = ListOf<Origin>;
 
 /// An expression. A first `bool` is true for the negated form. No `Lit` holds `Null`.
-#[derive(Debug, Drop)]
+#[derive(Drop)]
 pub enum Expr {
     /// The source's place in the scope, the innermost last, and its column.
     Column(u32, ColumnNo),

@@ -5,14 +5,14 @@ use base_core::{ClassId, ColumnNo, ListOf, Name, RelNo, RowValues, TableId};
 use schema_core::RowStmt;
 
 /// A further source of a select: joined, or left-joined.
-#[derive(Debug, Drop)]
+#[derive(Drop)]
 pub struct Joined {
     pub left: bool,
     pub origin: Origin,
     pub on: Expr,
 }
 
-#[derive(Debug, Drop)]
+#[derive(Drop)]
 pub struct Select {
     pub distinct: bool,
     /// Each item with the name that it is given.
@@ -29,7 +29,7 @@ pub struct Select {
 }
 
 /// A statement on all rows that a condition names.
-#[derive(Debug, Drop)]
+#[derive(Drop)]
 pub enum Bulk {
     Insert {
         table: TableId,
@@ -48,7 +48,7 @@ pub enum Bulk {
     },
 }
 
-#[derive(Debug, Drop)]
+#[derive(Drop)]
 pub enum Statement {
     Select(Select),
     Bulk(Bulk),
@@ -56,7 +56,7 @@ pub enum Statement {
 }
 
 /// A query for objects of a class; `select` is its main select without the joined options.
-#[derive(Debug, Drop)]
+#[derive(Drop)]
 pub struct ObjectQuery {
     pub class: ClassId,
     pub select: Select,

@@ -4,17 +4,7 @@ ghost use Rattle.std.specs.Prelude.{◌≡◌, map};
 ghost use Rattle.std.specs.List.{list_any};
 ghost use Rattle.expr_types.specs.Level as spec;
 
-use expr_types::{Expr, Func};
-
-/// Whether the function is an aggregate: `count`, `sum`, `min` or `max`.
-pub fn is_aggregate(function: Func) -> bool
-    ensures { result ≡ spec.is_aggregate_function function }
-{
-    match function {
-        Func::Count | Func::Sum | Func::Min | Func::Max => true,
-        Func::Lower | Func::Upper | Func::Length | Func::Coalesce => false,
-    }
-}
+use expr_types::Expr;
 
 /// Whether an aggregate stands in the expression. SQL allows none in `where`, `on`, `group by`, a bulk statement or
 /// another aggregate.
@@ -42,7 +32,7 @@ pub fn has_aggregate(e: &Expr) -> bool
         }
         Expr::And(parts) => some_aggregate(parts.as_slice()),
         Expr::Or(parts) => some_aggregate(parts.as_slice()),
-        Expr::Call(function, operands) => is_aggregate(*function)
+        Expr::Call(function, operands) => function.is_aggregate()
             || some_aggregate(operands.as_slice()),
     }
 }

@@ -2,8 +2,8 @@
 
 ghost use Rattle.std.specs.Prelude.{◌≡◌, ◌∷◌, [], map};
 ghost use Rattle.base_core.specs.Answers.{Gives};
-ghost use Rattle.expr_typing.specs.Kinds as spec;
-ghost use Rattle.expr_typing.specs.Kinds.{judged, in_scope, all_of, all_alike};
+ghost use Rattle.sql_semantics.specs.Kinds as spec;
+ghost use Rattle.sql_semantics.specs.Kinds.{judged, in_scope, all_of, all_alike};
 
 use crate::kind::{column_kind, entered, expected, value_kind, values_of};
 use base_core::{Kind, Refusal, TableId};
@@ -12,7 +12,7 @@ use schema_core::Schema;
 use sqlite_items::Boxed;
 use std::alloc::Global;
 
-#[tactic(auto, unfolding(crate::specs::Kinds::judged), using(crate::proofs::Refused::refused))]
+#[tactic(auto, unfolding(sql_semantics::specs::Kinds::judged), using(crate::proofs::Refused::refused))]
 #[cycle(judges)]
 fn judge(alloc: Global, schema: &Schema, scope: &[TableId], e: &Expr) -> Result<Kind, Refusal>
     ensures { Gives (λ kind. kind) result (judged schema.now e.now scope.now) }

@@ -3,7 +3,7 @@
 ghost use Rattle.std.specs.Prelude.{◌≡◌, map, Ok, ◌++◌, ◌∷◌, [], IfOk};
 ghost use Rattle.std.specs.Option.{option_copied};
 ghost use Rattle.schema_core.specs.Catalog.{spec_of};
-ghost use Rattle.expr_typing.specs.Kinds as spec;
+ghost use Rattle.sql_semantics.specs.Kinds as spec;
 
 use base_core::{ColumnNo, Kind, Refusal, TableId, Value};
 use schema_core::{ColumnSpec, Schema, kind_of, same_kind};

@@ -5,5 +5,5 @@ mod aggregate;
 mod judge;
 mod kind;
 
-pub use aggregate::{has_aggregate, is_aggregate, some_aggregate};
+pub use aggregate::{has_aggregate, some_aggregate};
 pub use judge::type_of;

@@ -2,26 +2,27 @@
 use Rattle.std.proofs.Common.{◌≡◌, ◌<◌, ℕ, Bool, true, false, ◌||◌, ◌==◌, List, [], ◌∷◌, ◌++◌, length, map, Option, Some, None, Result, Ok, Err, IfErr, IsTrue, refl, sym, ap, subst, ◌∙◌}
 use Rattle.std.proofs.lemmas.Bool.{and_parts, eqb-true, ltb-true}
 use Rattle.std.specs.List.{list_all, list_any, AllByRecursion}
+use Rattle.base_core.proofs.Lists.{every_append}
 use Rattle.base_core.specs.declared.ids.TableId.{TableId}
 use Rattle.base_core.specs.declared.refusal.Refusal.{Refusal}
 use Rattle.base_core.specs.declared.refusal.Refusal.TheVariants.{OperationalError}
 use Rattle.schema_core.specs.Catalog.{Catalog}
 use Rattle.expr_types.specs.declared.expr.Expr.{Expr, roll-Expr}
 use Rattle.expr_types.specs.declared.expr.Expr.TheOpen.{Expr-F}
-use Rattle.expr_types.specs.declared.expr.Expr.TheFolds.{ind-Expr, map-Expr, fold-roll-Expr}
+use Rattle.expr_types.specs.declared.expr.Expr.TheFolds.{map-Expr, fold-roll-Expr}
 use Rattle.expr_types.specs.declared.expr.Origin.{Origin}
 use Rattle.expr_types.specs.declared.select.Joined.{Joined}
 use Rattle.expr_types.specs.declared.select.Select.{Select}
 use Rattle.expr_types.specs.Level.{operands, scope_below}
-use Rattle.expr_typing.specs.Kinds.{Scope}
-use Rattle.expr_typing.specs.Plain.{AreJoined, IfSet, IsCondition, IsFilter, IsPlainSelect, StandsIn, fits, fits_level, is_declared, sources_of}
-use Rattle.expr_eval.specs.Checked.{Gives}
-use Rattle.expr_eval.specs.Eval.{Row, Tables}
-use Rattle.select_rows.specs.Refusals.{CanRefuse, IsOfDeclared}
-use Rattle.select_rows.specs.Rows.{answer, flat, named, named_where, own_table, tables_of}
-use Rattle.select_rows.proofs.Levels.{enter, fits_rolled}
+use Rattle.expr_types.proofs.Folds.{bare, by_levels}
+use Rattle.sql_semantics.specs.Kinds.{Scope}
+use Rattle.sql_semantics.specs.Plain.{AreJoined, IfSet, IsCondition, IsFilter, IsPlainSelect, StandsIn, fits, fits_level, is_declared, sources_of}
+use Rattle.base_core.specs.Answers.{Gives}
+use Rattle.sql_semantics.specs.Eval.{Row, Tables}
+use Rattle.sql_semantics.specs.SelectRefusals.{CanRefuse, IsOfDeclared}
+use Rattle.sql_semantics.specs.Rows.{answer, flat, named, named_where, own_table, tables_of}
+use Rattle.sql_semantics.proofs.Equations.{enter, fits_rolled}
 use Rattle.select_rows.proofs.Refused.{refused_rows}
-use Rattle.select_rows.proofs.Shapes.{every_append}
 
 -- each number is a declared table's
 abbrev pub AreTables : Catalog → List ℕ → Type 0
@@ -32,17 +33,14 @@ both_tables schema = every_append (λ t. t < length schema.tables)
 
 -- ---- expressions
 
-abbrev Claim : Expr → Type 0
-Claim e = (schema : Catalog) (scope : Scope) → fits schema e scope ≡ true → AreTables schema (named e)
+abbrev NamesTables : Expr → Type 0
+NamesTables e = (schema : Catalog) (scope : Scope) → fits schema e scope ≡ true → AreTables schema (named e)
 
 abbrev Known : Type 0
-Known = (e : Expr) × Claim e
+Known = (e : Expr) × NamesTables e
 
 abbrev plain : List Known → List Expr
 plain = map (λ k. k.0)
-
-abbrev bare : Expr-F Known → Expr-F Expr
-bare = map-Expr Known Expr (λ k. k.0)
 
 abbrev named_step : Expr-F (List ℕ) → List ℕ
 named_step level = own_table level ++ flat (operands level)
@@ -85,7 +83,7 @@ named_rolled : (x : Expr-F Expr) → named (roll-Expr x) ≡ named_step (map-Exp
 unfolding named
 named_rolled x = fold-roll-Expr (List ℕ) named_step x
 
-step : (y : Expr-F Known) → Claim (roll-Expr (bare y))
+step : (y : Expr-F Known) → NamesTables (roll-Expr (bare y))
 step y schema scope h =
     let level : Expr-F (Scope → Bool) = map-Expr Expr (Scope → Bool) (fits schema) (bare y) in
     let below : Scope = scope_below enter scope level in
@@ -96,8 +94,8 @@ step y schema scope h =
     (each_named schema below (operands y) (subst (λ (hs : List (Scope → Bool)). list_all (λ (holds : Scope → Bool). holds below) hs ≡ true) (operands_as (fits schema) y) both.1))))
 
 -- each table of an expression that stands in a scope is declared
-pub named_tables : (e : Expr) → Claim e
-named_tables = ind-Expr Claim (λ x y is. subst (λ z. Claim (roll-Expr z)) is (step y))
+pub named_tables : (e : Expr) → NamesTables e
+named_tables = by_levels NamesTables step
 
 -- ---- the parts of a select
 

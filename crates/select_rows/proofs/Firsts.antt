@@ -1,5 +1,6 @@
 -- One more row among those that were seen, and one more among those of a key.
 use Rattle.std.proofs.Common.{◌≡◌, Bool, true, false, not, List, [], ◌∷◌, ◌++◌, ◌||◌, cond, refl, ap, sym, ◌∙◌, Some, None, append-nil}
+use Rattle.std.proofs.Math.Bool.{or-false}
 use Rattle.std.proofs.lemmas.List.Folds.{list_any-append}
 use Rattle.std.proofs.lemmas.Map.Steps.{list_any_congr}
 use Rattle.std.specs.HashMap.Eq.{lookup_congr}
@@ -11,19 +12,15 @@ use Rattle.std.specs.BTreeSet.{BTreeSet, contains}
 use Rattle.std.specs.BTreeMap.{BTreeMap, get}
 use Rattle.base_core.specs.Order.{values_cmp}
 use Rattle.base_core.specs.OrderLaws.{value_cmp_total}
-use Rattle.expr_eval.specs.Eval.{Row}
-use Rattle.select_rows.specs.Order.{same_row}
-use Rattle.select_rows.specs.Rows.{Keyed, rows_with}
+use Rattle.sql_semantics.specs.Eval.{Row}
+use Rattle.sql_semantics.specs.Order.{same_row}
+use Rattle.sql_semantics.specs.Rows.{Keyed, rows_with}
 use Rattle.select_rows.specs.Seen.{HasSeen, rows_at}
 
 pub same_row_equiv : IsEquivalence same_row
 same_row_equiv = eq_by_cmp_equiv (lists_total value_cmp_total)
 
 -- ---- rows that were seen
-
-or_false : (b : Bool) → (b || false) ≡ b
-or_false true = refl
-or_false false = refl
 
 or_comm : (a b : Bool) → (a || b) ≡ (b || a)
 or_comm true true = refl
@@ -38,7 +35,7 @@ seen_before done r q false h e = refl
 seen_by : (done : List Row) (r q : Row) (b : Bool) → list_any (same_row r) done ≡ b → (same_row r q || list_any (same_row q) done) ≡ list_any (same_row q) (cond b done (done ++ r ∷ []))
 seen_by done r q true h = seen_before done r q (same_row r q) h refl
 seen_by done r q false h =
-    or_comm (same_row r q) (list_any (same_row q) done) ∙ ap (λ b. list_any (same_row q) done || b) (same_row_equiv.symm r q ∙ sym (or_false (same_row q r)))
+    or_comm (same_row r q) (list_any (same_row q) done) ∙ ap (λ b. list_any (same_row q) done || b) (same_row_equiv.symm r q ∙ sym (or-false (same_row q r)))
     ∙ sym (list_any-append (same_row q) done (r ∷ []))
 
 put_in : (b c : Bool) → cond b true c ≡ (b || c)

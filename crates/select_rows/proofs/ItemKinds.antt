@@ -10,12 +10,12 @@ use Rattle.schema_core.specs.declared.table.ColumnSpec.{ColumnSpec}
 use Rattle.schema_core.specs.Catalog.{Catalog, kind_of, same_kind}
 use Rattle.schema_core.specs.WellFormed.{may_hold}
 use Rattle.expr_types.specs.declared.select.Select.{Select}
-use Rattle.expr_typing.specs.Kinds.{judged}
-use Rattle.expr_typing.specs.Plain.{IsPlainSelect}
-use Rattle.expr_eval.specs.Checked.{Gives}
-use Rattle.expr_eval.specs.Eval.{Row, Tables, evaluated}
-use Rattle.select_rows.specs.Rows.{answer}
-use Rattle.select_rows.specs.Shapes.{AreOfItems, AreRows, IsOfItsKind, scope_of}
+use Rattle.sql_semantics.specs.Kinds.{judged}
+use Rattle.sql_semantics.specs.Plain.{IsPlainSelect}
+use Rattle.base_core.specs.Answers.{Gives}
+use Rattle.sql_semantics.specs.Eval.{Row, Tables, evaluated}
+use Rattle.sql_semantics.specs.Rows.{answer}
+use Rattle.sql_semantics.specs.Shapes.{AreOfItems, AreRows, IsOfItsKind, scope_of}
 use Rattle.select_rows.proofs.Items.{Reads, rows_sure}
 use Rattle.select_rows.proofs.Shapes.{sure_all}
 use Rattle.select_rows.proofs.ValueKinds.{KindAt, OfKind, kind_sure}

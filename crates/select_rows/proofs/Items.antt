@@ -9,13 +9,14 @@ use Rattle.schema_core.specs.Catalog.{Catalog}
 use Rattle.expr_types.specs.declared.expr.Expr.{Expr}
 use Rattle.expr_types.specs.declared.expr.Origin.{Origin}
 use Rattle.expr_types.specs.declared.select.Select.{Select}
-use Rattle.expr_typing.specs.Plain.{IsPlainSelect, StandsIn, and_having, is_grouped, outputs, settled, sources_of}
-use Rattle.expr_eval.specs.Checked.{◌>>=◌, Gives}
-use Rattle.expr_eval.specs.Eval.{Row, Tables, Place, evaluated, all_from}
-use Rattle.select_rows.specs.declared.basis.Basis.{Basis}
-use Rattle.select_rows.specs.declared.basis.Basis.TheVariants as basis
-use Rattle.select_rows.specs.Rows.{Frame, answer, at_basis, created, of_rows, passed, sources, tables_of, values}
-use Rattle.select_rows.specs.Shapes.{EachItem, scope_of}
+use Rattle.sql_semantics.specs.Plain.{IsPlainSelect, StandsIn, and_having, is_grouped, outputs, settled, sources_of}
+use Rattle.base_core.specs.Answers.{Gives}
+use Rattle.sql_semantics.specs.Checked.{◌>>=◌}
+use Rattle.sql_semantics.specs.Eval.{Row, Tables, Place, evaluated, all_from}
+use Rattle.sql_semantics.specs.declared.basis.Basis.{Basis}
+use Rattle.sql_semantics.specs.declared.basis.Basis.TheVariants as basis
+use Rattle.sql_semantics.specs.Rows.{Frame, answer, at_basis, created, of_rows, passed, sources, tables_of, values}
+use Rattle.sql_semantics.specs.Shapes.{EachItem, scope_of}
 use Rattle.select_rows.proofs.Columns.{AreRead, AreTested, Columns, Fits, Holds, HoldsNulls, Property, passed_sure, sources_sure}
 use Rattle.select_rows.proofs.Shapes.{OfBasis, Sure, always, bind_sure, of_rows_sure, sure_all, sure_told}
 

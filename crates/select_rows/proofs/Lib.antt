@@ -4,7 +4,6 @@ pub mod Surveys
 pub mod Firsts
 pub mod ItemKinds
 pub mod Items
-pub mod Levels
 pub mod NotNull
 pub mod ValueKinds
 pub mod Refused

@@ -13,15 +13,16 @@ use Rattle.expr_types.specs.declared.expr.Expr.TheOpen.{Expr-F}
 use Rattle.expr_types.specs.declared.expr.Expr.TheFolds.{ind-Expr, map-Expr, fold-roll-Expr}
 use Rattle.expr_types.specs.declared.select.Joined.{Joined}
 use Rattle.expr_types.specs.declared.select.Select.{Select}
-use Rattle.expr_typing.specs.Kinds.{column_in}
-use Rattle.expr_typing.specs.Plain.{Found, IsPlainSelect, settled_level}
-use Rattle.expr_eval.specs.Checked.{Checked, Gives}
-use Rattle.expr_eval.specs.Eval.{Meaning, Place, Row, Tables, after, evaluated, meaning}
-use Rattle.select_rows.specs.Rows.{answer}
-use Rattle.select_rows.specs.Shapes.{AreGiven, AreLegalRows, IsGiven, is_inner, is_inner_join, is_never_null, is_required_level, scope_of, takes_no_null}
+use Rattle.sql_semantics.specs.Kinds.{column_in}
+use Rattle.sql_semantics.specs.Plain.{Found, IsPlainSelect, settled_level}
+use Rattle.base_core.specs.Answers.{Gives}
+use Rattle.sql_semantics.specs.Checked.{Checked}
+use Rattle.sql_semantics.specs.Eval.{Meaning, Place, Row, Tables, after, evaluated, meaning}
+use Rattle.sql_semantics.specs.Rows.{answer}
+use Rattle.sql_semantics.specs.Shapes.{AreGiven, AreLegalRows, IsGiven, is_inner, is_inner_join, is_never_null, is_required_level, scope_of, takes_no_null}
 use Rattle.select_rows.proofs.Columns.{Fits, HoldsNulls, Property, column_read, not_both}
 use Rattle.select_rows.proofs.Items.{Settled, rows_sure}
-use Rattle.select_rows.proofs.Levels.{rolled, settled_rolled, with_settled}
+use Rattle.sql_semantics.proofs.Equations.{rolled, settled_rolled, with_settled}
 use Rattle.select_rows.proofs.Shapes.{Sure}
 
 -- a value is not NULL of a column that takes none, where its source is not left-joined

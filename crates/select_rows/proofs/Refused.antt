@@ -2,24 +2,26 @@
 use Rattle.std.proofs.Common.{◌≡◌, ℕ, ◌+◌, Bool, true, false, ◌||◌, ◌==◌, if◌then◌else◌, List, [], ◌∷◌, ◌++◌, map, Option, Some, None, Result, Ok, Err, IfErr, IsTrue, refl, subst}
 use Rattle.std.proofs.lemmas.Cmp.{nat_eq_equiv}
 use Rattle.std.specs.List.{list_any}
+use Rattle.base_core.proofs.Tests.{or_first, or_then}
 use Rattle.base_core.specs.declared.value.Value.{Value}
+use Rattle.base_core.specs.Answers.{Gives}
 use Rattle.base_core.specs.declared.refusal.Refusal.{Refusal}
 use Rattle.base_core.specs.declared.refusal.Refusal.TheVariants.{Memory, DataError, OperationalError}
 use Rattle.schema_core.specs.Catalog.{Catalog}
 use Rattle.expr_types.specs.declared.expr.Expr.{Expr}
 use Rattle.expr_types.specs.declared.select.Joined.{Joined}
 use Rattle.expr_types.specs.declared.select.Select.{Select}
-use Rattle.expr_typing.specs.Plain.{is_grouped}
-use Rattle.expr_eval.specs.Checked.{Checked, ◌>>=◌, Gives}
-use Rattle.expr_eval.specs.Truth.{passes}
-use Rattle.expr_eval.specs.Eval.{Row, Tables, Place, evaluated, all_from, rows_in}
+use Rattle.sql_semantics.specs.Plain.{is_grouped}
+use Rattle.sql_semantics.specs.Checked.{Checked, ◌>>=◌}
+use Rattle.sql_semantics.specs.Truth.{passes}
+use Rattle.sql_semantics.specs.Eval.{Row, Tables, Place, evaluated, all_from, rows_in}
 use Rattle.expr_eval.proofs.Refused.{OnlyData, bind_data, evaluated_data}
-use Rattle.select_rows.specs.declared.basis.Basis.{Basis}
-use Rattle.select_rows.specs.declared.basis.Basis.TheVariants as basis
-use Rattle.select_rows.specs.declared.order.SortKey.{SortKey}
-use Rattle.select_rows.specs.Order.{key_of}
-use Rattle.select_rows.specs.Refusals.{CanRefuse}
-use Rattle.select_rows.specs.Rows.{Frame, kept_from, each_from, mapped_from, at, at_basis, width, condition, joined_row, joined, joined_all, or_nulls, wider, sources, passed, keyed, groups, grouped, bases, having, keys_from, values, output, answered, of_rows, tables_of, is_created, created, answer}
+use Rattle.sql_semantics.specs.declared.basis.Basis.{Basis}
+use Rattle.sql_semantics.specs.declared.basis.Basis.TheVariants as basis
+use Rattle.sql_semantics.specs.declared.sort_key.SortKey.{SortKey}
+use Rattle.sql_semantics.specs.Order.{key_of}
+use Rattle.sql_semantics.specs.SelectRefusals.{CanRefuse}
+use Rattle.sql_semantics.specs.Rows.{Frame, kept_from, each_from, mapped_from, at, at_basis, width, condition, joined_row, joined, joined_all, or_nulls, wider, sources, passed, keyed, groups, grouped, bases, having, keys_from, values, output, answered, of_rows, tables_of, is_created, created, answer}
 
 -- ---- lists
 
@@ -105,22 +107,14 @@ abbrev pub OnlyMisses : {A : Type 0} → List ℕ → Checked A → Type 0
 OnlyMisses ts (Ok a) = Unit {0}
 OnlyMisses ts (Err e) = CanMiss ts e
 
-or_true : (a b : Bool) → b ≡ true → (a || b) ≡ true
-or_true true b h = refl
-or_true false b h = h
-
-true_or : (a b : Bool) → a ≡ true → (a || b) ≡ true
-true_or true b h = refl
-true_or false b h = absurd (cc)
-
 more_misses : {A : Type 0} (t : ℕ) (ts : List ℕ) (r : Checked A) → OnlyMisses ts r → OnlyMisses (t ∷ ts) r
 more_misses t ts (Ok a) h = tt
-more_misses t ts (Err (OperationalError table)) h = or_true (t == table.0) (list_any (λ x. x == table.0) ts) h
+more_misses t ts (Err (OperationalError table)) h = or_then (t == table.0) (list_any (λ x. x == table.0) ts) h
 more_misses t ts (Err e) h = h
 
 created_by : (b : Bool) (t : ℕ) (ts : List ℕ) (r : Checked (Unit {0})) → OnlyMisses ts r → OnlyMisses (t ∷ ts) (if b then r else Err (OperationalError (record { 0 = t })))
 created_by true t ts r h = more_misses t ts r h
-created_by false t ts r h = true_or (t == t) (list_any (λ x. x == t) ts) (nat_eq_equiv.refl t)
+created_by false t ts r h = or_first (t == t) (list_any (λ x. x == t) ts) (nat_eq_equiv.refl t)
 
 pub created_misses : (tables : Tables) (ts : List ℕ) → OnlyMisses ts (created tables ts)
 created_misses tables [] = tt

@@ -5,22 +5,24 @@ use Rattle.std.specs.BTreeMap.{insert_entry}
 use Rattle.std.specs.declared.cmp.Ordering.{Ordering}
 use Rattle.std.specs.declared.cmp.Ordering.TheVariants.{Less, Equal, Greater}
 use Rattle.std.specs.Ordering.{match_ordering}
+use Rattle.base_core.proofs.Tests.{or_first, or_then}
 use Rattle.base_core.specs.declared.value.Value.{Value}
 use Rattle.base_core.specs.declared.refusal.Refusal.{Refusal}
 use Rattle.schema_core.specs.Catalog.{Catalog}
 use Rattle.expr_types.specs.declared.expr.Expr.{Expr}
 use Rattle.expr_types.specs.declared.select.Select.{Select}
-use Rattle.expr_typing.specs.Plain.{is_grouped}
-use Rattle.expr_eval.specs.Checked.{Checked, ◌>>=◌, Gives}
-use Rattle.expr_eval.specs.Truth.{passes}
-use Rattle.expr_eval.specs.Eval.{Row, Tables, Place, evaluated, all_from}
-use Rattle.select_rows.specs.declared.basis.Basis.{Basis}
-use Rattle.select_rows.specs.declared.basis.Basis.TheVariants as basis
-use Rattle.select_rows.specs.declared.order.SortKey.{SortKey}
-use Rattle.select_rows.specs.Order.{Rank, rank_cmp, ranked_from, in_order, same_row}
-use Rattle.select_rows.specs.Shapes.{AreWide}
+use Rattle.sql_semantics.specs.Plain.{is_grouped}
+use Rattle.base_core.specs.Answers.{Gives}
+use Rattle.sql_semantics.specs.Checked.{Checked, ◌>>=◌}
+use Rattle.sql_semantics.specs.Truth.{passes}
+use Rattle.sql_semantics.specs.Eval.{Row, Tables, Place, evaluated, all_from}
+use Rattle.sql_semantics.specs.declared.basis.Basis.{Basis}
+use Rattle.sql_semantics.specs.declared.basis.Basis.TheVariants as basis
+use Rattle.sql_semantics.specs.declared.sort_key.SortKey.{SortKey}
+use Rattle.sql_semantics.specs.Order.{Rank, rank_cmp, ranked_from, in_order, same_row}
+use Rattle.sql_semantics.specs.Shapes.{AreWide}
 use Rattle.select_rows.proofs.Firsts.{same_row_equiv}
-use Rattle.select_rows.specs.Rows.{Frame, Keyed, kept_from, mapped_from, at, at_basis, sources, passed, keyed, groups, first_row, grouped, bases, having, firsts_from, rows_with, keys_from, values, output, distinct, cut_off, limited, answered, of_rows, tables_of, created, answer}
+use Rattle.sql_semantics.specs.Rows.{Frame, Keyed, kept_from, mapped_from, at, at_basis, sources, passed, keyed, groups, first_row, grouped, bases, having, firsts_from, rows_with, keys_from, values, output, distinct, cut_off, limited, answered, of_rows, tables_of, created, answer}
 
 -- what is answered, if it is, has the property
 abbrev pub Sure : {A : Type 0} → (A → Type 0) → Checked A → Type 0
@@ -44,10 +46,6 @@ always (Err e) = tt
 pub every_more : {A : Type 0} (P : A → Type 0) (xs : List A) (x : A) → AllByRecursion P xs → P x → AllByRecursion P (xs ++ x ∷ [])
 every_more P [] x h p = (p, tt)
 every_more P (y ∷ ys) x h p = (h.0, every_more P ys x h.1 p)
-
-pub every_append : {A : Type 0} (P : A → Type 0) (xs ys : List A) → AllByRecursion P xs → AllByRecursion P ys → AllByRecursion P (xs ++ ys)
-every_append P [] ys h g = g
-every_append P (x ∷ xs) ys h g = (h.0, every_append P xs ys h.1 g)
 
 every_take : {A : Type 0} (P : A → Type 0) (n : ℕ) (xs : List A) → AllByRecursion P xs → AllByRecursion P (take n xs)
 every_take P zero xs h = tt
@@ -151,14 +149,6 @@ keyed_sure P f es r p = bind_sure (λ _. Unit {0}) (λ (k : Keyed). P k.1) (all_
 -- a row has the key
 abbrev IsKey : List Keyed → List Value → Type 0
 IsKey all key = list_any (λ k. same_row key k.0) all ≡ true
-
-or_then : (a b : Bool) → b ≡ true → (a || b) ≡ true
-or_then true b h = refl
-or_then false b h = h
-
-or_first : (a b : Bool) → a ≡ true → (a || b) ≡ true
-or_first true b h = refl
-or_first false b h = absurd (cc)
 
 or_rest : (a b : Bool) → (a || b) ≡ true → a ≡ false → b ≡ true
 or_rest true b h e = absurd (cc)

@@ -1,9 +1,9 @@
 -- Aggregates in lists of operands; the rows that are kept.
 use Rattle.std.proofs.Common.{◌≡◌, ℕ, Bool, true, false, List, [], ◌∷◌, ◌++◌, ◌||◌, cond, map, refl, ap, sym, ◌∙◌, append_assoc, append-nil, ◌<◌, ◌+◌, length, get_or, drop}
 use Rattle.std.proofs.lemmas.List.{drop_more}
-use Rattle.expr_eval.specs.Eval.{Row}
-use Rattle.select_rows.specs.Order.{same_row}
-use Rattle.select_rows.specs.Rows.{Keyed, firsts_from}
+use Rattle.sql_semantics.specs.Eval.{Row}
+use Rattle.sql_semantics.specs.Order.{same_row}
+use Rattle.sql_semantics.specs.Rows.{Keyed, firsts_from}
 use Rattle.std.specs.List.{list_any}
 
 pub ruleset all_named = (append_assoc, append-nil)

@@ -1,5 +1,5 @@
 -- The value of an expression that stands in a scope is NULL or of the expression's kind.
-use Rattle.std.proofs.Common.{◌≡◌, ℕ, ℤ, pos, Bool, true, false, not, cond, ◌&&◌, ◌||◌, if◌then◌else◌, List, [], ◌∷◌, ◌++◌, length, map, nat_lt, Option, Some, None, Ok, Err, refl, sym, ap, subst, ◌∙◌}
+use Rattle.std.proofs.Common.{◌≡◌, ℕ, ℤ, pos, Bool, true, false, not, ◌&&◌, ◌||◌, if◌then◌else◌, List, [], ◌∷◌, ◌++◌, length, map, nat_lt, Option, Some, None, Ok, Err, refl, sym, ap, subst, ◌∙◌}
 use Rattle.std.proofs.lemmas.Bool.{and_parts}
 use Rattle.std.specs.List.{list_all, slice_get, AllByRecursion}
 use Rattle.std.specs.Option.{is_some}
@@ -10,22 +10,23 @@ use Rattle.base_core.specs.declared.value.Kind.{Kind}
 use Rattle.base_core.specs.declared.value.Kind.TheVariants as kinds
 use Rattle.base_core.specs.declared.value.Value.{Value}
 use Rattle.base_core.specs.declared.value.Value.TheVariants as value
-use Rattle.base_core.specs.declared.refusal.Refusal.{Refusal}
 use Rattle.schema_core.specs.declared.table.ColumnSpec.{ColumnSpec}
-use Rattle.schema_core.specs.Catalog.{Catalog, kind_of, same_kind}
+use Rattle.schema_core.specs.Catalog.{Catalog, kind_of}
 use Rattle.expr_types.specs.declared.expr.Func.{Func}
 use Rattle.expr_types.specs.declared.expr.Func.TheVariants.{Count, Sum, Min, Max, Lower, Upper, Length, Coalesce}
 use Rattle.expr_types.specs.declared.expr.Expr.{Expr, roll-Expr}
 use Rattle.expr_types.specs.declared.expr.Expr.TheOpen.{Expr-F}
-use Rattle.expr_types.specs.declared.expr.Expr.TheFolds.{ind-Expr, map-Expr}
-use Rattle.expr_typing.specs.Kinds.{Scope, Judged, judged, judged_level, then_judge, expected, gives, all_of, all_alike, in_scope, value_kind, column_in, column_kind, kind_where}
-use Rattle.expr_typing.specs.Kinds as typing
-use Rattle.expr_typing.specs.Plain.{Found, fits, is_of_kind, settled, settled_level}
-use Rattle.expr_eval.specs.Checked.{Checked, ◌>>=◌}
-use Rattle.expr_eval.specs.Truth.{value_of}
-use Rattle.expr_eval.specs.Eval.{Place, Meaning, Row, after, evaluated, meaning, truth, pair, all_from, along_from, called, calculated, int, arithmetic, negated, concatenated, added, total, known, least_from, greatest_from, below, is_null, first_known, lowered, raised, text_length, first_of, applied, aggregated, gathered, over, ungrouped, count_of}
+use Rattle.expr_types.specs.declared.expr.Expr.TheFolds.{map-Expr}
+use Rattle.expr_types.proofs.Folds.{bare, by_levels}
+use Rattle.sql_semantics.specs.Kinds.{Scope, Judged, judged, judged_level, gives, all_of, all_alike, in_scope, value_kind, column_in, column_kind, kind_where}
+use Rattle.sql_semantics.specs.Kinds as typing
+use Rattle.sql_semantics.specs.Plain.{Found, fits, is_of_kind, settled, settled_level}
+use Rattle.sql_semantics.proofs.Equations.{fits_rolled, fits_step, judged_rolled, rolled, settled_rolled, with_settled}
+use Rattle.sql_semantics.proofs.Typed.{all_of_each, alike_list, all_fits, gives_ok}
+use Rattle.sql_semantics.specs.Checked.{Checked, ◌>>=◌}
+use Rattle.sql_semantics.specs.Truth.{value_of}
+use Rattle.sql_semantics.specs.Eval.{Place, Meaning, Row, after, evaluated, meaning, truth, pair, all_from, along_from, called, calculated, int, arithmetic, negated, concatenated, added, total, known, least_from, greatest_from, below, is_null, first_known, lowered, raised, text_length, first_of, applied, aggregated, gathered, over, ungrouped, count_of}
 use Rattle.select_rows.proofs.Columns.{Columns, Fits, Members, Property, column_read}
-use Rattle.select_rows.proofs.Levels.{fits_rolled, fits_step, judged_rolled, rolled, settled_rolled, with_settled}
 use Rattle.select_rows.proofs.Shapes.{Sure, bind_sure, every_more, every_filter}
 
 abbrev pub OfKind : Kind → Value → Type 0
@@ -37,42 +38,11 @@ KindAt source column v = OfKind (kind_of column.kind) v
 
 -- ---- judgements
 
-then_last : (r s : Judged) (k : Kind) → then_judge r (λ _. s) ≡ Ok k → s ≡ Ok k
-then_last (Ok j) s k e = e
-then_last (Err f) s k e = absurd (cc)
-
 gives_kind : (kind : Kind) (r : Judged) (k : Kind) → gives kind r ≡ Ok k → k ≡ kind
-gives_kind kind (Ok j) k e = cc
-gives_kind kind (Err f) k e = absurd (cc)
+gives_kind kind r k e = (gives_ok kind r k e).0
 
 all_of_kind : (wanted k : Kind) (js : List Judged) → all_of wanted js ≡ Ok k → k ≡ wanted
-all_of_kind wanted k [] e = cc
-all_of_kind wanted k (Ok found ∷ js) e = all_of_kind wanted k js (then_last (expected wanted found) (all_of wanted js) k e)
-all_of_kind wanted k (Err f ∷ js) e = absurd (cc)
-
-same_kind_is : (a b : Kind) → same_kind a b ≡ true → a ≡ b
-same_kind_is kinds.Integer kinds.Integer e = refl
-same_kind_is kinds.Text kinds.Text e = refl
-same_kind_is kinds.Boolean kinds.Boolean e = refl
-same_kind_is kinds.Bytes kinds.Bytes e = refl
-same_kind_is a b e = absurd (cc)
-
-expected_by : (b : Bool) (wanted k : Kind) (f : Refusal) (s : Judged) → then_judge (cond b (Ok wanted) (Err f)) (λ _. s) ≡ Ok k → b ≡ true
-expected_by true wanted k f s e = refl
-expected_by false wanted k f s e = absurd (cc)
-
-all_of_each : (wanted k : Kind) (js : List Judged) → all_of wanted js ≡ Ok k → AllByRecursion (λ j. j ≡ Ok wanted) js
-all_of_each wanted k [] e = tt
-all_of_each wanted k (Ok found ∷ js) e =
-    (ap Ok (same_kind_is found wanted (expected_by (same_kind found wanted) wanted k _ (all_of wanted js) e)), all_of_each wanted k js (then_last (expected wanted found) (all_of wanted js) k e))
-all_of_each wanted k (Err f ∷ js) e = absurd (cc)
-
-alike_each : (k : Kind) (js : List Judged) → all_alike js ≡ Ok k → AllByRecursion (λ j. j ≡ Ok k) js
-alike_each k [] e = tt
-alike_each k (Ok kind ∷ js) e =
-    let same : k ≡ kind = all_of_kind kind k js e in
-    subst (λ (c : Kind). AllByRecursion (λ (j : Judged). j ≡ Ok c) (Ok kind ∷ js)) (sym same) (refl, all_of_each kind k js e)
-alike_each k (Err f ∷ js) e = absurd (cc)
+all_of_kind wanted k js e = (all_of_each wanted k js e).0
 
 -- ---- values
 
@@ -178,14 +148,6 @@ AllFit schema scope es = AllByRecursion (λ e. fits schema e scope ≡ true) es
 abbrev AllJudged : Catalog → Scope → Kind → List Expr → Type 0
 AllJudged schema scope k es = AllByRecursion (λ e. judged schema e scope ≡ Ok k) es
 
-all_fit : (schema : Catalog) (scope : Scope) (es : List Expr) → list_all (λ (holds : Scope → Bool). holds scope) (map (fits schema) es) ≡ true → AllFit schema scope es
-all_fit schema scope [] h = tt
-all_fit schema scope (e ∷ es) h = let both = and_parts (fits schema e scope) (list_all (λ (holds : Scope → Bool). holds scope) (map (fits schema) es)) h in (both.0, all_fit schema scope es both.1)
-
-all_judged : (schema : Catalog) (scope : Scope) (k : Kind) (es : List Expr) → AllByRecursion (λ j. j ≡ Ok k) (in_scope scope (map (judged schema) es)) → AllJudged schema scope k es
-all_judged schema scope k [] h = tt
-all_judged schema scope k (e ∷ es) h = (h.0, all_judged schema scope k es h.1)
-
 all_settled : (own : ℕ) (es : List Expr) → list_all (λ (found : Found). found.1) (map (with_settled own) es) ≡ true → AllByRecursion (λ e. settled true [] own e ≡ true) es
 all_settled own [] h = tt
 all_settled own (e ∷ es) h = let both = and_parts (settled true [] own e) (list_all (λ (found : Found). found.1) (map (with_settled own) es)) h in (both.0, all_settled own es both.1)
@@ -256,10 +218,10 @@ called_sure schema scope p blind h Sum ks s f k j =
     as_kind k kinds.Integer _ (all_of_kind kinds.Integer k (in_scope scope (map (judged schema) (plain ks))) j) (made_sure kinds.Integer (gathered (map evaluated (plain ks)) p) (aggregated Sum) sum_sure)
 called_sure schema scope p blind h Min ks s f k j =
     bind_sure (Gathered k) (OfKind k) (gathered (map evaluated (plain ks)) p) (aggregated Min)
-    (gathered_sure schema scope p blind k h ks f (all_judged schema scope k (plain ks) (alike_each k (in_scope scope (map (judged schema) (plain ks))) j))) (λ o g. min_sure k o g)
+    (gathered_sure schema scope p blind k h ks f (alike_list schema scope k (plain ks) j)) (λ o g. min_sure k o g)
 called_sure schema scope p blind h Max ks s f k j =
     bind_sure (Gathered k) (OfKind k) (gathered (map evaluated (plain ks)) p) (aggregated Max)
-    (gathered_sure schema scope p blind k h ks f (all_judged schema scope k (plain ks) (alike_each k (in_scope scope (map (judged schema) (plain ks))) j))) (λ o g. max_sure k o g)
+    (gathered_sure schema scope p blind k h ks f (alike_list schema scope k (plain ks) j)) (λ o g. max_sure k o g)
 called_sure schema scope p blind h Lower ks s f k j =
     as_kind k kinds.Text _ (all_of_kind kinds.Text k (in_scope scope (map (judged schema) (plain ks))) j) (made_sure kinds.Text (all_from p [] (map evaluated (plain ks))) (λ vs. Ok (applied Lower vs)) (λ vs. lowered_kind (first_of vs)))
 called_sure schema scope p blind h Upper ks s f k j =
@@ -268,7 +230,7 @@ called_sure schema scope p blind h Length ks s f k j =
     as_kind k kinds.Integer _ (gives_kind kinds.Integer (all_of kinds.Text (in_scope scope (map (judged schema) (plain ks)))) k j) (made_sure kinds.Integer (all_from p [] (map evaluated (plain ks))) (λ vs. Ok (applied Length vs)) (λ vs. length_kind (first_of vs)))
 called_sure schema scope p blind h Coalesce ks s f k j =
     bind_sure (AllByRecursion (OfKind k)) (OfKind k) (all_from p [] (map evaluated (plain ks))) (λ vs. Ok (applied Coalesce vs))
-    (all_sure schema scope p blind k h ks (λ b. coalesce_settled (length scope) (plain ks) (s b)) f (all_judged schema scope k (plain ks) (alike_each k (in_scope scope (map (judged schema) (plain ks))) j)) [] tt)
+    (all_sure schema scope p blind k h ks (λ b. coalesce_settled (length scope) (plain ks) (s b)) f (alike_list schema scope k (plain ks) j) [] tt)
     (λ vs g. first_kind k vs g)
 
 -- ---- columns
@@ -283,9 +245,6 @@ column_seen : (schema : Catalog) (scope : Scope) (p : Place) (blind : Bool) (s :
 column_seen schema scope p blind s c h apart there = column_by schema scope p blind s c (column_in schema scope s c) refl there h apart
 
 -- ---- the levels
-
-abbrev bare : Expr-F Known → Expr-F Expr
-bare = map-Expr Known Expr (λ k. k.0)
 
 level : (y : Expr-F Known) (schema : Catalog) (scope : Scope) (p : Place) (blind : Bool) → Fits KindAt schema scope p blind
     → (blind ≡ true → settled_level true (length scope) (map-Expr Expr Found (with_settled (length scope)) (bare y)) ≡ true)
@@ -309,7 +268,7 @@ level (Expr-F.Ilike g x y) schema scope p blind h a f k j = as_kind k kinds.Bool
 level (Expr-F.InList g x vs) schema scope p blind h a f k j = as_kind k kinds.Boolean _ (gives_kind kinds.Boolean _ k j) (truth_sure (evaluated x.0 p) _)
 level (Expr-F.Between g x y z) schema scope p blind h a f k j = as_kind k kinds.Boolean _ (gives_kind kinds.Boolean _ k j) (truth_within (evaluated x.0 p) (λ _. pair (evaluated y.0) (evaluated z.0) p) _)
 level (Expr-F.Distinct g x y) schema scope p blind h a f k j = as_kind k kinds.Boolean _ (gives_kind kinds.Boolean _ k j) (truth_sure (pair (evaluated x.0) (evaluated y.0) p) _)
-level (Expr-F.Call g es) schema scope p blind h a f k j = called_sure schema scope p blind h g es a (all_fit schema scope (plain es) (and_parts _ _ f).1) k j
+level (Expr-F.Call g es) schema scope p blind h a f k j = called_sure schema scope p blind h g es a (all_fits schema scope (plain es) (and_parts _ _ f).1) k j
 level Expr-F.CountAll schema scope p blind h a f k j = as_kind k kinds.Integer (Ok (count_of p.group)) (cc) (group_count p.group)
 level (Expr-F.Exists g o x) schema scope p blind h a f k j = as_kind k kinds.Boolean _ (all_of_kind kinds.Boolean k (judged schema x.0 (scope ++ o.table ∷ []) ∷ []) j) (truth_sure _ _)
 
@@ -320,4 +279,4 @@ step y schema scope p blind h a f k j =
 
 -- the value of an expression that stands in the scope is NULL or of its kind
 pub kind_sure : (e : Expr) → Claim e
-kind_sure = ind-Expr Claim (λ x y is. subst (λ z. Claim (roll-Expr z)) is (step y))
+kind_sure = by_levels Claim step

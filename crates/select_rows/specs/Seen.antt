@@ -5,9 +5,9 @@ use Rattle.std.specs.Option.{unwrap_or}
 use Rattle.std.specs.BTreeSet.{BTreeSet, contains}
 use Rattle.std.specs.BTreeMap.{BTreeMap, get}
 use Rattle.base_core.specs.Order.{values_cmp}
-use Rattle.expr_eval.specs.Eval.{Row}
-use Rattle.select_rows.specs.Order.{same_row}
-use Rattle.select_rows.specs.Rows.{Keyed, rows_with}
+use Rattle.sql_semantics.specs.Eval.{Row}
+use Rattle.sql_semantics.specs.Order.{same_row}
+use Rattle.sql_semantics.specs.Rows.{Keyed, rows_with}
 
 -- the set has the rows that equal one of these
 pub record HasSeen (seen : BTreeSet Row) (rows : List Row) : Type 0 where

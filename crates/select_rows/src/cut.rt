@@ -1,15 +1,28 @@
 //! What `distinct`, `offset` and `limit` leave.
 
 ghost use Rattle.std.specs.Prelude.{◌≡◌, IfOk};
-ghost use Rattle.select_rows.specs.Rows as spec;
+ghost use Rattle.sql_semantics.specs.Rows as spec;
 
 use crate::seen::keep_first;
-use base_core::RowValues;
+use base_core::{ListOf, RowList, RowValues};
+use expr_types::Select;
 use std::alloc::{AllocError, Global};
 use std::collections::BTreeSet;
 
+/// The first of equal rows where the select says so, and of these what its offset and its limit leave.
+pub(crate) fn distinct_and_cut(
+    alloc: Global,
+    select: &Select,
+    rows: Vec<RowValues>,
+) -> Result<RowList, AllocError>
+    ensures { IfOk result (λ left. left ≡ spec.cut select.now (spec.distinct select.now.distinct rows.items)) }
+{
+    let rows = distinct(alloc, select.distinct, rows)?;
+    Ok(ListOf::from_vec(cut(rows, select.offset, select.limit)))
+}
+
 /// The first of equal rows is kept.
-pub(crate) fn distinct(
+fn distinct(
     alloc: Global,
     distinct: bool,
     rows: Vec<RowValues>,
@@ -28,7 +41,7 @@ pub(crate) fn distinct(
 }
 
 /// The rows behind so many, and no more than so many of them.
-pub(crate) fn cut(rows: Vec<RowValues>, offset: Option<u64>, limit: Option<u64>) -> Vec<RowValues>
+fn cut(rows: Vec<RowValues>, offset: Option<u64>, limit: Option<u64>) -> Vec<RowValues>
     ensures { result.items ≡ spec.limited limit (spec.cut_off offset rows.items) }
 {
     let mut rows = rows;

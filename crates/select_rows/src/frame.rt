@@ -2,11 +2,11 @@
 
 ghost use Rattle.std.specs.Prelude.{◌≡◌};
 ghost use Rattle.expr_eval.specs.Place.{place_of};
-ghost use Rattle.select_rows.specs.Rows as spec;
+ghost use Rattle.sql_semantics.specs.Rows as spec;
 
-use crate::Basis;
 use base_core::{RowList, TableId, Value};
 use expr_eval::Scope;
+use sql_semantics::Basis;
 
 /// The sources in scope: the place in a row at which each begins, and the tables.
 #[derive(Clone, Copy)]

@@ -3,20 +3,21 @@
 ghost use Rattle.std.specs.Prelude.{◌≡◌, [], ◌∷◌, map, IfOk};
 ghost use Rattle.std.specs.List.{list_any};
 ghost use Rattle.expr_types.specs.Level as level;
-ghost use Rattle.expr_typing.specs.Plain as plain;
-ghost use Rattle.expr_eval.specs.Checked.{Gives};
-ghost use Rattle.expr_eval.specs.Eval as eval;
+ghost use Rattle.sql_semantics.specs.Plain as plain;
+ghost use Rattle.base_core.specs.Answers.{Gives};
+ghost use Rattle.sql_semantics.specs.Eval as eval;
 ghost use Rattle.expr_eval.specs.Place.{place_of};
 ghost use Rattle.select_rows.specs.Frames.{frame_of};
-ghost use Rattle.select_rows.specs.Rows as spec;
+ghost use Rattle.sql_semantics.specs.Rows as spec;
 
+use crate::Frame;
 use crate::frame::scope_at;
 use crate::seen::{Keyed, by_key, keep_first, rows_at};
-use crate::{Basis, Frame};
 use base_core::{Copied, ListOf, Name, Refusal, RowValues};
 use expr_eval::{Scope, value_in};
 use expr_types::{Expr, ExprList, Select};
 use expr_typing::has_aggregate;
+use sql_semantics::Basis;
 use std::alloc::{AllocError, Global};
 use std::collections::BTreeSet;
 

@@ -1,7 +1,6 @@
 //! The rows of a select.
 #![tactic(auto)]
 
-mod basis;
 mod cut;
 mod filter;
 mod frame;
@@ -14,9 +13,7 @@ mod source;
 mod survey;
 mod table;
 
-pub use basis::Basis;
 pub use frame::Frame;
-pub use order::SortKey;
 pub use rows::rows_of;
 pub use survey::named;
 pub use table::created;

@@ -1,18 +1,19 @@
 //! The values of the items and of the order expressions.
 
 ghost use Rattle.std.specs.Prelude.{◌≡◌, [], map};
-ghost use Rattle.expr_eval.specs.Checked.{Gives};
-ghost use Rattle.expr_eval.specs.Eval as eval;
+ghost use Rattle.base_core.specs.Answers.{Gives};
+ghost use Rattle.sql_semantics.specs.Eval as eval;
 ghost use Rattle.expr_eval.specs.Place.{place_of};
 ghost use Rattle.select_rows.specs.Frames.{frame_of};
-ghost use Rattle.select_rows.specs.Rows as spec;
+ghost use Rattle.sql_semantics.specs.Rows as spec;
 
+use crate::Frame;
 use crate::frame::scope_of;
 use crate::order::Output;
-use crate::{Basis, Frame, SortKey};
 use base_core::{ListOf, Name, Refusal, RowValues};
 use expr_eval::{Scope, value_in};
 use expr_types::{Expr, Select};
+use sql_semantics::{Basis, SortKey};
 use std::alloc::Global;
 
 /// For each row or group in turn, the items and then the order expressions.

@@ -1,14 +1,14 @@
 //! What stands in an expression.
 
 ghost use Rattle.std.specs.Prelude.{◌≡◌, ◌++◌, map, OnOk};
-ghost use Rattle.select_rows.specs.Rows as spec;
+ghost use Rattle.sql_semantics.specs.Rows as spec;
 
 use expr_types::Expr;
 use sqlite_items::Items;
 use std::alloc::AllocError;
 
-/// Appends the numbers of the tables of each `exists`, in reading order. The only error is want of memory.
-#[tactic(auto, unfolding(crate::specs::Rows::named), using(crate::proofs::Surveys::all_named))]
+/// Appends the numbers of the tables of each `exists`, in reading order. The only error is that memory ran out.
+#[tactic(auto, unfolding(sql_semantics::specs::Rows::named), using(crate::proofs::Surveys::all_named))]
 #[cycle(named)]
 pub fn named(e: &Expr, found: &mut Vec<u32>) -> Result<(), AllocError>
     ensures { OnOk result (found.new.items ≡ found.old.items ++ spec.named e.now) }

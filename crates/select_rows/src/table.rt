@@ -1,8 +1,8 @@
 //! Tables that were not created.
 
 ghost use Rattle.std.specs.Prelude.{◌≡◌, ◌∷◌, ◌++◌, map, Ok, OnOk, IfOk};
-ghost use Rattle.expr_eval.specs.Checked.{Gives};
-ghost use Rattle.select_rows.specs.Rows as spec;
+ghost use Rattle.base_core.specs.Answers.{Gives};
+ghost use Rattle.sql_semantics.specs.Rows as spec;
 
 use crate::survey::{named, named_all};
 use base_core::{ListOf, Name, Refusal, RowList, TableId};

@@ -1,5 +1,5 @@
 use Rattle.std.proofs.Common.{◌≡◌, ◌++◌, drop}
-use Rattle.bulk_rows.specs.Taken.{paired}
+use Rattle.sql_semantics.specs.Taken.{paired}
 use Rattle.bulk_rows.proofs.cells.paired.Given as goal
 
 abbrev pub invariant-loop-place : goal.invariant-loop-place

@@ -1,5 +1,5 @@
 use Rattle.std.proofs.Common.{◌≡◌, ◌++◌, drop, map}
-use Rattle.select_rows.specs.Rows.{flat, named_where}
+use Rattle.sql_semantics.specs.Rows.{flat, named_where}
 use Rattle.bulk_rows.proofs.named.of_cells.Given as goal
 
 abbrev pub invariant-loop-cell : goal.invariant-loop-cell

@@ -1,5 +1,5 @@
 use Rattle.std.proofs.Common.{◌≡◌, [], drop}
-use Rattle.bulk_rows.specs.Taken as spec
+use Rattle.sql_semantics.specs.Taken as spec
 use Rattle.bulk_rows.proofs.taken.updated_rows.Given as goal
 
 abbrev pub invariant-loop-entry : goal.invariant-loop-entry

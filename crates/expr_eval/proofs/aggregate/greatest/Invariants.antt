@@ -1,5 +1,5 @@
 use Rattle.std.proofs.Common.{◌≡◌, drop}
-use Rattle.expr_eval.specs.Eval as spec
+use Rattle.sql_semantics.specs.Eval as spec
 use Rattle.expr_eval.proofs.aggregate.greatest.Given as goal
 
 abbrev pub invariant-loop-value : goal.invariant-loop-value

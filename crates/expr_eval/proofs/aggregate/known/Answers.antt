@@ -1,6 +1,6 @@
 use Rattle.std.proofs.Common.{rules, not}
 use Rattle.std.proofs.lemmas.Fn.{filter_same}
-use Rattle.expr_eval.specs.Eval as spec
+use Rattle.sql_semantics.specs.Eval as spec
 use Rattle.expr_eval.proofs.aggregate.known.Goals as goal
 
 pub returns : goal.returns

@@ -1,7 +1,7 @@
 use Rattle.std.proofs.Common.{◌≡◌, map, drop}
 use Rattle.expr_types.specs.declared.expr.CompareOp.TheVariants.{Equal}
-use Rattle.expr_eval.specs.Eval.{compared}
-use Rattle.expr_eval.specs.Truth as spec
+use Rattle.sql_semantics.specs.Eval.{compared}
+use Rattle.sql_semantics.specs.Truth as spec
 use Rattle.expr_eval.proofs.compare.among.Given as goal
 
 abbrev pub invariant-loop-value : goal.invariant-loop-value

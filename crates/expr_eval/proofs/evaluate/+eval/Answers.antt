@@ -1,4 +1,5 @@
-use Rattle.expr_eval.proofs.Operands.{told_as, evaluated-Compare, evaluated-IsNull, evaluated-And, evaluated-Or, evaluated-Not, evaluated-Arith, evaluated-Neg, evaluated-Concat, evaluated-Like, evaluated-Ilike, evaluated-InList, evaluated-Between, evaluated-Distinct, evaluated-Call, evaluated-Exists}
+use Rattle.expr_eval.proofs.Operands.{told_as}
+use Rattle.sql_semantics.proofs.Equations.{evaluated-Compare, evaluated-IsNull, evaluated-And, evaluated-Or, evaluated-Not, evaluated-Arith, evaluated-Neg, evaluated-Concat, evaluated-Like, evaluated-Ilike, evaluated-InList, evaluated-Between, evaluated-Distinct, evaluated-Call, evaluated-Exists}
 use Rattle.expr_eval.proofs.evaluate.+eval.Goals as goal
 
 pub value_in-returns-in-Compare : goal.value_in-returns-in-Compare

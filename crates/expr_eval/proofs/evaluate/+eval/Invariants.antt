@@ -1,7 +1,7 @@
 use Rattle.std.proofs.Common.{◌≡◌, [], ◌∷◌, ◌++◌, false, length, map, drop, ◌+◌, ◌*◌, max}
 use Rattle.expr_types.specs.declared.expr.Expr.{size-Expr}
-use Rattle.expr_eval.specs.Eval as spec
-use Rattle.expr_eval.specs.Eval.{evaluated}
+use Rattle.sql_semantics.specs.Eval as spec
+use Rattle.sql_semantics.specs.Eval.{evaluated}
 use Rattle.expr_eval.specs.Place.{place_of}
 use Rattle.expr_eval.proofs.evaluate.+eval.Given as goal
 

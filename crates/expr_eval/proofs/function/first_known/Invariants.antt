@@ -1,5 +1,5 @@
 use Rattle.std.proofs.Common.{◌≡◌, drop}
-use Rattle.expr_eval.specs.Eval.{first_known}
+use Rattle.sql_semantics.specs.Eval.{first_known}
 use Rattle.expr_eval.proofs.function.first_known.Given as goal
 
 abbrev pub invariant-loop-value : goal.invariant-loop-value

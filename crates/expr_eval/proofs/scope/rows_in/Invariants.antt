@@ -1,5 +1,5 @@
 use Rattle.std.proofs.Common.{◌≡◌, drop}
-use Rattle.expr_eval.specs.Eval.{rows_in}
+use Rattle.sql_semantics.specs.Eval.{rows_in}
 use Rattle.expr_eval.proofs.scope.rows_in.Given as goal
 
 abbrev pub invariant-loop-id : goal.invariant-loop-id

@@ -1,5 +1,5 @@
 use Rattle.std.proofs.Common.{◌≡◌, map, drop}
-use Rattle.expr_eval.specs.Truth as spec
+use Rattle.sql_semantics.specs.Truth as spec
 use Rattle.expr_eval.proofs.truth.any3.Given as goal
 
 abbrev pub invariant-loop-value : goal.invariant-loop-value

@@ -1,6 +1,6 @@
 use Rattle.std.proofs.Common.{◌≡◌, ◌+◌, ◌*◌, max, map, drop}
 use Rattle.expr_types.specs.declared.expr.Expr.{size-Expr}
-use Rattle.expr_typing.specs.Kinds.{judged, in_scope, all_of}
+use Rattle.sql_semantics.specs.Kinds.{judged, in_scope, all_of}
 use Rattle.expr_typing.proofs.judge.+judges.Given as goal
 
 abbrev pub invariant-all-loop-operand : goal.invariant-all-loop-operand

@@ -1,5 +1,5 @@
 use Rattle.std.proofs.Common.{◌≡◌, map, drop, Ok}
-use Rattle.expr_typing.specs.Kinds.{value_kind, all_of}
+use Rattle.sql_semantics.specs.Kinds.{value_kind, all_of}
 use Rattle.expr_typing.proofs.kind.values_of.Given as goal
 
 abbrev pub invariant-loop-value : goal.invariant-loop-value

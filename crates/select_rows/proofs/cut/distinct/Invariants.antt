@@ -1,6 +1,6 @@
 use Rattle.std.proofs.Common.{◌≡◌, []}
 use Rattle.std.specs.Vec.Iter.{into_iter_items}
-use Rattle.select_rows.specs.Rows.{firsts_from}
+use Rattle.sql_semantics.specs.Rows.{firsts_from}
 use Rattle.select_rows.specs.Seen.{HasSeen}
 use Rattle.select_rows.proofs.cut.distinct.Given as goal
 

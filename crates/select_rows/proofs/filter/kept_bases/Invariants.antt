@@ -1,8 +1,8 @@
 use Rattle.std.proofs.Common.{◌≡◌, []}
 use Rattle.std.specs.Vec.Iter.{into_iter_items}
-use Rattle.expr_eval.specs.Eval.{evaluated}
+use Rattle.sql_semantics.specs.Eval.{evaluated}
 use Rattle.select_rows.specs.Frames.{frame_of}
-use Rattle.select_rows.specs.Rows as spec
+use Rattle.sql_semantics.specs.Rows as spec
 use Rattle.select_rows.proofs.filter.kept_bases.Given as goal
 
 abbrev pub invariant-loop-basis : goal.invariant-loop-basis

@@ -1,6 +1,6 @@
 use Rattle.std.proofs.Common.{◌≡◌, ◌++◌, drop, map}
-use Rattle.select_rows.specs.declared.basis.Basis.TheVariants.{Group}
-use Rattle.select_rows.specs.Rows as spec
+use Rattle.sql_semantics.specs.declared.basis.Basis.TheVariants.{Group}
+use Rattle.sql_semantics.specs.Rows as spec
 use Rattle.select_rows.proofs.group.groups.Given as goal
 
 abbrev pub invariant-loop-key : goal.invariant-loop-key

@@ -1,5 +1,5 @@
 use Rattle.std.proofs.Common.{◌≡◌, [], drop, map}
-use Rattle.select_rows.specs.Rows as spec
+use Rattle.sql_semantics.specs.Rows as spec
 use Rattle.select_rows.specs.Seen.{HasSeen}
 use Rattle.select_rows.proofs.group.keys.Given as goal
 

@@ -1,6 +1,6 @@
 use Rattle.std.proofs.Common.{◌≡◌, ◌++◌, map}
 use Rattle.std.specs.Vec.Iter.{into_iter_items}
-use Rattle.select_rows.specs.declared.basis.Basis.TheVariants.{Row}
+use Rattle.sql_semantics.specs.declared.basis.Basis.TheVariants.{Row}
 use Rattle.select_rows.proofs.group.ungrouped.Given as goal
 
 abbrev pub invariant-loop-row : goal.invariant-loop-row

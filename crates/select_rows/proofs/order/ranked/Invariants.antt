@@ -1,6 +1,6 @@
 use Rattle.std.proofs.Common.{◌≡◌, ◌+◌, [], length}
 use Rattle.std.specs.Vec.Iter.{into_iter_items}
-use Rattle.select_rows.specs.Order.{ranked_from}
+use Rattle.sql_semantics.specs.Order.{ranked_from}
 use Rattle.select_rows.proofs.order.ranked.Given as goal
 
 abbrev pub invariant-loop-keys : goal.invariant-loop-keys

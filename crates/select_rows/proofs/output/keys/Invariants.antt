@@ -1,6 +1,6 @@
 use Rattle.std.proofs.Common.{◌≡◌, [], drop}
 use Rattle.expr_eval.specs.Place.{place_of}
-use Rattle.select_rows.specs.Rows as spec
+use Rattle.sql_semantics.specs.Rows as spec
 use Rattle.select_rows.proofs.output.keys.Given as goal
 
 abbrev pub invariant-loop-key : goal.invariant-loop-key

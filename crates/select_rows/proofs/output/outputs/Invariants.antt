@@ -1,6 +1,6 @@
 use Rattle.std.proofs.Common.{◌≡◌, [], drop}
 use Rattle.select_rows.specs.Frames.{frame_of}
-use Rattle.select_rows.specs.Rows as spec
+use Rattle.sql_semantics.specs.Rows as spec
 use Rattle.select_rows.proofs.output.outputs.Given as goal
 
 abbrev pub invariant-loop-basis : goal.invariant-loop-basis

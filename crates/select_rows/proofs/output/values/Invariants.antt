@@ -1,5 +1,5 @@
 use Rattle.std.proofs.Common.{◌≡◌, [], drop, map}
-use Rattle.expr_eval.specs.Eval as eval
+use Rattle.sql_semantics.specs.Eval as eval
 use Rattle.expr_eval.specs.Place.{place_of}
 use Rattle.select_rows.proofs.output.values.Given as goal
 

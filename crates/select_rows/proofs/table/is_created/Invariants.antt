@@ -1,5 +1,5 @@
 use Rattle.std.proofs.Common.{◌≡◌, drop}
-use Rattle.select_rows.specs.Rows as spec
+use Rattle.sql_semantics.specs.Rows as spec
 use Rattle.select_rows.proofs.table.is_created.Given as goal
 
 abbrev pub invariant-loop-id : goal.invariant-loop-id

@@ -1,5 +1,5 @@
 use Rattle.std.proofs.Common.{◌≡◌, ◌++◌, drop, map}
-use Rattle.select_rows.specs.Rows as spec
+use Rattle.sql_semantics.specs.Rows as spec
 use Rattle.select_rows.proofs.table.of_items.Given as goal
 
 abbrev pub invariant-loop-item : goal.invariant-loop-item

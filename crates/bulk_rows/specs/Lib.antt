@@ -1,3 +1,0 @@
-pub mod Applied
-pub mod Refusals
-pub mod Taken

@@ -1,3 +1,0 @@
-mod Insertion
-mod OneList
-pub mod Ranks

@@ -1,0 +1,21 @@
+mod Apart
+mod Caseless
+mod Equations
+pub mod Forms
+mod Insertion
+mod Inside
+pub mod KeptApart
+pub mod KeptFolds
+pub mod KeptKinds
+pub mod KeptLists
+pub mod KeptPlain
+mod Lists
+pub mod Meaning
+mod Negations
+pub mod OneGroup
+mod OneList
+pub mod Ranks
+mod SettledApart
+mod Several
+mod Truths
+pub mod Typed

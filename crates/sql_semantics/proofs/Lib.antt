@@ -1,0 +1,3 @@
+pub mod Equations
+pub mod Truths
+pub mod Typed

@@ -1,0 +1,15 @@
+pub mod Kinds
+pub mod Plain
+pub mod Typed
+pub mod Checked
+pub mod Truth
+pub mod Texts
+pub mod Eval
+pub mod Order
+pub mod Rows
+pub mod Created
+pub mod Shapes
+pub mod SelectRefusals
+pub mod Taken
+pub mod Applied
+pub mod BulkRefusals
