@@ -1,3 +1,1 @@
-pub mod ActsLemmas
-pub mod Lifting
-pub mod Sequence
+pub mod Telling

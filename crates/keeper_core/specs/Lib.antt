@@ -1,5 +1,2 @@
-pub mod Store
-pub mod Acting
-pub mod Moment
 pub mod Calls
-pub mod Beside
+pub mod Keeping

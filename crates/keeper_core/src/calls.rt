@@ -1,27 +1,24 @@
 //! A keeper's calls with the refusals of the layers above.
 
-ghost use Rattle.std.specs.Prelude.{◌≡◌, ◌+◌, ◌-◌, ◌<◌, ◌≤◌, ℕ, None, true, IfOk, IfErr, IfSome};
+ghost use Rattle.std.specs.Prelude.{◌≡◌, ◌<◌, ◌≤◌, IfOk, IfSome, true};
 ghost use Rattle.schema_core.specs.Catalog.{IsTable};
-ghost use Rattle.schema_core.specs.WellFormed.{IsWellFormed, IsKeyFor};
-ghost use Rattle.keeper_core.specs.Moment.{Runs, IsLeft, IsUndone};
-ghost use Rattle.keeper_core.specs.declared.sent.Sent.TheVariants as sent;
-ghost use Rattle.keeper_core.specs.Acting as acting;
+ghost use Rattle.schema_core.specs.WellFormed.{AreKeysFor, IsWellFormed};
+ghost use Rattle.sql_semantics.specs.Applied as bulk_rows;
+ghost use Rattle.sql_semantics.specs.Plain.{IsPlainBulk, IsPlainSelect};
+ghost use Rattle.sql_semantics.specs.Shapes.{AreGiven, AreOfItems, AreWide};
+ghost use Rattle.programs.specs.Programs as programs;
 ghost use Rattle.keeper_core.specs.Calls as call;
-ghost use Rattle.schema_core.specs.Apply as apply;
-ghost use Rattle.keeper_core.specs.Calls.{depth_left, stop_refusal, AreRowsOf, HoldsLegalRows, HoldsRows, IsRefusalOf, IsRefusalOfBulk, IsRefusalOfQuery};
-ghost use Rattle.expr_typing.specs.Plain.{IsPlainBulk, IsPlainSelect};
-ghost use Rattle.bulk_rows.specs.Applied as bulk_rows;
-ghost use Rattle.select_rows.specs.Refusals.{IsOfDeclared};
-ghost use Rattle.select_rows.specs.Shapes.{AreGiven, AreOfItems, AreWide};
+ghost use Rattle.keeper_core.specs.Keeping as keeping;
+ghost use Rattle.keeper_core.specs.Keeping.{AreRowsOf, HoldsLegalRows, HoldsRows};
 
 use crate::{Keeper, KeeperStop, QueryRefusal, WriteRefusal};
-use base_core::{IntegrityKind, Key, Refusal, RowList, TableId};
+use base_core::{IntegrityKind, KeyList, Refusal, RowList, TableId};
 use expr_types::{Bulk, Select};
 use schema_core::{RowStmt, Schema};
 use std::alloc::Global;
 
 impl From<KeeperStop> for Refusal {
-    ghost from_gives = { λ stop e. e ≡ stop_refusal stop };
+    ghost from_gives = { λ stop e. e ≡ call.stop_refusal stop };
 
     fn from(stop: KeeperStop) -> Refusal {
         match stop {
@@ -41,10 +38,7 @@ pub fn create<K: Keeper>(
     requires attached { (K.moment keeper.old).attached ≡ true }
     requires outside { (K.moment keeper.old).depth ≡ 0 }
     requires declared { IsTable schema.now table }
-    ensures step { Runs K.moment (λ b. b) (call.create table) keeper.old result keeper.new }
-    ensures depth { (K.moment keeper.new).depth ≡ 0 }
-    ensures stops { IfErr result (λ e. acting.ends_early e ≡ true) }
-    ensures undone { IfErr result (λ _. IsUndone (K.moment keeper.old) (K.moment keeper.new)) }
+    ensures { keeping.IsCreate K.moment table keeper.old result keeper.new }
 {
     Ok(keeper.create(alloc, schema, table)?)
 }
@@ -53,10 +47,7 @@ pub fn create<K: Keeper>(
 pub fn begin<K: Keeper>(alloc: Global, keeper: &mut K) -> Result<(), Refusal>
     requires attached { (K.moment keeper.old).attached ≡ true }
     requires outside { (K.moment keeper.old).depth ≡ 0 }
-    ensures step { Runs K.moment (λ u. u) call.begin keeper.old result keeper.new }
-    ensures depth { (K.moment keeper.new).depth ≡ depth_left result 1 0 }
-    ensures stops { IfErr result (λ e. acting.ends_early e ≡ true) }
-    ensures undone { IfErr result (λ _. IsUndone (K.moment keeper.old) (K.moment keeper.new)) }
+    ensures { keeping.IsBegin K.moment keeper.old result keeper.new }
 {
     Ok(keeper.begin(alloc)?)
 }
@@ -65,10 +56,7 @@ pub fn begin<K: Keeper>(alloc: Global, keeper: &mut K) -> Result<(), Refusal>
 pub fn rollback<K: Keeper>(keeper: &mut K) -> Result<(), Refusal>
     requires attached { (K.moment keeper.old).attached ≡ true }
     requires inside { 1 ≤ (K.moment keeper.old).depth }
-    ensures step { Runs K.moment (λ u. u) call.rollback keeper.old result keeper.new }
-    ensures depth { (K.moment keeper.new).depth ≡ 0 }
-    ensures stops { IfErr result (λ e. acting.ends_early e ≡ true) }
-    ensures undone { IfErr result (λ _. IsUndone (K.moment keeper.old) (K.moment keeper.new)) }
+    ensures { keeping.IsRollback K.moment keeper.old result keeper.new }
 {
     Ok(keeper.rollback()?)
 }
@@ -77,33 +65,27 @@ pub fn rollback<K: Keeper>(keeper: &mut K) -> Result<(), Refusal>
 pub fn commit<K: Keeper>(keeper: &mut K) -> Result<(), Refusal>
     requires attached { (K.moment keeper.old).attached ≡ true }
     requires inside { 1 ≤ (K.moment keeper.old).depth }
-    ensures step { Runs K.moment (λ u. u) call.commit keeper.old result keeper.new }
-    ensures depth { (K.moment keeper.new).depth ≡ 0 }
-    ensures stops { IfErr result (λ e. acting.ends_early e ≡ true) }
-    ensures undone { IfErr result (λ _. IsUndone (K.moment keeper.old) (K.moment keeper.new)) }
+    ensures { keeping.IsCommit K.moment keeper.old result keeper.new }
 {
     Ok(keeper.commit()?)
 }
 
-/// Does a statement on one row, and answers the row's key.
+/// Does a statement on rows, and answers their keys.
 pub fn write<K: Keeper>(
     alloc: Global,
     keeper: &mut K,
     schema: &Schema,
     statement: &RowStmt,
-) -> Result<Key, Refusal>
+) -> Result<KeyList, Refusal>
     requires attached { (K.moment keeper.old).attached ≡ true }
     requires inside { 1 ≤ (K.moment keeper.old).depth }
     requires fits { IsWellFormed schema.now statement.now }
-    ensures step { Runs K.moment (λ key. key) (call.write schema.now statement.now) keeper.old result keeper.new }
-    ensures depth { (K.moment keeper.new).depth ≡ depth_left result (K.moment keeper.old).depth 0 }
-    ensures key { IfOk result (λ key. IsKeyFor schema.now statement.now key) }
-    ensures refuses { IfErr result (λ e. IsRefusalOf statement.now e) }
-    ensures left { IfErr result (λ e. IsLeft (sent.Write statement.now) e (K.moment keeper.old) (K.moment keeper.new)) }
+    ensures call { keeping.IsWrite K.moment schema.now statement.now keeper.old result keeper.new }
+    ensures keys { IfOk result (λ keys. AreKeysFor schema.now statement.now keys) }
 {
     match keeper.write(alloc, schema, statement) {
-        Ok(key) => Ok(key),
-        Err(refusal) => Err(refusal_of(table_of(statement), refusal)),
+        Ok(keys) => Ok(keys),
+        Err(refusal) => Err(refusal_of(statement.table(), refusal)),
     }
 }
 
@@ -117,11 +99,7 @@ pub fn bulk<K: Keeper>(
     requires attached { (K.moment keeper.old).attached ≡ true }
     requires inside { 1 ≤ (K.moment keeper.old).depth }
     requires plain { IsPlainBulk schema.now statement.now }
-    ensures step { Runs K.moment (λ count. count) (call.bulk schema.now statement.now) keeper.old result keeper.new }
-    ensures depth { (K.moment keeper.new).depth ≡ depth_left result (K.moment keeper.old).depth 0 }
-    ensures refuses { IfErr result (λ e. IsRefusalOfBulk statement.now e) }
-    ensures declared { IfErr result (λ e. IsOfDeclared schema.now e) }
-    ensures left { IfErr result (λ e. IsLeft (sent.Bulk statement.now) e (K.moment keeper.old) (K.moment keeper.new)) }
+    ensures { keeping.IsBulk K.moment schema.now statement.now keeper.old result keeper.new }
 {
     match keeper.bulk(alloc, schema, statement) {
         Ok(count) => Ok(count),
@@ -139,14 +117,12 @@ pub fn query<K: Keeper>(
     requires attached { (K.moment keeper.old).attached ≡ true }
     requires inside { 1 ≤ (K.moment keeper.old).depth }
     requires plain { IsPlainSelect schema.now select.now }
-    ensures step { Runs K.moment (λ rows. rows) (call.query schema.now select.now) keeper.old result keeper.new }
-    ensures depth { (K.moment keeper.new).depth ≡ depth_left result (K.moment keeper.old).depth 0 }
+    ensures call { keeping.IsQuery K.moment schema.now select.now keeper.old result keeper.new }
     ensures wide { IfOk result (λ rows. AreWide select.now rows) }
-    ensures kinds { HoldsRows schema.now (K.moment keeper.old).told → IfOk result (λ rows. AreOfItems schema.now select.now rows) }
-    ensures given { HoldsLegalRows schema.now (K.moment keeper.old).told → IfOk result (λ rows. AreGiven schema.now select.now rows) }
-    ensures refuses { IfErr result (λ e. IsRefusalOfQuery select.now e) }
-    ensures declared { IfErr result (λ e. IsOfDeclared schema.now e) }
-    ensures left { IfErr result (λ e. IsLeft (sent.Query select.now) e (K.moment keeper.old) (K.moment keeper.new)) }
+    ensures kinds { HoldsRows schema.now (K.moment keeper.old).told
+        → IfOk result (λ rows. AreOfItems schema.now select.now rows) }
+    ensures given { HoldsLegalRows schema.now (K.moment keeper.old).told
+        → IfOk result (λ rows. AreGiven schema.now select.now rows) }
 {
     match keeper.query(alloc, schema, select) {
         Ok(rows) => Ok(rows),
@@ -154,7 +130,7 @@ pub fn query<K: Keeper>(
     }
 }
 
-/// The rows of a table, rising by key, or none where it was not created.
+/// The rows of a table, ascending by key, or none where it was not created.
 pub fn scan<K: Keeper>(
     alloc: Global,
     keeper: &mut K,
@@ -163,11 +139,9 @@ pub fn scan<K: Keeper>(
 ) -> Result<Option<RowList>, Refusal>
     requires attached { (K.moment keeper.old).attached ≡ true }
     requires declared { IsTable schema.now table }
-    ensures step { Runs K.moment (λ rows. rows) (call.scan table) keeper.old result keeper.new }
-    ensures depth { (K.moment keeper.new).depth ≡ depth_left result (K.moment keeper.old).depth 0 }
-    ensures kinds { HoldsRows schema.now (K.moment keeper.old).told → IfOk result (λ found. IfSome found (λ rows. AreRowsOf schema.now table rows)) }
-    ensures stops { IfErr result (λ e. acting.ends_early e ≡ true) }
-    ensures undone { IfErr result (λ _. IsUndone (K.moment keeper.old) (K.moment keeper.new)) }
+    ensures call { keeping.IsScan K.moment table keeper.old result keeper.new }
+    ensures kinds { HoldsRows schema.now (K.moment keeper.old).told
+        → IfOk result (λ found. IfSome found (λ rows. AreRowsOf schema.now table rows)) }
 {
     Ok(keeper.scan(alloc, schema, table)?)
 }
@@ -180,17 +154,6 @@ pub fn table_of_bulk(statement: &Bulk) -> TableId
         Bulk::Insert { table, .. } => *table,
         Bulk::Update { table, .. } => *table,
         Bulk::Delete { table, .. } => *table,
-    }
-}
-
-/// The table that a statement writes.
-pub fn table_of(statement: &RowStmt) -> TableId
-    ensures { result ≡ apply.table_of statement.now }
-{
-    match statement {
-        RowStmt::Insert { table, .. } => *table,
-        RowStmt::Update { table, .. } => *table,
-        RowStmt::Delete { table, .. } => *table,
     }
 }
 
@@ -224,9 +187,9 @@ pub fn refusal_of_query(refusal: QueryRefusal) -> Refusal
     }
 }
 
-/// Whether a refusal ends a run: want of memory and a failure of the store do, every other refusal is a command's answer.
+/// Whether a refusal ends a run: memory that ran out and a failure of the store do, every other refusal is a command's answer.
 pub fn ends_early(refusal: &Refusal) -> bool
-    ensures { result ≡ acting.ends_early refusal.now }
+    ensures { result ≡ programs.ends_early refusal.now }
 {
     match refusal {
         Refusal::Memory | Refusal::KeeperFault => true,

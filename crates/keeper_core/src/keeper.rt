@@ -1,30 +1,24 @@
 //! The trait of keepers of tables.
 
-ghost use Rattle.std.specs.Prelude.{◌≡◌, ◌+◌, ◌-◌, ◌<◌, ◌≤◌, ℕ, [], None, Some, true, false, length, is_ok, IfErr, IsErrOf, IfOk, IfSome};
-ghost use Rattle.schema_core.specs.Catalog.{IsTable};
+ghost use Rattle.std.specs.Prelude.{◌≡◌, ◌+◌, ◌-◌, ◌<◌, ◌≤◌, ℕ, None, true, IfErr, IfOk, IfSome};
 ghost use Rattle.schema_core.specs.Apply.{table_of};
-ghost use Rattle.schema_core.specs.WellFormed.{IsWellFormed, IsKeyFor};
-ghost use Rattle.expr_typing.specs.Plain.{IsPlainBulk, IsPlainSelect};
-ghost use Rattle.select_rows.specs.Refusals.{IsOfDeclared};
-ghost use Rattle.select_rows.specs.Shapes.{AreGiven, AreOfItems, AreWide};
-ghost use Rattle.bulk_rows.specs.Applied as bulk;
-ghost use Rattle.keeper_core.specs.Moment.{Moment, Runs, IsAttached, IsCoherent, IsLeft, IsUndone};
-ghost use Rattle.keeper_core.specs.Store.{Store};
-ghost use Rattle.keeper_core.specs.declared.sent.Sent.TheVariants as sent;
-ghost use Rattle.keeper_core.specs.Calls as call;
-ghost use Rattle.keeper_core.specs.Calls.{as_refusal, stop_refusal, write_refusal, query_refusal, depth_after, depth_after_write, depth_after_query, AreRowsOf, CanRefuse, CanRefuseBulk, CanRefuseQuery, HoldsLegalRows, HoldsRows};
+ghost use Rattle.schema_core.specs.Catalog.{IsTable};
+ghost use Rattle.schema_core.specs.WellFormed.{AreKeysFor, IsWellFormed};
+ghost use Rattle.sql_semantics.specs.Applied as bulk;
+ghost use Rattle.sql_semantics.specs.Plain.{IsPlainBulk, IsPlainSelect};
+ghost use Rattle.sql_semantics.specs.Shapes.{AreGiven, AreOfItems, AreWide};
+ghost use Rattle.programs.specs.Moment.{Moment};
+ghost use Rattle.programs.specs.Programs.{as_refusal};
+ghost use Rattle.programs.specs.Store.{Store};
+ghost use Rattle.keeper_core.specs.Calls.{query_refusal, refusal_by, stop_refusal, write_refusal};
+ghost use Rattle.keeper_core.specs.Keeping as keeping;
+ghost use Rattle.keeper_core.specs.Keeping.{AreRowsOf, HoldsLegalRows, HoldsRows, IsAttached, IsCoherent};
 
-use base_core::{ArithOp, Key, Name, RowList, TableId};
+use base_core::{ArithOp, KeyList, RowList, TableId};
 use expr_types::{Bulk, Select};
-use schema_core::{RowStmt, Schema};
+use programs::Target;
+use schema_core::{RowStmt, Schema, Violation};
 use std::alloc::Global;
-
-/// Where a keeper keeps its tables.
-#[derive(Clone, Debug, Drop, PartialEq, Eq)]
-pub enum Target {
-    Memory,
-    File(Name),
-}
 
 /// Why a keeper did nothing: it failed, or memory ran out. Either leaves the tables that were committed last, and no scope.
 #[derive(Clone, Copy, Debug, PartialEq, Eq)]
@@ -52,6 +46,22 @@ pub enum WriteRefusal {
     Memory,
 }
 
+impl From<Violation> for WriteRefusal {
+    ghost from_gives = { λ violation refusal. refusal ≡ refusal_by violation };
+
+    fn from(violation: Violation) -> WriteRefusal {
+        match violation {
+            Violation::NoTable(table) => WriteRefusal::NoTable(table),
+            Violation::Missing => WriteRefusal::Missing,
+            Violation::NotNull => WriteRefusal::NotNull,
+            Violation::KeysSpent => WriteRefusal::KeysSpent,
+            Violation::PrimaryKey => WriteRefusal::PrimaryKey,
+            Violation::Unique => WriteRefusal::Unique,
+            Violation::Foreign => WriteRefusal::Foreign,
+        }
+    }
+}
+
 /// Why a select is refused. All but `Fault` and `Memory` leave the tables and scopes as they were.
 #[derive(Clone, Copy, Debug, PartialEq, Eq)]
 pub enum QueryRefusal {
@@ -64,8 +74,8 @@ pub enum QueryRefusal {
 /// A keeper of tables. A scope is the transaction or a savepoint in it.
 ///
 /// Each call ensures that it ran its program of the store, as far as the keeper tells it. Whatever a keeper tells,
-/// its counts of faults and of refusals never fall, and it keeps its depth, its last refusal with the statement,
-/// and the target that it was given.
+/// it counts its faults exactly and its refusals, and it keeps its depth, its last refusal with the statement, the
+/// target that it was given, and from then on whether it tells.
 pub trait Keeper {
     /// What is seen of it.
     ghost moment: { Self → Moment Store };
@@ -73,16 +83,16 @@ pub trait Keeper {
     /// Takes the target, once. Memory starts with no tables, a file with the tables in it; no statement was sent and no scope is open.
     fn attach(&mut self, alloc: Global, target: Target) -> Result<(), KeeperStop>
         requires { (moment self.old).target ≡ None }
-        ensures kept { IsAttached (moment self.old) target (as_refusal stop_refusal result) (moment self.new) };
+        ensures { IsAttached (moment self.old) target
+            (as_refusal stop_refusal result) (moment self.new) };
 
     /// Makes a table, and commits; true where it was not there.
     fn create(&mut self, alloc: Global, schema: &Schema, table: TableId) -> Result<bool, KeeperStop>
         requires attached { (moment self.old).attached ≡ true }
         requires outside { (moment self.old).depth ≡ 0 }
         requires declared { IsTable schema.now table }
-        ensures step { Runs moment (λ b. b) (call.create table) self.old (as_refusal stop_refusal result) self.new }
-        ensures depth { (moment self.new).depth ≡ 0 }
-        ensures undone { IfErr result (λ _. IsUndone (moment self.old) (moment self.new)) };
+        ensures { keeping.IsCreate moment table self.old
+            (as_refusal stop_refusal result) self.new };
 
     /// Drops a table, and commits; true where it was there.
     fn drop_table(
@@ -94,74 +104,60 @@ pub trait Keeper {
         requires attached { (moment self.old).attached ≡ true }
         requires outside { (moment self.old).depth ≡ 0 }
         requires declared { IsTable schema.now table }
-        ensures step { Runs moment (λ b. b) (call.drop_table table) self.old (as_refusal stop_refusal result) self.new }
-        ensures depth { (moment self.new).depth ≡ 0 }
-        ensures undone { IfErr result (λ _. IsUndone (moment self.old) (moment self.new)) };
+        ensures { keeping.IsDrop moment table self.old (as_refusal stop_refusal result) self.new };
 
     /// Starts the transaction.
     fn begin(&mut self, alloc: Global) -> Result<(), KeeperStop>
         requires attached { (moment self.old).attached ≡ true }
         requires outside { (moment self.old).depth ≡ 0 }
-        ensures step { Runs moment (λ u. u) call.begin self.old (as_refusal stop_refusal result) self.new }
-        ensures depth { (moment self.new).depth ≡ depth_after result 1 }
-        ensures undone { IfErr result (λ _. IsUndone (moment self.old) (moment self.new)) };
+        ensures { keeping.IsBegin moment self.old (as_refusal stop_refusal result) self.new };
 
     /// Starts a savepoint.
     fn savepoint(&mut self, alloc: Global) -> Result<(), KeeperStop>
         requires attached { (moment self.old).attached ≡ true }
         requires inside { 1 ≤ (moment self.old).depth }
-        ensures step { Runs moment (λ u. u) call.savepoint self.old (as_refusal stop_refusal result) self.new }
-        ensures depth { (moment self.new).depth ≡ depth_after result ((moment self.old).depth + 1) }
-        ensures undone { IfErr result (λ _. IsUndone (moment self.old) (moment self.new)) };
+        ensures { keeping.IsSavepoint moment self.old (as_refusal stop_refusal result) self.new };
 
     /// Ends the innermost savepoint, and keeps its rows.
     fn release(&mut self) -> Result<(), KeeperStop>
         requires attached { (moment self.old).attached ≡ true }
         requires inside { 2 ≤ (moment self.old).depth }
-        ensures step { Runs moment (λ u. u) call.release self.old (as_refusal stop_refusal result) self.new }
-        ensures depth { (moment self.new).depth ≡ depth_after result ((moment self.old).depth - 1) }
-        ensures undone { IfErr result (λ _. IsUndone (moment self.old) (moment self.new)) };
+        ensures { keeping.IsRelease moment self.old (as_refusal stop_refusal result) self.new };
 
     /// Gives back the tables at the start of the savepoint of this number, from 1, and ends it and all inside it.
     fn rollback_to(&mut self, depth: u32) -> Result<(), KeeperStop>
         requires attached { (moment self.old).attached ≡ true }
         requires numbered { 1 ≤ depth }
         requires inside { depth < (moment self.old).depth }
-        ensures step { Runs moment (λ u. u) (call.rollback_to depth) self.old (as_refusal stop_refusal result) self.new }
-        ensures depth { (moment self.new).depth ≡ depth_after result depth }
-        ensures undone { IfErr result (λ _. IsUndone (moment self.old) (moment self.new)) };
+        ensures { keeping.IsRollbackTo moment depth self.old
+            (as_refusal stop_refusal result) self.new };
 
     /// Ends all scopes with the tables at the transaction's start.
     fn rollback(&mut self) -> Result<(), KeeperStop>
         requires attached { (moment self.old).attached ≡ true }
         requires inside { 1 ≤ (moment self.old).depth }
-        ensures step { Runs moment (λ u. u) call.rollback self.old (as_refusal stop_refusal result) self.new }
-        ensures depth { (moment self.new).depth ≡ 0 }
-        ensures undone { IfErr result (λ _. IsUndone (moment self.old) (moment self.new)) };
+        ensures { keeping.IsRollback moment self.old (as_refusal stop_refusal result) self.new };
 
     /// Ends all scopes with the tables now.
     fn commit(&mut self) -> Result<(), KeeperStop>
         requires attached { (moment self.old).attached ≡ true }
         requires inside { 1 ≤ (moment self.old).depth }
-        ensures step { Runs moment (λ u. u) call.commit self.old (as_refusal stop_refusal result) self.new }
-        ensures depth { (moment self.new).depth ≡ 0 }
-        ensures undone { IfErr result (λ _. IsUndone (moment self.old) (moment self.new)) };
+        ensures { keeping.IsCommit moment self.old (as_refusal stop_refusal result) self.new };
 
-    /// Does a statement on one row, judged on the tables that it leaves, and answers the row's key.
+    /// Does a statement on rows, judged on the tables that it leaves, and answers their keys: those of the rows of an INSERT, in
+    /// order, or the statement's.
     fn write(
         &mut self,
         alloc: Global,
         schema: &Schema,
         statement: &RowStmt,
-    ) -> Result<Key, WriteRefusal>
+    ) -> Result<KeyList, WriteRefusal>
         requires attached { (moment self.old).attached ≡ true }
         requires inside { 1 ≤ (moment self.old).depth }
         requires fits { IsWellFormed schema.now statement.now }
-        ensures step { Runs moment (λ key. key) (call.write schema.now statement.now) self.old (as_refusal (write_refusal (table_of statement.now)) result) self.new }
-        ensures depth { (moment self.new).depth ≡ depth_after_write result (moment self.old).depth }
-        ensures key { IfOk result (λ key. IsKeyFor schema.now statement.now key) }
-        ensures refuses { IfErr result (λ e. CanRefuse statement.now e) }
-        ensures left { IfErr result (λ e. IsLeft (sent.Write statement.now) (write_refusal (table_of statement.now) e) (moment self.old) (moment self.new)) };
+        ensures call { keeping.IsWrite moment schema.now statement.now self.old
+            (as_refusal (write_refusal (table_of statement.now)) result) self.new }
+        ensures keys { IfOk result (λ keys. AreKeysFor schema.now statement.now keys) };
 
     /// Does a bulk statement, judged on the tables that it leaves, and answers the number of its rows.
     fn bulk(
@@ -173,11 +169,8 @@ pub trait Keeper {
         requires attached { (moment self.old).attached ≡ true }
         requires inside { 1 ≤ (moment self.old).depth }
         requires plain { IsPlainBulk schema.now statement.now }
-        ensures step { Runs moment (λ count. count) (call.bulk schema.now statement.now) self.old (as_refusal (write_refusal (bulk.table_of statement.now)) result) self.new }
-        ensures depth { (moment self.new).depth ≡ depth_after_write result (moment self.old).depth }
-        ensures refuses { IfErr result (λ e. CanRefuseBulk statement.now e) }
-        ensures declared { IfErr result (λ e. IsOfDeclared schema.now (write_refusal (bulk.table_of statement.now) e)) }
-        ensures left { IfErr result (λ e. IsLeft (sent.Bulk statement.now) (write_refusal (bulk.table_of statement.now) e) (moment self.old) (moment self.new)) };
+        ensures { keeping.IsBulk moment schema.now statement.now self.old
+            (as_refusal (write_refusal (bulk.table_of statement.now)) result) self.new };
 
     /// The rows of a select, over the tables now. A select changes nothing, and a refused one is a statement too.
     fn query(
@@ -189,16 +182,15 @@ pub trait Keeper {
         requires attached { (moment self.old).attached ≡ true }
         requires inside { 1 ≤ (moment self.old).depth }
         requires plain { IsPlainSelect schema.now select.now }
-        ensures step { Runs moment (λ rows. rows) (call.query schema.now select.now) self.old (as_refusal query_refusal result) self.new }
-        ensures depth { (moment self.new).depth ≡ depth_after_query result (moment self.old).depth }
+        ensures call { keeping.IsQuery moment schema.now select.now self.old
+            (as_refusal query_refusal result) self.new }
         ensures wide { IfOk result (λ rows. AreWide select.now rows) }
-        ensures kinds { HoldsRows schema.now (moment self.old).told → IfOk result (λ rows. AreOfItems schema.now select.now rows) }
-        ensures given { HoldsLegalRows schema.now (moment self.old).told → IfOk result (λ rows. AreGiven schema.now select.now rows) }
-        ensures refuses { IfErr result (λ e. CanRefuseQuery select.now e) }
-        ensures declared { IfErr result (λ e. IsOfDeclared schema.now (query_refusal e)) }
-        ensures left { IfErr result (λ e. IsLeft (sent.Query select.now) (query_refusal e) (moment self.old) (moment self.new)) };
+        ensures kinds { HoldsRows schema.now (moment self.old).told
+            → IfOk result (λ rows. AreOfItems schema.now select.now rows) }
+        ensures given { HoldsLegalRows schema.now (moment self.old).told
+            → IfOk result (λ rows. AreGiven schema.now select.now rows) };
 
-    /// The rows of a table, rising by key, or none where it was not created. This is no statement.
+    /// The rows of a table, ascending by key, or none where it was not created. This is no statement.
     fn scan(
         &mut self,
         alloc: Global,
@@ -207,10 +199,10 @@ pub trait Keeper {
     ) -> Result<Option<RowList>, KeeperStop>
         requires attached { (moment self.old).attached ≡ true }
         requires declared { IsTable schema.now table }
-        ensures step { Runs moment (λ rows. rows) (call.scan table) self.old (as_refusal stop_refusal result) self.new }
-        ensures depth { (moment self.new).depth ≡ depth_after result (moment self.old).depth }
-        ensures kinds { HoldsRows schema.now (moment self.old).told → IfOk result (λ found. IfSome found (λ rows. AreRowsOf schema.now table rows)) }
-        ensures undone { IfErr result (λ _. IsUndone (moment self.old) (moment self.new)) };
+        ensures call { keeping.IsScan moment table self.old
+            (as_refusal stop_refusal result) self.new }
+        ensures kinds { HoldsRows schema.now (moment self.old).told
+            → IfOk result (λ found. IfSome found (λ rows. AreRowsOf schema.now table rows)) };
 
     /// 0 without a scope, 1 in the transaction, one more for each savepoint.
     fn depth(&self) -> u32

@@ -4,8 +4,7 @@
 pub mod calls;
 mod keeper;
 mod notes;
-mod sent;
 
-pub use keeper::{Keeper, KeeperStop, QueryRefusal, Target, WriteRefusal};
+pub use keeper::{Keeper, KeeperStop, QueryRefusal, WriteRefusal};
 pub use notes::{Note, Notes};
-pub use sent::Sent;
+pub use programs::{Sent, Target};

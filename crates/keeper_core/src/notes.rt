@@ -1,10 +1,10 @@
 //! What a command did, in the order of its happening.
 
-use crate::Sent;
 use base_core::{ListOf, ObjId, Warning};
+use programs::Sent;
 
 /// A statement sent, a warning, or an object of which a load made or filled something.
-#[derive(Debug, Drop)]
+#[derive(Drop)]
 pub enum Note {
     Sent(Sent),
     Warn(Warning),

@@ -1,43 +1,32 @@
--- What a keeper in memory makes of itself runs each call's program.
-use Rattle.std.proofs.Common.{◌≡◌, ℕ, ◌-◌, ◌^◌, ◌<◌, ◌≤◌, Bool, true, false, List, [], ◌∷◌, map, length, drop, slice_index_or, Option, None, Some, Result, Ok, Err, MatchBool, if◌then◌else◌, refl, sym, ap, ◌∙◌, subst, arith, length-drop}
-use Rattle.std.proofs.lemmas.Bool.{false≢true}
+-- What a keeper in memory makes of itself is what each call ensures.
+use Rattle.std.proofs.Common.{◌≡◌, ℕ, zero, suc, ◌+◌, ◌-◌, ◌^◌, ◌<◌, ◌≤◌, Bool, true, false, List, [], ◌∷◌, map, length, drop, slice_index_or, Option, None, Some, Result, Ok, Err, IfErr, MatchBool, if◌then◌else◌, refl, sym, ap, ◌∙◌, subst, arith, length-drop}
 use Rattle.std.specs.Option.{option_map}
 use Rattle.base_core.specs.Counts.{Rose, one_more}
 use Rattle.base_core.specs.declared.ids.TableId.{TableId}
 use Rattle.base_core.specs.declared.refusal.Refusal.{Refusal}
 use Rattle.base_core.specs.declared.refusal.Refusal.TheVariants.{Memory, KeeperFault}
 use Rattle.base_core.specs.declared.value.Value.{Value}
-use Rattle.schema_core.specs.declared.statement.Breach.{Breach}
-use Rattle.schema_core.specs.declared.statement.Breach.TheVariants as breaches
-use Rattle.schema_core.specs.declared.statement.RowStmt.{RowStmt}
-use Rattle.schema_core.specs.Apply.{apply, table_of}
 use Rattle.schema_core.specs.Catalog.{Catalog}
 use Rattle.schema_core.specs.Tables.{Tables, rows_in}
-use Rattle.expr_types.specs.declared.select.Select.{Select}
-use Rattle.select_rows.specs.Created.{bare}
-use Rattle.select_rows.specs.Rows.{answer}
-use Rattle.select_rows.specs.Shapes.{AreLegalRows, AreRows}
-use Rattle.keeper_core.specs.declared.sent.Sent.{Sent}
-use Rattle.keeper_core.specs.declared.sent.Sent.TheVariants as sent
-use Rattle.keeper_core.specs.Acting.{Run, after_events, ends_early, is_of_tables, quiet, give}
-use Rattle.bulk_rows.specs.Applied.{breach_refusal}
+use Rattle.sql_semantics.specs.Created.{bare}
+use Rattle.sql_semantics.specs.Shapes.{AreLegalRows, AreRows}
+use Rattle.programs.specs.declared.sent.Sent.{Sent}
+use Rattle.programs.specs.declared.sent.Sent.TheVariants as sent
+use Rattle.programs.specs.declared.target.Target.{Target}
+use Rattle.programs.specs.declared.target.Target.TheVariants as targets
+use Rattle.programs.specs.Programs.{Run, after_events, ends_early, is_fault, is_of_tables, quiet, give}
+use Rattle.programs.specs.Moment.{AsTold, IsCutOff, IsRun, Keeps, Outcome, Ran, Refused, Runs, Stops, Told, counters}
+use Rattle.programs.specs.Store.{Store, committed_of, created, dropped, is_created, outermost}
+use Rattle.programs.proofs.Counts.{no_fault, own_is_no_fault}
 use Rattle.keeper_core.specs.Calls as call
-use Rattle.keeper_core.specs.declared.keeper.WriteRefusal.{WriteRefusal}
-use Rattle.keeper_core.specs.declared.keeper.QueryRefusal.{QueryRefusal}
-use Rattle.keeper_core.specs.declared.keeper.QueryRefusal.TheVariants as queries
-use Rattle.keeper_core.specs.declared.keeper.Target.{Target}
-use Rattle.keeper_core.specs.declared.keeper.Target.TheVariants as targets
-use Rattle.keeper_core.specs.Calls.{HoldsLegalRows, HoldsRows, sends, depth_after_query, query_refusal, write_refusal, written}
-use Rattle.keeper_core.specs.Moment.{AsTold, IsAttached, IsToldAnew, new_store, IsCutOff, IsRun, Outcome, Ran, Refused, Runs, Stops, Told}
-use Rattle.keeper_core.specs.Store.{Store, committed_of, created, dropped, is_created}
-use Rattle.table_store.specs.declared.writing.Unwritten.{Unwritten}
-use Rattle.table_store.specs.declared.writing.Unwritten.TheVariants as unwritten
-use Rattle.keeper_mem.specs.declared.keeper.Unasked.{Unasked}
-use Rattle.keeper_mem.specs.declared.keeper.Unasked.TheVariants as unasked
+use Rattle.keeper_core.specs.Calls.{sends}
+use Rattle.keeper_core.specs.Keeping as keeping
+use Rattle.keeper_core.specs.Keeping.{HoldsLegalRows, HoldsRows, IsAttached, IsCall, IsLeft, IsStatement, IsToldAnew, IsUndone, depth_left, new_store}
+use Rattle.statement_log.specs.Logged.{start_of}
+use Rattle.table_store.specs.Written.{given_up}
 use Rattle.keeper_mem.specs.declared.keeper.Attachment.{Attachment}
 use Rattle.keeper_mem.specs.declared.keeper.Attachment.TheVariants.{Fresh, Taken, Untaken}
-use Rattle.table_store.specs.Written.{broken}
-use Rattle.keeper_mem.specs.Kept.{Asked, Kept, Wrote, counted, depth_by, ended, failed, is_query_fault, is_taken, moment_of, refused_by, sent_by, target_of, taken_by, told_by, told_of, untaken_by}
+use Rattle.keeper_mem.specs.Kept.{Does, IsNumbered, Kept, Stores, counted, depth_by, ended, failed, is_failing, is_faulted, is_taken, moment_of, refused_by, sent_by, target_of, taken_by, told_by, told_of, untaken_by}
 
 -- ---- a keeper that took its target tells what it has
 
@@ -69,49 +58,53 @@ as_told v m old new r o n p =
 
 -- ---- counts
 
-same_count : (n : ℕ) → n ≤ n
-same_count n = omega arith
-
 more : (n : ℕ) → n < 2 ^ 64 → n ≤ one_more n
 more n small = omega arith
 
--- ---- one call
+-- ---- what is left
+
+same_log : (a : Attachment) (old new : Kept) → new.sent ≡ old.sent → committed_of new.store ≡ committed_of old.store → (told_by a new).log ≡ (told_by a old).log
+same_log Fresh old new sent committed = refl
+same_log (Taken target) old new sent committed = cc
+same_log (Untaken target) old new sent committed = refl
+
+failed_left : (old : Kept) → IsUndone (moment_of old) (moment_of (failed (counted old)))
+failed_left old = ((refl, refl), same_log old.attachment old (failed (counted old)) refl refl)
+
+ended_left : (old : Kept) → IsUndone (moment_of old) (moment_of (ended (counted old)))
+ended_left old = ((refl, refl), same_log old.attachment old (ended (counted old)) refl refl)
+
+refused_left : (statement : Sent) (e : Refusal) (old : Kept) → ends_early e ≡ false → IsLeft statement e (moment_of old) (moment_of (refused_by (counted old) statement e))
+refused_left statement e old own =
+    let last : Option Refused = Some (record { statement = statement; refusal = e }) in
+    let kept : Kept = refused_by (counted old) statement e in
+    subst (λ (b : Bool). MatchBool b (IsUndone (moment_of old) (moment_of kept)) (Rose old.refusals (one_more old.refusals) × (last ≡ last))) (sym own) (omega arith, refl)
+
+-- ---- one call's program
 
 -- a statement was sent, and answered
-pub sent_ok : {A X : Type 0} (v : X → A) (m : Store → Run Store A) (statement : Sent) (after : Store) (x : X) (old new : Kept) → is_taken old.attachment ≡ true
-    → m old.store ≡ sends statement after (Ok (v x)) → new ≡ sent_by (counted old) statement after → Runs moment_of v m old (Ok x) new
+ran_ok : {A : Type 0} (m : Store → Run Store A) (statement : Sent) (after : Store) (x : A) (old : Kept) → is_taken old.attachment ≡ true
+    → m old.store ≡ sends statement after (Ok x) → Runs moment_of (λ y. y) m old (Ok x) (sent_by (counted old) statement after)
 unfolding after_events
-sent_ok v m statement after x old new taken ran is = subst (Runs moment_of v m old (Ok x)) (sym is) (Ran (record {
-  told = as_told v m old (sent_by (counted old) statement after) (Ok x) taken taken
-      (subst (λ run. IsRun run (told_of old).log (Ok (v x)) (told_of (sent_by (counted old) statement after))) (sym ran) (record { answer = refl; world = refl; log = refl }));
-  faults = same_count old.faults;
-  refusals = same_count old.refusals;
-  fault = tt;
-  shown = tt;
-  calm = (refl, refl);
-  target = refl;
-  attached = refl;
-}))
+ran_ok {A = A} m statement after x old taken ran = Ran (record {
+  told = as_told (λ (y : A). y) m old (sent_by (counted old) statement after) (Ok x) taken taken
+      (subst (λ run. IsRun run (told_of old).log (Ok x) (told_of (sent_by (counted old) statement after))) (sym ran) (record { answer = refl; world = refl; log = refl }));
+  keeps = record { faults = refl; refusals = omega arith; shown = tt; calm = (refl, refl); target = refl; attached = refl; tells = refl };
+})
 
 -- no statement was sent
-quiet_ok : {A X : Type 0} (v : X → A) (m : Store → Run Store A) (x : X) (old new : Kept) → is_taken old.attachment ≡ true
-    → m old.store ≡ quiet (Ok (v x)) old.store → new ≡ counted old → Runs moment_of v m old (Ok x) new
+ran_quiet : {A : Type 0} (m : Store → Run Store A) (x : A) (old : Kept) → is_taken old.attachment ≡ true
+    → m old.store ≡ quiet (Ok x) old.store → Runs moment_of (λ y. y) m old (Ok x) (counted old)
 unfolding after_events
-quiet_ok v m x old new taken ran is = subst (Runs moment_of v m old (Ok x)) (sym is) (Ran (record {
-  told = as_told v m old (counted old) (Ok x) taken taken
-      (subst (λ run. IsRun run (told_of old).log (Ok (v x)) (told_of (counted old))) (sym ran) (record { answer = refl; world = refl; log = refl }));
-  faults = same_count old.faults;
-  refusals = same_count old.refusals;
-  fault = tt;
-  shown = tt;
-  calm = (refl, refl);
-  target = refl;
-  attached = refl;
-}))
+ran_quiet {A = A} m x old taken ran = Ran (record {
+  told = as_told (λ (y : A). y) m old (counted old) (Ok x) taken taken
+      (subst (λ run. IsRun run (told_of old).log (Ok x) (told_of (counted old))) (sym ran) (record { answer = refl; world = refl; log = refl }));
+  keeps = record { faults = refl; refusals = omega arith; shown = tt; calm = (refl, refl); target = refl; attached = refl; tells = refl };
+})
 
 shown_last : (b : Bool) (statement : Sent) (e : Refusal) (n : ℕ)
     → MatchBool b (Rose n (one_more n) × (s : Sent) × (◌≡◌ {A = Option Refused} (Some (record { statement = statement; refusal = e })) (Some (record { statement = s; refusal = e })))) (Unit {0})
-shown_last true statement e n = (same_count (one_more n), statement, refl)
+shown_last true statement e n = (omega arith, statement, refl)
 shown_last false statement e n = tt
 
 own_stop : (A : Type 0) (statement : Sent) (e : Refusal) (old : Kept) → ends_early e ≡ false
@@ -124,211 +117,245 @@ own_stop A statement e old own =
     subst (λ b. MatchBool b (IsCutOff run (told_of old).log now) (IsRun run (told_of old).log (Err e) now)) (sym own) whole
 
 -- a statement was sent, and refused
-pub refused : {A X : Type 0} (v : X → A) (m : Store → Run Store A) (statement : Sent) (e : Refusal) (old new : Kept) → is_taken old.attachment ≡ true → old.refusals < 2 ^ 64
-    → ends_early e ≡ false → m old.store ≡ sends statement old.store (Err e) → new ≡ refused_by (counted old) statement e → Runs moment_of v m old (Err e) new
+ran_refused : {A : Type 0} (m : Store → Run Store A) (statement : Sent) (e : Refusal) (old : Kept) → is_taken old.attachment ≡ true → old.refusals < 2 ^ 64
+    → ends_early e ≡ false → m old.store ≡ sends statement old.store (Err e) → Runs moment_of (λ y. y) m old (Err e) (refused_by (counted old) statement e)
 unfolding after_events
-refused {A = A} v m statement e old new taken small own ran is = subst (Runs moment_of v m old (Err e)) (sym is) (Ran (record {
-  told = as_told v m old (refused_by (counted old) statement e) (Err e) taken taken
+ran_refused {A = A} m statement e old taken small own ran = Ran (record {
+  told = as_told (λ (y : A). y) m old (refused_by (counted old) statement e) (Err e) taken taken
       (subst (λ run. Stops run (told_of old).log e (told_of (refused_by (counted old) statement e))) (sym ran) (own_stop A statement e old own));
-  faults = same_count old.faults;
-  refusals = more old.refusals small;
-  fault = λ early. absurd (false≢true (sym own ∙ ap ends_early early));
-  shown = shown_last (is_of_tables e) statement e old.refusals;
-  calm = tt;
-  target = refl;
-  attached = refl;
-}))
+  keeps = record {
+    faults = no_fault e old.faults (own_is_no_fault e own);
+    refusals = more old.refusals small;
+    shown = shown_last (is_of_tables e) statement e old.refusals;
+    calm = tt;
+    target = refl;
+    attached = refl;
+    tells = refl;
+  };
+})
+
+ran_failed : {A : Type 0} (m : Store → Run Store A) (old : Kept) → is_taken old.attachment ≡ true → old.faults < 2 ^ 64 → Runs moment_of (λ y. y) m old (Err KeeperFault) (failed (counted old))
+unfolding after_events
+ran_failed {A = A} m old taken small = Ran (record {
+  told = as_told (λ (y : A). y) m old (failed (counted old)) (Err KeeperFault) taken taken (record { prefix = []; rest = (m old.store).events; events = refl; log = refl });
+  keeps = record { faults = (more old.faults small, omega arith); refusals = omega arith; shown = tt; calm = tt; target = refl; attached = refl; tells = refl };
+})
+
+ran_ended : {A : Type 0} (m : Store → Run Store A) (old : Kept) → is_taken old.attachment ≡ true → Runs moment_of (λ y. y) m old (Err Memory) (ended (counted old))
+unfolding after_events
+ran_ended {A = A} m old taken = Ran (record {
+  told = as_told (λ (y : A). y) m old (ended (counted old)) (Err Memory) taken taken (record { prefix = []; rest = (m old.store).events; events = refl; log = refl });
+  keeps = record { faults = refl; refusals = omega arith; shown = tt; calm = tt; target = refl; attached = refl; tells = refl };
+})
+
+-- ---- calls that nothing refuses
+
+-- the call's statement was sent
+sent_call : {A : Type 0} (m : Store → Run Store A) (statement : Sent) (after : Store) (scopes : ℕ) (x : A) (old new : Kept) → is_taken old.attachment ≡ true
+    → m old.store ≡ sends statement after (Ok x) → length after.scopes ≡ scopes → new ≡ sent_by (counted old) statement after → IsCall moment_of m scopes old (Ok x) new
+sent_call m statement after scopes x old new taken ran count is = subst (IsCall moment_of m scopes old (Ok x)) (sym is) (record {
+  step = ran_ok m statement after x old taken ran;
+  depth = depth_taken old.attachment (sent_by (counted old) statement after) taken ∙ count;
+  stops = tt;
+  undone = tt;
+})
+
+-- the call sent nothing
+quiet_call : {A : Type 0} (m : Store → Run Store A) (scopes : ℕ) (x : A) (old new : Kept) → is_taken old.attachment ≡ true
+    → m old.store ≡ quiet (Ok x) old.store → depth_by old.attachment old ≡ scopes → new ≡ counted old → IsCall moment_of m scopes old (Ok x) new
+quiet_call m scopes x old new taken ran count is = subst (IsCall moment_of m scopes old (Ok x)) (sym is) (record {
+  step = ran_quiet m x old taken ran;
+  depth = depth_same old.attachment old (counted old) refl ∙ count;
+  stops = tt;
+  undone = tt;
+})
 
 -- the call was ended by a fault
-pub faulted : {A X : Type 0} {v : X → A} {m : Store → Run Store A} {old new : Kept} → is_taken old.attachment ≡ true → old.faults < 2 ^ 64
-    → new ≡ failed (counted old) → Runs moment_of v m old (Err KeeperFault) new
-unfolding after_events
-faulted {v = v} {m = m} {old = old} {new = new} taken small is = subst (Runs moment_of v m old (Err KeeperFault)) (sym is) (Ran (record {
-  told = as_told v m old (failed (counted old)) (Err KeeperFault) taken taken (record { front = []; rest = (m old.store).events; events = refl; log = refl });
-  faults = more old.faults small;
-  refusals = same_count old.refusals;
-  fault = λ _. same_count (one_more old.faults);
-  shown = tt;
-  calm = tt;
-  target = refl;
-  attached = refl;
-}))
+pub faulted : {A : Type 0} {m : Store → Run Store A} {scopes : ℕ} {old new : Kept} → is_taken old.attachment ≡ true → old.faults < 2 ^ 64
+    → new ≡ failed (counted old) → IsCall moment_of m scopes old (Err KeeperFault) new
+faulted {m = m} {scopes = scopes} {old = old} taken small is = subst (IsCall moment_of m scopes old (Err KeeperFault)) (sym is) (record {
+  step = ran_failed m old taken small;
+  depth = depth_none old.attachment (failed (counted old)) refl;
+  stops = refl;
+  undone = failed_left old;
+})
 
--- the call was ended by want of memory
-pub ran_out : {A X : Type 0} {v : X → A} {m : Store → Run Store A} {old new : Kept} → is_taken old.attachment ≡ true
-    → new ≡ ended (counted old) → Runs moment_of v m old (Err Memory) new
-unfolding after_events
-ran_out {v = v} {m = m} {old = old} {new = new} taken is = subst (Runs moment_of v m old (Err Memory)) (sym is) (Ran (record {
-  told = as_told v m old (ended (counted old)) (Err Memory) taken taken (record { front = []; rest = (m old.store).events; events = refl; log = refl });
-  faults = same_count old.faults;
-  refusals = same_count old.refusals;
-  fault = λ early. cc;
-  shown = tt;
-  calm = tt;
-  target = refl;
-  attached = refl;
-}))
+-- the call was ended since memory ran out
+pub ran_out : {A : Type 0} {m : Store → Run Store A} {scopes : ℕ} {old new : Kept} → is_taken old.attachment ≡ true
+    → new ≡ ended (counted old) → IsCall moment_of m scopes old (Err Memory) new
+ran_out {m = m} {scopes = scopes} {old = old} taken is = subst (IsCall moment_of m scopes old (Err Memory)) (sym is) (record {
+  step = ran_ended m old taken;
+  depth = depth_none old.attachment (ended (counted old)) refl;
+  stops = refl;
+  undone = ended_left old;
+})
 
--- ---- the calls
-
-pub began : (old new : Kept) → is_taken old.attachment ≡ true → new ≡ sent_by (counted old) sent.Begin (record { tables = old.store.tables; scopes = old.store.tables ∷ old.store.scopes })
-    → Runs moment_of (λ (u : Unit {0}). u) call.begin old (Ok tt) new
+pub began : (old new : Kept) → is_taken old.attachment ≡ true → depth_by old.attachment old ≡ 0
+    → new ≡ sent_by (counted old) (start_of (length old.store.scopes)) (record { tables = old.store.tables; scopes = old.store.tables ∷ old.store.scopes }) → keeping.IsBegin moment_of old (Ok tt) new
 unfolding call.begin
-began old new taken is = sent_ok (λ (u : Unit {0}). u) call.begin sent.Begin (record { tables = old.store.tables; scopes = old.store.tables ∷ old.store.scopes }) tt old new taken refl is
+began old new taken outside is =
+    let none : length old.store.scopes ≡ 0 = sym (depth_taken old.attachment old taken) ∙ outside in
+    let after : Store = record { tables = old.store.tables; scopes = old.store.tables ∷ old.store.scopes } in
+    sent_call call.begin sent.Begin after 1 tt old new taken refl (ap suc none) (is ∙ ap (λ n. sent_by (counted old) (start_of n) after) none)
 
-pub saved : (old new : Kept) → is_taken old.attachment ≡ true → new ≡ sent_by (counted old) (sent.Savepoint (length old.store.scopes)) (record { tables = old.store.tables; scopes = old.store.tables ∷ old.store.scopes })
-    → Runs moment_of (λ (u : Unit {0}). u) call.savepoint old (Ok tt) new
+start_inside : (n : ℕ) → 1 ≤ n → start_of n ≡ sent.Savepoint n
+start_inside zero some = absurd (omega (arith, some))
+start_inside (suc n) some = refl
+
+pub saved : (old new : Kept) → is_taken old.attachment ≡ true → 1 ≤ depth_by old.attachment old
+    → new ≡ sent_by (counted old) (start_of (length old.store.scopes)) (record { tables = old.store.tables; scopes = old.store.tables ∷ old.store.scopes }) → keeping.IsSavepoint moment_of old (Ok tt) new
 unfolding call.savepoint
-saved old new taken is = sent_ok (λ (u : Unit {0}). u) call.savepoint (sent.Savepoint (length old.store.scopes)) (record { tables = old.store.tables; scopes = old.store.tables ∷ old.store.scopes }) tt old new taken refl is
+saved old new taken inside is =
+    let some : 1 ≤ length old.store.scopes = subst (λ n. 1 ≤ n) (depth_taken old.attachment old taken) inside in
+    let after : Store = record { tables = old.store.tables; scopes = old.store.tables ∷ old.store.scopes } in
+    sent_call call.savepoint (sent.Savepoint (length old.store.scopes)) after (depth_by old.attachment old + 1) tt old new taken refl
+    (omega (arith, depth_taken old.attachment old taken)) (is ∙ ap (λ s. sent_by (counted old) s after) (start_inside (length old.store.scopes) some))
 
 pub released : (old new : Kept) → is_taken old.attachment ≡ true → new ≡ sent_by (counted old) (sent.Release (length old.store.scopes - 1)) (record { tables = old.store.tables; scopes = drop 1 old.store.scopes })
-    → Runs moment_of (λ (u : Unit {0}). u) call.release old (Ok tt) new
+    → keeping.IsRelease moment_of old (Ok tt) new
 unfolding call.release
-released old new taken is = sent_ok (λ (u : Unit {0}). u) call.release (sent.Release (length old.store.scopes - 1)) (record { tables = old.store.tables; scopes = drop 1 old.store.scopes }) tt old new taken refl is
+released old new taken is =
+    sent_call call.release (sent.Release (length old.store.scopes - 1)) (record { tables = old.store.tables; scopes = drop 1 old.store.scopes }) (depth_by old.attachment old - 1) tt old new taken refl
+    (omega (arith, length-drop 1 old.store.scopes, depth_taken old.attachment old taken)) is
 
-pub went_back : (number : ℕ) (old new : Kept) → is_taken old.attachment ≡ true
+went_back : (number : ℕ) (old new : Kept) → is_taken old.attachment ≡ true → number < depth_by old.attachment old
     → new ≡ sent_by (counted old) (sent.RollbackTo number) (record { tables = slice_index_or old.store.scopes (length old.store.scopes - number - 1) old.store.tables; scopes = drop (length old.store.scopes - number) old.store.scopes })
-    → Runs moment_of (λ (u : Unit {0}). u) (call.rollback_to number) old (Ok tt) new
+    → keeping.IsRollbackTo moment_of number old (Ok tt) new
 unfolding call.rollback_to
-went_back number old new taken is =
-    sent_ok (λ (u : Unit {0}). u) (call.rollback_to number) (sent.RollbackTo number)
-    (record { tables = slice_index_or old.store.scopes (length old.store.scopes - number - 1) old.store.tables; scopes = drop (length old.store.scopes - number) old.store.scopes }) tt old new taken refl is
+went_back number old new taken inside is =
+    sent_call (call.rollback_to number) (sent.RollbackTo number)
+    (record { tables = slice_index_or old.store.scopes (length old.store.scopes - number - 1) old.store.tables; scopes = drop (length old.store.scopes - number) old.store.scopes }) number tt old new taken refl
+    (omega (arith, inside, length-drop (length old.store.scopes - number) old.store.scopes, depth_taken old.attachment old taken)) is
+
+pub went_back_from : (number : ℕ) (old mid new : Kept) → is_taken old.attachment ≡ true → number < depth_by old.attachment old → mid ≡ counted old
+    → new ≡ sent_by mid (sent.RollbackTo number) (record { tables = slice_index_or mid.store.scopes (length mid.store.scopes - number - 1) mid.store.tables; scopes = drop (length mid.store.scopes - number) mid.store.scopes })
+    → keeping.IsRollbackTo moment_of number old (Ok tt) new
+went_back_from number old mid new taken inside same is =
+    went_back number old new taken inside
+    (subst (λ (k : Kept). new ≡ sent_by k (sent.RollbackTo number) (record { tables = slice_index_or k.store.scopes (length k.store.scopes - number - 1) k.store.tables; scopes = drop (length k.store.scopes - number) k.store.scopes })) same is)
 
 pub rolled_back : (old new : Kept) → is_taken old.attachment ≡ true → new ≡ sent_by (counted old) sent.Rollback (record { tables = committed_of old.store; scopes = [] })
-    → Runs moment_of (λ (u : Unit {0}). u) call.rollback old (Ok tt) new
+    → keeping.IsRollback moment_of old (Ok tt) new
 unfolding call.rollback
-rolled_back old new taken is = sent_ok (λ (u : Unit {0}). u) call.rollback sent.Rollback (record { tables = committed_of old.store; scopes = [] }) tt old new taken refl is
+rolled_back old new taken is = sent_call call.rollback sent.Rollback (record { tables = committed_of old.store; scopes = [] }) 0 tt old new taken refl refl is
 
 pub committed : (old new : Kept) → is_taken old.attachment ≡ true → new ≡ sent_by (counted old) sent.Commit (record { tables = old.store.tables; scopes = [] })
-    → Runs moment_of (λ (u : Unit {0}). u) call.commit old (Ok tt) new
+    → keeping.IsCommit moment_of old (Ok tt) new
 unfolding call.commit
-committed old new taken is = sent_ok (λ (u : Unit {0}). u) call.commit sent.Commit (record { tables = old.store.tables; scopes = [] }) tt old new taken refl is
+committed old new taken is = sent_call call.commit sent.Commit (record { tables = old.store.tables; scopes = [] }) 0 tt old new taken refl refl is
 
-pub made : (table : TableId) (old new : Kept) → is_taken old.attachment ≡ true → is_created old.store.tables table ≡ false
-    → new ≡ sent_by (counted old) (sent.Create table) (record { tables = created old.store.tables table; scopes = old.store.scopes }) → Runs moment_of (λ (b : Bool). b) (call.create table) old (Ok true) new
+outside_none : (old : Kept) → is_taken old.attachment ≡ true → depth_by old.attachment old ≡ 0 → length old.store.scopes ≡ 0
+outside_none old taken outside = sym (depth_taken old.attachment old taken) ∙ outside
+
+pub made : (table : TableId) (old new : Kept) → is_taken old.attachment ≡ true → depth_by old.attachment old ≡ 0 → is_created old.store.tables table ≡ false
+    → new ≡ sent_by (counted old) (sent.Create table) (record { tables = created old.store.tables table; scopes = old.store.scopes }) → keeping.IsCreate moment_of table old (Ok true) new
 unfolding call.create
-made table old new taken absent is =
-    sent_ok (λ (b : Bool). b) (call.create table) (sent.Create table) (record { tables = created old.store.tables table; scopes = old.store.scopes }) true old new taken
-    (ap (λ b. if b then quiet (Ok false) old.store else sends (sent.Create table) (record { tables = created old.store.tables table; scopes = old.store.scopes }) (Ok true)) absent) is
+made table old new taken outside absent is =
+    sent_call (call.create table) (sent.Create table) (record { tables = created old.store.tables table; scopes = old.store.scopes }) 0 true old new taken
+    (ap (λ b. if b then quiet (Ok false) old.store else sends (sent.Create table) (record { tables = created old.store.tables table; scopes = old.store.scopes }) (Ok true)) absent) (outside_none old taken outside) is
 
-pub not_made : (table : TableId) (old new : Kept) → is_taken old.attachment ≡ true → is_created old.store.tables table ≡ true → new ≡ counted old
-    → Runs moment_of (λ (b : Bool). b) (call.create table) old (Ok false) new
+pub not_made : (table : TableId) (old new : Kept) → is_taken old.attachment ≡ true → depth_by old.attachment old ≡ 0 → is_created old.store.tables table ≡ true → new ≡ counted old
+    → keeping.IsCreate moment_of table old (Ok false) new
 unfolding call.create
-not_made table old new taken there is =
-    quiet_ok (λ (b : Bool). b) (call.create table) false old new taken
-    (ap (λ b. if b then quiet (Ok false) old.store else sends (sent.Create table) (record { tables = created old.store.tables table; scopes = old.store.scopes }) (Ok true)) there) is
+not_made table old new taken outside there is =
+    quiet_call (call.create table) 0 false old new taken
+    (ap (λ b. if b then quiet (Ok false) old.store else sends (sent.Create table) (record { tables = created old.store.tables table; scopes = old.store.scopes }) (Ok true)) there) outside is
 
-pub removed : (table : TableId) (old new : Kept) → is_taken old.attachment ≡ true → is_created old.store.tables table ≡ true
-    → new ≡ sent_by (counted old) (sent.Drop table) (record { tables = dropped old.store.tables table; scopes = old.store.scopes }) → Runs moment_of (λ (b : Bool). b) (call.drop_table table) old (Ok true) new
+pub removed : (table : TableId) (old new : Kept) → is_taken old.attachment ≡ true → depth_by old.attachment old ≡ 0 → is_created old.store.tables table ≡ true
+    → new ≡ sent_by (counted old) (sent.Drop table) (record { tables = dropped old.store.tables table; scopes = old.store.scopes }) → keeping.IsDrop moment_of table old (Ok true) new
 unfolding call.drop_table
-removed table old new taken there is =
-    sent_ok (λ (b : Bool). b) (call.drop_table table) (sent.Drop table) (record { tables = dropped old.store.tables table; scopes = old.store.scopes }) true old new taken
-    (ap (λ b. if b then sends (sent.Drop table) (record { tables = dropped old.store.tables table; scopes = old.store.scopes }) (Ok true) else quiet (Ok false) old.store) there) is
+removed table old new taken outside there is =
+    sent_call (call.drop_table table) (sent.Drop table) (record { tables = dropped old.store.tables table; scopes = old.store.scopes }) 0 true old new taken
+    (ap (λ b. if b then sends (sent.Drop table) (record { tables = dropped old.store.tables table; scopes = old.store.scopes }) (Ok true) else quiet (Ok false) old.store) there) (outside_none old taken outside) is
 
-pub not_removed : (table : TableId) (old new : Kept) → is_taken old.attachment ≡ true → is_created old.store.tables table ≡ false → new ≡ counted old
-    → Runs moment_of (λ (b : Bool). b) (call.drop_table table) old (Ok false) new
+pub not_removed : (table : TableId) (old new : Kept) → is_taken old.attachment ≡ true → depth_by old.attachment old ≡ 0 → is_created old.store.tables table ≡ false → new ≡ counted old
+    → keeping.IsDrop moment_of table old (Ok false) new
 unfolding call.drop_table
-not_removed table old new taken absent is =
-    quiet_ok (λ (b : Bool). b) (call.drop_table table) false old new taken
-    (ap (λ b. if b then sends (sent.Drop table) (record { tables = dropped old.store.tables table; scopes = old.store.scopes }) (Ok true) else quiet (Ok false) old.store) absent) is
+not_removed table old new taken outside absent is =
+    quiet_call (call.drop_table table) 0 false old new taken
+    (ap (λ b. if b then sends (sent.Drop table) (record { tables = dropped old.store.tables table; scopes = old.store.scopes }) (Ok true) else quiet (Ok false) old.store) absent) outside is
 
 pub scanned : (table : TableId) (rows : Option (List (List Value))) (old new : Kept) → is_taken old.attachment ≡ true
-    → rows ≡ option_map (λ rows. map (λ entry. entry.1) rows) (rows_in old.store.tables table) → new ≡ counted old
-    → Runs moment_of (λ (rows : Option (List (List Value))). rows) (call.scan table) old (Ok rows) new
+    → rows ≡ option_map (λ rows. map (λ entry. entry.1) rows) (rows_in old.store.tables table) → new ≡ counted old → keeping.IsScan moment_of table old (Ok rows) new
 unfolding call.scan give
-scanned table rows old new taken found is = quiet_ok (λ (rows : Option (List (List Value))). rows) (call.scan table) rows old new taken (ap (λ r. quiet (Ok r) old.store) (sym found)) is
+scanned table rows old new taken found is = quiet_call (call.scan table) (depth_by old.attachment old) rows old new taken (ap (λ r. quiet (Ok r) old.store) (sym found)) refl is
 
-pub wrote : (schema : Catalog) (statement : RowStmt) (key : List Value) (after : Tables) (old new : Kept) → is_taken old.attachment ≡ true
-    → apply schema old.store.tables statement ≡ Ok (key, after) → new ≡ sent_by (counted old) (sent.Write statement) (record { tables = after; scopes = old.store.scopes })
-    → Runs moment_of (λ (key : List Value). key) (call.write schema statement) old (Ok key) new
-unfolding call.write
-wrote schema statement key after old new taken done is =
-    sent_ok (λ (key : List Value). key) (call.write schema statement) (sent.Write statement) (record { tables = after; scopes = old.store.scopes }) key old new taken
-    (ap (λ outcome. written statement outcome old.store) done) is
+-- ---- statements
 
-own_breach : (table : TableId) (breach : Breach) → ends_early (breach_refusal table breach) ≡ false
-own_breach table (breaches.NoTable absent) = refl
-own_breach table breaches.Missing = refl
-own_breach table breaches.NotNull = refl
-own_breach table breaches.KeysSpent = refl
-own_breach table breaches.PrimaryKey = refl
-own_breach table breaches.Unique = refl
-own_breach table breaches.Foreign = refl
+statement_done : {A : Type 0} (m : Store → Run Store A) (statement : Sent) (May : Refusal → Type 0) (x : A) (old new : Kept) → is_taken old.attachment ≡ true
+    → Does m statement (counted old) (Ok x) new → IsStatement moment_of m statement May old (Ok x) new
+statement_done m statement May x old new taken did = subst (IsStatement moment_of m statement May old (Ok x)) (sym did.2) (record {
+  step = ran_ok m statement new.store x old taken did.0;
+  depth = depth_same old.attachment old (sent_by (counted old) statement new.store) did.1;
+  refuses = tt;
+  left = tt;
+})
 
-broken_is : (table : TableId) (breach : Breach) → breach_refusal table breach ≡ write_refusal table (broken breach)
-broken_is table (breaches.NoTable absent) = refl
-broken_is table breaches.Missing = refl
-broken_is table breaches.NotNull = refl
-broken_is table breaches.KeysSpent = refl
-broken_is table breaches.PrimaryKey = refl
-broken_is table breaches.Unique = refl
-broken_is table breaches.Foreign = refl
+statement_refused : {A : Type 0} (m : Store → Run Store A) (statement : Sent) (May : Refusal → Type 0) (e : Refusal) (old new : Kept) → is_taken old.attachment ≡ true → old.refusals < 2 ^ 64
+    → ends_early e ≡ false → May e → m old.store ≡ sends statement old.store (Err e) → new ≡ refused_by (counted old) statement e → IsStatement moment_of m statement May old (Err e) new
+statement_refused m statement May e old new taken small own may ran is = subst (IsStatement moment_of m statement May old (Err e)) (sym is) (record {
+  step = ran_refused m statement e old taken small own ran;
+  depth = depth_same old.attachment old (refused_by (counted old) statement e) refl ∙ sym (ap (λ b. if b then 0 else depth_by old.attachment old) own);
+  refuses = may;
+  left = refused_left statement e old own;
+})
 
-pub not_written : (schema : Catalog) (statement : RowStmt) (breach : Breach) (r : WriteRefusal) (old new : Kept) → is_taken old.attachment ≡ true → old.refusals < 2 ^ 64
-    → apply schema old.store.tables statement ≡ Err breach → r ≡ broken breach → new ≡ refused_by (counted old) (sent.Write statement) (write_refusal (table_of statement) (broken breach))
-    → Runs moment_of (λ (key : List Value). key) (call.write schema statement) old (Err (write_refusal (table_of statement) r)) new
-unfolding call.write
-not_written schema statement breach r old new taken small broke same is =
-    subst (λ f. Runs moment_of (λ (key : List Value). key) (call.write schema statement) old (Err f) new) (broken_is (table_of statement) breach ∙ sym (ap (write_refusal (table_of statement)) same))
-    (refused (λ (key : List Value). key) (call.write schema statement) (sent.Write statement) (breach_refusal (table_of statement) breach) old new taken small (own_breach (table_of statement) breach)
-    (ap (λ outcome. written statement outcome old.store) broke) (is ∙ ap (refused_by (counted old) (sent.Write statement)) (sym (broken_is (table_of statement) breach))))
+statement_ended : {A : Type 0} (m : Store → Run Store A) (statement : Sent) (May : Refusal → Type 0) (old new : Kept) → is_taken old.attachment ≡ true
+    → May Memory → new ≡ ended (counted old) → IsStatement moment_of m statement May old (Err Memory) new
+statement_ended m statement May old new taken may is = subst (IsStatement moment_of m statement May old (Err Memory)) (sym is) (record {
+  step = ran_ended m old taken;
+  depth = depth_none old.attachment (ended (counted old)) refl;
+  refuses = may;
+  left = ended_left old;
+})
 
-pub asked : (schema : Catalog) (select : Select) (rows : List (List Value)) (old new : Kept) → is_taken old.attachment ≡ true
-    → answer schema (bare old.store.tables) select ≡ Ok rows → new ≡ sent_by (counted old) (sent.Query select) old.store
-    → Runs moment_of (λ (rows : List (List Value)). rows) (call.query schema select) old (Ok rows) new
-unfolding call.query
-asked schema select rows old new taken told is =
-    sent_ok (λ (rows : List (List Value)). rows) (call.query schema select) (sent.Query select) old.store rows old new taken (ap (sends (sent.Query select) old.store) told) is
+-- the statement was not done
+statement_not_done : {A : Type 0} (m : Store → Run Store A) (statement : Sent) (May : Refusal → Type 0) (e : Refusal) (old new : Kept) → is_taken old.attachment ≡ true → old.refusals < 2 ^ 64
+    → May e → Does m statement (counted old) (Err e) new → IsStatement moment_of m statement May old (Err e) new
+statement_not_done m statement May e old new taken small may did = by (ends_early e) refl did
+  where
+    by : (b : Bool) → ends_early e ≡ b → MatchBool b ((e ≡ Memory) × (new ≡ ended (counted old))) ((m old.store ≡ sends statement old.store (Err e)) × (new ≡ refused_by (counted old) statement e))
+        → IsStatement moment_of m statement May old (Err e) new
+    by true early q = subst (λ (d : Refusal). IsStatement moment_of m statement May old (Err d) new) (sym q.0) (statement_ended m statement May old new taken (subst May q.0 may) q.1)
+    by false own q = statement_refused m statement May e old new taken small own may q.0 q.1
 
-pub not_asked : (schema : Catalog) (select : Select) (refusal : QueryRefusal) (old new : Kept) → is_taken old.attachment ≡ true → old.refusals < 2 ^ 64 → ends_early (query_refusal refusal) ≡ false
-    → answer schema (bare old.store.tables) select ≡ Err (query_refusal refusal) → new ≡ refused_by (counted old) (sent.Query select) (query_refusal refusal)
-    → Runs moment_of (λ (rows : List (List Value)). rows) (call.query schema select) old (Err (query_refusal refusal)) new
-unfolding call.query
-not_asked schema select refusal old new taken small own told is =
-    refused (λ (rows : List (List Value)). rows) (call.query schema select) (sent.Query select) (query_refusal refusal) old new taken small own (ap (sends (sent.Query select) old.store) told) is
+-- a statement was done after the call was counted, or not
+pub statement_ran : {A : Type 0} (m : Store → Run Store A) (statement : Sent) (May : Refusal → Type 0) (r : Result A Refusal) (old mid new : Kept) → is_taken old.attachment ≡ true → old.refusals < 2 ^ 64
+    → mid ≡ counted old → IfErr r May → Does m statement mid r new → IsStatement moment_of m statement May old r new
+statement_ran {A = A} m statement May r old mid new taken small same may did = by r may (subst (λ (kept : Kept). Does m statement kept r new) same did)
+  where
+    by : (r : Result A Refusal) → IfErr r May → Does m statement (counted old) r new → IsStatement moment_of m statement May old r new
+    by (Ok x) may q = statement_done m statement May x old new taken q
+    by (Err e) may q = statement_not_done m statement May e old new taken small may q
+
+-- the statement was ended by a fault
+pub statement_faulted : {A : Type 0} {m : Store → Run Store A} {statement : Sent} {May : Refusal → Type 0} {old new : Kept} → is_taken old.attachment ≡ true → old.faults < 2 ^ 64
+    → May KeeperFault → new ≡ failed (counted old) → IsStatement moment_of m statement May old (Err KeeperFault) new
+statement_faulted {m = m} {statement = statement} {May = May} {old = old} taken small may is = subst (IsStatement moment_of m statement May old (Err KeeperFault)) (sym is) (record {
+  step = ran_failed m old taken small;
+  depth = depth_none old.attachment (failed (counted old)) refl;
+  refuses = may;
+  left = failed_left old;
+})
+
+-- whatever was done, the call was counted, and it is no fault
+pub statement_numbered : {A : Type 0} (m : Store → Run Store A) (statement : Sent) (r : Result A Refusal) (old mid new : Kept) → is_failing old ≡ false → mid ≡ counted old → Does m statement mid r new → IsNumbered old r new
+statement_numbered {A = A} m statement r old mid new failing same did = by r (subst (λ (kept : Kept). Does m statement kept r new) same did)
+  where
+    by : (r : Result A Refusal) → Does m statement (counted old) r new → IsNumbered old r new
+    by (Ok x) q = (sym failing, ap (λ (kept : Kept). kept.calls) q.2, ap (λ (kept : Kept). kept.failing) q.2)
+    by (Err e) q = stop (ends_early e) refl q
+      where
+        stop : (b : Bool) → ends_early e ≡ b → MatchBool b ((e ≡ Memory) × (new ≡ ended (counted old))) ((m old.store ≡ sends statement old.store (Err e)) × (new ≡ refused_by (counted old) statement e))
+            → IsNumbered {A = A} old (Err e) new
+        stop true early p = (ap is_fault p.0 ∙ sym failing, ap (λ (kept : Kept). kept.calls) p.1, ap (λ (kept : Kept). kept.failing) p.1)
+        stop false own p = (own_is_no_fault e own ∙ sym failing, ap (λ (kept : Kept). kept.calls) p.1, ap (λ (kept : Kept). kept.failing) p.1)
 
 pub held_rows : (schema : Catalog) (kept : Kept) → is_taken kept.attachment ≡ true → HoldsRows schema (moment_of kept).told → AreRows schema (bare kept.store.tables)
 held_rows schema kept taken h = subst (λ (t : Told Store). AreRows schema (bare t.world.tables)) (sym (told_taken kept.attachment kept taken)) h
 
 pub held_legal : (schema : Catalog) (kept : Kept) → is_taken kept.attachment ≡ true → HoldsLegalRows schema (moment_of kept).told → AreLegalRows schema (bare kept.store.tables)
 held_legal schema kept taken h = subst (λ (t : Told Store). AreLegalRows schema (bare t.world.tables)) (sym (told_taken kept.attachment kept taken)) h
-
--- a refused select is no fault
-pub asked_no_fault : (refusal : QueryRefusal) → ends_early (query_refusal refusal) ≡ false → is_query_fault {A = List (List Value)} (Err refusal) ≡ false
-asked_no_fault (queries.NoTable table) own = refl
-asked_no_fault (queries.Range op a b) own = refl
-asked_no_fault queries.Fault own = cc
-asked_no_fault queries.Memory own = refl
-
--- ---- depth
-
-pub depth_sent : (statement : Sent) (after : Store) (old new : Kept) → is_taken old.attachment ≡ true → new ≡ sent_by (counted old) statement after → depth_by new.attachment new ≡ length after.scopes
-depth_sent statement after old new taken is = ap (λ kept. depth_by kept.attachment kept) is ∙ depth_taken old.attachment (sent_by (counted old) statement after) taken
-
-pub depth_counted : (old new : Kept) → new ≡ counted old → depth_by new.attachment new ≡ depth_by old.attachment old
-depth_counted old new is = ap (λ kept. depth_by kept.attachment kept) is ∙ depth_same old.attachment old (counted old) refl
-
-pub depth_refused : (statement : Sent) (e : Refusal) (old new : Kept) → new ≡ refused_by (counted old) statement e → depth_by new.attachment new ≡ depth_by old.attachment old
-depth_refused statement e old new is = ap (λ kept. depth_by kept.attachment kept) is ∙ depth_same old.attachment old (refused_by (counted old) statement e) refl
-
-depth_query : (refusal : QueryRefusal) (now : ℕ) → ends_early (query_refusal refusal) ≡ false → now ≡ depth_after_query {A = List (List Value)} (Err refusal) now
-depth_query (queries.NoTable table) now own = refl
-depth_query (queries.Range op a b) now own = refl
-depth_query queries.Fault now own = absurd (cc)
-depth_query queries.Memory now own = absurd (cc)
-
-pub depth_asked : (refusal : QueryRefusal) (statement : Sent) (e : Refusal) (old new : Kept) → ends_early (query_refusal refusal) ≡ false → new ≡ refused_by (counted old) statement e
-    → depth_by new.attachment new ≡ depth_after_query {A = List (List Value)} (Err refusal) (depth_by old.attachment old)
-depth_asked refusal statement e old new own is = depth_refused statement e old new is ∙ depth_query refusal (depth_by old.attachment old) own
-
-pub depth_failed : (old new : Kept) → new ≡ failed (counted old) → depth_by new.attachment new ≡ 0
-depth_failed old new is = ap (λ kept. depth_by kept.attachment kept) is ∙ depth_none old.attachment (failed (counted old)) refl
-
-pub depth_ended : (old new : Kept) → new ≡ ended (counted old) → depth_by new.attachment new ≡ 0
-depth_ended old new is = ap (λ kept. depth_by kept.attachment kept) is ∙ depth_none old.attachment (ended (counted old)) refl
-
-pub depth_here : (kept : Kept) → is_taken kept.attachment ≡ true → depth_by kept.attachment kept ≡ length kept.store.scopes
-depth_here kept taken = depth_taken kept.attachment kept taken
 
 -- ---- a target is given
 
@@ -345,8 +372,7 @@ pub attach_failed : (target : Target) (old new : Kept) → target_of old.attachm
     → IsAttached (moment_of old) target (Err KeeperFault) (moment_of new)
 attach_failed target old new none small is = subst (λ n. IsAttached (moment_of old) target (Err KeeperFault) (moment_of n)) (sym is) (record {
   told = subst (λ t. IsToldAnew target (Some t) (Err KeeperFault) (Some new_store)) (sym (fresh old.attachment old none)) (not_anew target new_store KeeperFault);
-  faults = more old.faults small;
-  fault = λ _. same_count (one_more old.faults);
+  faults = (more old.faults small, omega arith);
   calm = (refl, refl);
   depth = refl;
   given = refl;
@@ -358,8 +384,7 @@ attach_taken target old new memory is =
     subst (λ t. IsAttached (moment_of old) t (Ok tt) (moment_of new)) (sym memory)
     (subst (λ n. IsAttached (moment_of old) targets.Memory (Ok tt) (moment_of n)) (sym (is ∙ ap (taken_by (counted old)) memory)) (record {
       told = refl;
-      faults = same_count old.faults;
-      fault = tt;
+      faults = refl;
       calm = (refl, refl);
       depth = refl;
       given = refl;
@@ -368,17 +393,18 @@ attach_taken target old new memory is =
 
 pub ruleset attaching = (attach_failed, attach_taken)
 
-pub ruleset depths = (depth_sent, depth_counted, depth_refused, depth_failed, depth_ended, depth_here)
+pub depth_here : (kept : Kept) → is_taken kept.attachment ≡ true → depth_by kept.attachment kept ≡ length kept.store.scopes
+depth_here kept taken = depth_taken kept.attachment kept taken
 
-pub ruleset ends = (faulted, ran_out, depths)
+pub ruleset ends = (faulted, ran_out, depth_here)
 
 pub ruleset beginning = (began, ends)
 
 pub ruleset saving = (saved, ends)
 
-pub ruleset releasing = (released, ends, length-drop)
+pub ruleset releasing = (released, ends)
 
-pub ruleset going_back = (went_back, ends, length-drop)
+pub ruleset going_back = (ends, length-drop)
 
 pub ruleset rolling_back = (rolled_back, ends)
 
@@ -390,14 +416,4 @@ pub ruleset dropping = (removed, not_removed, ends)
 
 pub ruleset scanning = (scanned, ends)
 
-pub ruleset asking = (asked, not_asked, asked_no_fault, depth_asked, held_rows, held_legal, ends)
-
-pub ruleset writing = (wrote, not_written, ends)
-
--- a keeper whose memory ran out in a statement gives up as it would have before it
-pub wrote_nothing : (schema : Catalog) (statement : RowStmt) (old new : Kept) (u : Unwritten) → u ≡ unwritten.Memory → Wrote schema statement old (Err u) new → ended new ≡ ended old
-wrote_nothing schema statement old new u is did = subst (λ w. Wrote schema statement old (Err w) new) is did
-
--- the same of a select
-pub asked_nothing : (schema : Catalog) (select : Select) (old new : Kept) (u : Unasked) → u ≡ unasked.Memory → Asked schema select old (Err u) new → ended new ≡ ended old
-asked_nothing schema select old new u is did = subst (λ w. Asked schema select old (Err w) new) is did
+pub ruleset stating = (statement_ran, statement_faulted, statement_numbered, depth_here, held_rows, held_legal)

@@ -1,5 +1,3 @@
-mod Bulks
-mod Keeping
-mod Queries
-mod Scanned
-mod Undone
+pub mod Keeping
+pub mod Scanned
+pub mod Stored

@@ -7,10 +7,10 @@ use Rattle.std.proofs.lemmas.Cmp.{ranked}
 use Rattle.base_core.specs.declared.ids.TableId.{TableId}
 use Rattle.schema_core.specs.Catalog.{Catalog}
 use Rattle.schema_core.specs.Tables.{Rows, Tables, rows_in, table_cmp}
-use Rattle.expr_eval.specs.Eval.{Row}
-use Rattle.select_rows.specs.Created.{bare}
-use Rattle.select_rows.specs.Shapes.{AreRows}
-use Rattle.keeper_core.specs.Calls.{AreRowsOf, HoldsRows}
+use Rattle.sql_semantics.specs.Eval.{Row}
+use Rattle.sql_semantics.specs.Created.{bare}
+use Rattle.sql_semantics.specs.Shapes.{AreRows}
+use Rattle.keeper_core.specs.Keeping.{AreRowsOf, HoldsRows}
 use Rattle.keeper_mem.specs.Kept.{Kept, is_taken, moment_of}
 use Rattle.keeper_mem.proofs.Keeping.{held_rows}
 

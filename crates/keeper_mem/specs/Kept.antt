@@ -1,40 +1,23 @@
 -- What a keeper in memory has, what is seen of it, and what its calls make of it.
-use Rattle.std.specs.Prelude.{◌≡◌, ℕ, Bool, true, false, nat_eq, List, [], ◌∷◌, ◌++◌, length, Option, None, Some, Result, Ok, Err, refl}
+use Rattle.std.specs.Prelude.{◌≡◌, ℕ, Bool, true, false, nat_eq, List, [], ◌∷◌, ◌++◌, length, MatchBool, Option, None, Some, Result, Ok, Err, refl}
 use Rattle.std.specs.List.{list_any}
+use Rattle.base_core.specs.Counts.{one_more}
 use Rattle.base_core.specs.declared.refusal.Refusal.{Refusal}
 use Rattle.base_core.specs.declared.refusal.Refusal.TheVariants as from
 use Rattle.base_core.specs.declared.refusal.IntegrityKind.TheVariants as kinds
-use Rattle.base_core.specs.Counts.{one_more}
-use Rattle.keeper_core.specs.declared.keeper.Target.{Target}
-use Rattle.keeper_core.specs.declared.sent.Sent.{Sent}
-use Rattle.base_core.specs.declared.value.Value.{Value}
-use Rattle.schema_core.specs.declared.statement.RowStmt.{RowStmt}
-use Rattle.schema_core.specs.Apply.{apply, table_of}
-use Rattle.schema_core.specs.Catalog.{Catalog}
-use Rattle.keeper_core.specs.declared.keeper.KeeperStop.{KeeperStop}
-use Rattle.keeper_core.specs.declared.keeper.KeeperStop.TheVariants as stops
-use Rattle.keeper_core.specs.declared.keeper.Target.TheVariants as targets
+use Rattle.programs.specs.declared.sent.Sent.{Sent}
+use Rattle.programs.specs.declared.target.Target.{Target}
+use Rattle.programs.specs.declared.target.Target.TheVariants as targets
+use Rattle.programs.specs.Moment.{Moment, Refused, Told}
+use Rattle.programs.specs.Programs.{Run, ends_early, is_fault}
+use Rattle.programs.specs.Store.{Store, committed_of}
 use Rattle.keeper_core.specs.declared.keeper.WriteRefusal.{WriteRefusal}
 use Rattle.keeper_core.specs.declared.keeper.WriteRefusal.TheVariants as refusals
 use Rattle.keeper_core.specs.declared.keeper.QueryRefusal.{QueryRefusal}
 use Rattle.keeper_core.specs.declared.keeper.QueryRefusal.TheVariants as queries
-use Rattle.keeper_core.specs.declared.sent.Sent.TheVariants.{Bulk as BulkSent, Query, Write}
-use Rattle.keeper_core.specs.Acting.{ends_early}
-use Rattle.keeper_core.specs.Calls.{CanRefuseBulk, CanRefuseQuery, query_refusal, write_refusal}
-use Rattle.expr_types.specs.declared.select.Bulk.{Bulk}
-use Rattle.expr_types.specs.declared.select.Select.{Select}
-use Rattle.bulk_rows.specs.Applied as bulk
-use Rattle.select_rows.specs.Created.{bare}
-use Rattle.select_rows.specs.Rows.{answer}
-use Rattle.table_store.specs.declared.writing.Unwritten.{Unwritten}
-use Rattle.table_store.specs.declared.writing.Unwritten.TheVariants.{Breaks, Memory}
-use Rattle.table_store.specs.Written.{broken, given_up}
-use Rattle.keeper_core.specs.Moment.{IsCoherent, Moment, Refused, Told, new_store}
-use Rattle.keeper_core.specs.Store.{Store, committed_of}
-use Rattle.keeper_mem.specs.declared.keeper.Undone.{Undone}
-use Rattle.keeper_mem.specs.declared.keeper.Undone.TheVariants as undone
-use Rattle.keeper_mem.specs.declared.keeper.Unasked.{Unasked}
-use Rattle.keeper_mem.specs.declared.keeper.Unasked.TheVariants as unasked
+use Rattle.keeper_core.specs.Calls.{sends}
+use Rattle.keeper_core.specs.Keeping.{IsCoherent, IsCoherentTold, new_store}
+use Rattle.table_store.specs.Written.{given_up}
 use Rattle.keeper_mem.specs.declared.keeper.Attachment.{Attachment}
 use Rattle.keeper_mem.specs.declared.keeper.Attachment.TheVariants.{Fresh, Taken, Untaken}
 
@@ -84,6 +67,7 @@ is_taken attachment = false
 abbrev pub moment_of : Kept → Moment Store
 moment_of kept = record {
   told = Some (told_by kept.attachment kept);
+  tells = true;
   faults = kept.faults;
   refusals = kept.refusals;
   last = kept.last;
@@ -100,19 +84,6 @@ is_listed number numbers = list_any (λ other. nat_eq other number) numbers
 abbrev pub is_failing : Kept → Bool
 is_failing kept = is_listed (one_more kept.calls) kept.failing
 
--- the call was ended by a fault
-abbrev pub is_fault : {A : Type 0} → Result A KeeperStop → Bool
-is_fault (Err stops.Fault) = true
-is_fault r = false
-
-abbrev pub is_write_fault : {A : Type 0} → Result A WriteRefusal → Bool
-is_write_fault (Err refusals.Fault) = true
-is_write_fault r = false
-
-abbrev pub is_query_fault : {A : Type 0} → Result A QueryRefusal → Bool
-is_query_fault (Err queries.Fault) = true
-is_query_fault r = false
-
 abbrev pub is_file : Target → Bool
 is_file targets.Memory = false
 is_file (targets.File name) = true
@@ -121,9 +92,14 @@ is_file (targets.File name) = true
 abbrev pub IsCounted : Kept → Kept → Type 0
 IsCounted old new = (new.calls ≡ one_more old.calls) × (new.failing ≡ old.failing)
 
+-- the call was ended by a fault
+abbrev pub is_faulted : {A : Type 0} → Result A Refusal → Bool
+is_faulted (Ok x) = false
+is_faulted (Err e) = is_fault e
+
 -- the call was counted, and ended by a fault exactly where its number is in the list
-abbrev pub IsNumbered : Kept → Bool → Kept → Type 0
-IsNumbered old fault new = (fault ≡ is_failing old) × (new.calls ≡ one_more old.calls) × (new.failing ≡ old.failing)
+abbrev pub IsNumbered : {A : Type 0} → Kept → Result A Refusal → Kept → Type 0
+IsNumbered old result new = (is_faulted result ≡ is_failing old) × (new.calls ≡ one_more old.calls) × (new.failing ≡ old.failing)
 
 -- ---- what calls make of a keeper
 
@@ -131,7 +107,7 @@ IsNumbered old fault new = (fault ≡ is_failing old) × (new.calls ≡ one_more
 abbrev pub counted : Kept → Kept
 counted kept = record kept { calls = one_more kept.calls }
 
--- the call was ended by want of memory
+-- the call was ended by memory that ran out
 abbrev pub ended : Kept → Kept
 ended kept = record kept { store = given_up kept.store }
 
@@ -159,41 +135,21 @@ taken_by kept target = record kept { store = empty_store; sent = []; attachment 
 abbrev pub untaken_by : Kept → Target → Kept
 untaken_by kept target = record kept { attachment = Untaken target }
 
--- a statement on one row was done, or refused; where memory ran out, what a keeper that gives up is left with is the same
-abbrev pub Wrote : Catalog → RowStmt → Kept → Result (List Value) Unwritten → Kept → Type 0
-Wrote schema statement old (Ok key) new =
-    (apply schema old.store.tables statement ≡ Ok (key, new.store.tables)) × (new ≡ sent_by old (Write statement) (record { tables = new.store.tables; scopes = old.store.scopes }))
-Wrote schema statement old (Err (Breaks breach)) new =
-    (apply schema old.store.tables statement ≡ Err breach) × (new ≡ refused_by old (Write statement) (write_refusal (table_of statement) (broken breach)))
-Wrote schema statement old (Err Memory) new = ended new ≡ ended old
+-- ---- statements
 
--- a select was answered, or refused; where memory ran out, what a keeper that gives up is left with is the same
-abbrev pub Asked : Catalog → Select → Kept → Result (List (List Value)) Unasked → Kept → Type 0
-Asked schema select old (Ok rows) new =
-    (answer schema (bare old.store.tables) select ≡ Ok rows) × (new ≡ sent_by old (Query select) old.store)
-Asked schema select old (Err (unasked.Refused refusal)) new =
-    (ends_early (query_refusal refusal) ≡ false) × (answer schema (bare old.store.tables) select ≡ Err (query_refusal refusal)) × (new ≡ refused_by old (Query select) (query_refusal refusal))
-Asked schema select old (Err unasked.Memory) new = ended new ≡ ended old
+-- What a store did with a statement: its program, in the same scopes, or nothing. Where memory ran out only what it goes back to is
+-- as it was.
+abbrev pub Stores : {A : Type 0} → (Store → Run Store A) → Sent → Store → Result A Refusal → Store → Type 0
+Stores m statement old (Ok x) new = (m old ≡ sends statement new (Ok x)) × (new.scopes ≡ old.scopes)
+Stores m statement old (Err e) new =
+    MatchBool (ends_early e) ((e ≡ from.Memory) × (given_up new ≡ given_up old)) ((m old ≡ sends statement old (Err e)) × (new ≡ old))
 
--- a bulk statement was done, or refused; where memory ran out, what a keeper that gives up is left with is the same
-abbrev pub Took : Catalog → Bulk → Kept → Result ℕ Undone → Kept → Type 0
-Took schema statement old (Ok count) new =
-    (bulk.applied schema old.store.tables statement ≡ Ok (count, new.store.tables)) × (new ≡ sent_by old (BulkSent statement) (record { tables = new.store.tables; scopes = old.store.scopes }))
-Took schema statement old (Err undone.Memory) new = ended new ≡ ended old
-Took schema statement old (Err (undone.Refused refusal)) new =
-    (ends_early (write_refusal (bulk.table_of statement) refusal) ≡ false)
-    × (bulk.applied schema old.store.tables statement ≡ Err (write_refusal (bulk.table_of statement) refusal))
-    × (new ≡ refused_by old (BulkSent statement) (write_refusal (bulk.table_of statement) refusal))
-
--- what may refuse a select; want of memory may end any
-abbrev pub MayRefuseQuery : Select → Unasked → Type 0
-MayRefuseQuery select (unasked.Refused refusal) = CanRefuseQuery select refusal
-MayRefuseQuery select unasked.Memory = Unit {0}
-
--- what may refuse a bulk statement; want of memory may end any
-abbrev pub MayRefuseBulk : Bulk → Undone → Type 0
-MayRefuseBulk statement (undone.Refused refusal) = CanRefuseBulk statement refusal
-MayRefuseBulk statement undone.Memory = Unit {0}
+-- What a keeper did with a statement: its program, with the statement sent, or refused; it gave up where memory ran out.
+abbrev pub Does : {A : Type 0} → (Store → Run Store A) → Sent → Kept → Result A Refusal → Kept → Type 0
+Does m statement old (Ok x) new =
+    (m old.store ≡ sends statement new.store (Ok x)) × (new.store.scopes ≡ old.store.scopes) × (new ≡ sent_by old statement new.store)
+Does m statement old (Err e) new =
+    MatchBool (ends_early e) ((e ≡ from.Memory) × (new ≡ ended old)) ((m old.store ≡ sends statement old.store (Err e)) × (new ≡ refused_by old statement e))
 
 -- a store's refusal of a select in the words of a keeper
 abbrev pub asked_refusal : Refusal → QueryRefusal
@@ -212,11 +168,12 @@ keeper_refusal (from.IntegrityError kinds.Unique table) = refusals.Unique
 keeper_refusal (from.IntegrityError kinds.Foreign table) = refusals.Foreign
 keeper_refusal e = refusals.Memory
 
-told_coherent : (attachment : Attachment) (kept : Kept) → (depth_by attachment kept ≡ length (told_by attachment kept).world.scopes) × ((told_by attachment kept).log.committed ≡ committed_of (told_by attachment kept).world) × ((told_by attachment kept).log.written ≡ [])
-told_coherent Fresh kept = (refl, refl, refl)
-told_coherent (Taken target) kept = (refl, refl, refl)
-told_coherent (Untaken target) kept = (refl, refl, refl)
+-- ---- what is told fits the depth and the tables that were committed
 
--- what is told fits the depth and the tables that were committed
+told_coherent : (attachment : Attachment) (kept : Kept) → IsCoherentTold true (depth_by attachment kept) (Some (told_by attachment kept))
+told_coherent Fresh kept = (refl, refl, refl, refl)
+told_coherent (Taken target) kept = (refl, refl, refl, refl)
+told_coherent (Untaken target) kept = (refl, refl, refl, refl)
+
 pub coherent : (kept : Kept) → IsCoherent (moment_of kept)
 coherent kept = told_coherent kept.attachment kept

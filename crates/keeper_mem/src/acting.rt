@@ -1,28 +1,26 @@
 //! The calls of a keeper, done in memory.
 
-ghost use Rattle.std.specs.Prelude.{◌≡◌, ◌+◌, ◌-◌, ◌<◌, ◌≤◌, ◌||◌, None, true, IfErr, IfOk, IfSome};
+ghost use Rattle.std.specs.Prelude.{◌≡◌, ◌<◌, ◌≤◌, ◌||◌, None, true, IfErr, IfOk, IfSome};
 ghost use Rattle.schema_core.specs.Apply.{table_of};
 ghost use Rattle.schema_core.specs.Catalog.{IsTable};
-ghost use Rattle.schema_core.specs.WellFormed.{IsKeyFor, IsWellFormed};
-ghost use Rattle.expr_typing.specs.Plain.{IsPlainBulk, IsPlainSelect};
-ghost use Rattle.bulk_rows.specs.Applied as bulk;
-ghost use Rattle.select_rows.specs.Refusals.{IsOfDeclared};
-ghost use Rattle.select_rows.specs.Shapes.{AreGiven, AreOfItems, AreWide};
+ghost use Rattle.schema_core.specs.WellFormed.{AreKeysFor, IsWellFormed};
+ghost use Rattle.sql_semantics.specs.Applied as bulk;
+ghost use Rattle.sql_semantics.specs.Plain.{IsPlainBulk, IsPlainSelect};
+ghost use Rattle.sql_semantics.specs.Shapes.{AreGiven, AreOfItems, AreWide};
+ghost use Rattle.programs.specs.Programs.{as_refusal};
 ghost use Rattle.keeper_core.specs.declared.keeper.KeeperStop.TheVariants as stops;
-ghost use Rattle.keeper_core.specs.Calls as call;
-ghost use Rattle.keeper_core.specs.Calls.{as_refusal, depth_after, depth_after_query, depth_after_write, query_refusal, stop_refusal, write_refusal, AreRowsOf, CanRefuse, CanRefuseBulk, CanRefuseQuery, HoldsLegalRows, HoldsRows};
-ghost use Rattle.keeper_core.specs.Moment.{IsAttached, IsLeft, IsUndone, Runs};
-ghost use Rattle.keeper_core.specs.declared.sent.Sent.TheVariants as sent;
-ghost use Rattle.keeper_mem.specs.Kept.{IsCounted, IsNumbered, coherent, is_failing, is_fault, is_file, is_query_fault, is_write_fault, moment_of};
+ghost use Rattle.keeper_core.specs.Calls.{query_refusal, stop_refusal, write_refusal};
+ghost use Rattle.keeper_core.specs.Keeping as keeping;
+ghost use Rattle.keeper_core.specs.Keeping.{AreRowsOf, HoldsLegalRows, HoldsRows, IsAttached};
+ghost use Rattle.keeper_mem.specs.Kept.{IsCounted, IsNumbered, coherent, is_failing, is_faulted, is_file, moment_of};
 
 use crate::MemKeeper;
-use crate::keeper::{Unasked, Undone, broken};
-use base_core::{Key, RowList, TableId};
+use base_core::{KeyList, RowList, TableId};
 use expr_types::{Bulk, Select};
-use keeper_core::{Keeper, KeeperStop, QueryRefusal, Sent, Target, WriteRefusal};
+use keeper_core::{Keeper, KeeperStop, QueryRefusal, WriteRefusal};
+use programs::Target;
 use schema_core::{RowStmt, Schema};
 use std::alloc::Global;
-use table_store::Unwritten;
 
 impl Keeper for MemKeeper {
     ghost moment = { moment_of };
@@ -32,8 +30,10 @@ impl Keeper for MemKeeper {
     #[tactic(auto, using(crate::proofs::Keeping::attaching))]
     fn attach(&mut self, alloc: Global, target: Target) -> Result<(), KeeperStop>
         requires { (moment_of self.old).target ≡ None }
-        ensures kept { IsAttached (moment_of self.old) target (as_refusal stop_refusal result) (moment_of self.new) }
-        ensures faults { is_fault result ≡ (is_failing self.old || is_file target) }
+        ensures kept { IsAttached (moment_of self.old) target
+            (as_refusal stop_refusal result) (moment_of self.new) }
+        ensures faults { is_faulted
+            (as_refusal stop_refusal result) ≡ (is_failing self.old || is_file target) }
         ensures counted { IsCounted self.old self.new }
         ensures calm { IfErr result (λ e. e ≡ stops.Fault) }
     {
@@ -55,10 +55,9 @@ impl Keeper for MemKeeper {
         requires attached { (moment_of self.old).attached ≡ true }
         requires outside { (moment_of self.old).depth ≡ 0 }
         requires declared { IsTable schema.now table }
-        ensures step { Runs moment_of (λ b. b) (call.create table) self.old (as_refusal stop_refusal result) self.new }
-        ensures depth { (moment_of self.new).depth ≡ 0 }
-        ensures numbered { IsNumbered self.old (is_fault result) self.new }
-        ensures undone { IfErr result (λ _. IsUndone (moment_of self.old) (moment_of self.new)) }
+        ensures call { keeping.IsCreate moment_of table self.old
+            (as_refusal stop_refusal result) self.new }
+        ensures numbered { IsNumbered self.old (as_refusal stop_refusal result) self.new }
     {
         let Ok(()) = self.count_call() else {
             return Err(KeeperStop::Fault);
@@ -83,10 +82,9 @@ impl Keeper for MemKeeper {
         requires attached { (moment_of self.old).attached ≡ true }
         requires outside { (moment_of self.old).depth ≡ 0 }
         requires declared { IsTable schema.now table }
-        ensures step { Runs moment_of (λ b. b) (call.drop_table table) self.old (as_refusal stop_refusal result) self.new }
-        ensures depth { (moment_of self.new).depth ≡ 0 }
-        ensures numbered { IsNumbered self.old (is_fault result) self.new }
-        ensures undone { IfErr result (λ _. IsUndone (moment_of self.old) (moment_of self.new)) }
+        ensures call { keeping.IsDrop moment_of table self.old
+            (as_refusal stop_refusal result) self.new }
+        ensures numbered { IsNumbered self.old (as_refusal stop_refusal result) self.new }
     {
         let Ok(()) = self.count_call() else {
             return Err(KeeperStop::Fault);
@@ -105,15 +103,14 @@ impl Keeper for MemKeeper {
     fn begin(&mut self, _alloc: Global) -> Result<(), KeeperStop>
         requires attached { (moment_of self.old).attached ≡ true }
         requires outside { (moment_of self.old).depth ≡ 0 }
-        ensures step { Runs moment_of (λ u. u) call.begin self.old (as_refusal stop_refusal result) self.new }
-        ensures depth { (moment_of self.new).depth ≡ depth_after result 1 }
-        ensures numbered { IsNumbered self.old (is_fault result) self.new }
-        ensures undone { IfErr result (λ _. IsUndone (moment_of self.old) (moment_of self.new)) }
+        ensures call { keeping.IsBegin moment_of self.old
+            (as_refusal stop_refusal result) self.new }
+        ensures numbered { IsNumbered self.old (as_refusal stop_refusal result) self.new }
     {
         let Ok(()) = self.count_call() else {
             return Err(KeeperStop::Fault);
         };
-        let Ok(()) = self.start_scope(Sent::Begin) else {
+        let Ok(()) = self.start_scope() else {
             self.give_up();
             return Err(KeeperStop::Memory);
         };
@@ -124,16 +121,14 @@ impl Keeper for MemKeeper {
     fn savepoint(&mut self, _alloc: Global) -> Result<(), KeeperStop>
         requires attached { (moment_of self.old).attached ≡ true }
         requires inside { 1 ≤ (moment_of self.old).depth }
-        ensures step { Runs moment_of (λ u. u) call.savepoint self.old (as_refusal stop_refusal result) self.new }
-        ensures depth { (moment_of self.new).depth ≡ depth_after result ((moment_of self.old).depth + 1) }
-        ensures numbered { IsNumbered self.old (is_fault result) self.new }
-        ensures undone { IfErr result (λ _. IsUndone (moment_of self.old) (moment_of self.new)) }
+        ensures call { keeping.IsSavepoint moment_of self.old
+            (as_refusal stop_refusal result) self.new }
+        ensures numbered { IsNumbered self.old (as_refusal stop_refusal result) self.new }
     {
         let Ok(()) = self.count_call() else {
             return Err(KeeperStop::Fault);
         };
-        let number = self.scopes();
-        let Ok(()) = self.start_scope(Sent::Savepoint(number)) else {
+        let Ok(()) = self.start_scope() else {
             self.give_up();
             return Err(KeeperStop::Memory);
         };
@@ -144,11 +139,10 @@ impl Keeper for MemKeeper {
     fn release(&mut self) -> Result<(), KeeperStop>
         requires attached { (moment_of self.old).attached ≡ true }
         requires inside { 2 ≤ (moment_of self.old).depth }
-        ensures step { Runs moment_of (λ u. u) call.release self.old (as_refusal stop_refusal result) self.new }
-        ensures depth { (moment_of self.new).depth ≡ depth_after result ((moment_of self.old).depth - 1) }
-        ensures numbered { IsNumbered self.old (is_fault result) self.new }
+        ensures call { keeping.IsRelease moment_of self.old
+            (as_refusal stop_refusal result) self.new }
+        ensures numbered { IsNumbered self.old (as_refusal stop_refusal result) self.new }
         ensures calm { IfErr result (λ e. e ≡ stops.Fault) }
-        ensures undone { IfErr result (λ _. IsUndone (moment_of self.old) (moment_of self.new)) }
     {
         let Ok(()) = self.count_call() else {
             return Err(KeeperStop::Fault);
@@ -162,11 +156,10 @@ impl Keeper for MemKeeper {
         requires attached { (moment_of self.old).attached ≡ true }
         requires numbered { 1 ≤ depth }
         requires inside { depth < (moment_of self.old).depth }
-        ensures step { Runs moment_of (λ u. u) (call.rollback_to depth) self.old (as_refusal stop_refusal result) self.new }
-        ensures depth { (moment_of self.new).depth ≡ depth_after result depth }
-        ensures numbered { IsNumbered self.old (is_fault result) self.new }
+        ensures call { keeping.IsRollbackTo moment_of depth self.old
+            (as_refusal stop_refusal result) self.new }
+        ensures numbered { IsNumbered self.old (as_refusal stop_refusal result) self.new }
         ensures calm { IfErr result (λ e. e ≡ stops.Fault) }
-        ensures undone { IfErr result (λ _. IsUndone (moment_of self.old) (moment_of self.new)) }
     {
         let Ok(()) = self.count_call() else {
             return Err(KeeperStop::Fault);
@@ -179,11 +172,10 @@ impl Keeper for MemKeeper {
     fn rollback(&mut self) -> Result<(), KeeperStop>
         requires attached { (moment_of self.old).attached ≡ true }
         requires inside { 1 ≤ (moment_of self.old).depth }
-        ensures step { Runs moment_of (λ u. u) call.rollback self.old (as_refusal stop_refusal result) self.new }
-        ensures depth { (moment_of self.new).depth ≡ 0 }
-        ensures numbered { IsNumbered self.old (is_fault result) self.new }
+        ensures call { keeping.IsRollback moment_of self.old
+            (as_refusal stop_refusal result) self.new }
+        ensures numbered { IsNumbered self.old (as_refusal stop_refusal result) self.new }
         ensures calm { IfErr result (λ e. e ≡ stops.Fault) }
-        ensures undone { IfErr result (λ _. IsUndone (moment_of self.old) (moment_of self.new)) }
     {
         let Ok(()) = self.count_call() else {
             return Err(KeeperStop::Fault);
@@ -196,11 +188,10 @@ impl Keeper for MemKeeper {
     fn commit(&mut self) -> Result<(), KeeperStop>
         requires attached { (moment_of self.old).attached ≡ true }
         requires inside { 1 ≤ (moment_of self.old).depth }
-        ensures step { Runs moment_of (λ u. u) call.commit self.old (as_refusal stop_refusal result) self.new }
-        ensures depth { (moment_of self.new).depth ≡ 0 }
-        ensures numbered { IsNumbered self.old (is_fault result) self.new }
+        ensures call { keeping.IsCommit moment_of self.old
+            (as_refusal stop_refusal result) self.new }
+        ensures numbered { IsNumbered self.old (as_refusal stop_refusal result) self.new }
         ensures calm { IfErr result (λ e. e ≡ stops.Fault) }
-        ensures undone { IfErr result (λ _. IsUndone (moment_of self.old) (moment_of self.new)) }
     {
         let Ok(()) = self.count_call() else {
             return Err(KeeperStop::Fault);
@@ -209,37 +200,29 @@ impl Keeper for MemKeeper {
         Ok(())
     }
 
-    #[tactic(auto, using(crate::proofs::Keeping::writing))]
+    #[tactic(auto, using(crate::proofs::Keeping::stating))]
     fn write(
         &mut self,
         alloc: Global,
         schema: &Schema,
         statement: &RowStmt,
-    ) -> Result<Key, WriteRefusal>
+    ) -> Result<KeyList, WriteRefusal>
         requires attached { (moment_of self.old).attached ≡ true }
         requires inside { 1 ≤ (moment_of self.old).depth }
         requires fits { IsWellFormed schema.now statement.now }
-        ensures step { Runs moment_of (λ key. key) (call.write schema.now statement.now) self.old (as_refusal (write_refusal (table_of statement.now)) result) self.new }
-        ensures depth { (moment_of self.new).depth ≡ depth_after_write result (moment_of self.old).depth }
-        ensures key { IfOk result (λ key. IsKeyFor schema.now statement.now key) }
-        ensures refuses { IfErr result (λ e. CanRefuse statement.now e) }
-        ensures numbered { IsNumbered self.old (is_write_fault result) self.new }
-        ensures left { IfErr result (λ e. IsLeft (sent.Write statement.now) (write_refusal (table_of statement.now) e) (moment_of self.old) (moment_of self.new)) }
+        ensures call { keeping.IsWrite moment_of schema.now statement.now self.old
+            (as_refusal (write_refusal (table_of statement.now)) result) self.new }
+        ensures keys { IfOk result (λ keys. AreKeysFor schema.now statement.now keys) }
+        ensures numbered { IsNumbered self.old
+            (as_refusal (write_refusal (table_of statement.now)) result) self.new }
     {
         let Ok(()) = self.count_call() else {
             return Err(WriteRefusal::Fault);
         };
-        match self.write_row(alloc, schema, statement) {
-            Ok(key) => return Ok(key),
-            Err(Unwritten::Breaks(breach)) => return Err(broken(breach)),
-            Err(Unwritten::Memory) => {
-                self.give_up();
-                return Err(WriteRefusal::Memory);
-            }
-        }
+        self.write_row(alloc, schema, statement)
     }
 
-    #[tactic(auto, using(crate::proofs::Bulks::taking, crate::proofs::Bulks::bulk_declared))]
+    #[tactic(auto, using(crate::proofs::Keeping::stating))]
     fn bulk(
         &mut self,
         alloc: Global,
@@ -249,27 +232,18 @@ impl Keeper for MemKeeper {
         requires attached { (moment_of self.old).attached ≡ true }
         requires inside { 1 ≤ (moment_of self.old).depth }
         requires plain { IsPlainBulk schema.now statement.now }
-        ensures step { Runs moment_of (λ count. count) (call.bulk schema.now statement.now) self.old (as_refusal (write_refusal (bulk.table_of statement.now)) result) self.new }
-        ensures depth { (moment_of self.new).depth ≡ depth_after_write result (moment_of self.old).depth }
-        ensures refuses { IfErr result (λ e. CanRefuseBulk statement.now e) }
-        ensures declared { IfErr result (λ e. IsOfDeclared schema.now (write_refusal (bulk.table_of statement.now) e)) }
-        ensures numbered { IsNumbered self.old (is_write_fault result) self.new }
-        ensures left { IfErr result (λ e. IsLeft (sent.Bulk statement.now) (write_refusal (bulk.table_of statement.now) e) (moment_of self.old) (moment_of self.new)) }
+        ensures call { keeping.IsBulk moment_of schema.now statement.now self.old
+            (as_refusal (write_refusal (bulk.table_of statement.now)) result) self.new }
+        ensures numbered { IsNumbered self.old
+            (as_refusal (write_refusal (bulk.table_of statement.now)) result) self.new }
     {
         let Ok(()) = self.count_call() else {
             return Err(WriteRefusal::Fault);
         };
-        match self.take_rows(alloc, schema, statement) {
-            Ok(count) => return Ok(count),
-            Err(Undone::Refused(refusal)) => return Err(refusal),
-            Err(Undone::Memory) => {
-                self.give_up();
-                return Err(WriteRefusal::Memory);
-            }
-        }
+        self.take_rows(alloc, schema, statement)
     }
 
-    #[tactic(auto, using(crate::proofs::Keeping::asking, crate::proofs::Queries::query_declared))]
+    #[tactic(auto, using(crate::proofs::Keeping::stating))]
     fn query(
         &mut self,
         alloc: Global,
@@ -279,27 +253,19 @@ impl Keeper for MemKeeper {
         requires attached { (moment_of self.old).attached ≡ true }
         requires inside { 1 ≤ (moment_of self.old).depth }
         requires plain { IsPlainSelect schema.now select.now }
-        ensures step { Runs moment_of (λ rows. rows) (call.query schema.now select.now) self.old (as_refusal query_refusal result) self.new }
-        ensures depth { (moment_of self.new).depth ≡ depth_after_query result (moment_of self.old).depth }
+        ensures call { keeping.IsQuery moment_of schema.now select.now self.old
+            (as_refusal query_refusal result) self.new }
         ensures wide { IfOk result (λ rows. AreWide select.now rows) }
-        ensures kinds { HoldsRows schema.now (moment_of self.old).told → IfOk result (λ rows. AreOfItems schema.now select.now rows) }
-        ensures given { HoldsLegalRows schema.now (moment_of self.old).told → IfOk result (λ rows. AreGiven schema.now select.now rows) }
-        ensures refuses { IfErr result (λ e. CanRefuseQuery select.now e) }
-        ensures declared { IfErr result (λ e. IsOfDeclared schema.now (query_refusal e)) }
-        ensures numbered { IsNumbered self.old (is_query_fault result) self.new }
-        ensures left { IfErr result (λ e. IsLeft (sent.Query select.now) (query_refusal e) (moment_of self.old) (moment_of self.new)) }
+        ensures kinds { HoldsRows schema.now (moment_of self.old).told
+            → IfOk result (λ rows. AreOfItems schema.now select.now rows) }
+        ensures given { HoldsLegalRows schema.now (moment_of self.old).told
+            → IfOk result (λ rows. AreGiven schema.now select.now rows) }
+        ensures numbered { IsNumbered self.old (as_refusal query_refusal result) self.new }
     {
         let Ok(()) = self.count_call() else {
             return Err(QueryRefusal::Fault);
         };
-        match self.ask(alloc, schema, select) {
-            Ok(rows) => return Ok(rows),
-            Err(Unasked::Refused(refusal)) => return Err(refusal),
-            Err(Unasked::Memory) => {
-                self.give_up();
-                return Err(QueryRefusal::Memory);
-            }
-        }
+        self.ask(alloc, schema, select)
     }
 
     #[tactic(auto, using(crate::proofs::Keeping::scanning))]
@@ -311,11 +277,11 @@ impl Keeper for MemKeeper {
     ) -> Result<Option<RowList>, KeeperStop>
         requires attached { (moment_of self.old).attached ≡ true }
         requires declared { IsTable schema.now table }
-        ensures step { Runs moment_of (λ rows. rows) (call.scan table) self.old (as_refusal stop_refusal result) self.new }
-        ensures depth { (moment_of self.new).depth ≡ depth_after result (moment_of self.old).depth }
-        ensures kinds { HoldsRows schema.now (moment_of self.old).told → IfOk result (λ found. IfSome found (λ rows. AreRowsOf schema.now table rows)) }
-        ensures numbered { IsNumbered self.old (is_fault result) self.new }
-        ensures undone { IfErr result (λ _. IsUndone (moment_of self.old) (moment_of self.new)) }
+        ensures call { keeping.IsScan moment_of table self.old
+            (as_refusal stop_refusal result) self.new }
+        ensures kinds { HoldsRows schema.now (moment_of self.old).told
+            → IfOk result (λ found. IfSome found (λ rows. AreRowsOf schema.now table rows)) }
+        ensures numbered { IsNumbered self.old (as_refusal stop_refusal result) self.new }
     {
         let Ok(()) = self.count_call() else {
             return Err(KeeperStop::Fault);

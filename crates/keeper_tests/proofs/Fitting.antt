@@ -1,14 +1,17 @@
 -- Tables of two integer columns, and statements on their rows.
-use Rattle.std.proofs.Common.{◌≡◌, ℤ, true, false, not, cond, ◌&&◌, ◌||◌, List, [], ◌∷◌, length, get_or, Option, Some, None, refl, sym, ap, ◌∙◌, arith}
+use Rattle.std.proofs.Common.{◌≡◌, ℤ, Bool, true, false, not, cond, ◌&&◌, ◌||◌, List, [], ◌∷◌, length, get_or, Option, Some, None, refl, sym, ap, ◌∙◌, arith}
 use Rattle.std.specs.List.{filter}
 use Rattle.std.specs.Cmp.Lexicographic.{pointwise}
 use Rattle.base_core.specs.declared.ids.TableId.{TableId}
 use Rattle.base_core.specs.declared.value.Kind.TheVariants.{Integer}
+use Rattle.base_core.specs.declared.value.Value.{Value}
 use Rattle.base_core.specs.declared.value.Value.TheVariants.{Int}
 use Rattle.schema_core.specs.declared.table.ColumnSpec.{ColumnSpec}
+use Rattle.schema_core.specs.declared.table.TableSpec.{TableSpec}
 use Rattle.schema_core.specs.Catalog.{Catalog, IsTable, kind_of, same_kind, spec_of}
 use Rattle.schema_core.specs.Tables.{fits}
-use Rattle.schema_core.specs.WellFormed.{IsWellFormed, are_cells, may_hold}
+use Rattle.schema_core.specs.Apply.{wants_key}
+use Rattle.schema_core.specs.WellFormed.{AreNewRows, IsWellFormed, are_cells, is_row, may_hold}
 use Rattle.keeper_tests.specs.Pair.{IsPair, cell, delete, insert, update}
 
 two_items : {A : Type 0} (xs : List A) (a b : A) → length xs ≡ 2 → a ≡ get_or xs 0 a → b ≡ get_or xs 1 b → xs ≡ a ∷ b ∷ []
@@ -37,11 +40,26 @@ holds_cell : (column : ColumnSpec) (n : Option ℤ) → kind_of column.kind ≡ 
 holds_cell column None is = refl
 holds_cell column (Some n) is = fits_int column n is
 
+alike : (b : Bool) → ((b && true) || not (b || false)) ≡ true
+alike true = refl
+alike false = refl
+
+-- one row makes a statement
+one_row : (spec : TableSpec) (row : List Value) → is_row spec row ≡ true → AreNewRows spec (row ∷ [])
+one_row spec row holds = record {
+  some = omega arith;
+  few = omega arith;
+  wide = ap (λ b. b && true) holds;
+  alike = alike (wants_key spec row);
+  alone = λ _ _. refl;
+}
+
 pub insert_fits : (schema : Catalog) (table : TableId) (id n : Option ℤ) → IsPair schema table → IsWellFormed schema (insert table id n)
 insert_fits schema table id n is = (
   is.declared,
-  ap (λ columns. pointwise may_hold columns (cell id ∷ cell n ∷ [])) is.columns ∙ ap (λ h. h && (may_hold is.second (cell n) && true)) (holds_cell is.first id is.number)
-      ∙ ap (λ h. h && true) (holds_cell is.second n is.integer),
+  one_row (spec_of schema table) (cell id ∷ cell n ∷ [])
+      (ap (λ columns. pointwise may_hold columns (cell id ∷ cell n ∷ [])) is.columns ∙ ap (λ h. h && (may_hold is.second (cell n) && true)) (holds_cell is.first id is.number)
+      ∙ ap (λ h. h && true) (holds_cell is.second n is.integer)),
 )
 
 key_fits : (schema : Catalog) (table : TableId) (id : ℤ) → IsPair schema table → pointwise fits (filter (λ column. column.key) (spec_of schema table).columns) (Int id ∷ []) ≡ true

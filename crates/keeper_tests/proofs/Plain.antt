@@ -25,8 +25,8 @@ use Rattle.expr_types.specs.declared.select.Bulk.{Bulk}
 use Rattle.expr_types.specs.declared.select.Select.{Select}
 use Rattle.expr_types.specs.Normal.{normal}
 use Rattle.expr_types.proofs.Folds.{fold-Compare, fold-Column, fold-Lit, fold-Arith, fold-Exists}
-use Rattle.expr_typing.specs.Kinds.{Judged, Scope, column_in, judged, judged_level}
-use Rattle.expr_typing.specs.Plain.{IsFilter, IsPlainBulk, IsPlainSelect, IfSet, IsWritten, StandsIn, adds_name, alone, fits, fits_level, has_full_lists, has_kind, is_free_column, is_key_column, is_kind_where, lacks_aggregate, name_of, names_apart}
+use Rattle.sql_semantics.specs.Kinds.{Judged, Scope, column_in, judged, judged_level}
+use Rattle.sql_semantics.specs.Plain.{IsFilter, IsPlainBulk, IsPlainSelect, IfSet, IsWritten, StandsIn, adds_name, alone, fits, fits_level, has_full_lists, has_kind, is_free_column, is_key_column, is_kind_where, lacks_aggregate, name_of, names_apart}
 use Rattle.keeper_tests.specs.Pair.{AreApart, IsPair, above, cell, clear, clear_named, literal, names, number, put, raised, rewrite}
 
 -- all rows of a table, with no item

@@ -35,10 +35,10 @@ abbrev pub cell : Option ℤ → Value
 cell None = Null
 cell (Some n) = Int n
 
--- ---- statements on one row
+-- ---- statements on rows
 
 abbrev pub insert : TableId → Option ℤ → Option ℤ → RowStmt
-insert table id n = row.Insert table (cell id ∷ cell n ∷ [])
+insert table id n = row.Insert table ((cell id ∷ cell n ∷ []) ∷ [])
 
 abbrev pub update : TableId → ℤ → Option ℤ → RowStmt
 update table id n = row.Update table (Int id ∷ []) ((record { 0 = 1 }, cell n) ∷ [])

@@ -5,11 +5,11 @@ ghost use Rattle.base_core.specs.declared.value.Kind.{Kind};
 ghost use Rattle.schema_core.specs.Catalog.{Catalog, IsTable};
 ghost use Rattle.schema_core.specs.Apply as row;
 ghost use Rattle.schema_core.specs.WellFormed.{IsWellFormed};
-ghost use Rattle.expr_typing.specs.Plain.{IsPlainBulk, IsPlainSelect};
+ghost use Rattle.sql_semantics.specs.Plain.{IsPlainBulk, IsPlainSelect};
 ghost use Rattle.keeper_tests.specs.Pair as pair;
 ghost use Rattle.keeper_tests.specs.Pair.{AreApart, IsPair};
 
-use base_core::{ArithOp, ColumnNo, ListOf, TableId, Value};
+use base_core::{ArithOp, ColumnNo, ListOf, RowList, TableId, Value};
 use expr_types::{Bulk, CompareOp, Expr, Origin, Select};
 use schema_core::RowStmt;
 use sqlite_items::{Boxed, Items};
@@ -78,6 +78,15 @@ fn two(alloc: Global, id: Option<i64>, n: Option<i64>) -> Result<ListOf<Value>, 
     Ok(ListOf::from_vec(cells))
 }
 
+/// A list of one row.
+fn one_row(alloc: Global, id: Option<i64>, n: Option<i64>) -> Result<RowList, AllocError>
+    ensures { IfOk result (λ rows. rows ≡ (pair.cell id ∷ pair.cell n ∷ []) ∷ []) }
+{
+    let mut rows = Vec::new(alloc);
+    rows.push(two(alloc, id, n)?)?;
+    Ok(ListOf::from_vec(rows))
+}
+
 /// The statement of a call that writes a row.
 #[tactic(auto, using(crate::proofs::Fitting::row_shapes))]
 pub(crate) fn statement_of(alloc: Global, call: &Call) -> Result<Option<RowStmt>, AllocError>
@@ -86,7 +95,7 @@ pub(crate) fn statement_of(alloc: Global, call: &Call) -> Result<Option<RowStmt>
     match call {
         Call::Insert(table, id, n) => Ok(Some(RowStmt::Insert {
             table: TableId(*table),
-            row: two(alloc, *id, *n)?,
+            rows: one_row(alloc, *id, *n)?,
         })),
         Call::Update(table, id, n) => {
             let mut cells = Vec::new(alloc);

@@ -7,8 +7,7 @@ ghost use Rattle.keeper_tests.specs.Pair.{IsPair};
 
 use crate::calls::{Call, Many, all_rows, bulk_of, statement_of};
 use crate::schema::{are_apart, is_pair};
-use base_core::{Key, RowList, TableId, Value};
-use keeper_core::calls::table_of;
+use base_core::{Key, KeyList, RowList, TableId, Value};
 use keeper_core::{Keeper, KeeperStop, QueryRefusal, Target, WriteRefusal};
 use keeper_mem::MemKeeper;
 use schema_core::{RowStmt, Schema};
@@ -67,14 +66,22 @@ fn refused(refusal: WriteRefusal) -> u8 {
     }
 }
 
-/// The last digit of the row's key, or a letter for what refuses the statement.
-fn written(answer: Result<Key, WriteRefusal>) -> u8 {
+/// The last digit of the last row's key, or a letter for what refuses the statement.
+fn written(answer: Result<KeyList, WriteRefusal>) -> u8 {
     match answer {
-        Ok(key) => match key.get(0) {
-            Some(Value::Int(n)) => digit(n.unsigned_abs()),
-            _ => b'?',
-        },
+        Ok(keys) => last_digit(keys.as_slice()),
         Err(refusal) => refused(refusal),
+    }
+}
+
+/// The last digit of the last key.
+fn last_digit(keys: &[Key]) -> u8 {
+    let Some(key) = keys.last() else {
+        return b'?';
+    };
+    match key.get(0) {
+        Some(Value::Int(n)) => digit(n.unsigned_abs()),
+        _ => b'?',
     }
 }
 
@@ -145,7 +152,7 @@ fn write_call(alloc: Global, schema: &Schema, keeper: &mut MemKeeper, statement:
     if !keeper.is_attached() || keeper.depth() < 1 {
         return b'?';
     }
-    if !is_pair(schema, table_of(statement)) {
+    if !is_pair(schema, statement.table()) {
         return b'?';
     }
     written(keeper.write(alloc, schema, statement))

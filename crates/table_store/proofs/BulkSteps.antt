@@ -1,98 +1,140 @@
 -- Steps of a bulk statement.
-use Rattle.std.proofs.Common.{◌≡◌, ◌≢◌, ℕ, suc, ◌&&◌, Bool, true, false, List, [], ◌∷◌, length, Option, None, Some, IsTrue, Ok, Err, if◌then◌else◌, refl, ap, ◌∙◌, arith}
+use Rattle.std.specs.Borrow.{Bor}
+use Rattle.std.proofs.Common.{◌≡◌, ◌≢◌, ℕ, suc, ◌&&◌, Bool, true, false, List, [], ◌∷◌, length, Option, None, Some, IsTrue, Ok, Err, if◌then◌else◌, refl, sym, ap, subst, ◌∙◌, arith}
 use Rattle.base_core.specs.declared.ids.ColumnNo.{ColumnNo}
 use Rattle.base_core.specs.declared.ids.TableId.{TableId}
 use Rattle.base_core.specs.declared.value.Value.{Value}
 use Rattle.base_core.specs.declared.refusal.Refusal.TheVariants.{OperationalError}
-use Rattle.schema_core.specs.declared.statement.Breach.{Breach}
-use Rattle.schema_core.specs.declared.statement.Breach.TheVariants.{NotNull, Unique, Foreign}
+use Rattle.schema_core.specs.declared.statement.Unwritten.{Unwritten}
+use Rattle.schema_core.specs.declared.statement.Unwritten.TheVariants.{Violates, Memory}
+use Rattle.schema_core.specs.declared.statement.Violation.TheVariants as violations
 use Rattle.schema_core.specs.Apply as row
 use Rattle.schema_core.specs.Catalog.{Catalog, IsTable, spec_of}
-use Rattle.schema_core.specs.Tables.{Rows, Tables, has_dangling, rows_in, with_rows}
+use Rattle.schema_core.specs.Judged.{Judged, and_then, change_all, remove_all, some_lacks, some_loses_row, with_all, without_all, write_all}
+use Rattle.schema_core.specs.Told.{Told}
+use Rattle.schema_core.proofs.ApplySteps.{change_full, change_lacks, remove_done, remove_loses, told_first}
+use Rattle.sql_semantics.specs.Checked.{◌>>=◌, Refuses}
+use Rattle.schema_core.specs.Tables.{Rows, Tables, rows_in, with_rows}
 use Rattle.expr_types.specs.declared.expr.Expr.{Expr}
 use Rattle.expr_types.specs.declared.select.Bulk.{Bulk}
 use Rattle.expr_types.specs.declared.select.Bulk.TheVariants as bulk
-use Rattle.expr_typing.specs.Kinds.{column_in}
-use Rattle.expr_typing.specs.Plain.{IsPlainBulk, are_for, has_kind}
-use Rattle.bulk_rows.specs.Applied as spec
-use Rattle.bulk_rows.specs.Taken.{inserted}
-use Rattle.table_store.specs.Held.{rows_at}
+use Rattle.sql_semantics.specs.Kinds.{column_in}
+use Rattle.sql_semantics.specs.Plain.{IsPlainBulk, are_for, has_kind}
+use Rattle.sql_semantics.specs.Applied as spec
+use Rattle.sql_semantics.specs.Taken.{inserted}
+use Rattle.table_store.specs.Held.{Did, refusal_of, rows_at, stand}
+use Rattle.table_store.specs.Lost.{some_lost}
+use Rattle.table_store.specs.declared.judging.Before.TheVariants as before
+use Rattle.table_store.proofs.WriteSteps.{stand_written, still_created}
 
--- ---- foreign keys
+-- ---- what is left
 
-pub dangles : (schema : Catalog) (tables : Tables) (table : TableId) (count : ℕ) (left : Rows) → has_dangling schema (with_rows tables table left) ≡ true
-    → spec.unless_dangling schema tables table count left ≡ Err (spec.breach_refusal table Foreign)
-unfolding spec.unless_dangling
-dangles schema tables table count left is = ap (λ b. if b then Err (spec.breach_refusal table Foreign) else Ok (count, with_rows tables table left)) is
+refused : (table : TableId) (e : Unwritten) (answer : Judged (ℕ × Tables)) → Told answer (Err e) → Refuses (refusal_of table e) (spec.of_judged table answer)
+refused table (Violates (violations.NoTable absent)) answer told = ap (spec.of_judged table) told
+refused table (Violates violations.Missing) answer told = ap (spec.of_judged table) told
+refused table (Violates violations.NotNull) answer told = ap (spec.of_judged table) told
+refused table (Violates violations.KeysSpent) answer told = ap (spec.of_judged table) told
+refused table (Violates violations.PrimaryKey) answer told = ap (spec.of_judged table) told
+refused table (Violates violations.Unique) answer told = ap (spec.of_judged table) told
+refused table (Violates violations.Foreign) answer told = ap (spec.of_judged table) told
+refused table Memory answer told = tt
 
-pub fine : (schema : Catalog) (tables : Tables) (table : TableId) (count : ℕ) (left : Rows) → has_dangling schema (with_rows tables table left) ≡ false
-    → spec.unless_dangling schema tables table count left ≡ Ok (count, with_rows tables table left)
-unfolding spec.unless_dangling
-fine schema tables table count left is = ap (λ b. if b then Err (spec.breach_refusal table Foreign) else Ok (count, with_rows tables table left)) is
+then_counted : {A : Type 0} (table : TableId) (answer : Judged A) (next : A → ℕ × Tables) → spec.of_judged table (and_then answer (λ a. Ok (next a))) ≡ (spec.of_judged table answer >>= λ a. Ok (next a))
+then_counted table (Ok a) next = refl
+then_counted table (Err violation) next = refl
 
-pub ruleset dangling_steps = (dangles, fine)
+pub left_refused : {A : Type 0} (table : TableId) (e : Unwritten) (answer : Judged A) (next : A → ℕ × Tables) → Told answer (Err e) → Refuses (refusal_of table e) (spec.of_judged table answer >>= λ a. Ok (next a))
+left_refused table e answer next told =
+    subst (Refuses (refusal_of table e)) (then_counted table answer next) (refused table e (and_then answer (λ a. Ok (next a))) (told_first answer (λ a. Ok (next a)) e told))
 
--- ---- rows that are written
+pub change_stands : (schema : Catalog) (tables after : Tables) (table : TableId) (rows entries : Rows) → some_lacks (spec_of schema table) entries ≡ false → after ≡ with_rows tables table (with_all rows entries)
+    → stand schema after table entries ≡ Ok tt → change_all schema tables table rows entries ≡ Ok after
+change_stands schema tables after table rows entries full is fine =
+    sym (change_full schema tables table rows entries full)
+    ∙ sym (same_after (write_all schema tables table rows entries))
+    ∙ sym (stand_written schema tables table rows entries (λ ts. Ok ts))
+    ∙ ap (λ ts. and_then (stand schema ts table entries) (λ _. Ok ts)) (sym is)
+    ∙ ap (λ r. and_then r (λ _. Ok after)) fine
+  where
+    same_after : (r : Judged Tables) → and_then r (λ ts. Ok ts) ≡ r
+    same_after (Ok ts) = refl
+    same_after (Err violation) = refl
 
-abbrev unless_repeating : Catalog → Tables → TableId → Rows → Rows → Bool → spec.Outcome
-unless_repeating schema tables table rows entries b =
-    if b then Err (spec.breach_refusal table Unique) else spec.unless_dangling schema tables table (length entries) (spec.with_all rows entries)
+pub change_violates : (schema : Catalog) (tables after : Tables) (table : TableId) (rows entries : Rows) (e : Unwritten) → some_lacks (spec_of schema table) entries ≡ false → after ≡ with_rows tables table (with_all rows entries)
+    → Told (stand schema after table entries) (Err e) → Told (change_all schema tables table rows entries) (Err e)
+change_violates schema tables after table rows entries (Violates violation) full is told =
+    sym (change_full schema tables table rows entries full)
+    ∙ sym (same_after (write_all schema tables table rows entries))
+    ∙ sym (stand_written schema tables table rows entries (λ ts. Ok ts))
+    ∙ ap (λ ts. and_then (stand schema ts table entries) (λ _. Ok ts)) (sym is)
+    ∙ ap (λ r. and_then r (λ _. Ok after)) told
+  where
+    same_after : (r : Judged Tables) → and_then r (λ ts. Ok ts) ≡ r
+    same_after (Ok ts) = refl
+    same_after (Err violation) = refl
+change_violates schema tables after table rows entries Memory full is told = tt
 
-abbrev unless_lacking : Catalog → Tables → TableId → Rows → Rows → Bool → spec.Outcome
-unless_lacking schema tables table rows entries b =
-    if b then Err (spec.breach_refusal table NotNull) else unless_repeating schema tables table rows entries (spec.some_repeats (spec_of schema table) (spec.with_all rows entries) entries)
+pub ruleset change_steps = (change_lacks, change_stands, change_violates, still_created)
 
-pub lacking : (schema : Catalog) (tables : Tables) (table : TableId) (rows entries : Rows) → spec.some_lacks (spec_of schema table) entries ≡ true
-    → spec.written schema tables table rows entries ≡ Err (spec.breach_refusal table NotNull)
-unfolding spec.written
-lacking schema tables table rows entries is = ap (unless_lacking schema tables table rows entries) is
+-- rows that are left refer to rows of all tables before
+pub all_lost : (schema : Catalog) (tables : Bor Tables) (after : Tables) (table : TableId) (rows : Rows) (keys : List (List Value)) → after ≡ with_rows tables.now table (without_all rows keys)
+    → some_lost schema (before.Tables tables) after ≡ true → remove_all schema tables.now table rows keys ≡ Err violations.Foreign
+all_lost schema tables after table rows keys is lost = remove_loses schema tables.now table rows keys (ap (some_loses_row schema tables.now) (sym is) ∙ lost)
 
-pub repeating : (schema : Catalog) (tables : Tables) (table : TableId) (rows entries : Rows) → spec.some_lacks (spec_of schema table) entries ≡ false
-    → spec.some_repeats (spec_of schema table) (spec.with_all rows entries) entries ≡ true → spec.written schema tables table rows entries ≡ Err (spec.breach_refusal table Unique)
-unfolding spec.written
-repeating schema tables table rows entries full is = ap (unless_lacking schema tables table rows entries) full ∙ ap (unless_repeating schema tables table rows entries) is
+pub none_lost : (schema : Catalog) (tables : Bor Tables) (after : Tables) (table : TableId) (rows : Rows) (keys : List (List Value)) → after ≡ with_rows tables.now table (without_all rows keys)
+    → some_lost schema (before.Tables tables) after ≡ false → remove_all schema tables.now table rows keys ≡ Ok after
+none_lost schema tables after table rows keys is bound = remove_done schema tables.now table rows keys (ap (some_loses_row schema tables.now) (sym is) ∙ bound) ∙ ap (λ ts. Ok ts) (sym is)
 
-pub apart : (schema : Catalog) (tables : Tables) (table : TableId) (rows entries : Rows) → spec.some_lacks (spec_of schema table) entries ≡ false
-    → spec.some_repeats (spec_of schema table) (spec.with_all rows entries) entries ≡ false
-    → spec.written schema tables table rows entries ≡ spec.unless_dangling schema tables table (length entries) (spec.with_all rows entries)
-unfolding spec.written
-apart schema tables table rows entries full is = ap (unless_lacking schema tables table rows entries) full ∙ ap (unless_repeating schema tables table rows entries) is
-
-pub ruleset written_steps = (lacking, repeating, apart)
+pub ruleset remove_steps = (all_lost, none_lost)
 
 -- ---- where no row is taken
 
-pub updates_none : (schema : Catalog) (tables : Tables) (table : TableId) (rows entries : Rows) → length entries ≡ 0 → spec.updated schema tables table rows entries ≡ Ok (0, tables)
+pub updates_none : (schema : Catalog) (tables : Tables) (table : TableId) (rows entries : Rows) → length entries ≡ 0 → spec.update_entries schema tables table rows entries ≡ Ok (0, tables)
 updates_none schema tables table rows [] is = refl
 updates_none schema tables table rows (e ∷ es) is = absurd (omega arith)
 
-pub updates_some : (schema : Catalog) (tables : Tables) (table : TableId) (rows entries : Rows) → length entries ≢ 0
-    → spec.updated schema tables table rows entries ≡ spec.written schema tables table rows entries
-updates_some schema tables table rows [] is = absurd (is refl)
-updates_some schema tables table rows (e ∷ es) is = refl
+pub updates_some : (schema : Catalog) (tables after : Tables) (table : TableId) (rows entries : Rows) → length entries ≢ 0 → change_all schema tables table rows entries ≡ Ok after
+    → spec.update_entries schema tables table rows entries ≡ Ok (length entries, after)
+updates_some schema tables after table rows [] some is = absurd (some refl)
+updates_some schema tables after table rows (e ∷ es) some is = ap (spec.count_rows table (length (e ∷ es))) is
 
-pub ruleset updated_steps = (updates_none, updates_some)
+pub updates_refused : (schema : Catalog) (tables : Tables) (table : TableId) (rows entries : Rows) (e : Unwritten) → length entries ≢ 0 → Told (change_all schema tables table rows entries) (Err e)
+    → Refuses (refusal_of table e) (spec.update_entries schema tables table rows entries)
+updates_refused schema tables table rows [] e some told = absurd (some refl)
+updates_refused schema tables table rows (x ∷ xs) e some told = left_refused table e (change_all schema tables table rows (x ∷ xs)) (λ ts. (length (x ∷ xs), ts)) told
 
-pub deletes_none : (schema : Catalog) (tables : Tables) (table : TableId) (rows : Rows) (keys : List (List Value)) → length keys ≡ 0 → spec.deleted schema tables table rows keys ≡ Ok (0, tables)
+pub ruleset update_steps = (updates_none, updates_some, updates_refused)
+
+pub deletes_none : (schema : Catalog) (tables : Tables) (table : TableId) (rows : Rows) (keys : List (List Value)) → length keys ≡ 0 → spec.delete_keys schema tables table rows keys ≡ Ok (0, tables)
 deletes_none schema tables table rows [] is = refl
 deletes_none schema tables table rows (k ∷ ks) is = absurd (omega arith)
 
-pub deletes_some : (schema : Catalog) (tables : Tables) (table : TableId) (rows : Rows) (keys : List (List Value)) → length keys ≢ 0
-    → spec.deleted schema tables table rows keys ≡ spec.unless_dangling schema tables table (length keys) (spec.without_all rows keys)
-deletes_some schema tables table rows [] is = absurd (is refl)
-deletes_some schema tables table rows (k ∷ ks) is = refl
+pub deletes_some : (schema : Catalog) (tables after : Tables) (table : TableId) (rows : Rows) (keys : List (List Value)) → length keys ≢ 0 → remove_all schema tables table rows keys ≡ Ok after
+    → spec.delete_keys schema tables table rows keys ≡ Ok (length keys, after)
+deletes_some schema tables after table rows [] some is = absurd (some refl)
+deletes_some schema tables after table rows (k ∷ ks) some is = ap (spec.count_rows table (length (k ∷ ks))) is
 
-pub ruleset deleted_steps = (deletes_none, deletes_some)
+pub deletes_refused : (schema : Catalog) (tables : Tables) (table : TableId) (rows : Rows) (keys : List (List Value)) (e : Unwritten) → length keys ≢ 0 → Told (remove_all schema tables table rows keys) (Err e)
+    → Refuses (refusal_of table e) (spec.delete_keys schema tables table rows keys)
+deletes_refused schema tables table rows [] e some told = absurd (some refl)
+deletes_refused schema tables table rows (k ∷ ks) e some told = left_refused table e (remove_all schema tables table rows (k ∷ ks)) (λ ts. (length (k ∷ ks), ts)) told
+
+pub ruleset delete_steps = (deletes_none, deletes_some, deletes_refused)
 
 -- ---- one row
 
-pub row_put : (schema : Catalog) (tables after : Tables) (table : TableId) (r key : List Value) → row.inserted schema tables table (rows_at tables table) r ≡ Ok (key, after)
-    → spec.of_row table (row.inserted schema tables table (rows_at tables table) r) ≡ Ok (1, after)
-row_put schema tables after table r key is = ap (spec.of_row table) is
+pub row_put : (schema : Catalog) (tables after : Tables) (table : TableId) (r : List Value) (keys : List (List Value)) → row.insert_rows schema tables table (rows_at tables table) (r ∷ []) ≡ Ok (keys, after)
+    → spec.of_row table (row.insert_rows schema tables table (rows_at tables table) (r ∷ [])) ≡ Ok (1, after)
+row_put schema tables after table r keys is = ap (spec.of_row table) is
 
-pub row_refused : (schema : Catalog) (tables : Tables) (table : TableId) (r : List Value) (breach : Breach) → row.inserted schema tables table (rows_at tables table) r ≡ Err breach
-    → spec.of_row table (row.inserted schema tables table (rows_at tables table) r) ≡ Err (spec.breach_refusal table breach)
-row_refused schema tables table r breach is = ap (spec.of_row table) is
+did_told : {A : Type 0} (told : Judged (A × Tables)) (old new : Tables) (e : Unwritten) → Did told old (Err e) new → Told told (Err e)
+did_told told old new (Violates violation) did = did.0
+did_told told old new Memory did = tt
+
+pub row_refused : (schema : Catalog) (tables after : Tables) (table : TableId) (r : List Value) (e : Unwritten) → Did (row.insert_rows schema tables table (rows_at tables table) (r ∷ [])) tables (Err e) after
+    → Refuses (refusal_of table e) (spec.of_row table (row.insert_rows schema tables table (rows_at tables table) (r ∷ [])))
+row_refused schema tables after table r e did =
+    left_refused table e (row.insert_rows schema tables table (rows_at tables table) (r ∷ [])) (λ done. (1, done.1)) (did_told (row.insert_rows schema tables table (rows_at tables table) (r ∷ [])) tables after e did)
 
 pub ruleset row_steps = (row_put, row_refused)
 
@@ -127,7 +169,7 @@ nowhere schema tables (bulk.Delete table filter) is = rw is refl
 
 pub inserts : (schema : Catalog) (tables : Tables) (table : TableId) (columns : List ColumnNo) (values : List Value) (rows : Rows) → rows_in tables table ≡ Some rows
     → spec.applied schema tables (bulk.Insert table columns values)
-    ≡ spec.of_row table (row.inserted schema tables table (rows_at tables table) (inserted (length (spec_of schema table).columns) columns values))
+    ≡ spec.of_row table (row.insert_rows schema tables table (rows_at tables table) (inserted (length (spec_of schema table).columns) columns values ∷ []))
 unfolding spec.applied
 inserts schema tables table columns values rows is = rw is refl
 

@@ -7,7 +7,8 @@ use Rattle.base_core.specs.declared.value.Value.{Value}
 use Rattle.base_core.specs.declared.value.Value.TheVariants.{Null}
 use Rattle.schema_core.specs.declared.table.ColumnSpec.{ColumnSpec}
 use Rattle.table_store.specs.Held.{keyed}
-use Rattle.schema_core.specs.Apply.{lacks_value, with_cells, with_key}
+use Rattle.schema_core.specs.Apply.{with_cells, with_key}
+use Rattle.schema_core.specs.Judged.{lacks_value}
 use Rattle.schema_core.specs.Catalog.{same_name}
 use Rattle.schema_core.specs.Tables.{cell_of, is_null, key_cells}
 

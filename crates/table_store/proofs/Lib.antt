@@ -1,12 +1,9 @@
-mod AnySteps
 mod BulkSteps
 mod CellSteps
 mod Copies
 mod Entries
-mod KeyShapes
+mod Gone
 mod Laws
-mod NewKeys
-mod NextKey
 mod Scopes
 mod Statements
 mod WriteSteps

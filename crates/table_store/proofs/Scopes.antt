@@ -2,7 +2,7 @@
 use Rattle.std.proofs.Common.{◌≡◌, ℕ, ◌+◌, ◌-◌, ◌<◌, ◌≤◌, List, [], ◌∷◌, ◌++◌, length, drop, take, slice_index_or, Option, None, Some, refl, sym, ap, ◌∙◌, arith, append-nil, zero, suc, add-one, drop-cons}
 use Rattle.std.proofs.lemmas.List.{drop_all}
 use Rattle.schema_core.specs.Tables.{Tables}
-use Rattle.keeper_core.specs.Store.{outermost}
+use Rattle.programs.specs.Store.{outermost}
 
 pub outermost_last : (tables last : Tables) (scopes : List Tables) → outermost tables (scopes ++ last ∷ []) ≡ last
 outermost_last tables last [] = refl

@@ -1,207 +1,367 @@
--- Steps of a statement that writes one row.
-use Rattle.std.proofs.Common.{◌≡◌, ℕ, ℤ, Bool, true, false, not, ◌&&◌, ◌||◌, List, [], ◌∷◌, Option, None, Some, is_some, Ok, Err, if◌then◌else◌, refl, sym, ap, ◌∙◌}
-use Rattle.std.specs.declared.cmp.Ordering.{Ordering}
-use Rattle.std.specs.declared.cmp.Ordering.TheVariants.{Less, Equal, Greater}
-use Rattle.std.specs.Ordering.{is_eq}
+-- Steps of a statement on rows, done on tables that are held.
+use Rattle.std.proofs.Common.{◌≡◌, ℕ, ℤ, ◌<◌, Bool, true, false, not, ◌&&◌, ◌||◌, List, [], ◌∷◌, ◌++◌, length, Option, None, Some, is_some, Result, Ok, Err, if◌then◌else◌, refl, sym, ap, subst, ◌∙◌, append-nil, append_assoc, arith}
 use Rattle.std.specs.List.{list_any}
-use Rattle.std.specs.BTreeMap.{insert_entry}
+use Rattle.std.specs.Option.{unwrap_or}
+use Rattle.base_core.specs.declared.ids.ColumnNo.{ColumnNo}
 use Rattle.base_core.specs.declared.ids.TableId.{TableId}
 use Rattle.base_core.specs.declared.value.Value.{Value}
-use Rattle.base_core.specs.Order.{values_cmp}
-use Rattle.schema_core.specs.declared.statement.Breach.TheVariants.{Unique, Foreign, PrimaryKey}
-use Rattle.schema_core.specs.declared.table.ColumnSpec.{ColumnSpec}
-use Rattle.schema_core.specs.declared.table.TableSpec.{TableSpec}
-use Rattle.base_core.specs.declared.ids.ColumnNo.{ColumnNo}
-use Rattle.base_core.specs.declared.value.Value.TheVariants.{Int}
-use Rattle.schema_core.specs.declared.statement.Breach.TheVariants.{NotNull, KeysSpent, Missing, NoTable}
 use Rattle.schema_core.specs.declared.statement.RowStmt.{RowStmt}
 use Rattle.schema_core.specs.declared.statement.RowStmt.TheVariants.{Insert, Update, Delete}
-use Rattle.std.specs.Option.{unwrap_or}
-use Rattle.schema_core.specs.Apply.{applied, apply, changed, deleted, inserted, is_demanded, lacks_value, next_key, put_in, put_under, table_of, taken, unless_dangling, updated, wants_key, with_cells, with_key, written}
-use Rattle.schema_core.specs.Catalog.{Catalog, has_generated_key, is_required, spec_of}
-use Rattle.schema_core.specs.Tables.{Rows, Tables, collide, has_dangling, key_of, repeats_unique, row_under, rows_in, same_values, with_row, with_rows, without_row}
-use Rattle.table_store.specs.Held.{rows_at}
-use Rattle.table_store.proofs.Entries.{found_put, same_key}
-use Rattle.table_store.proofs.Laws.{tables_total, values_total, put_undone, taking_undone}
-
--- an item that fails the test is put in
-any_put : {K X : Type 0} (R : K → K → Ordering) (test : K × X → Bool) (k : K) (v : X) (es : List (K × X)) → test (k, v) ≡ false → ((e : K × X) (w : X) → R k e.0 ≡ Equal → (test e ≡ false) × (test (e.0, w) ≡ false))
-    → list_any test (insert_entry R es k v) ≡ list_any test es
-any_put R test k v [] fails same = ap (λ b. b || false) fails
-any_put R test k v (e ∷ es) fails same = by (R k e.0) refl (any_put R test k v es fails same)
-  where
-    by : (r : Ordering) → R k e.0 ≡ r → list_any test (insert_entry R es k v) ≡ list_any test es → list_any test (insert_entry R (e ∷ es) k v) ≡ list_any test (e ∷ es)
-    by Less is rest = rw is (ap (λ b. b || list_any test (e ∷ es)) fails)
-    by Equal is rest = rw is (ap (λ b. b || list_any test es) ((same e v is).1 ∙ sym (same e v is).0))
-    by Greater is rest = rw is (ap (λ b. test e || b) rest)
-
-differs : (spec : TableSpec) (unique : List (List ℕ)) (key row : List Value) (e : List Value × List Value) → values_cmp key e.0 ≡ Equal → (not (same_values key e.0) && collide spec unique row e.1) ≡ false
-differs spec unique key row e is = ap (λ r. not (is_eq r) && collide spec unique row e.1) is
-
--- some row under another key collides with this one in a unique constraint
-abbrev some_collides : TableSpec → List Value → List Value → Rows → List (List ℕ) → Bool
-some_collides spec key row rows unique = list_any (λ other. not (same_values key other.0) && collide spec unique row other.1) rows
-
-one_repeats : (spec : TableSpec) (rows : Rows) (key row : List Value) (unique : List (List ℕ)) → some_collides spec key row (with_row rows key row) unique ≡ some_collides spec key row rows unique
-one_repeats spec rows key row unique =
-    any_put values_cmp (λ other. not (same_values key other.0) && collide spec unique row other.1) key row rows (differs spec unique key row (key, row) (same_key values_total key))
-    (λ e w is. (differs spec unique key row e is, differs spec unique key row (e.0, w) is))
-
-each_repeats : (spec : TableSpec) (rows : Rows) (key row : List Value) (uniques : List (List (List ℕ)))
-    → list_any (some_collides spec key row (with_row rows key row)) uniques ≡ list_any (some_collides spec key row rows) uniques
-each_repeats spec rows key row [] = refl
-each_repeats spec rows key row (u ∷ us) =
-    ap (λ b. b || list_any (some_collides spec key row (with_row rows key row)) us) (one_repeats spec rows key row u)
-    ∙ ap (λ b. some_collides spec key row rows u || b) (each_repeats spec rows key row us)
-
--- a row that is written does not repeat itself
-pub repeats_with : (spec : TableSpec) (rows : Rows) (key row : List Value) → repeats_unique spec (with_row rows key row) key row ≡ repeats_unique spec rows key row
-repeats_with spec rows key row = each_repeats spec rows key row spec.uniques
+use Rattle.schema_core.specs.declared.statement.Unwritten.{Unwritten}
+use Rattle.schema_core.specs.declared.statement.Unwritten.TheVariants.{Violates, Memory}
+use Rattle.schema_core.specs.declared.statement.Violation.{Violation}
+use Rattle.schema_core.specs.declared.statement.Violation.TheVariants.{Unique, Foreign, PrimaryKey, NotNull, KeysSpent, Missing, NoTable}
+use Rattle.schema_core.specs.declared.table.TableSpec.{TableSpec}
+use Rattle.schema_core.specs.Apply.{Outcome, answer_keys, apply, apply_found, delete_row, entries_of, entry_of, insert_rows, is_demanded, keys_of_entries, table_of, update_row, with_cells, with_own_key}
+use Rattle.schema_core.specs.Catalog.{Catalog, is_required, spec_of}
+use Rattle.schema_core.specs.Judged.{Judged, and_then, change_all, lacks_value, remove_all, some_lacks, some_loses_row, some_repeats, some_written_dangles, with_all, write_all}
+use Rattle.schema_core.specs.Tables.{Rows, Tables, key_of, row_under, rows_in, with_row, with_rows, without_row}
+use Rattle.schema_core.specs.Told.{Told}
+use Rattle.schema_core.proofs.ApplySteps as steps
+use Rattle.table_store.specs.Held.{AreSorted, Did, is_violation, put_from, restored, rows_at, stand, taken_back, with_entry}
+use Rattle.table_store.specs.Lost.{some_lost}
+use Rattle.table_store.specs.declared.judging.Before.TheVariants as before
+use Rattle.table_store.proofs.Entries.{found_put, put_again}
+use Rattle.table_store.proofs.Laws.{put_undone, row_restored, rows_found, rows_restored, tables_total, taking_undone, values_total}
+use Rattle.table_store.proofs.Gone.{lost_alone}
 
 -- a table whose rows were changed is still created
 pub still_created : (tables new : Tables) (table : TableId) (rows : Rows) → new ≡ with_rows tables table rows → is_some (rows_in new table) ≡ true
 still_created tables new table rows is = ap (λ ts. is_some (rows_in ts table)) is ∙ ap is_some (found_put tables_total table rows tables)
 
--- ---- a row is written
-
-pub written_repeats : (schema : Catalog) (tables : Tables) (table : TableId) (rows : Rows) (key row : List Value) → repeats_unique (spec_of schema table) (with_row rows key row) key row ≡ true
-    → written schema tables table rows key row ≡ Err Unique
-unfolding written
-written_repeats schema tables table rows key row twice = ap (λ b. if b then Err Unique else unless_dangling schema key (with_rows tables table (with_row rows key row))) twice
-
-pub written_dangles : (schema : Catalog) (tables : Tables) (table : TableId) (rows : Rows) (key row : List Value) → repeats_unique (spec_of schema table) (with_row rows key row) key row ≡ false
-    → has_dangling schema (with_rows tables table (with_row rows key row)) ≡ true → written schema tables table rows key row ≡ Err Foreign
-unfolding written unless_dangling
-written_dangles schema tables table rows key row once twice =
-    ap (λ b. if b then Err Unique else unless_dangling schema key (with_rows tables table (with_row rows key row))) once
-    ∙ ap (λ b. if b then Err Foreign else Ok (key, with_rows tables table (with_row rows key row))) twice
-
-pub written_done : (schema : Catalog) (tables : Tables) (table : TableId) (rows : Rows) (key row : List Value) → repeats_unique (spec_of schema table) (with_row rows key row) key row ≡ false
-    → has_dangling schema (with_rows tables table (with_row rows key row)) ≡ false → written schema tables table rows key row ≡ Ok (key, with_rows tables table (with_row rows key row))
-unfolding written unless_dangling
-written_done schema tables table rows key row once fine =
-    ap (λ b. if b then Err Unique else unless_dangling schema key (with_rows tables table (with_row rows key row))) once
-    ∙ ap (λ b. if b then Err Foreign else Ok (key, with_rows tables table (with_row rows key row))) fine
-
-pub ruleset written_steps = (written_repeats, written_dangles, written_done, put_undone, still_created)
-
--- ---- a row is put in
-
-pub put_in_taken : (schema : Catalog) (tables : Tables) (table : TableId) (rows : Rows) (row : List Value) → is_some (row_under rows (key_of (spec_of schema table) row)) ≡ true
-    → put_in schema tables table rows row ≡ Err PrimaryKey
-unfolding put_in
-put_in_taken schema tables table rows row taken = ap (λ b. if b then Err PrimaryKey else written schema tables table rows (key_of (spec_of schema table) row) row) taken
-
-pub put_in_free : (schema : Catalog) (tables : Tables) (table : TableId) (rows : Rows) (row : List Value) → is_some (row_under rows (key_of (spec_of schema table) row)) ≡ false
-    → written schema tables table rows (key_of (spec_of schema table) row) row ≡ put_in schema tables table rows row
-unfolding put_in
-put_in_free schema tables table rows row free = sym (ap (λ b. if b then Err PrimaryKey else written schema tables table rows (key_of (spec_of schema table) row) row) free)
-
-pub ruleset put_in_steps = (put_in_taken, put_in_free)
-
--- ---- an INSERT
-
-pub insert_lacks : (schema : Catalog) (tables : Tables) (table : TableId) (rows : Rows) (row : List Value) → lacks_value (is_demanded (spec_of schema table)) (spec_of schema table).columns row ≡ true
-    → inserted schema tables table rows row ≡ Err NotNull
-unfolding inserted
-insert_lacks schema tables table rows row lacks =
-    ap (λ b. if b then Err NotNull else if wants_key (spec_of schema table) row then put_under schema tables table rows row (next_key rows) else put_in schema tables table rows row) lacks
-
-pub insert_given : (schema : Catalog) (tables : Tables) (table : TableId) (rows : Rows) (row : List Value) → lacks_value (is_demanded (spec_of schema table)) (spec_of schema table).columns row ≡ false
-    → wants_key (spec_of schema table) row ≡ false → put_in schema tables table rows row ≡ inserted schema tables table rows row
-unfolding inserted
-insert_given schema tables table rows row full given = sym (
-    ap (λ b. if b then Err NotNull else if wants_key (spec_of schema table) row then put_under schema tables table rows row (next_key rows) else put_in schema tables table rows row) full
-    ∙ ap (λ b. if b then put_under schema tables table rows row (next_key rows) else put_in schema tables table rows row) given)
-
-insert_drawn : (schema : Catalog) (tables : Tables) (table : TableId) (rows : Rows) (row : List Value) → lacks_value (is_demanded (spec_of schema table)) (spec_of schema table).columns row ≡ false
-    → wants_key (spec_of schema table) row ≡ true → inserted schema tables table rows row ≡ put_under schema tables table rows row (next_key rows)
-unfolding inserted
-insert_drawn schema tables table rows row full wanted =
-    ap (λ b. if b then Err NotNull else if wants_key (spec_of schema table) row then put_under schema tables table rows row (next_key rows) else put_in schema tables table rows row) full
-    ∙ ap (λ b. if b then put_under schema tables table rows row (next_key rows) else put_in schema tables table rows row) wanted
-
-pub insert_spent : (schema : Catalog) (tables : Tables) (table : TableId) (rows : Rows) (row : List Value) → lacks_value (is_demanded (spec_of schema table)) (spec_of schema table).columns row ≡ false
-    → wants_key (spec_of schema table) row ≡ true → next_key rows ≡ None → inserted schema tables table rows row ≡ Err KeysSpent
-insert_spent schema tables table rows row full wanted spent = insert_drawn schema tables table rows row full wanted ∙ ap (put_under schema tables table rows row) spent
-
-pub insert_keyed : (schema : Catalog) (tables : Tables) (table : TableId) (rows : Rows) (row : List Value) (key : ℤ) → lacks_value (is_demanded (spec_of schema table)) (spec_of schema table).columns row ≡ false
-    → wants_key (spec_of schema table) row ≡ true → next_key rows ≡ Some key → put_in schema tables table rows (with_key (spec_of schema table).columns (Int key) row) ≡ inserted schema tables table rows row
-insert_keyed schema tables table rows row key full wanted is = sym (insert_drawn schema tables table rows row full wanted ∙ ap (put_under schema tables table rows row) is)
-
-pub demanded : (spec : TableSpec) (generated : Bool) (columns : List ColumnSpec) (row : List Value) → generated ≡ has_generated_key spec
-    → lacks_value (λ column. is_required column && not (column.key && generated)) columns row ≡ lacks_value (is_demanded spec) columns row
-demanded spec generated columns row is = ap (λ b. lacks_value (λ column. is_required column && not (column.key && b)) columns row) is
-
-pub ruleset inserted_steps = (insert_lacks, insert_given, insert_spent, insert_keyed)
-
--- ---- an UPDATE
-
-pub update_missing : (schema : Catalog) (tables : Tables) (table : TableId) (rows : Rows) (key : List Value) (cells : List (ColumnNo × Value)) → row_under rows key ≡ None → updated schema tables table rows key cells ≡ Err Missing
-unfolding updated
-update_missing schema tables table rows key cells absent = ap (changed schema tables table rows key cells) absent
-
-pub update_lacks : (schema : Catalog) (tables : Tables) (table : TableId) (rows : Rows) (key row : List Value) (cells : List (ColumnNo × Value)) → row_under rows key ≡ Some row
-    → lacks_value is_required (spec_of schema table).columns (with_cells row cells) ≡ true → updated schema tables table rows key cells ≡ Err NotNull
-unfolding updated
-update_lacks schema tables table rows key row cells there lacks =
-    ap (changed schema tables table rows key cells) there ∙ ap (λ b. if b then Err NotNull else written schema tables table rows key (with_cells row cells)) lacks
-
-pub update_full : (schema : Catalog) (tables : Tables) (table : TableId) (rows : Rows) (key row : List Value) (cells : List (ColumnNo × Value)) → row_under rows key ≡ Some row
-    → lacks_value is_required (spec_of schema table).columns (with_cells row cells) ≡ false → written schema tables table rows key (with_cells row cells) ≡ updated schema tables table rows key cells
-unfolding updated
-update_full schema tables table rows key row cells there full =
-    sym (ap (changed schema tables table rows key cells) there ∙ ap (λ b. if b then Err NotNull else written schema tables table rows key (with_cells row cells)) full)
-
-pub ruleset updated_steps = (update_missing, update_lacks, update_full)
-
--- ---- a DELETE
-
-none_there : (found : Option (List Value)) → is_some found ≡ false → found ≡ None
-none_there None is = refl
-none_there (Some row) is = cc
-
-pub delete_absent : (schema : Catalog) (tables : Tables) (table : TableId) (rows : Rows) (key : List Value) → is_some (row_under rows key) ≡ false → deleted schema tables table rows key ≡ Ok (key, tables)
-unfolding deleted
-delete_absent schema tables table rows key absent = ap (taken schema tables table rows key) (none_there (row_under rows key) absent)
-
-pub delete_dangles : (schema : Catalog) (tables : Tables) (table : TableId) (rows : Rows) (key row : List Value) → row_under rows key ≡ Some row
-    → has_dangling schema (with_rows tables table (without_row rows key)) ≡ true → deleted schema tables table rows key ≡ Err Foreign
-unfolding deleted unless_dangling
-delete_dangles schema tables table rows key row there dangling =
-    ap (taken schema tables table rows key) there ∙ ap (λ b. if b then Err Foreign else Ok (key, with_rows tables table (without_row rows key))) dangling
-
-pub delete_done : (schema : Catalog) (tables : Tables) (table : TableId) (rows : Rows) (key row : List Value) → row_under rows key ≡ Some row
-    → has_dangling schema (with_rows tables table (without_row rows key)) ≡ false → deleted schema tables table rows key ≡ Ok (key, with_rows tables table (without_row rows key))
-unfolding deleted unless_dangling
-delete_done schema tables table rows key row there fine =
-    ap (taken schema tables table rows key) there ∙ ap (λ b. if b then Err Foreign else Ok (key, with_rows tables table (without_row rows key))) fine
-
-pub ruleset deleted_steps = (delete_absent, delete_dangles, delete_done, taking_undone, still_created)
-
--- ---- a statement
-
 created_rows : (found : Option Rows) → is_some found ≡ true → found ≡ Some (unwrap_or found [])
 created_rows None is = cc
 created_rows (Some rows) is = refl
 
-pub apply_nowhere : (schema : Catalog) (tables : Tables) (statement : RowStmt) → rows_in tables (table_of statement) ≡ None → apply schema tables statement ≡ Err (NoTable (table_of statement))
-unfolding apply
-apply_nowhere schema tables statement absent = ap (applied schema tables statement) absent
+-- ---- written rows stand
 
-pub apply_insert : (schema : Catalog) (tables : Tables) (table : TableId) (row : List Value) → is_some (rows_in tables table) ≡ true
-    → inserted schema tables table (rows_at tables table) row ≡ apply schema tables (Insert table row)
-unfolding apply
-apply_insert schema tables table row there = sym (ap (applied schema tables (Insert table row)) (created_rows (rows_in tables table) there))
+abbrev bound : Catalog → Tables → TableId → Rows → Bool → Judged (Unit {0})
+bound schema tables table entries b = if b then Err Foreign else Ok tt
+
+abbrev once : Catalog → Tables → TableId → Rows → Bool → Judged (Unit {0})
+once schema tables table entries b = if b then Err Unique else bound schema tables table entries (some_written_dangles schema tables (spec_of schema table) entries)
+
+there : (schema : Catalog) (tables : Tables) (table : TableId) (rows entries : Rows) → rows_in tables table ≡ Some rows → some_repeats (spec_of schema table) (rows_at tables table) entries ≡ some_repeats (spec_of schema table) rows entries
+there schema tables table rows entries found = ap (λ r. some_repeats (spec_of schema table) (unwrap_or r []) entries) found
+
+pub stand_repeats : (schema : Catalog) (tables : Tables) (table : TableId) (rows entries : Rows) → rows_in tables table ≡ Some rows → some_repeats (spec_of schema table) rows entries ≡ true → stand schema tables table entries ≡ Err Unique
+unfolding stand
+stand_repeats schema tables table rows entries found twice = ap (once schema tables table entries) (there schema tables table rows entries found ∙ twice)
+
+pub stand_dangles : (schema : Catalog) (tables : Tables) (table : TableId) (rows entries : Rows) → rows_in tables table ≡ Some rows → some_repeats (spec_of schema table) rows entries ≡ false
+    → some_written_dangles schema tables (spec_of schema table) entries ≡ true → stand schema tables table entries ≡ Err Foreign
+unfolding stand
+stand_dangles schema tables table rows entries found alone dangles =
+    ap (once schema tables table entries) (there schema tables table rows entries found ∙ alone) ∙ ap (bound schema tables table entries) dangles
+
+pub stand_fine : (schema : Catalog) (tables : Tables) (table : TableId) (rows entries : Rows) → rows_in tables table ≡ Some rows → some_repeats (spec_of schema table) rows entries ≡ false
+    → some_written_dangles schema tables (spec_of schema table) entries ≡ false → stand schema tables table entries ≡ Ok tt
+unfolding stand
+stand_fine schema tables table rows entries found alone fine =
+    ap (once schema tables table entries) (there schema tables table rows entries found ∙ alone) ∙ ap (bound schema tables table entries) fine
+
+pub ruleset stand_steps = (stand_repeats, stand_dangles, stand_fine)
+
+abbrev standing : Bool → Bool → Judged (Unit {0})
+standing b c = if b then Err Unique else if c then Err Foreign else Ok tt
+
+abbrev leaving : Bool → Bool → Tables → Judged Tables
+leaving b c tables = if b then Err Unique else if c then Err Foreign else Ok tables
+
+then_left : {A : Type 0} (b c : Bool) (left : Tables) (next : Tables → Judged A) → and_then (standing b c) (λ _. next left) ≡ and_then (leaving b c left) next
+then_left true c left next = refl
+then_left false true left next = refl
+then_left false false left next = refl
+
+-- written rows are judged on the tables that they leave
+pub stand_written : {A : Type 0} (schema : Catalog) (tables : Tables) (table : TableId) (rows entries : Rows) (next : Tables → Judged A)
+    → and_then (stand schema (with_rows tables table (with_all rows entries)) table entries) (λ _. next (with_rows tables table (with_all rows entries))) ≡ and_then (write_all schema tables table rows entries) next
+unfolding stand write_all
+stand_written schema tables table rows entries next =
+    let after : Tables = with_rows tables table (with_all rows entries) in
+    ap (λ left. and_then (standing (some_repeats (spec_of schema table) left entries) (some_written_dangles schema after (spec_of schema table) entries)) (λ _. next after)) (rows_found tables table (with_all rows entries))
+    ∙ then_left (some_repeats (spec_of schema table) (with_all rows entries) entries) (some_written_dangles schema after (spec_of schema table) entries) after next
+
+-- ---- new rows are put in
+
+pub put_all_in : (schema : Catalog) (tables : Tables) (table : TableId) (done : Rows) (new : List (List Value)) → length new ≡ 0 → stand schema tables table done ≡ Ok tt
+    → put_from schema tables table done new ≡ Ok (keys_of_entries done, tables)
+unfolding put_from
+put_all_in schema tables table done [] none is = ap (λ r. and_then r (λ _. Ok (keys_of_entries done, tables))) is
+put_all_in schema tables table done (row ∷ more) none is = absurd (omega (arith, none))
+
+did_first : {A B : Type 0} (r : Judged A) (next : A → Judged (B × Tables)) (tables : Tables) (e : Unwritten) → Told r (Err e) → Did (and_then r next) tables (Err e) tables
+did_first r next tables (Violates violation) told = (ap (λ a. and_then a next) told, refl)
+did_first r next tables Memory told = tt
+
+pub put_refused : (schema : Catalog) (tables : Tables) (table : TableId) (done : Rows) (new : List (List Value)) (e : Unwritten) → length new ≡ 0 → Told (stand schema tables table done) (Err e)
+    → Did (put_from schema tables table done new) tables (Err e) tables
+unfolding put_from
+put_refused schema tables table done [] e none told = did_first (stand schema tables table done) (λ _. Ok (keys_of_entries done, tables)) tables e told
+put_refused schema tables table done (row ∷ more) e none told = absurd (omega (arith, none))
+
+abbrev new_entry : Catalog → Tables → TableId → List Value → Judged (List Value × List Value)
+new_entry schema tables table row = entry_of (spec_of schema table) (rows_at tables table) (with_own_key (spec_of schema table) (rows_at tables table) row)
+
+abbrev put_on : Catalog → Tables → TableId → Rows → List (List Value) → List Value × List Value → Outcome
+put_on schema tables table done more entry = put_from schema (with_entry tables table entry) table (done ++ entry ∷ []) more
+
+pub put_nowhere : (schema : Catalog) (tables : Tables) (table : TableId) (done : Rows) (row : List Value) (more : List (List Value)) (e : Unwritten) → Told (new_entry schema tables table row) (Err e)
+    → Did (put_from schema tables table done (row ∷ more)) tables (Err e) tables
+unfolding put_from
+put_nowhere schema tables table done row more e told = did_first (new_entry schema tables table row) (put_on schema tables table done more) tables e told
+
+put_step : (schema : Catalog) (tables : Tables) (table : TableId) (done : Rows) (row : List Value) (more : List (List Value)) (entry : List Value × List Value) → new_entry schema tables table row ≡ Ok entry
+    → put_from schema tables table done (row ∷ more) ≡ put_on schema tables table done more entry
+unfolding put_from
+put_step schema tables table done row more entry is = ap (λ r. and_then r (put_on schema tables table done more)) is
+
+pub put_kept : (schema : Catalog) (tables left : Tables) (table : TableId) (done : Rows) (row : List Value) (more : List (List Value)) (entry : List Value × List Value) (answer : Result (List (List Value)) Unwritten)
+    → new_entry schema tables table row ≡ Ok entry → is_violation answer ≡ false → Did (put_on schema tables table done more entry) (with_entry tables table entry) answer left
+    → Did (put_from schema tables table done (row ∷ more)) tables answer left
+put_kept schema tables left table done row more entry (Ok keys) is kept did = put_step schema tables table done row more entry is ∙ did
+put_kept schema tables left table done row more entry (Err (Violates violation)) is kept did = absurd (no kept)
+  where
+    no : true ≡ false → ⊥
+    no e = cc
+put_kept schema tables left table done row more entry (Err Memory) is kept did = tt
+
+absent_by : (spec : TableSpec) (rows : Rows) (row : List Value) (b : Bool) (entry : List Value × List Value) → is_some (row_under rows (key_of spec row)) ≡ b → (if b then Err PrimaryKey else Ok (key_of spec row, row)) ≡ Ok entry
+    → is_some (row_under rows entry.0) ≡ false
+absent_by spec rows row true entry is found = cc
+absent_by spec rows row false entry is found =
+    let same : key_of spec row ≡ entry.0 = ap (key_or []) found in
+    ap (λ key. is_some (row_under rows key)) (sym same) ∙ is
+  where
+    key_or : List Value → Judged (List Value × List Value) → List Value
+    key_or other (Ok e) = e.0
+    key_or other (Err v) = other
+
+-- a new row's key was not there
+new_absent : (spec : TableSpec) (rows : Rows) (keyed : Option (List Value)) (entry : List Value × List Value) → entry_of spec rows keyed ≡ Ok entry → is_some (row_under rows entry.0) ≡ false
+new_absent spec rows None entry is = cc
+new_absent spec rows (Some row) entry is = absent_by spec rows row (is_some (row_under rows (key_of spec row))) entry refl is
+
+is_absent : {A : Type 0} (found : Option A) → is_some found ≡ false → found ≡ None
+is_absent None absent = refl
+is_absent (Some x) absent = cc
+
+-- a new row that was put in, taken out again
+entry_undone : (tables : Tables) (table : TableId) (entry : List Value × List Value) → AreSorted tables table → is_some (rows_in tables table) ≡ true → is_some (row_under (rows_at tables table) entry.0) ≡ false
+    → with_rows (with_entry tables table entry) table (without_row (rows_at (with_entry tables table entry) table) entry.0) ≡ tables
+entry_undone tables table entry sorted created new =
+    ap (λ before. with_rows (with_entry tables table entry) table (restored (rows_at (with_entry tables table entry) table) entry.0 before)) (sym (is_absent (row_under (rows_at tables table) entry.0) new))
+    ∙ put_undone tables table entry.0 entry.1 sorted created
+
+pub put_undone_again : (schema : Catalog) (tables left : Tables) (table : TableId) (done : Rows) (row : List Value) (more : List (List Value)) (entry : List Value × List Value) (answer : Result (List (List Value)) Unwritten)
+    → new_entry schema tables table row ≡ Ok entry → is_violation answer ≡ true → AreSorted tables table → is_some (rows_in tables table) ≡ true
+    → Did (put_on schema tables table done more entry) (with_entry tables table entry) answer left
+    → Did (put_from schema tables table done (row ∷ more)) tables answer (with_rows left table (without_row (rows_at left table) entry.0))
+put_undone_again schema tables left table done row more entry (Ok keys) is refused sorted created did = absurd (no refused)
+  where
+    no : false ≡ true → ⊥
+    no e = cc
+put_undone_again schema tables left table done row more entry (Err (Violates violation)) is refused sorted created did = (
+  put_step schema tables table done row more entry is ∙ did.0,
+  ap (λ ts. with_rows ts table (without_row (rows_at ts table) entry.0)) did.1
+      ∙ entry_undone tables table entry sorted created (new_absent (spec_of schema table) (rows_at tables table) (with_own_key (spec_of schema table) (rows_at tables table) row) entry is),
+)
+put_undone_again schema tables left table done row more entry (Err Memory) is refused sorted created did = tt
+
+pub back_taken : (tables after : Tables) (table : TableId) (key : List Value) (answer : Result (List (List Value)) Unwritten) → is_violation answer ≡ true → after ≡ with_rows tables table (without_row (rows_at tables table) key)
+    → after ≡ taken_back answer tables table key
+back_taken tables after table key answer is done = done ∙ ap (λ b. if b then with_rows tables table (without_row (rows_at tables table) key) else tables) (sym is)
+
+pub back_kept : (tables : Tables) (table : TableId) (key : List Value) (answer : Result (List (List Value)) Unwritten) → is_violation answer ≡ false → tables ≡ taken_back answer tables table key
+back_kept tables table key answer is = ap (λ b. if b then with_rows tables table (without_row (rows_at tables table) key) else tables) (sym is)
+
+pub ruleset take_steps = (back_taken, back_kept)
+
+pub put_ended : (schema : Catalog) (tables left after : Tables) (table : TableId) (done : Rows) (row : List Value) (more : List (List Value)) (entry : List Value × List Value) (answer : Result (List (List Value)) Unwritten)
+    → new_entry schema tables table row ≡ Ok entry → AreSorted tables table → is_some (rows_in tables table) ≡ true
+    → Did (put_on schema tables table done more entry) (with_entry tables table entry) answer left → after ≡ taken_back answer left table entry.0
+    → Did (put_from schema tables table done (row ∷ more)) tables answer after
+put_ended schema tables left after table done row more entry answer is sorted created did ended =
+    subst (λ (ts : Tables). Did (put_from schema tables table done (row ∷ more)) tables answer ts) (sym ended) (by answer did)
+  where
+    by : (answer : Result (List (List Value)) Unwritten) → Did (put_on schema tables table done more entry) (with_entry tables table entry) answer left
+        → Did (put_from schema tables table done (row ∷ more)) tables answer (taken_back answer left table entry.0)
+    by (Ok keys) did = put_kept schema tables left table done row more entry (Ok keys) is refl did
+    by (Err (Violates violation)) did = put_undone_again schema tables left table done row more entry (Err (Violates violation)) is refl sorted created did
+    by (Err Memory) did = tt
+
+pub put_closed : (schema : Catalog) (tables mid left after : Tables) (table : TableId) (done both : Rows) (new : List (List Value)) (row : List Value) (more : List (List Value)) (entry : List Value × List Value) (key put_key put_row : List Value) (answer : Result (List (List Value)) Unwritten)
+    → new ≡ row ∷ more → new_entry schema tables table row ≡ Ok entry → key ≡ entry.0 → put_key ≡ entry.0 → put_row ≡ entry.1 → mid ≡ with_rows tables table (with_row (rows_at tables table) put_key put_row) → both ≡ done ++ entry ∷ []
+    → AreSorted tables table → is_some (rows_in tables table) ≡ true → Did (put_from schema mid table both more) mid answer left → after ≡ taken_back answer left table key
+    → Did (put_from schema tables table done new) tables answer after
+put_closed schema tables mid left after table done both new row more entry key put_key put_row answer is_new is is_key is_put_key is_put_row is_mid is_both sorted created did ended =
+    let middle : mid ≡ with_entry tables table entry =
+    is_mid ∙ ap (λ k. with_rows tables table (with_row (rows_at tables table) k put_row)) is_put_key ∙ ap (λ r. with_rows tables table (with_row (rows_at tables table) entry.0 r)) is_put_row in
+    let first : Did (put_from schema (with_entry tables table entry) table both more) (with_entry tables table entry) answer left =
+    subst (λ (ts : Tables). Did (put_from schema ts table both more) ts answer left) middle did in
+    let second : Did (put_on schema tables table done more entry) (with_entry tables table entry) answer left =
+    subst (λ (es : Rows). Did (put_from schema (with_entry tables table entry) table es more) (with_entry tables table entry) answer left) is_both first in
+    subst (λ (rows : List (List Value)). Did (put_from schema tables table done rows) tables answer after) (sym is_new)
+    (put_ended schema tables left after table done row more entry answer is sorted created second (ended ∙ ap (taken_back answer left table) is_key))
+
+-- where a rule was violated, the tables are as they were
+pub refused_created : (old left : Tables) (table : TableId) (told : Outcome) (answer : Result (List (List Value)) Unwritten) → is_violation answer ≡ true → Did told old answer left → is_some (rows_in old table) ≡ true → is_some (rows_in left table) ≡ true
+refused_created old left table told (Ok keys) refused did created = absurd (no refused)
+  where
+    no : false ≡ true → ⊥
+    no e = cc
+refused_created old left table told (Err (Violates violation)) refused did created = ap (λ ts. is_some (rows_in ts table)) did.1 ∙ created
+refused_created old left table told (Err Memory) refused did created = absurd (no refused)
+  where
+    no : false ≡ true → ⊥
+    no e = cc
+
+pub ruleset put_steps = (put_all_in, put_refused, put_nowhere, put_ended, refused_created, still_created)
+
+-- ---- an INSERT
+
+put_all : Tables → TableId → Rows → Tables
+put_all tables table [] = tables
+put_all tables table (entry ∷ entries) = put_all (with_entry tables table entry) table entries
+
+abbrev stands : Catalog → Tables → TableId → Rows → Rows → Outcome
+stands schema tables table done entries = and_then (stand schema (put_all tables table entries) table (done ++ entries)) (λ _. Ok (keys_of_entries (done ++ entries), put_all tables table entries))
+
+more_entries : {B : Type 0} (entry : List Value × List Value) (rest : Judged Rows) (next : Rows → Judged B) → and_then rest (λ es. next (entry ∷ es)) ≡ and_then (and_then rest (λ es. Ok (entry ∷ es))) next
+more_entries entry (Ok es) next = refl
+more_entries entry (Err violation) next = refl
+
+put_as_entries : (schema : Catalog) (tables : Tables) (table : TableId) (done : Rows) (new : List (List Value))
+    → put_from schema tables table done new ≡ and_then (entries_of (spec_of schema table) (rows_at tables table) new) (stands schema tables table done)
+unfolding put_from put_all
+put_as_entries schema tables table done [] = ap (λ es. and_then (stand schema tables table es) (λ _. Ok (keys_of_entries es, tables))) (sym (append-nil done))
+put_as_entries schema tables table done (row ∷ more) = by (new_entry schema tables table row) (λ entry. put_as_entries schema (with_entry tables table entry) table (done ++ entry ∷ []) more)
+  where
+    by : (r : Judged (List Value × List Value))
+        → ((entry : List Value × List Value) → put_on schema tables table done more entry
+        ≡ and_then (entries_of (spec_of schema table) (rows_at (with_entry tables table entry) table) more) (stands schema (with_entry tables table entry) table (done ++ entry ∷ [])))
+        → and_then r (put_on schema tables table done more)
+        ≡ and_then (and_then r (λ entry. and_then (entries_of (spec_of schema table) (with_row (rows_at tables table) entry.0 entry.1) more) (λ entries. Ok (entry ∷ entries)))) (stands schema tables table done)
+    by (Ok entry) again =
+        again entry
+        ∙ ap (λ rows. and_then (entries_of (spec_of schema table) rows more) (stands schema (with_entry tables table entry) table (done ++ entry ∷ []))) (rows_found tables table (with_row (rows_at tables table) entry.0 entry.1))
+        ∙ (λ i. and_then (entries_of (spec_of schema table) (with_row (rows_at tables table) entry.0 entry.1) more)
+        (λ es. and_then (stand schema (put_all (with_entry tables table entry) table es) table (append_assoc done (entry ∷ []) es i)) (λ _. Ok (keys_of_entries (append_assoc done (entry ∷ []) es i), put_all (with_entry tables table entry) table es))))
+        ∙ more_entries entry (entries_of (spec_of schema table) (with_row (rows_at tables table) entry.0 entry.1) more) (stands schema tables table done)
+    by (Err violation) again = refl
+
+put_together : (tables : Tables) (table : TableId) (entry : List Value × List Value) (entries : Rows) → put_all tables table (entry ∷ entries) ≡ with_rows tables table (with_all (rows_at tables table) (entry ∷ entries))
+unfolding put_all
+put_together tables table entry [] = refl
+put_together tables table entry (next ∷ entries) =
+    let rows : Rows = with_row (rows_at tables table) entry.0 entry.1 in
+    put_together (with_entry tables table entry) table next entries
+    ∙ ap (λ there. with_rows (with_entry tables table entry) table (with_all there (next ∷ entries))) (rows_found tables table rows)
+    ∙ put_again tables_total table rows (with_all rows (next ∷ entries)) tables
+
+abbrev written : Catalog → Tables → TableId → Rows → Outcome
+written schema tables table entries = answer_keys (keys_of_entries entries) (write_all schema tables table (rows_at tables table) entries)
+
+stands_written : (schema : Catalog) (tables : Tables) (table : TableId) (entry : List Value × List Value) (entries : Rows) → stands schema tables table [] (entry ∷ entries) ≡ written schema tables table (entry ∷ entries)
+stands_written schema tables table entry entries =
+    ap (λ ts. and_then (stand schema ts table (entry ∷ entries)) (λ _. Ok (keys_of_entries (entry ∷ entries), ts))) (put_together tables table entry entries)
+    ∙ stand_written schema tables table (rows_at tables table) (entry ∷ entries) (λ ts. Ok (keys_of_entries (entry ∷ entries), ts))
+
+put_whole : (schema : Catalog) (tables : Tables) (table : TableId) (new : List (List Value)) → 0 < length new
+    → put_from schema tables table [] new ≡ and_then (entries_of (spec_of schema table) (rows_at tables table) new) (written schema tables table)
+put_whole schema tables table [] some = absurd (omega arith)
+put_whole schema tables table (row ∷ more) some = put_as_entries schema tables table [] (row ∷ more) ∙ by (new_entry schema tables table row)
+  where
+    rest : (entry : List Value × List Value) (r : Judged Rows) → and_then (and_then r (λ es. Ok (entry ∷ es))) (stands schema tables table []) ≡ and_then (and_then r (λ es. Ok (entry ∷ es))) (written schema tables table)
+    rest entry (Ok es) = stands_written schema tables table entry es
+    rest entry (Err violation) = refl
+
+    by : (r : Judged (List Value × List Value))
+        → and_then (and_then r (λ entry. and_then (entries_of (spec_of schema table) (with_row (rows_at tables table) entry.0 entry.1) more) (λ entries. Ok (entry ∷ entries)))) (stands schema tables table [])
+        ≡ and_then (and_then r (λ entry. and_then (entries_of (spec_of schema table) (with_row (rows_at tables table) entry.0 entry.1) more) (λ entries. Ok (entry ∷ entries)))) (written schema tables table)
+    by (Ok entry) = rest entry (entries_of (spec_of schema table) (with_row (rows_at tables table) entry.0 entry.1) more)
+    by (Err violation) = refl
+
+pub insert_put : (schema : Catalog) (tables : Tables) (table : TableId) (new : List (List Value)) → list_any (lacks_value (is_demanded (spec_of schema table)) (spec_of schema table).columns) new ≡ false → 0 < length new
+    → put_from schema tables table [] new ≡ insert_rows schema tables table (rows_at tables table) new
+insert_put schema tables table new full some = put_whole schema tables table new some ∙ sym (steps.insert_full schema tables table (rows_at tables table) new full)
+
+pub ruleset insert_steps = (insert_put, steps.insert_lacks)
+
+-- ---- an UPDATE
+
+abbrev updated : List Value → List Value → List (ColumnNo × Value) → Rows
+updated key row cells = (key, with_cells row cells) ∷ []
+
+or_false : (b : Bool) → (b || false) ≡ b
+or_false true = refl
+or_false false = refl
+
+pub update_lacks : (schema : Catalog) (tables : Tables) (table : TableId) (rows : Rows) (key row : List Value) (cells : List (ColumnNo × Value)) → row_under rows key ≡ Some row
+    → lacks_value is_required (spec_of schema table).columns (with_cells row cells) ≡ true → update_row schema tables table rows key cells ≡ Err NotNull
+update_lacks schema tables table rows key row cells found lacks =
+    steps.update_there schema tables table rows key row cells found
+    ∙ ap (answer_keys (key ∷ [])) (steps.change_lacks schema tables table rows (updated key row cells) (or_false (lacks_value is_required (spec_of schema table).columns (with_cells row cells)) ∙ lacks))
+
+update_full : (schema : Catalog) (tables : Tables) (table : TableId) (rows : Rows) (key row : List Value) (cells : List (ColumnNo × Value)) → row_under rows key ≡ Some row
+    → lacks_value is_required (spec_of schema table).columns (with_cells row cells) ≡ false
+    → update_row schema tables table rows key cells ≡ and_then (stand schema (with_rows tables table (with_row rows key (with_cells row cells))) table (updated key row cells)) (λ _. Ok (key ∷ [], with_rows tables table (with_row rows key (with_cells row cells))))
+update_full schema tables table rows key row cells found full =
+    steps.update_there schema tables table rows key row cells found
+    ∙ ap (answer_keys (key ∷ [])) (sym (steps.change_full schema tables table rows (updated key row cells) (or_false (lacks_value is_required (spec_of schema table).columns (with_cells row cells)) ∙ full)))
+    ∙ sym (stand_written schema tables table rows (updated key row cells) (λ ts. Ok (key ∷ [], ts)))
+
+pub update_stands : (schema : Catalog) (tables after : Tables) (table : TableId) (key row : List Value) (cells : List (ColumnNo × Value)) → row_under (rows_at tables table) key ≡ Some row
+    → lacks_value is_required (spec_of schema table).columns (with_cells row cells) ≡ false → after ≡ with_rows tables table (with_row (rows_at tables table) key (with_cells row cells))
+    → stand schema after table (updated key row cells) ≡ Ok tt → update_row schema tables table (rows_at tables table) key cells ≡ Ok (key ∷ [], after)
+update_stands schema tables after table key row cells found full is fine =
+    update_full schema tables table (rows_at tables table) key row cells found full
+    ∙ ap (λ ts. and_then (stand schema ts table (updated key row cells)) (λ _. Ok (key ∷ [], ts))) (sym is)
+    ∙ ap (λ r. and_then r (λ _. Ok (key ∷ [], after))) fine
+
+pub update_undone : (schema : Catalog) (tables after : Tables) (table : TableId) (key row : List Value) (cells : List (ColumnNo × Value)) (e : Unwritten) → row_under (rows_at tables table) key ≡ Some row
+    → lacks_value is_required (spec_of schema table).columns (with_cells row cells) ≡ false → after ≡ with_rows tables table (with_row (rows_at tables table) key (with_cells row cells))
+    → AreSorted tables table → is_some (rows_in tables table) ≡ true → Told (stand schema after table (updated key row cells)) (Err e)
+    → Did (update_row schema tables table (rows_at tables table) key cells) tables (Err e) (with_rows after table (restored (rows_at after table) key (row_under (rows_at tables table) key)))
+update_undone schema tables after table key row cells (Violates violation) found full is sorted created told = (
+  update_full schema tables table (rows_at tables table) key row cells found full
+      ∙ ap (λ ts. and_then (stand schema ts table (updated key row cells)) (λ _. Ok (key ∷ [], ts))) (sym is)
+      ∙ ap (λ r. and_then r (λ _. Ok (key ∷ [], after))) told,
+  ap (λ ts. with_rows ts table (restored (rows_at ts table) key (row_under (rows_at tables table) key))) is ∙ put_undone tables table key (with_cells row cells) sorted created,
+)
+update_undone schema tables after table key row cells Memory found full is sorted created told = tt
+
+pub ruleset update_steps = (steps.update_missing, update_lacks, update_stands, update_undone, still_created)
+
+-- ---- a DELETE
+
+pub delete_lost : (schema : Catalog) (tables after : Tables) (table : TableId) (key row : List Value) → is_some (rows_in tables table) ≡ true → row_under (rows_at tables table) key ≡ Some row
+    → after ≡ with_rows tables table (without_row (rows_at tables table) key) → some_loses_row schema tables after ≡ true → delete_row schema tables table (rows_at tables table) key ≡ Err Foreign
+delete_lost schema tables after table key row created found is lost =
+    steps.delete_there schema tables table (rows_at tables table) key row found
+    ∙ ap (answer_keys (key ∷ [])) (steps.remove_loses schema tables table (rows_at tables table) (key ∷ []) (ap (some_loses_row schema tables) (sym is) ∙ lost))
+
+pub delete_done : (schema : Catalog) (tables after : Tables) (table : TableId) (key row : List Value) → is_some (rows_in tables table) ≡ true → row_under (rows_at tables table) key ≡ Some row
+    → after ≡ with_rows tables table (without_row (rows_at tables table) key) → some_loses_row schema tables after ≡ false → delete_row schema tables table (rows_at tables table) key ≡ Ok (key ∷ [], after)
+delete_done schema tables after table key row created found is bound =
+    steps.delete_there schema tables table (rows_at tables table) key row found
+    ∙ ap (answer_keys (key ∷ [])) (steps.remove_done schema tables table (rows_at tables table) (key ∷ []) (ap (some_loses_row schema tables) (sym is) ∙ bound))
+    ∙ ap (λ ts. Ok (key ∷ [], ts)) (sym is)
+
+pub ruleset delete_steps = (steps.delete_nothing, delete_lost, delete_done, lost_alone, taking_undone, still_created)
+
+-- ---- a statement
+
+pub apply_insert : (schema : Catalog) (tables : Tables) (table : TableId) (new : List (List Value)) → is_some (rows_in tables table) ≡ true
+    → insert_rows schema tables table (rows_at tables table) new ≡ apply schema tables (Insert table new)
+apply_insert schema tables table new created = steps.apply_insert schema tables table (rows_at tables table) new (created_rows (rows_in tables table) created)
 
 pub apply_update : (schema : Catalog) (tables : Tables) (table : TableId) (key : List Value) (cells : List (ColumnNo × Value)) → is_some (rows_in tables table) ≡ true
-    → updated schema tables table (rows_at tables table) key cells ≡ apply schema tables (Update table key cells)
-unfolding apply
-apply_update schema tables table key cells there = sym (ap (applied schema tables (Update table key cells)) (created_rows (rows_in tables table) there))
+    → update_row schema tables table (rows_at tables table) key cells ≡ apply schema tables (Update table key cells)
+apply_update schema tables table key cells created = steps.apply_update schema tables table (rows_at tables table) key cells (created_rows (rows_in tables table) created)
 
 pub apply_delete : (schema : Catalog) (tables : Tables) (table : TableId) (key : List Value) → is_some (rows_in tables table) ≡ true
-    → deleted schema tables table (rows_at tables table) key ≡ apply schema tables (Delete table key)
-unfolding apply
-apply_delete schema tables table key there = sym (ap (applied schema tables (Delete table key)) (created_rows (rows_in tables table) there))
+    → delete_row schema tables table (rows_at tables table) key ≡ apply schema tables (Delete table key)
+apply_delete schema tables table key created = steps.apply_delete schema tables table (rows_at tables table) key (created_rows (rows_in tables table) created)
 
-pub ruleset applied_steps = (apply_nowhere, apply_insert, apply_update, apply_delete)
+pub ruleset apply_steps = (steps.apply_nowhere, apply_insert, apply_update, apply_delete)

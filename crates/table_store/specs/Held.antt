@@ -1,17 +1,23 @@
 -- Tables with one of them changed, and what a statement did to tables that are held.
-use Rattle.std.specs.Prelude.{◌≡◌, cond, List, [], Option, None, Some, Result, Ok, Err}
+use Rattle.std.specs.Prelude.{◌≡◌, Bool, true, false, cond, if◌then◌else◌, List, [], ◌∷◌, ◌++◌, Option, None, Some, Result, Ok, Err}
 use Rattle.std.specs.Option.{unwrap_or}
 use Rattle.std.specs.Map.{keys_of, remove_entry, set_value}
 use Rattle.std.specs.BTreeMap.{is_at}
 use Rattle.std.specs.List.Sorted.{IsStrictlySortedBy}
 use Rattle.base_core.specs.declared.ids.TableId.{TableId}
+use Rattle.base_core.specs.declared.refusal.Refusal.{Refusal}
+use Rattle.base_core.specs.declared.refusal.Refusal.TheVariants as refusals
 use Rattle.base_core.specs.declared.value.Value.{Value}
 use Rattle.base_core.specs.Order.{values_cmp}
 use Rattle.schema_core.specs.declared.table.ColumnSpec.{ColumnSpec}
-use Rattle.schema_core.specs.Apply.{Outcome}
-use Rattle.table_store.specs.declared.writing.Unwritten.{Unwritten}
-use Rattle.table_store.specs.declared.writing.Unwritten.TheVariants.{Breaks, Memory}
-use Rattle.schema_core.specs.Tables.{Rows, Tables, rows_in, table_cmp}
+use Rattle.schema_core.specs.declared.statement.Unwritten.{Unwritten}
+use Rattle.schema_core.specs.declared.statement.Unwritten.TheVariants.{Violates, Memory}
+use Rattle.schema_core.specs.declared.statement.Violation.TheVariants.{Unique, Foreign}
+use Rattle.schema_core.specs.Apply.{Outcome, entry_of, keys_of_entries, with_own_key}
+use Rattle.schema_core.specs.Catalog.{Catalog, spec_of}
+use Rattle.schema_core.specs.Judged.{Judged, and_then, some_repeats, some_written_dangles}
+use Rattle.schema_core.specs.Refusals.{violation_refusal}
+use Rattle.schema_core.specs.Tables.{Rows, Tables, rows_in, table_cmp, with_row, with_rows, without_row}
 
 -- the rows of a table, none where it is not created
 abbrev pub rows_at : Tables → TableId → Rows
@@ -26,13 +32,46 @@ restored rows key (Some row) = set_value (is_at (values_cmp key)) rows row
 abbrev pub keyed : ColumnSpec → Value → Value → Value
 keyed column key cell = cond column.key key cell
 
--- tables rise by number, and the rows of one of them by key
+-- tables are ascending by number, and the rows of one of them by key
 abbrev pub AreSorted : Tables → TableId → Type 0
 AreSorted tables table = IsStrictlySortedBy table_cmp (keys_of tables) × IsStrictlySortedBy values_cmp (keys_of (rows_at tables table))
 
+-- written rows may stand: none repeats a unique value of another row or refers to no row
+unfoldable pub stand : Catalog → Tables → TableId → Rows → Judged (Unit {0})
+stand schema tables table entries =
+    if some_repeats (spec_of schema table) (rows_at tables table) entries then Err Unique
+    else if some_written_dangles schema tables (spec_of schema table) entries then Err Foreign
+    else Ok tt
+
+-- the tables with a row put in one of them
+abbrev pub with_entry : Tables → TableId → List Value × List Value → Tables
+with_entry tables table entry = with_rows tables table (with_row (rows_at tables table) entry.0 entry.1)
+
+-- new rows put in behind those of the statement that are in, and all of them judged once the last is in
+unfoldable pub put_from : Catalog → Tables → TableId → Rows → List (List Value) → Outcome
+put_from schema tables table done [] = and_then (stand schema tables table done) (λ _. Ok (keys_of_entries done, tables))
+put_from schema tables table done (row ∷ more) =
+    and_then (entry_of (spec_of schema table) (rows_at tables table) (with_own_key (spec_of schema table) (rows_at tables table) row))
+    (λ entry. put_from schema (with_entry tables table entry) table (done ++ entry ∷ []) more)
+
+-- a rule was violated
+abbrev pub is_violation : {A : Type 0} → Result A Unwritten → Bool
+is_violation (Ok a) = false
+is_violation (Err (Violates violation)) = true
+is_violation (Err Memory) = false
+
+-- the tables without a row that is taken out again where a rule was violated behind it
+abbrev pub taken_back : {A : Type 0} → Result A Unwritten → Tables → TableId → List Value → Tables
+taken_back answer tables table key = if is_violation answer then with_rows tables table (without_row (rows_at tables table) key) else tables
+
 -- What a statement did to tables that are held, beside what its definition tells: a refused one leaves them as they were.
 -- Where memory ran out they may be anything.
-abbrev pub Did : Outcome → Tables → Result (List Value) Unwritten → Tables → Type 0
-Did told old (Ok key) new = told ≡ Ok (key, new)
-Did told old (Err (Breaks breach)) new = (told ≡ Err breach) × (new ≡ old)
+abbrev pub Did : {A : Type 0} → Judged (A × Tables) → Tables → Result A Unwritten → Tables → Type 0
+Did told old (Ok answer) new = told ≡ Ok (answer, new)
+Did told old (Err (Violates violation)) new = (told ≡ Err violation) × (new ≡ old)
 Did told old (Err Memory) new = Unit {0}
+
+-- the refusal of a statement on a table that was not done
+abbrev pub refusal_of : TableId → Unwritten → Refusal
+refusal_of table (Violates violation) = violation_refusal table violation
+refusal_of table Memory = refusals.Memory

@@ -1,43 +1,40 @@
 //! A bulk statement, done on copies of the tables.
 
-ghost use Rattle.std.specs.Prelude.{◌≡◌, true, is_some, IfOk};
-ghost use Rattle.expr_eval.specs.Checked.{Gives};
-ghost use Rattle.expr_typing.specs.Plain.{IsPlainBulk};
-ghost use Rattle.schema_core.specs.Apply as row;
-ghost use Rattle.schema_core.specs.Catalog.{spec_of, IsTable};
+ghost use Rattle.std.specs.Prelude.{◌≡◌, [], ◌∷◌, true, is_some, IfOk};
+ghost use Rattle.schema_core.specs.Apply.{insert_rows};
+ghost use Rattle.schema_core.specs.Catalog.{IsTable};
+ghost use Rattle.schema_core.specs.Judged.{change_all, remove_all, some_lacks, with_all, without_all};
 ghost use Rattle.schema_core.specs.Tables.{rows_in};
-ghost use Rattle.bulk_rows.specs.Applied as spec;
-ghost use Rattle.table_store.specs.Held.{rows_at};
+ghost use Rattle.schema_core.specs.Told.{Told};
+ghost use Rattle.sql_semantics.specs.Applied as spec;
+ghost use Rattle.sql_semantics.specs.Checked.{Gives};
+ghost use Rattle.sql_semantics.specs.Plain.{IsPlainBulk};
+ghost use Rattle.table_store.specs.Held.{refusal_of, rows_at};
 
 use crate::cells::lacks_value;
-use crate::judging::{has_dangling, repeats_unique};
+use crate::judging::{Before, some_lost};
 use crate::rows::TableRows;
 use crate::tables::TableMap;
-use crate::writing::{Unwritten, inserted};
-use base_core::{ColumnNo, Copied, IntegrityKind, Key, ListOf, Refusal, RowValues, TableId};
+use crate::writing::{insert_rows, stand};
+use base_core::{ColumnNo, Copied, Key, ListOf, Refusal, RowValues, TableId};
 use expr_types::{Bulk, Expr};
 use keeper_core::calls::table_of_bulk;
-use schema_core::{Breach, Schema};
+use schema_core::{Schema, TableSpec, Unwritten, Violation};
 use std::alloc::{AllocError, Global};
 
-/// Why a statement that breaks a rule of its table is refused.
-fn refusal_of(table: TableId, breach: Breach) -> Refusal
-    ensures { result ≡ spec.breach_refusal table breach }
+/// The refusal of a statement on a table.
+fn refusal_of(table: TableId, unwritten: Unwritten) -> Refusal
+    ensures { result ≡ refusal_of table unwritten }
 {
-    match breach {
-        Breach::NoTable(absent) => Refusal::OperationalError(absent),
-        Breach::Missing => Refusal::StaleDataError(table),
-        Breach::NotNull => Refusal::IntegrityError(IntegrityKind::NotNull, table),
-        Breach::KeysSpent => Refusal::KeysSpent(table),
-        Breach::PrimaryKey => Refusal::IntegrityError(IntegrityKind::PrimaryKey, table),
-        Breach::Unique => Refusal::IntegrityError(IntegrityKind::Unique, table),
-        Breach::Foreign => Refusal::IntegrityError(IntegrityKind::Foreign, table),
+    match unwritten {
+        Unwritten::Violates(violation) => violation.refusal(table),
+        Unwritten::Memory => Refusal::Memory,
     }
 }
 
 /// The rows with these written, each under its key.
 fn with_all(rows: &TableRows, entries: &[(Key, RowValues)]) -> Result<TableRows, AllocError>
-    ensures { IfOk result (λ left. left ≡ spec.with_all rows.now entries.now) }
+    ensures { IfOk result (λ left. left ≡ with_all rows.now entries.now) }
 {
     let mut left = rows.copied()?;
     for entry in entries {
@@ -48,7 +45,7 @@ fn with_all(rows: &TableRows, entries: &[(Key, RowValues)]) -> Result<TableRows,
 
 /// The rows without those of these keys.
 fn without_all(rows: &TableRows, keys: &[Key]) -> Result<TableRows, AllocError>
-    ensures { IfOk result (λ left. left ≡ spec.without_all rows.now keys.now) }
+    ensures { IfOk result (λ left. left ≡ without_all rows.now keys.now) }
 {
     let mut left = rows.copied()?;
     for key in keys {
@@ -58,83 +55,61 @@ fn without_all(rows: &TableRows, keys: &[Key]) -> Result<TableRows, AllocError>
 }
 
 /// Whether a written row has a NULL in a column that takes none.
-fn some_lacks(schema: &Schema, table: TableId, entries: &[(Key, RowValues)]) -> bool
-    requires { IsTable schema.now table }
-    ensures { result ≡ spec.some_lacks (spec_of schema.now table) entries.now }
+fn some_lacks(spec: &TableSpec, entries: &[(Key, RowValues)]) -> bool
+    ensures { result ≡ some_lacks spec.now entries.now }
 {
-    let columns = schema.spec(table).columns.as_slice();
+    let columns = spec.columns.as_slice();
     entries
         .iter()
         .any(|entry| lacks_value(columns, entry.1.as_slice()))
 }
 
-#[tactic(auto, using(crate::proofs::AnySteps::any_steps))]
-/// Whether a written row has a unique value of another row that is left.
-fn some_repeats(
-    alloc: Global,
-    schema: &Schema,
-    table: TableId,
-    left: &TableRows,
-    entries: &[(Key, RowValues)],
-) -> Result<bool, AllocError>
-    requires { IsTable schema.now table }
-    ensures { IfOk result (λ yes. yes ≡ spec.some_repeats (spec_of schema.now table) left.now entries.now) }
-{
-    let spec = schema.spec(table);
-    for entry in entries {
-        if repeats_unique(alloc, spec, left, &entry.0, entry.1.as_slice())? {
-            return Ok(true);
-        }
-    }
-    Ok(false)
-}
-
-#[tactic(auto, using(crate::proofs::BulkSteps::dangling_steps))]
-/// So many rows, and the tables with these rows left in one of them, unless a foreign key then names no row.
-fn unless_dangling(
+#[tactic(auto, using(crate::proofs::BulkSteps::change_steps))]
+/// The tables with these rows written in one of them, unless one of these lacks a value, repeats a unique value or refers
+/// to no row.
+fn change_all(
     alloc: Global,
     schema: &Schema,
     tables: &TableMap,
     table: TableId,
-    count: usize,
-    left: TableRows,
-) -> Result<(u64, TableMap), Refusal>
-    ensures { Gives (λ x. x) result (spec.unless_dangling schema.now tables.now table count left) }
+    rows: &TableRows,
+    entries: &[(Key, RowValues)],
+) -> Result<TableMap, Unwritten>
+    requires { IsTable schema.now table }
+    ensures { Told (change_all schema.now tables.now table rows.now entries.now) result }
+{
+    if some_lacks(schema.spec(table), entries) {
+        return Err(Unwritten::Violates(Violation::NotNull));
+    }
+    let mut after = tables.copied()?;
+    after.set(table, with_all(rows, entries)?)?;
+    stand(alloc, schema, &after, table, entries)?;
+    Ok(after)
+}
+
+#[tactic(auto, using(crate::proofs::BulkSteps::remove_steps))]
+/// The tables without the rows of these keys, unless a row that is left refers to one of them.
+fn remove_all(
+    alloc: Global,
+    schema: &Schema,
+    tables: &TableMap,
+    table: TableId,
+    rows: &TableRows,
+    keys: &[Key],
+) -> Result<TableMap, Unwritten>
+    ensures { Told (remove_all schema.now tables.now table rows.now keys.now) result }
 {
     let mut after = tables.copied()?;
-    after.set(table, left)?;
-    if has_dangling(alloc, schema, &after)? {
-        return Err(refusal_of(table, Breach::Foreign));
+    after.set(table, without_all(rows, keys)?)?;
+    if some_lost(alloc, schema, &Before::Tables(tables), &after)? {
+        return Err(Unwritten::Violates(Violation::Foreign));
     }
-    Ok((count as u64, after))
+    Ok(after)
 }
 
-#[tactic(auto, using(crate::proofs::BulkSteps::written_steps))]
-/// Writes these rows, of which there is one.
-fn written(
-    alloc: Global,
-    schema: &Schema,
-    tables: &TableMap,
-    table: TableId,
-    rows: &TableRows,
-    entries: &[(Key, RowValues)],
-) -> Result<(u64, TableMap), Refusal>
-    requires { IsTable schema.now table }
-    ensures { Gives (λ x. x) result (spec.written schema.now tables.now table rows.now entries.now) }
-{
-    if some_lacks(schema, table, entries) {
-        return Err(refusal_of(table, Breach::NotNull));
-    }
-    let left = with_all(rows, entries)?;
-    if some_repeats(alloc, schema, table, &left, entries)? {
-        return Err(refusal_of(table, Breach::Unique));
-    }
-    unless_dangling(alloc, schema, tables, table, entries.len(), left)
-}
-
-#[tactic(auto, using(crate::proofs::BulkSteps::updated_steps))]
+#[tactic(auto, using(crate::proofs::BulkSteps::update_steps))]
 /// Writes these rows; where there are none, nothing changes.
-fn updated(
+fn update_entries(
     alloc: Global,
     schema: &Schema,
     tables: &TableMap,
@@ -143,17 +118,20 @@ fn updated(
     entries: &[(Key, RowValues)],
 ) -> Result<(u64, TableMap), Refusal>
     requires { IsTable schema.now table }
-    ensures { Gives (λ x. x) result (spec.updated schema.now tables.now table rows.now entries.now) }
+    ensures { Gives (λ x. x) result (spec.update_entries schema.now tables.now table rows.now entries.now) }
 {
     if entries.len() == 0 {
         return Ok((0, tables.copied()?));
     }
-    written(alloc, schema, tables, table, rows, entries)
+    match change_all(alloc, schema, tables, table, rows, entries) {
+        Ok(after) => Ok((entries.len() as u64, after)),
+        Err(unwritten) => Err(refusal_of(table, unwritten)),
+    }
 }
 
-#[tactic(auto, using(crate::proofs::BulkSteps::deleted_steps))]
+#[tactic(auto, using(crate::proofs::BulkSteps::delete_steps))]
 /// Takes out the rows of these keys; where there are none, nothing changes.
-fn deleted(
+fn delete_keys(
     alloc: Global,
     schema: &Schema,
     tables: &TableMap,
@@ -161,13 +139,15 @@ fn deleted(
     rows: &TableRows,
     keys: &[Key],
 ) -> Result<(u64, TableMap), Refusal>
-    ensures { Gives (λ x. x) result (spec.deleted schema.now tables.now table rows.now keys.now) }
+    ensures { Gives (λ x. x) result (spec.delete_keys schema.now tables.now table rows.now keys.now) }
 {
     if keys.len() == 0 {
         return Ok((0, tables.copied()?));
     }
-    let left = without_all(rows, keys)?;
-    unless_dangling(alloc, schema, tables, table, keys.len(), left)
+    match remove_all(alloc, schema, tables, table, rows, keys) {
+        Ok(after) => Ok((keys.len() as u64, after)),
+        Err(unwritten) => Err(refusal_of(table, unwritten)),
+    }
 }
 
 #[tactic(auto, using(crate::proofs::BulkSteps::row_steps))]
@@ -177,17 +157,16 @@ fn insert(
     schema: &Schema,
     tables: &TableMap,
     table: TableId,
-    values: &RowValues,
+    row: RowValues,
 ) -> Result<(u64, TableMap), Refusal>
     requires declared { IsTable schema.now table }
     requires created { is_some (rows_in tables.now table) ≡ true }
-    ensures { Gives (λ x. x) result (spec.of_row table (row.inserted schema.now tables.now table (rows_at tables.now table) values.now)) }
+    ensures { Gives (λ x. x) result (spec.of_row table (insert_rows schema.now tables.now table (rows_at tables.now table) (row ∷ []))) }
 {
     let mut after = tables.copied()?;
-    match inserted(alloc, schema, &mut after, table, values) {
-        Ok(_key) => Ok((1, after)),
-        Err(Unwritten::Breaks(breach)) => Err(refusal_of(table, breach)),
-        Err(Unwritten::Memory) => Err(Refusal::Memory),
+    match insert_rows(alloc, schema, &mut after, table, &[row]) {
+        Ok(_keys) => Ok((1, after)),
+        Err(unwritten) => Err(refusal_of(table, unwritten)),
     }
 }
 
@@ -207,7 +186,7 @@ fn update(
     let seen = tables.bare(alloc)?;
     bulk_rows::all_created(alloc, &seen, cells.as_slice(), filter)?;
     let entries = bulk_rows::updated(alloc, &seen, cells, filter, &rows.pairs(alloc)?)?;
-    updated(alloc, schema, tables, table, rows, entries.as_slice())
+    update_entries(alloc, schema, tables, table, rows, entries.as_slice())
 }
 
 /// Takes out the rows for which a condition is true.
@@ -224,7 +203,7 @@ fn delete(
     let seen = tables.bare(alloc)?;
     bulk_rows::all_created(alloc, &seen, &[], filter)?;
     let keys = bulk_rows::deleted(alloc, &seen, filter, &rows.pairs(alloc)?)?;
-    deleted(alloc, schema, tables, table, rows, keys.as_slice())
+    delete_keys(alloc, schema, tables, table, rows, keys.as_slice())
 }
 
 #[tactic(auto, using(crate::proofs::BulkSteps::applied_steps))]
@@ -250,7 +229,7 @@ pub(crate) fn applied(
         } => {
             let width = schema.spec(table).columns.len();
             let row = bulk_rows::inserted(alloc, width, columns, values)?;
-            insert(alloc, schema, tables, table, &row)
+            insert(alloc, schema, tables, table, row)
         }
         Bulk::Update { cells, filter, .. } => {
             update(alloc, schema, tables, table, rows, cells, filter)

@@ -1,7 +1,8 @@
 //! Cells of rows beside the columns of their table.
 
 ghost use Rattle.std.specs.Prelude.{◌≡◌, ◌&&◌, not, IfOk};
-ghost use Rattle.schema_core.specs.Apply.{lacks_value, with_cells, with_key};
+ghost use Rattle.schema_core.specs.Apply.{with_cells, with_key};
+ghost use Rattle.schema_core.specs.Judged.{lacks_value};
 ghost use Rattle.table_store.specs.Held.{keyed};
 ghost use Rattle.schema_core.specs.Catalog.{is_required};
 ghost use Rattle.schema_core.specs.Tables.{cell_of, has_null, is_null, key_cells};

@@ -3,12 +3,14 @@
 ghost use Rattle.std.specs.Prelude.{◌≡◌, ◌&&◌, ◌<◌, not, length, IfOk};
 ghost use Rattle.std.specs.List.{list_any};
 ghost use Rattle.schema_core.specs.Catalog.{spec_of, IsTable};
-ghost use Rattle.schema_core.specs.Tables.{collide, dangles, has_dangling, names_row, repeats_unique, same_values, some_dangles};
+ghost use Rattle.schema_core.specs.Judged.{some_repeats, some_written_dangles};
+ghost use Rattle.schema_core.specs.Tables.{collide, dangles, names_row, repeats_unique, same_values, some_dangles};
+ghost use Rattle.table_store.specs.Lost.{is_lost, refers_to, some_lost, was_named};
 
 use crate::cells::{cells_of, has_null};
 use crate::rows::TableRows;
 use crate::tables::TableMap;
-use base_core::{Key, ListOf, Name, TableId, Value};
+use base_core::{Key, ListOf, Name, RowValues, TableId, Value};
 use schema_core::{ForeignSpec, Schema, TableSpec};
 use std::alloc::{AllocError, Global};
 
@@ -73,7 +75,7 @@ fn dangles(
     Ok(!names_row(schema, tables, foreign, &key))
 }
 
-#[tactic(auto, using(crate::proofs::AnySteps::any_steps))]
+#[tactic(auto, using(schema_core::proofs::AnySteps::any_steps))]
 /// Whether some foreign key of a row dangles.
 fn some_dangles(
     alloc: Global,
@@ -92,46 +94,127 @@ fn some_dangles(
     Ok(false)
 }
 
-/// Whether some row of a table has a foreign key that dangles.
-fn some_row_dangles(
+#[tactic(auto, using(schema_core::proofs::AnySteps::any_steps))]
+/// Whether a foreign key of a written row names no row of the tables that are left.
+pub fn some_written_dangles(
     alloc: Global,
     schema: &Schema,
-    tables: &TableMap,
+    left: &TableMap,
     spec: &TableSpec,
-    rows: &TableRows,
+    entries: &[(Key, RowValues)],
 ) -> Result<bool, AllocError>
-    ensures { IfOk result (λ yes. yes ≡ list_any (λ row. some_dangles schema.now tables.now spec.now row.1) rows.now) }
+    ensures { IfOk result (λ yes. yes ≡ some_written_dangles schema.now left.now spec.now entries.now) }
 {
-    for (_, row) in rows.entries() {
-        if some_dangles(alloc, schema, tables, spec, row.as_slice())? {
+    for entry in entries {
+        if some_dangles(alloc, schema, left, spec, entry.1.as_slice())? {
             return Ok(true);
         }
     }
     Ok(false)
 }
 
-/// Whether some row of a created table has a foreign key that dangles; a table that is not declared has none.
-fn some_of_table_dangles(
+/// What was there before rows were taken out: the row of a key of one table, beside the tables that are left, or all tables.
+#[derive(Clone, Copy)]
+pub enum Before<'a> {
+    Row(TableId, &'a Key),
+    Tables(&'a TableMap),
+}
+
+/// Whether a foreign key refers to a table.
+fn refers_to(schema: &Schema, foreign: &ForeignSpec, table: TableId) -> bool
+    ensures { result ≡ refers_to schema.now foreign.now table }
+{
+    match schema.find(&foreign.target) {
+        Some(target) => target.0.cmp(&table.0).is_eq(),
+        None => false,
+    }
+}
+
+/// Whether a key named a row of the table to which a foreign key refers.
+fn was_named(schema: &Schema, before: &Before, foreign: &ForeignSpec, cells: &Key) -> bool
+    ensures { result ≡ was_named schema.now before.now foreign.now cells.now }
+{
+    match before {
+        Before::Row(table, key) => { refers_to(schema, foreign, *table) && same_values(cells, key) }
+        Before::Tables(tables) => names_row(schema, tables, foreign, cells),
+    }
+}
+
+/// Whether a row's foreign key named a row before, and names none of the tables that are left.
+fn is_lost(
     alloc: Global,
     schema: &Schema,
-    tables: &TableMap,
+    before: &Before,
+    left: &TableMap,
+    spec: &TableSpec,
+    row: &[Value],
+    foreign: &ForeignSpec,
+) -> Result<bool, AllocError>
+    ensures { IfOk result (λ yes. yes ≡ is_lost schema.now before.now left.now spec.now row.now foreign.now) }
+{
+    let names = foreign.columns.as_slice();
+    let cells = cells_of(alloc, spec.columns.as_slice(), row, names)?;
+    Ok(
+        was_named(schema, before, foreign, &cells)
+            && !has_null(cells.as_slice())
+            && !names_row(schema, left, foreign, &cells),
+    )
+}
+
+#[tactic(auto, using(schema_core::proofs::AnySteps::any_steps))]
+/// Whether one of a row's foreign keys is.
+fn row_lost(
+    alloc: Global,
+    schema: &Schema,
+    before: &Before,
+    left: &TableMap,
+    spec: &TableSpec,
+    row: &[Value],
+) -> Result<bool, AllocError>
+    ensures { IfOk result (λ yes. yes ≡ list_any (is_lost schema.now before.now left.now spec.now row.now) spec.now.foreigns) }
+{
+    for foreign in spec.foreigns.as_slice() {
+        if is_lost(alloc, schema, before, left, spec, row, foreign)? {
+            return Ok(true);
+        }
+    }
+    Ok(false)
+}
+
+/// Whether one of a table's rows is; a table that is not declared has no foreign keys.
+fn table_lost(
+    alloc: Global,
+    schema: &Schema,
+    before: &Before,
+    left: &TableMap,
     table: TableId,
     rows: &TableRows,
 ) -> Result<bool, AllocError>
-    ensures { IfOk result (λ yes. yes ≡ list_any (λ row. some_dangles schema.now tables.now (spec_of schema.now table) row.1) rows.now) }
+    ensures { IfOk result (λ yes. yes ≡ list_any (λ row. list_any (is_lost schema.now before.now left.now (spec_of schema.now table) row.1) (spec_of schema.now table).foreigns) rows.now) }
 {
     if schema.count() <= table.0 {
         return Ok(false);
     }
-    some_row_dangles(alloc, schema, tables, schema.spec(table), rows)
+    let spec = schema.spec(table);
+    for (_, row) in rows.entries() {
+        if row_lost(alloc, schema, before, left, spec, row.as_slice())? {
+            return Ok(true);
+        }
+    }
+    Ok(false)
 }
 
-/// Whether some row of the tables has a foreign key that dangles.
-pub fn has_dangling(alloc: Global, schema: &Schema, tables: &TableMap) -> Result<bool, AllocError>
-    ensures { IfOk result (λ yes. yes ≡ has_dangling schema.now tables.now) }
+/// Whether a row that is left refers to one that was taken out.
+pub fn some_lost(
+    alloc: Global,
+    schema: &Schema,
+    before: &Before,
+    left: &TableMap,
+) -> Result<bool, AllocError>
+    ensures { IfOk result (λ yes. yes ≡ some_lost schema.now before.now left.now) }
 {
-    for (table, rows) in tables.entries() {
-        if some_of_table_dangles(alloc, schema, tables, *table, rows)? {
+    for (table, rows) in left.entries() {
+        if table_lost(alloc, schema, before, left, *table, rows)? {
             return Ok(true);
         }
     }
@@ -157,9 +240,9 @@ fn some_collides(
     Ok(false)
 }
 
-#[tactic(auto, using(crate::proofs::AnySteps::any_steps))]
+#[tactic(auto, using(schema_core::proofs::AnySteps::any_steps))]
 /// Whether a row under another key collides with this one.
-pub fn repeats_unique(
+fn repeats_unique(
     alloc: Global,
     spec: &TableSpec,
     rows: &TableRows,
@@ -170,6 +253,24 @@ pub fn repeats_unique(
 {
     for unique in spec.uniques.as_slice() {
         if some_collides(alloc, spec, unique.as_slice(), rows, key, row)? {
+            return Ok(true);
+        }
+    }
+    Ok(false)
+}
+
+#[tactic(auto, using(schema_core::proofs::AnySteps::any_steps))]
+/// Whether a written row has a unique value of another row that is left.
+pub fn some_repeats(
+    alloc: Global,
+    spec: &TableSpec,
+    left: &TableRows,
+    entries: &[(Key, RowValues)],
+) -> Result<bool, AllocError>
+    ensures { IfOk result (λ yes. yes ≡ some_repeats spec.now left.now entries.now) }
+{
+    for entry in entries {
+        if repeats_unique(alloc, spec, left, &entry.0, entry.1.as_slice())? {
             return Ok(true);
         }
     }

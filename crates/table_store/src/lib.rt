@@ -10,4 +10,3 @@ mod tables;
 mod writing;
 
 pub use store::TableStore;
-pub use writing::Unwritten;

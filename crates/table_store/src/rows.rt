@@ -114,7 +114,7 @@ impl TableRows {
         Ok(ListOf::from_vec(pairs))
     }
 
-    #[tactic(auto, using(crate::proofs::NextKey::next_keys))]
+    #[tactic(auto, using(schema_core::proofs::NextKey::next_keys))]
     /// One above the greatest key, 1 where there are no rows; none where the greatest key is the greatest integer.
     pub fn next_key(&self) -> Option<i64>
         ensures { result ≡ next_key self.now }

@@ -4,22 +4,22 @@ ghost use Rattle.std.specs.Prelude.{◌≡◌, ◌-◌, ◌<◌, [], ◌∷◌, 
 ghost use Rattle.std.specs.Option.{option_map, option_copied};
 ghost use Rattle.base_core.specs.Answers.{Gives};
 ghost use Rattle.schema_core.specs.Tables.{rows_in};
-ghost use Rattle.expr_typing.specs.Plain.{IsPlainBulk, IsPlainSelect};
-ghost use Rattle.bulk_rows.specs.Refusals as bulk;
-ghost use Rattle.select_rows.specs.Created.{bare};
-ghost use Rattle.select_rows.specs.Refusals.{CanRefuse};
-ghost use Rattle.select_rows.specs.Rows.{answer};
-ghost use Rattle.select_rows.specs.Shapes.{AreGiven, AreLegalRows, AreOfItems, AreRows, AreWide};
-ghost use Rattle.schema_core.specs.WellFormed.{IsKeyFor, IsWellFormed};
-ghost use Rattle.keeper_core.specs.Store.{created, dropped, is_created};
+ghost use Rattle.sql_semantics.specs.Plain.{IsPlainBulk, IsPlainSelect};
+ghost use Rattle.sql_semantics.specs.BulkRefusals as bulk;
+ghost use Rattle.sql_semantics.specs.Created.{bare};
+ghost use Rattle.sql_semantics.specs.SelectRefusals.{CanRefuse};
+ghost use Rattle.sql_semantics.specs.Rows.{answer};
+ghost use Rattle.sql_semantics.specs.Shapes.{AreGiven, AreLegalRows, AreOfItems, AreRows, AreWide};
+ghost use Rattle.schema_core.specs.WellFormed.{AreKeysFor, IsWellFormed};
+ghost use Rattle.programs.specs.Store.{created, dropped, is_created};
 ghost use Rattle.table_store.specs.Written.{Bulked, MayRefuse, Wrote, given_up};
 
 use crate::bulk::applied;
 use crate::tables::TableMap;
-use crate::writing::{Unwritten, apply};
-use base_core::{Copied, Key, Refusal, RowList, TableId};
+use crate::writing::apply;
+use base_core::{Copied, KeyList, Refusal, RowList, TableId};
 use expr_types::{Bulk, Select};
-use schema_core::{RowStmt, Schema};
+use schema_core::{RowStmt, Schema, Unwritten};
 use select_rows::rows_of;
 use std::alloc::{AllocError, Global};
 use std::marker::Model;
@@ -33,7 +33,7 @@ pub struct TableStore {
 }
 
 impl Model for TableStore {
-    ghost use Rattle.keeper_core.specs.Store.{Store};
+    ghost use Rattle.programs.specs.Store.{Store};
 
     ghost Value = { Store };
 
@@ -131,23 +131,23 @@ impl TableStore {
     }
 
     #[tactic(auto, using(crate::proofs::Statements::statements))]
-    /// Does a statement on one row. A refused one changes nothing; want of memory ends all scopes, and leaves the tables
+    /// Does a statement on rows, and answers their keys. A refused one changes nothing; memory that runs out ends all scopes, and leaves the tables
     /// at the start of the outermost.
     pub fn write(
         &mut self,
         alloc: Global,
         schema: &Schema,
         statement: &RowStmt,
-    ) -> Result<Key, Unwritten>
+    ) -> Result<KeyList, Unwritten>
         requires fits { IsWellFormed schema.now statement.now }
         requires inside { 0 < length self.old.scopes }
         ensures step { Wrote schema.now statement.now self.old result self.new }
-        ensures key { IfOk result (λ key. IsKeyFor schema.now statement.now key) }
+        ensures keys { IfOk result (λ keys. AreKeysFor schema.now statement.now keys) }
         ensures refuses { IfErr result (λ e. MayRefuse statement.now e) }
     {
         match apply(alloc, schema, &mut self.tables, statement) {
-            Ok(key) => Ok(key),
-            Err(Unwritten::Breaks(breach)) => Err(Unwritten::Breaks(breach)),
+            Ok(keys) => Ok(keys),
+            Err(Unwritten::Violates(violation)) => Err(Unwritten::Violates(violation)),
             Err(Unwritten::Memory) => {
                 self.go_back();
                 Err(Unwritten::Memory)
@@ -161,7 +161,7 @@ impl TableStore {
     /// The first that holds: `OperationalError` with the first table of the statement's text that is not created,
     /// `DataError` with the first result outside 64 bits, `IntegrityError` where a NULL is written into a column that takes
     /// none, `KeysSpent`, and `IntegrityError` for a key that is there, a unique value that stands twice, and a foreign key
-    /// that names no row; want of memory.
+    /// that names no row; memory that runs out.
     #[tactic(auto, using(bulk_rows::proofs::Refused::refused))]
     pub fn bulk(&mut self, alloc: Global, schema: &Schema, statement: &Bulk) -> Result<u64, Refusal>
         requires plain { IsPlainBulk schema.now statement.now }
@@ -181,7 +181,7 @@ impl TableStore {
     ///
     /// # Errors
     /// `OperationalError` with the first table of the select's text that is not created, or `DataError` with the first
-    /// result outside 64 bits; want of memory.
+    /// result outside 64 bits; memory that runs out.
     pub fn query(&self, alloc: Global, schema: &Schema, select: &Select) -> Result<RowList, Refusal>
         ensures rows { Gives (λ x. x) result (answer schema.now (bare self.now.tables) select.now) }
         ensures refuses { IfErr result (λ e. CanRefuse select.now e) }
@@ -193,7 +193,7 @@ impl TableStore {
         rows_of(alloc, schema, &tables, select)
     }
 
-    /// The rows of a table, rising by key, or none where it is not created.
+    /// The rows of a table, ascending by key, or none where it is not created.
     pub fn rows(&self, alloc: Global, table: TableId) -> Result<Option<RowList>, AllocError>
         ensures { IfOk result (λ rows. rows ≡ option_map (λ rows. map (λ entry. entry.1) rows) (rows_in self.now.tables table)) }
     {

@@ -2,9 +2,9 @@
 
 ghost use Rattle.std.specs.Prelude.{◌≡◌, [], true, is_some, IfOk, OnOk, OnErr};
 ghost use Rattle.std.specs.Option.{option_copied};
-ghost use Rattle.keeper_core.specs.Store.{created, dropped};
+ghost use Rattle.programs.specs.Store.{created, dropped};
 ghost use Rattle.schema_core.specs.Tables.{rows_in, row_under, with_row, with_rows, without_row};
-ghost use Rattle.select_rows.specs.Created.{bare};
+ghost use Rattle.sql_semantics.specs.Created.{bare};
 ghost use Rattle.table_store.specs.Held.{AreSorted, rows_at, restored};
 
 use crate::rows::TableRows;

@@ -1,45 +1,22 @@
-//! A statement on one row, done on tables that are held.
+//! A statement on rows, done on tables that are held.
 
-ghost use Rattle.std.specs.Prelude.{◌≡◌, ◌&&◌, ◌<◌, true, is_some, IfOk};
-ghost use Rattle.std.specs.Option.{option_copied};
-ghost use Rattle.schema_core.specs.Apply.{apply, deleted, inserted, is_demanded, lacks_value, next_key, put_in, updated, wants_key, written};
+ghost use Rattle.std.specs.Prelude.{◌≡◌, ◌&&◌, ◌<◌, [], ◌∷◌, true, is_some, length, IfOk};
+ghost use Rattle.std.specs.List.{list_any};
+ghost use Rattle.schema_core.specs.Apply.{apply, delete_row, entry_of, insert_rows, is_demanded, keys_of_entries, next_key, update_row, wants_key, with_own_key};
 ghost use Rattle.schema_core.specs.Catalog.{spec_of, IsTable};
-ghost use Rattle.schema_core.specs.Tables.{repeats_unique, row_under, rows_in, with_row};
+ghost use Rattle.schema_core.specs.Judged.{lacks_value};
+ghost use Rattle.schema_core.specs.Tables.{row_under, rows_in};
+ghost use Rattle.schema_core.specs.Told.{Told};
 ghost use Rattle.schema_core.specs.WellFormed.{IsWellFormed};
-ghost use Rattle.table_store.specs.Held.{Did, rows_at};
-ghost use Rattle.table_store.specs.declared.writing.Unwritten.TheVariants as unwritten;
+ghost use Rattle.table_store.specs.Held.{Did, is_violation, put_from, rows_at, stand, taken_back};
 
 use crate::cells::{has_null, key_of, lacks_given, lacks_value, with_cells, with_key};
-use crate::judging::{has_dangling, repeats_unique};
+use crate::judging::{Before, some_lost, some_repeats, some_written_dangles};
+use crate::rows::TableRows;
 use crate::tables::TableMap;
-use base_core::{ColumnNo, Copied, Key, ListOf, RowValues, TableId, Value};
-use keeper_core::calls::table_of;
-use schema_core::{Breach, RowStmt, Schema};
-use std::alloc::{AllocError, AllocFailed, Global};
-
-/// Why a statement was not done.
-#[derive(Clone, Copy, Debug, PartialEq, Eq)]
-pub enum Unwritten {
-    Breaks(Breach),
-    /// Memory ran out, and the tables may be anything.
-    Memory,
-}
-
-impl From<AllocError> for Unwritten {
-    ghost from_gives = { λ _ e. e ≡ unwritten.Memory };
-
-    fn from(_e: AllocError) -> Unwritten {
-        Unwritten::Memory
-    }
-}
-
-impl<T: Drop> From<AllocFailed<T>> for Unwritten {
-    ghost from_gives = { λ _ e. e ≡ unwritten.Memory };
-
-    fn from(_e: AllocFailed<T>) -> Unwritten {
-        Unwritten::Memory
-    }
-}
+use base_core::{ColumnNo, Copied, Key, KeyList, ListOf, RowValues, TableId, Value};
+use schema_core::{RowStmt, Schema, Unwritten, Violation};
+use std::alloc::{AllocError, Global};
 
 /// A copy of the row of a key.
 fn row_under(tables: &TableMap, table: TableId, key: &Key) -> Result<Option<RowValues>, AllocError>
@@ -66,69 +43,30 @@ fn has_row(tables: &TableMap, table: TableId, key: &Key) -> bool
     rows.get(key).is_some()
 }
 
-#[tactic(auto, using(crate::proofs::WriteSteps::repeats_with))]
-/// Whether a row that is written would collide with another.
-fn repeats(
+#[tactic(auto, using(crate::proofs::WriteSteps::stand_steps))]
+/// Whether written rows may stand: none repeats a unique value of another row or refers to no row.
+pub(crate) fn stand(
     alloc: Global,
     schema: &Schema,
     tables: &TableMap,
     table: TableId,
-    key: &Key,
-    row: &[Value],
-) -> Result<bool, AllocError>
+    entries: &[(Key, RowValues)],
+) -> Result<(), Unwritten>
     requires declared { IsTable schema.now table }
     requires created { is_some (rows_in tables.now table) ≡ true }
-    ensures { IfOk result (λ yes. yes ≡ repeats_unique (spec_of schema.now table) (with_row (rows_at tables.now table) key.now row.now) key.now row.now) }
+    ensures { Told (stand schema.now tables.now table entries.now) result }
 {
     let Some(rows) = tables.get(table) else {
-        return Ok(false);
+        return Ok(());
     };
-    Ok(repeats_unique(alloc, schema.spec(table), rows, key, row)?)
-}
-
-#[tactic(auto, using(crate::proofs::WriteSteps::written_steps), unfolding(schema_core::specs::Apply::written, schema_core::specs::Apply::unless_dangling))]
-/// Writes a row under a key, unless it repeats a unique value or leaves a foreign key that names no row.
-fn written(
-    alloc: Global,
-    schema: &Schema,
-    tables: &mut TableMap,
-    table: TableId,
-    key: Key,
-    row: RowValues,
-) -> Result<Key, Unwritten>
-    requires declared { IsTable schema.now table }
-    requires created { is_some (rows_in tables.old table) ≡ true }
-    ensures { Did (written schema.now tables.old table (rows_at tables.old table) key row) tables.old result tables.new }
-{
-    if repeats(alloc, schema, tables, table, &key, row.as_slice())? {
-        return Err(Unwritten::Breaks(Breach::Unique));
+    let spec = schema.spec(table);
+    if some_repeats(alloc, spec, rows, entries)? {
+        return Err(Unwritten::Violates(Violation::Unique));
     }
-    let before = tables.put(table, key.copied()?, row)?;
-    if has_dangling(alloc, schema, tables)? {
-        tables.restore(table, &key, before);
-        return Err(Unwritten::Breaks(Breach::Foreign));
+    if some_written_dangles(alloc, schema, tables, spec, entries)? {
+        return Err(Unwritten::Violates(Violation::Foreign));
     }
-    Ok(key)
-}
-
-#[tactic(auto, using(crate::proofs::WriteSteps::put_in_steps))]
-/// Puts in a row whose key is known.
-fn put_in(
-    alloc: Global,
-    schema: &Schema,
-    tables: &mut TableMap,
-    table: TableId,
-    row: RowValues,
-) -> Result<Key, Unwritten>
-    requires declared { IsTable schema.now table }
-    requires created { is_some (rows_in tables.old table) ≡ true }
-    ensures { Did (put_in schema.now tables.old table (rows_at tables.old table) row) tables.old result tables.new }
-{
-    let key = key_of(alloc, schema.spec(table).columns.as_slice(), row.as_slice())?;
-    if has_row(tables, table, &key) {
-        return Err(Unwritten::Breaks(Breach::PrimaryKey));
-    }
-    written(alloc, schema, tables, table, key, row)
+    Ok(())
 }
 
 /// Whether the key of a new row is to be generated.
@@ -138,7 +76,7 @@ fn wants_key(
     table: TableId,
     row: &[Value],
 ) -> Result<bool, AllocError>
-    requires declared { IsTable schema.now table }
+    requires { IsTable schema.now table }
     ensures { IfOk result (λ yes. yes ≡ wants_key (spec_of schema.now table) row.now) }
 {
     if !schema.generated(table) {
@@ -148,125 +86,243 @@ fn wants_key(
     Ok(has_null(key.as_slice()))
 }
 
-/// The next key of a table.
-fn next_key(tables: &TableMap, table: TableId) -> Option<i64>
-    requires { is_some (rows_in tables.now table) ≡ true }
-    ensures { result ≡ next_key (rows_at tables.now table) }
+#[tactic(auto, using(schema_core::proofs::ApplySteps::own_key_steps))]
+/// A new row with its key, which is the next one of these rows where the row leaves it open.
+fn with_own_key(
+    alloc: Global,
+    schema: &Schema,
+    table: TableId,
+    rows: &TableRows,
+    row: &RowValues,
+) -> Result<Option<RowValues>, AllocError>
+    requires { IsTable schema.now table }
+    ensures { IfOk result (λ keyed. keyed ≡ with_own_key (spec_of schema.now table) rows.now row.now) }
+{
+    if !wants_key(alloc, schema, table, row.as_slice())? {
+        return Ok(Some(row.copied()?));
+    }
+    let Some(key) = rows.next_key() else {
+        return Ok(None);
+    };
+    let columns = schema.spec(table).columns.as_slice();
+    Ok(Some(with_key(alloc, columns, key, row.as_slice())?))
+}
+
+#[tactic(auto, using(schema_core::proofs::ApplySteps::entry_steps))]
+/// A new row under its key, which none of these rows has.
+fn entry_of(
+    alloc: Global,
+    schema: &Schema,
+    table: TableId,
+    rows: &TableRows,
+    row: Option<RowValues>,
+) -> Result<(Key, RowValues), Unwritten>
+    requires { IsTable schema.now table }
+    ensures { Told (entry_of (spec_of schema.now table) rows.now row) result }
+{
+    let Some(row) = row else {
+        return Err(Unwritten::Violates(Violation::KeysSpent));
+    };
+    let key = key_of(alloc, schema.spec(table).columns.as_slice(), row.as_slice())?;
+    if rows.get(&key).is_some() {
+        return Err(Unwritten::Violates(Violation::PrimaryKey));
+    }
+    Ok((key, row))
+}
+
+#[tactic(auto, using(crate::proofs::Laws::rows_there))]
+/// A new row of a created table under its key.
+fn new_entry(
+    alloc: Global,
+    schema: &Schema,
+    tables: &TableMap,
+    table: TableId,
+    row: &RowValues,
+) -> Result<(Key, RowValues), Unwritten>
+    requires declared { IsTable schema.now table }
+    requires created { is_some (rows_in tables.now table) ≡ true }
+    ensures { Told (entry_of (spec_of schema.now table) (rows_at tables.now table) (with_own_key (spec_of schema.now table) (rows_at tables.now table) row.now)) result }
 {
     let Some(rows) = tables.get(table) else {
-        return None;
+        return Err(Unwritten::Memory);
     };
-    rows.next_key()
+    let keyed = with_own_key(alloc, schema, table, rows, row)?;
+    entry_of(alloc, schema, table, rows, keyed)
 }
 
-#[tactic(auto, using(crate::proofs::WriteSteps::demanded))]
-/// Whether a new row has a NULL in a column that takes none.
-fn lacks_demanded(schema: &Schema, table: TableId, row: &[Value]) -> bool
-    requires { IsTable schema.now table }
-    ensures { result ≡ lacks_value (is_demanded (spec_of schema.now table)) (spec_of schema.now table).columns row.now }
+/// The keys of rows.
+fn keys_of_entries(alloc: Global, entries: &[(Key, RowValues)]) -> Result<KeyList, AllocError>
+    ensures { IfOk result (λ keys. keys ≡ keys_of_entries entries.now) }
 {
-    lacks_given(
-        schema.spec(table).columns.as_slice(),
-        row,
-        schema.generated(table),
-    )
+    let mut keys = Vec::with_capacity(alloc, entries.len())?;
+    for entry in entries {
+        keys.push(entry.0.copied()?)?;
+    }
+    Ok(ListOf::from_vec(keys))
 }
 
-#[tactic(auto, using(crate::proofs::WriteSteps::inserted_steps))]
-/// Puts in a new row.
-pub(crate) fn inserted(
+/// A list of one key.
+fn one_key(alloc: Global, key: &Key) -> Result<KeyList, AllocError>
+    ensures { IfOk result (λ keys. keys ≡ key.now ∷ []) }
+{
+    let mut keys = Vec::new(alloc);
+    keys.push(key.copied()?)?;
+    Ok(ListOf::from_vec(keys))
+}
+
+/// Whether a rule was violated; then the tables are as they were.
+fn is_violation(answer: &Result<KeyList, Unwritten>) -> bool
+    ensures { result ≡ is_violation answer.now }
+{
+    matches!(answer, Err(Unwritten::Violates(_)))
+}
+
+#[tactic(auto, using(crate::proofs::WriteSteps::take_steps))]
+/// Takes a row out again where a rule was violated behind it.
+fn take_back(tables: &mut TableMap, table: TableId, key: &Key, answer: &Result<KeyList, Unwritten>)
+    requires { is_violation answer.now ≡ true → is_some (rows_in tables.old table) ≡ true }
+    ensures { tables.new ≡ taken_back answer.now tables.old table key.now }
+{
+    if is_violation(answer) {
+        tables.take(table, key);
+    }
+}
+
+#[tactic(auto, using(crate::proofs::WriteSteps::put_steps))]
+/// Puts new rows in behind those of the statement that are in, and judges them all once the last is in. A row is taken out
+/// again where a rule is violated behind it.
+fn put_from(
     alloc: Global,
     schema: &Schema,
     tables: &mut TableMap,
     table: TableId,
-    row: &RowValues,
-) -> Result<Key, Unwritten>
+    done: &mut Vec<(Key, RowValues)>,
+    new: &[RowValues],
+) -> Result<KeyList, Unwritten>
     requires declared { IsTable schema.now table }
     requires created { is_some (rows_in tables.old table) ≡ true }
-    ensures { Did (inserted schema.now tables.old table (rows_at tables.old table) row.now) tables.old result tables.new }
+    ensures { Did (put_from schema.now tables.old table done.old.items new.now) tables.old result tables.new }
 {
-    if lacks_demanded(schema, table, row.as_slice()) {
-        return Err(Unwritten::Breaks(Breach::NotNull));
-    }
-    if !wants_key(alloc, schema, table, row.as_slice())? {
-        return put_in(alloc, schema, tables, table, row.copied()?);
-    }
-    let Some(key) = next_key(tables, table) else {
-        return Err(Unwritten::Breaks(Breach::KeysSpent));
+    let Some((row, more)) = new.split_first() else {
+        stand(alloc, schema, tables, table, done.as_slice())?;
+        return Ok(keys_of_entries(alloc, done.as_slice())?);
     };
-    let columns = schema.spec(table).columns.as_slice();
-    let keyed = with_key(alloc, columns, key, row.as_slice())?;
-    put_in(alloc, schema, tables, table, keyed)
+    let entry = new_entry(alloc, schema, tables, table, row)?;
+    let key = entry.0.copied()?;
+    tables.put(table, entry.0.copied()?, entry.1.copied()?)?;
+    done.push(entry)?;
+    let answer = put_from(alloc, schema, tables, table, done, more);
+    take_back(tables, table, &key, &answer);
+    answer
 }
 
-#[tactic(auto, using(crate::proofs::WriteSteps::updated_steps))]
+#[tactic(auto, using(schema_core::proofs::ApplySteps::demanded))]
+/// Whether a new row has a NULL in a column that takes none; a key that is generated may be left open.
+fn some_lacks_demanded(schema: &Schema, table: TableId, new: &[RowValues]) -> bool
+    requires { IsTable schema.now table }
+    ensures { result ≡ list_any (lacks_value (is_demanded (spec_of schema.now table)) (spec_of schema.now table).columns) new.now }
+{
+    let generated = schema.generated(table);
+    let columns = schema.spec(table).columns.as_slice();
+    new.iter()
+        .any(|row| lacks_given(columns, row.as_slice(), generated))
+}
+
+#[tactic(auto, using(crate::proofs::WriteSteps::insert_steps))]
+/// Puts in new rows.
+pub(crate) fn insert_rows(
+    alloc: Global,
+    schema: &Schema,
+    tables: &mut TableMap,
+    table: TableId,
+    new: &[RowValues],
+) -> Result<KeyList, Unwritten>
+    requires declared { IsTable schema.now table }
+    requires created { is_some (rows_in tables.old table) ≡ true }
+    requires some { 0 < length new.now }
+    ensures { Did (insert_rows schema.now tables.old table (rows_at tables.old table) new.now) tables.old result tables.new }
+{
+    if some_lacks_demanded(schema, table, new) {
+        return Err(Unwritten::Violates(Violation::NotNull));
+    }
+    let mut done = Vec::with_capacity(alloc, new.len())?;
+    put_from(alloc, schema, tables, table, &mut done, new)
+}
+
+#[tactic(auto, using(crate::proofs::WriteSteps::update_steps))]
 /// Writes cells of the row of a key.
-pub(crate) fn updated(
+fn update_row(
     alloc: Global,
     schema: &Schema,
     tables: &mut TableMap,
     table: TableId,
     key: &Key,
     cells: &ListOf<(ColumnNo, Value)>,
-) -> Result<Key, Unwritten>
+) -> Result<KeyList, Unwritten>
     requires declared { IsTable schema.now table }
     requires created { is_some (rows_in tables.old table) ≡ true }
-    ensures { Did (updated schema.now tables.old table (rows_at tables.old table) key.now cells.now) tables.old result tables.new }
+    ensures { Did (update_row schema.now tables.old table (rows_at tables.old table) key.now cells.now) tables.old result tables.new }
 {
+    let keys = one_key(alloc, key)?;
     let Some(row) = row_under(tables, table, key)? else {
-        return Err(Unwritten::Breaks(Breach::Missing));
+        return Err(Unwritten::Violates(Violation::Missing));
     };
     let row = with_cells(row, cells.as_slice())?;
     if lacks_value(schema.spec(table).columns.as_slice(), row.as_slice()) {
-        return Err(Unwritten::Breaks(Breach::NotNull));
+        return Err(Unwritten::Violates(Violation::NotNull));
     }
-    written(alloc, schema, tables, table, key.copied()?, row)
+    let before = tables.put(table, key.copied()?, row.copied()?)?;
+    if let Err(unwritten) = stand(alloc, schema, tables, table, &[(key.copied()?, row)]) {
+        tables.restore(table, key, before);
+        return Err(unwritten);
+    }
+    Ok(keys)
 }
 
-#[tactic(auto, using(crate::proofs::WriteSteps::deleted_steps))]
+#[tactic(auto, using(crate::proofs::WriteSteps::delete_steps))]
 /// Takes out the row of a key, which may be absent.
-pub(crate) fn deleted(
+fn delete_row(
     alloc: Global,
     schema: &Schema,
     tables: &mut TableMap,
     table: TableId,
     key: &Key,
-) -> Result<Key, Unwritten>
+) -> Result<KeyList, Unwritten>
     requires created { is_some (rows_in tables.old table) ≡ true }
-    ensures { Did (deleted schema.now tables.old table (rows_at tables.old table) key.now) tables.old result tables.new }
+    ensures { Did (delete_row schema.now tables.old table (rows_at tables.old table) key.now) tables.old result tables.new }
 {
-    let answer = key.copied()?;
+    let keys = one_key(alloc, key)?;
     if !has_row(tables, table, key) {
-        return Ok(answer);
+        return Ok(keys);
     }
     let Some(row) = tables.take(table, key) else {
-        return Ok(answer);
+        return Ok(keys);
     };
-    if has_dangling(alloc, schema, tables)? {
-        tables.put(table, answer, row)?;
-        return Err(Unwritten::Breaks(Breach::Foreign));
+    if some_lost(alloc, schema, &Before::Row(table, key), tables)? {
+        tables.put(table, key.copied()?, row)?;
+        return Err(Unwritten::Violates(Violation::Foreign));
     }
-    Ok(answer)
+    Ok(keys)
 }
 
-#[tactic(auto, using(crate::proofs::WriteSteps::applied_steps))]
-/// Does a statement on one row. A refused one leaves the tables as they were.
+#[tactic(auto, using(crate::proofs::WriteSteps::apply_steps))]
+/// Does a statement on rows. A refused one leaves the tables as they were.
 pub fn apply(
     alloc: Global,
     schema: &Schema,
     tables: &mut TableMap,
     statement: &RowStmt,
-) -> Result<Key, Unwritten>
+) -> Result<KeyList, Unwritten>
     requires { IsWellFormed schema.now statement.now }
     ensures { Did (apply schema.now tables.old statement.now) tables.old result tables.new }
 {
-    let table = table_of(statement);
+    let table = statement.table();
     if tables.get(table).is_none() {
-        return Err(Unwritten::Breaks(Breach::NoTable(table)));
+        return Err(Unwritten::Violates(Violation::NoTable(table)));
     }
     match statement {
-        RowStmt::Insert { row, .. } => inserted(alloc, schema, tables, table, row),
-        RowStmt::Update { key, cells, .. } => updated(alloc, schema, tables, table, key, cells),
-        RowStmt::Delete { key, .. } => deleted(alloc, schema, tables, table, key),
+        RowStmt::Insert { rows, .. } => insert_rows(alloc, schema, tables, table, rows.as_slice()),
+        RowStmt::Update { key, cells, .. } => update_row(alloc, schema, tables, table, key, cells),
+        RowStmt::Delete { key, .. } => delete_row(alloc, schema, tables, table, key),
     }
 }

@@ -1,5 +1,5 @@
 use Rattle.std.proofs.Common.{◌≡◌, drop}
-use Rattle.schema_core.specs.Apply.{lacks_value}
+use Rattle.schema_core.specs.Judged.{lacks_value}
 use Rattle.schema_core.specs.Catalog.{is_required}
 use Rattle.table_store.proofs.cells.lacks_value.Given as goal
 

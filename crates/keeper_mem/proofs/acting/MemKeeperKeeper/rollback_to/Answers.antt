@@ -1,10 +1,9 @@
--- A fault ends the call.
-use Rattle.keeper_mem.proofs.Keeping.{faulted}
-use Rattle.keeper_mem.proofs.Undone.{failed_left}
+-- A fault ends the call, or the store went back.
+use Rattle.keeper_mem.proofs.Keeping.{faulted, went_back_from}
 use Rattle.keeper_mem.proofs.acting.MemKeeperKeeper.rollback_to.Goals as goal
 
-pub returns-in_default-clause-step : goal.returns-in_default-clause-step
-returns-in_default-clause-step c = faulted c.requires.attached c.count_call.ensures.small.0 c.in_default.ensures.err.2
+pub returns-in_default-clause-call : goal.returns-in_default-clause-call
+returns-in_default-clause-call c = faulted c.requires.attached c.count_call.ensures.small.0 c.in_default.ensures.err.2
 
-pub returns-in_default-clause-undone : goal.returns-in_default-clause-undone
-returns-in_default-clause-undone c = failed_left c.args.self.now c.count_call.new.self c.in_default.ensures.err.2
+pub returns-clause-call : goal.returns-clause-call
+returns-clause-call c = went_back_from c.args.depth c.args.self.now c.count_call.new.self c.undo_scope.new.self c.requires.attached c.requires.inside c.in-Ok.ensures.ok.1 c.undo_scope.ensures

@@ -1,26 +1,19 @@
--- A fault, or want of memory, ends the call; what is found is a table's rows.
+-- A fault, or memory that ran out, ends the call; what is found is a table's rows.
 use Rattle.std.proofs.Common.{ap, map, ◌∙◌}
 use Rattle.std.specs.Option.{option_map}
 use Rattle.schema_core.specs.Tables.{rows_in}
 use Rattle.keeper_mem.specs.Kept.{Kept, ended}
 use Rattle.keeper_mem.proofs.Keeping.{faulted, ran_out}
 use Rattle.keeper_mem.proofs.Scanned.{scanned_kinds}
-use Rattle.keeper_mem.proofs.Undone.{ended_left, failed_left}
 use Rattle.keeper_mem.proofs.acting.MemKeeperKeeper.scan.Goals as goal
 
-pub returns-in_default-clause-step : goal.returns-in_default-clause-step
-returns-in_default-clause-step c = faulted c.requires.attached c.count_call.ensures.small.0 c.in_default.ensures.err.2
+pub returns-in_default-clause-call : goal.returns-in_default-clause-call
+returns-in_default-clause-call c = faulted c.requires.attached c.count_call.ensures.small.0 c.in_default.ensures.err.2
 
-pub returns-in_default-rows-clause-step : goal.returns-in_default-rows-clause-step
-returns-in_default-rows-clause-step c = ran_out c.requires.attached (c.give_up.ensures ∙ ap ended (c.in-Ok.ensures.ok.1))
+pub returns-in_default-rows-clause-call : goal.returns-in_default-rows-clause-call
+returns-in_default-rows-clause-call c = ran_out c.requires.attached (c.give_up.ensures ∙ ap ended (c.in-Ok.ensures.ok.1))
 
 pub returns-clause-kinds : goal.returns-clause-kinds
 returns-clause-kinds c h =
     scanned_kinds c.args.schema.now c.args.table c.args.self.now c.in-Ok-rows.rows c.requires.attached h
     (c.in-Ok-rows.ensures ∙ ap (λ (kept : Kept). option_map (λ rows. map (λ entry. entry.1) rows) (rows_in kept.store.tables c.args.table)) (c.in-Ok.ensures.ok.1))
-
-pub returns-in_default-clause-undone : goal.returns-in_default-clause-undone
-returns-in_default-clause-undone c = failed_left c.args.self.now c.count_call.new.self c.in_default.ensures.err.2
-
-pub returns-in_default-rows-clause-undone : goal.returns-in_default-rows-clause-undone
-returns-in_default-rows-clause-undone c = ended_left c.args.self.now c.give_up.new.self (c.give_up.ensures ∙ ap ended (c.in-Ok.ensures.ok.1))

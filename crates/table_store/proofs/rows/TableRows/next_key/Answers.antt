@@ -1,7 +1,7 @@
 -- The last row's key is the greatest.
 use Rattle.std.proofs.Common.{sym, ap, ◌∙◌}
 use Rattle.schema_core.specs.Apply.{key_after}
-use Rattle.table_store.proofs.NextKey.{next_key_last}
+use Rattle.schema_core.proofs.NextKey.{next_key_last}
 use Rattle.table_store.proofs.rows.TableRows.next_key.Goals as goal
 
 pub returns : goal.returns

@@ -1,5 +1,5 @@
 use Rattle.std.proofs.Common.{◌≡◌, ◌++◌}
-use Rattle.select_rows.specs.Created.{bare}
+use Rattle.sql_semantics.specs.Created.{bare}
 use Rattle.table_store.proofs.tables.TableMap.bare.Given as goal
 
 abbrev pub invariant-loop-table : goal.invariant-loop-table

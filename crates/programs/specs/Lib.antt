@@ -1,0 +1,5 @@
+pub mod Store
+pub mod Programs
+pub mod Moment
+pub mod Beside
+pub mod Alone
