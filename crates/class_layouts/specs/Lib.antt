@@ -1,0 +1,4 @@
+pub mod Hierarchy
+pub mod Columns
+pub mod Faults
+pub mod Declaring

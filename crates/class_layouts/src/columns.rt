@@ -1,0 +1,110 @@
+//! The tables of a class.
+
+ghost use Rattle.std.specs.Prelude.{◌≡◌, IfOk, IfErr, None, fold, slice_get};
+ghost use Rattle.std.specs.Option.{option_copied};
+ghost use Rattle.base_core.specs.declared.refusal.Refusal.TheVariants.{Memory};
+ghost use Rattle.class_layouts.specs.Columns.{columns_in, later_of, lives_in, named_table, own_table, tables_on};
+ghost use Rattle.class_layouts.specs.Faults.{foreigns_in, root_table_on};
+
+use crate::Classes;
+use base_core::{ClassId, ListOf, Name, Refusal, TableId};
+use schema_core::{ColumnSpec, ForeignSpec, Schema, TableSpec};
+use std::alloc::Global;
+
+/// The declaration of a table, if there is one of this number.
+pub fn table_at(schema: &Schema, table: TableId) -> Option<&TableSpec>
+    ensures { option_copied result ≡ slice_get schema.now.tables table.0 }
+{
+    if table.0 < schema.count() {
+        return Some(schema.spec(table));
+    }
+    None
+}
+
+/// The columns of a table.
+pub fn columns_of(schema: &Schema, table: TableId) -> &[ColumnSpec]
+    ensures { result.now ≡ columns_in schema.now.tables table }
+{
+    match table_at(schema, table) {
+        Some(spec) => spec.columns.as_slice(),
+        None => &[],
+    }
+}
+
+/// The foreign keys of a table.
+pub fn foreigns_of(schema: &Schema, table: TableId) -> &[ForeignSpec]
+    ensures { result.now ≡ foreigns_in schema.now.tables table }
+{
+    match table_at(schema, table) {
+        Some(spec) => spec.foreigns.as_slice(),
+        None => &[],
+    }
+}
+
+/// The table that is named, if it is declared.
+pub fn named_table(schema: &Schema, name: &Option<Name>) -> Option<TableId>
+    ensures { result ≡ named_table schema.now.tables name.now }
+{
+    match name {
+        Some(name) => schema.find(name),
+        None => None,
+    }
+}
+
+/// The table that a class's own block names, if it is declared.
+pub fn own_table(schema: &Schema, classes: &Classes, class: usize) -> Option<TableId>
+    ensures { result ≡ own_table schema.now.tables classes.now class }
+{
+    match classes.specs.get(class) {
+        Some(spec) => named_table(schema, &spec.table),
+        None => None,
+    }
+}
+
+/// The table of the root of a hierarchy.
+pub fn root_table_on(schema: &Schema, classes: &Classes, root: Option<ClassId>) -> Option<TableId>
+    ensures { result ≡ root_table_on schema.now.tables classes.now root }
+{
+    match root {
+        Some(root) => own_table(schema, classes, root.0 as usize),
+        None => None,
+    }
+}
+
+fn later_of(found: Option<TableId>, own: Option<TableId>) -> Option<TableId>
+    ensures { result ≡ later_of found own }
+{
+    match own {
+        Some(table) => Some(table),
+        None => found,
+    }
+}
+
+/// The table in which the class of a line lives: the last of its tables.
+pub fn lives_in(schema: &Schema, classes: &Classes, line: &[ClassId]) -> Option<TableId>
+    ensures { result ≡ lives_in schema.now.tables classes.now line.now }
+{
+    line.iter().fold(None, |found, class| {
+        later_of(found, own_table(schema, classes, class.0 as usize))
+    })
+}
+
+#[tactic(auto, using(crate::proofs::Steps::steps))]
+/// The tables of the class of a line, its root's first.
+pub fn tables_on(
+    alloc: Global,
+    schema: &Schema,
+    classes: &Classes,
+    line: &[ClassId],
+) -> Result<ListOf<TableId>, Refusal>
+    ensures ok { IfOk result (λ tables. tables ≡ tables_on schema.now.tables classes.now line.now) }
+    ensures err { IfErr result (λ e. e ≡ Memory) }
+{
+    let mut tables = ListOf::new(alloc);
+    for class in line {
+        if let Some(table) = own_table(schema, classes, class.0 as usize) {
+            tables.push(table)?;
+        }
+    }
+    Ok(tables)
+}
