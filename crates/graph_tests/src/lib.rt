@@ -4,6 +4,8 @@
 #[cfg(test)]
 mod arena;
 #[cfg(test)]
+mod closures;
+#[cfg(test)]
 mod fixture;
 #[cfg(test)]
 mod mapping;

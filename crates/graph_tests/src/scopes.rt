@@ -1,11 +1,6 @@
 //! Objects that go back to where they stood at the start of a scope.
 
-ghost use Rattle.std.specs.Prelude.{◌≡◌, true};
-ghost use Rattle.std.specs.List.{All};
 ghost use Rattle.object_arena.specs.Graph.{IsObject};
-ghost use Rattle.object_arena.specs.Every.{classes_of};
-ghost use Rattle.mapper_core.specs.Mapped.{IsClass};
-ghost use Rattle.savepoints.specs.Scopes.{IsCopy};
 
 use crate::fixture::{is_made, key, keys_alone};
 use base_core::{AttrNo, ClassId, Key, LimitKind, ObjId, Refusal, Value};
@@ -23,111 +18,60 @@ enum Act {
     Mark(u32),
     Delete(u32),
     Detach(u32),
-    Expire(u32),
     Register(u32, i64),
+    Touch(u32),
     Start,
     Release,
     Restore(u32),
 }
 
-fn mark(arena: &mut Arena, object: ObjId) -> Result<(), Refusal>
-    ensures { classes_of arena.new ≡ classes_of arena.old }
-{
+/// An object is put into a state, where it has an identity or the state has none.
+fn put(arena: &mut Arena, object: ObjId, state: State) -> Result<(), Refusal> {
+    if !is_made(arena, object) {
+        return Err(Refusal::NotBuilt);
+    }
+    match state {
+        State::Persistent => Err(Refusal::NotBuilt),
+        State::Transient | State::Pending => arena.put_state(object, state),
+        State::Deleted | State::Detached => {
+            if arena.object(object).identity.is_none() {
+                return Err(Refusal::NotBuilt);
+            }
+            arena.put_state(object, state)
+        }
+    }
+}
+
+fn mark(arena: &mut Arena, object: ObjId) -> Result<(), Refusal> {
     if !is_made(arena, object) {
         return Err(Refusal::NotBuilt);
     }
     arena.put_marks(object, 0, true, false)
 }
 
-fn add(arena: &mut Arena, object: ObjId) -> Result<(), Refusal>
-    ensures { classes_of arena.new ≡ classes_of arena.old }
-{
-    if !is_made(arena, object) {
-        return Err(Refusal::NotBuilt);
-    }
-    arena.put_state(object, State::Pending)
-}
-
-fn delete(arena: &mut Arena, object: ObjId) -> Result<(), Refusal>
-    ensures { classes_of arena.new ≡ classes_of arena.old }
-{
-    if !is_made(arena, object) || arena.object(object).identity.is_none() {
-        return Err(Refusal::NotBuilt);
-    }
-    arena.put_state(object, State::Deleted)
-}
-
-fn detach(arena: &mut Arena, object: ObjId) -> Result<(), Refusal>
-    ensures { classes_of arena.new ≡ classes_of arena.old }
-{
-    if !is_made(arena, object) || arena.object(object).identity.is_none() {
-        return Err(Refusal::NotBuilt);
-    }
-    arena.put_state(object, State::Detached)
-}
-
-fn expire(arena: &mut Arena, object: ObjId) -> Result<(), Refusal>
-    ensures { classes_of arena.new ≡ classes_of arena.old }
-{
-    if !is_made(arena, object) {
-        return Err(Refusal::NotBuilt);
-    }
-    match arena.state_of(object) {
-        State::Persistent => {
-            arena.expire(object);
-            Ok(())
-        }
-        State::Transient | State::Pending | State::Deleted | State::Detached => {
-            Err(Refusal::NotBuilt)
-        }
-    }
-}
-
-fn register(alloc: Global, arena: &mut Arena, object: ObjId, number: i64) -> Result<(), Refusal>
-    ensures { classes_of arena.new ≡ classes_of arena.old }
-{
+fn register(alloc: Global, arena: &mut Arena, object: ObjId, number: i64) -> Result<(), Refusal> {
     if !is_made(arena, object) {
         return Err(Refusal::NotBuilt);
     }
     arena.register(object, key(alloc, number)?)
 }
 
-/// Does an act to an object.
-fn change(alloc: Global, arena: &mut Arena, act: &Act) -> Result<(), Refusal>
-    ensures { classes_of arena.new ≡ classes_of arena.old }
-{
-    match act {
-        Act::Add(number) => add(arena, ObjId(*number)),
-        Act::Mark(number) => mark(arena, ObjId(*number)),
-        Act::Delete(number) => delete(arena, ObjId(*number)),
-        Act::Detach(number) => detach(arena, ObjId(*number)),
-        Act::Expire(number) => expire(arena, ObjId(*number)),
-        Act::Register(number, key) => register(alloc, arena, ObjId(*number), *key),
-        Act::Make | Act::Start | Act::Release | Act::Restore(_) => Err(Refusal::NotBuilt),
+fn touch(arena: &Arena, frames: &mut Frames, object: ObjId) -> Result<(), Refusal> {
+    if !is_made(arena, object) {
+        return Err(Refusal::NotBuilt);
     }
+    frames.touch(arena, object)
 }
 
-fn make(mapping: &Mapping, arena: &mut Arena, frames: &Frames) -> Result<(), Refusal>
-    requires configured { mapping.now.configured ≡ true }
-    requires class { let class : ClassId = record { 0 = 0 } in IsClass mapping.now class }
-    requires copies { All (IsCopy arena.old) frames.now }
-    ensures copies { All (IsCopy arena.new) frames.now }
-{
+fn make(mapping: &Mapping, arena: &mut Arena) -> Result<(), Refusal> {
+    if mapping.count() == 0 || !mapping.is_configured() {
+        return Err(Refusal::NotBuilt);
+    }
     arena.make(mapping, ClassId(0))?;
     Ok(())
 }
 
-fn alter(alloc: Global, arena: &mut Arena, frames: &Frames, act: &Act) -> Result<(), Refusal>
-    requires copies { All (IsCopy arena.old) frames.now }
-    ensures copies { All (IsCopy arena.new) frames.now }
-{
-    change(alloc, arena, act)
-}
-
-fn release(arena: &Arena, frames: &mut Frames) -> Result<(), Refusal>
-    requires copies { All (IsCopy arena.now) frames.old }
-    ensures copies { All (IsCopy arena.now) frames.new }
-{
+fn release(frames: &mut Frames) -> Result<(), Refusal> {
     if frames.depth() == 0 {
         return Err(Refusal::NotBuilt);
     }
@@ -135,11 +79,7 @@ fn release(arena: &Arena, frames: &mut Frames) -> Result<(), Refusal>
     Ok(())
 }
 
-#[tactic(auto, using(savepoints::proofs::CopyLemmas::copy_at))]
-fn restore(arena: &mut Arena, frames: &mut Frames, depth: u32) -> Result<(), Refusal>
-    requires copies { All (IsCopy arena.old) frames.old }
-    ensures copies { All (IsCopy arena.new) frames.new }
-{
+fn restore(arena: &mut Arena, frames: &mut Frames, depth: u32) -> Result<(), Refusal> {
     if depth == 0 || depth > frames.depth() {
         return Err(Refusal::NotBuilt);
     }
@@ -153,35 +93,26 @@ fn play_one(
     arena: &mut Arena,
     frames: &mut Frames,
     act: &Act,
-) -> Result<(), Refusal>
-    requires configured { mapping.now.configured ≡ true }
-    requires class { let class : ClassId = record { 0 = 0 } in IsClass mapping.now class }
-    requires copies { All (IsCopy arena.old) frames.old }
-    ensures copies { All (IsCopy arena.new) frames.new }
-{
+) -> Result<(), Refusal> {
     match act {
-        Act::Make => make(mapping, arena, frames),
+        Act::Make => make(mapping, arena),
+        Act::Add(number) => put(arena, ObjId(*number), State::Pending),
+        Act::Mark(number) => mark(arena, ObjId(*number)),
+        Act::Delete(number) => put(arena, ObjId(*number), State::Deleted),
+        Act::Detach(number) => put(arena, ObjId(*number), State::Detached),
+        Act::Register(number, key) => register(alloc, arena, ObjId(*number), *key),
+        Act::Touch(number) => touch(arena, frames, ObjId(*number)),
         Act::Start => frames.push(arena),
-        Act::Release => release(arena, frames),
+        Act::Release => release(frames),
         Act::Restore(depth) => restore(arena, frames, *depth),
-        Act::Add(_)
-        | Act::Mark(_)
-        | Act::Delete(_)
-        | Act::Detach(_)
-        | Act::Expire(_)
-        | Act::Register(..) => alter(alloc, arena, frames, act),
     }
 }
 
-/// The objects and the scopes after these acts.
-#[tactic(auto, using(savepoints::proofs::CopyLemmas::copies_none))]
+/// The objects and the number of scopes after these acts.
 fn played(alloc: Global, acts: &[Act]) -> Result<(Arena, u32), Refusal> {
     let mapping = keys_alone(alloc)?;
     let mut arena = Arena::new(alloc);
     let mut frames = Frames::new(alloc);
-    if mapping.count() == 0 || !mapping.is_configured() {
-        return Err(Refusal::NotBuilt);
-    }
     for act in acts {
         play_one(alloc, &mapping, &mut arena, &mut frames, act)?;
     }
@@ -221,79 +152,138 @@ fn is_expired(arena: &Arena, object: ObjId) -> bool
     }
 }
 
+/// How an object stands in the end: its number, its state, its key or 0, and whether its cells are expired.
+type Stands = (u32, State, i64, bool);
+
+/// Whether these acts leave so many scopes, and the objects so.
+fn leaves(alloc: Global, acts: &[Act], depth: u32, all: &[Stands]) -> Result<bool, Refusal> {
+    let (arena, left) = played(alloc, acts)?;
+    if left != depth {
+        return Ok(false);
+    }
+    for (number, state, key, expired) in all {
+        if !stands(&arena, *number, *state, *key, *expired) {
+            return Ok(false);
+        }
+    }
+    Ok(true)
+}
+
 #[test]
 fn a_rollback_goes_back_to_the_start(rt: HostRuntime) -> Result<(), Fail> {
     let acts = [
         Act::Make,
         Act::Register(1, 7),
         Act::Start,
+        Act::Touch(1),
         Act::Mark(1),
         Act::Make,
+        Act::Touch(2),
         Act::Add(2),
-        Act::Make,
-        Act::Register(3, 8),
-        Act::Expire(3),
+        Act::Register(2, 8),
         Act::Restore(1),
     ];
-    let (arena, depth) = played(rt.alloc(), &acts)?;
-    assert!(rt; depth == 0 && arena.count() == 3);
-    assert!(rt; stands(&arena, 1, State::Persistent, 7, true));
-    assert!(rt; stands(&arena, 2, State::Transient, 0, false));
-    assert!(rt; stands(&arena, 3, State::Transient, 0, false));
+    let stand = [
+        (1, State::Persistent, 7, true),
+        (2, State::Transient, 0, false),
+    ];
+    assert!(rt; leaves(rt.alloc(), &acts, 0, &stand)?);
     Ok(())
 }
 
+/// An object is expunged and loaded anew inside a savepoint: the old one is persistent again, the new one detached.
 #[test]
 fn an_identity_comes_back_to_its_object(rt: HostRuntime) -> Result<(), Fail> {
     let acts = [
         Act::Make,
+        Act::Register(1, 7),
+        Act::Start,
+        Act::Start,
+        Act::Touch(1),
+        Act::Detach(1),
         Act::Make,
         Act::Register(2, 7),
-        Act::Start,
-        Act::Detach(2),
-        Act::Register(1, 7),
-        Act::Restore(1),
-    ];
-    let (arena, _depth) = played(rt.alloc(), &acts)?;
-    assert!(rt; stands(&arena, 1, State::Transient, 0, false));
-    assert!(rt; stands(&arena, 2, State::Persistent, 7, true));
-    Ok(())
-}
-
-#[test]
-fn a_scope_inside_goes_back_alone(rt: HostRuntime) -> Result<(), Fail> {
-    let acts = [
-        Act::Make,
-        Act::Start,
-        Act::Register(1, 7),
-        Act::Start,
-        Act::Delete(1),
-        Act::Make,
-        Act::Add(2),
+        Act::Touch(2),
         Act::Restore(2),
     ];
-    let (arena, depth) = played(rt.alloc(), &acts)?;
-    assert!(rt; depth == 1);
-    assert!(rt; stands(&arena, 1, State::Persistent, 7, false));
-    assert!(rt; stands(&arena, 2, State::Transient, 0, false));
+    let stand = [
+        (1, State::Persistent, 7, true),
+        (2, State::Detached, 7, false),
+    ];
+    assert!(rt; leaves(rt.alloc(), &acts, 1, &stand)?);
     Ok(())
 }
 
+/// Two objects were loaded under one identity, one after the other: the lesser number keeps it.
 #[test]
-fn what_was_released_goes_back_with_the_scope_around(rt: HostRuntime) -> Result<(), Fail> {
+fn of_two_that_were_loaded_the_lesser_number_stays(rt: HostRuntime) -> Result<(), Fail> {
+    let acts = [
+        Act::Start,
+        Act::Start,
+        Act::Make,
+        Act::Register(1, 7),
+        Act::Touch(1),
+        Act::Detach(1),
+        Act::Make,
+        Act::Register(2, 7),
+        Act::Touch(2),
+        Act::Restore(2),
+    ];
+    let stand = [
+        (1, State::Persistent, 7, true),
+        (2, State::Detached, 7, false),
+    ];
+    assert!(rt; leaves(rt.alloc(), &acts, 1, &stand)?);
+    Ok(())
+}
+
+/// An object that was loaded in the third scope is persistent after each rollback; one that was made is transient.
+#[test]
+fn what_was_loaded_stays(rt: HostRuntime) -> Result<(), Fail> {
+    let acts = [
+        Act::Start,
+        Act::Start,
+        Act::Start,
+        Act::Make,
+        Act::Register(1, 8),
+        Act::Touch(1),
+        Act::Make,
+        Act::Touch(2),
+        Act::Add(2),
+        Act::Restore(3),
+        Act::Touch(1),
+        Act::Delete(1),
+        Act::Restore(2),
+    ];
+    let stand = [
+        (1, State::Persistent, 8, true),
+        (2, State::Transient, 0, false),
+    ];
+    assert!(rt; leaves(rt.alloc(), &acts, 1, &stand)?);
+    Ok(())
+}
+
+/// What was touched inside a scope that was released is touched in the scope around it, and nothing else is.
+#[test]
+fn a_released_scope_passes_on_what_was_touched(rt: HostRuntime) -> Result<(), Fail> {
     let acts = [
         Act::Make,
-        Act::Start,
-        Act::Start,
         Act::Register(1, 7),
+        Act::Make,
+        Act::Register(2, 8),
+        Act::Start,
+        Act::Touch(2),
+        Act::Start,
+        Act::Start,
+        Act::Touch(1),
         Act::Release,
-        Act::Start,
-        Act::Start,
-        Act::Restore(1),
+        Act::Restore(2),
     ];
-    let (arena, depth) = played(rt.alloc(), &acts)?;
-    assert!(rt; depth == 0);
-    assert!(rt; stands(&arena, 1, State::Transient, 0, false));
+    let stand = [
+        (1, State::Persistent, 7, true),
+        (2, State::Persistent, 8, false),
+    ];
+    assert!(rt; leaves(rt.alloc(), &acts, 1, &stand)?);
     Ok(())
 }
 

@@ -1,5 +1,5 @@
 -- What a change of one object keeps of a graph that fits its mapping.
-use Rattle.std.proofs.Common.{◌≡◌, ℕ, ◌<◌, ◌≤◌, Bool, true, false, List, [], ◌∷◌, ◌++◌, length, get_or, Option, None, Some, refl, sym, ap, ◌∙◌, arith}
+use Rattle.std.proofs.Common.{◌≡◌, ℕ, ◌<◌, ◌≤◌, Bool, true, false, List, [], ◌∷◌, ◌++◌, length, get_or, Option, None, Some, refl, sym, ap, ◌∙◌, subst, arith}
 use Rattle.std.specs.Prelude.{slice_set, if◌then◌else◌}
 use Rattle.std.specs.Cmp.Lexicographic.{as_long}
 use Rattle.std.proofs.Math.Seq.{map-set_same}
@@ -24,9 +24,10 @@ use Rattle.object_arena.specs.declared.object.Cell.{Cell}
 use Rattle.object_arena.specs.declared.object.Link.{Link}
 use Rattle.object_arena.specs.declared.object.Link.TheVariants.{Unset, Unloaded}
 use Rattle.object_arena.specs.declared.object.Object.{Object}
-use Rattle.object_arena.specs.Graph.{Graph, IsCell, IsObject, cell_in, cell_put, either_fault, empty_graph, expired, expired_cell, fresh_object, kept_identity, key_fault, kind_fault, no_object, null_cell, object_at, place_of, put_back_object, root_at, no_class_id, settled, settled_cell, settled_link, settled_value, value_fault, with_cell, with_fresh, with_link, with_marks, with_object, with_state, with_value}
+use Rattle.object_arena.specs.Graph.{Graph, IsCell, IsLink, IsObject, cell_in, cell_put, either_fault, empty_graph, expired, expired_cell, fresh_object, kept_identity, key_fault, kind_fault, no_object, null_cell, object_at, place_of, put_back_object, root_at, no_class_id, settled, settled_cell, settled_link, settled_value, value_fault, with_cell, with_fresh, with_link, with_marks, with_object, with_state, with_value}
 use Rattle.object_arena.specs.Identity.{registered}
-use Rattle.object_arena.specs.Fit.{IsFit, ObjectFits, cell_fits, identity_fits, is_of_kind, key_fits, value_fits}
+use Rattle.object_arena.specs.Fit.{IsFit, ObjectFits, cell_fits, identity_fits, is_of_kind, key_fits, link_fits, links_fit, no_relation, relation_of, value_fits}
+use Rattle.object_arena.proofs.LinkLemmas.{links_expired, links_fresh, links_grown, links_same, links_settled}
 use Rattle.object_arena.proofs.PartLemmas.{pointwise_at, pointwise_made, pointwise_map, pointwise_set}
 
 -- an object of a graph that fits
@@ -52,12 +53,25 @@ fit_root mapped graph object fit within =
     ap (λ (roots : List ClassId). get_or roots (place_of object) no_class_id) fit.roots
     ∙ get_or-map (λ (o : Object). root_of mapped o.class) graph.objects (place_of object) no_object no_class_id (omega arith)
 
+-- its links fit
+pub fit_links : (mapped : Mapped) (graph : Graph) (object : ObjId) → IsFit mapped graph → IsObject graph object → links_fit mapped graph.roots (object_at graph object) ≡ true
+fit_links mapped graph object fit within =
+    let above : 0 < object.0 = within.0 in
+    let inside : object.0 ≤ length graph.objects = within.1 in
+    fit.links (place_of object) no_object (omega arith)
+
 -- another record that fits, of the same class
-pub fit_set : (mapped : Mapped) (graph : Graph) (object : ObjId) (new : Object) → IsFit mapped graph → ObjectFits mapped new → new.class ≡ (object_at graph object).class → IsFit mapped (with_object graph object new)
-fit_set mapped graph object new fit fits class = record {
+fit_put : (mapped : Mapped) (graph : Graph) (object : ObjId) (new : Object) → IsFit mapped graph → ObjectFits mapped new → links_fit mapped graph.roots new ≡ true → new.class ≡ (object_at graph object).class → IsFit mapped (with_object graph object new)
+fit_put mapped graph object new fit fits links class = record {
   objects = All-set (ObjectFits mapped) graph.objects (place_of object) new fits fit.objects;
   roots = fit.roots ∙ sym (map-set_same (λ (o : Object). root_of mapped o.class) graph.objects (place_of object) new no_object (ap (root_of mapped) class));
+  links = All-set (λ (o : Object). links_fit mapped graph.roots o ≡ true) graph.objects (place_of object) new links fit.links;
 }
+
+-- another record that fits, of the same class and with the same links
+fit_set : (mapped : Mapped) (graph : Graph) (object : ObjId) (new : Object) → IsFit mapped graph → IsObject graph object → ObjectFits mapped new → new.class ≡ (object_at graph object).class → new.links ≡ (object_at graph object).links → IsFit mapped (with_object graph object new)
+fit_set mapped graph object new fit within fits class links =
+    fit_put mapped graph object new fit fits (links_same mapped graph.roots (object_at graph object) new class links (fit_links mapped graph object fit within)) class
 
 first_none : (first second : Option Refusal) → either_fault first second ≡ None → first ≡ None
 first_none None second h = refl
@@ -83,14 +97,14 @@ fit_value mapped graph new_graph object attr value fit within inside taken is =
     and_from (value_fits (attribute_of mapped old.class attr) (Some value)) (value_fits (attribute_of mapped old.class attr) (cell_in old attr).base) right
     (and_parts (value_fits (attribute_of mapped old.class attr) (cell_in old attr).value) (value_fits (attribute_of mapped old.class attr) (cell_in old attr).base) kept).1 in
     rw is
-    (fit_set mapped graph object (cell_put old attr new) fit
+    (fit_set mapped graph object (cell_put old attr new) fit within
     (record {
       class = fits.class;
       cells = pointwise_set cell_fits (attributes_of mapped old.class) old.cells attr.0 new no_attribute fits.cells good inside;
       identity = fits.identity;
       links = fits.links;
     })
-    refl)
+    refl refl)
 
 -- a fresh object
 pub fit_fresh : (mapped : Mapped) (graph new_graph : Graph) (class : ClassId) → IsClass mapped class → new_graph ≡ with_fresh graph mapped class → IsFit mapped graph → IsFit mapped new_graph
@@ -105,6 +119,9 @@ fit_fresh mapped graph new_graph class declared is fit =
     rw is
     (record {
       objects = All-push (ObjectFits mapped) graph.objects new fit.objects fits;
+      links = All-push (λ (o : Object). links_fit mapped (graph.roots ++ root_of mapped class ∷ []) o ≡ true) graph.objects new
+          (λ k d less. links_grown mapped graph.roots (root_of mapped class) (get_or graph.objects k d) (fit.links k d less))
+          (links_fresh mapped (graph.roots ++ root_of mapped class ∷ []) (relations_of mapped class));
       roots = rw (map-append (λ (o : Object). root_of mapped o.class) graph.objects (new ∷ [])) (ap (λ (roots : List ClassId). roots ++ root_of mapped class ∷ []) fit.roots);
     })
 
@@ -115,23 +132,25 @@ fit_cell mapped graph new_graph object attr cell within inside is fit good =
     let fits : ObjectFits mapped old = fit_at mapped graph object fit within in
     let held : attr.0 < length (attributes_of mapped old.class) = rw (fit_cells mapped graph object fit within) inside in
     rw is
-    (fit_set mapped graph object (cell_put old attr cell) fit
+    (fit_set mapped graph object (cell_put old attr cell) fit within
     (record {
       class = fits.class;
       cells = pointwise_set cell_fits (attributes_of mapped old.class) old.cells attr.0 cell no_attribute fits.cells good held;
       identity = fits.identity;
       links = fits.links;
     })
-    refl)
+    refl refl)
 
--- another link
-pub fit_link : (mapped : Mapped) (graph new_graph : Graph) (object : ObjId) (relation : RelNo) (link : Link) → IsObject graph object → new_graph ≡ with_link graph object relation link → IsFit mapped graph → IsFit mapped new_graph
-fit_link mapped graph new_graph object relation link within is fit =
+-- another link that fits
+pub fit_link : (mapped : Mapped) (graph new_graph : Graph) (object : ObjId) (relation : RelNo) (link : Link) → IsObject graph object → IsLink graph object relation → new_graph ≡ with_link graph object relation link → IsFit mapped graph → link_fits mapped graph.roots (relation_of mapped (object_at graph object).class relation) link ≡ true → IsFit mapped new_graph
+fit_link mapped graph new_graph object relation link within inside is fit good =
     let old : Object = object_at graph object in
     let fits : ObjectFits mapped old = fit_at mapped graph object fit within in
+    let held : relation.0 < length (relations_of mapped old.class) = subst (λ (n : ℕ). relation.0 < n) fits.links inside in
     rw is
-    (fit_set mapped graph object (record old { links = slice_set old.links relation.0 link }) fit
+    (fit_put mapped graph object (record old { links = slice_set old.links relation.0 link }) fit
     (record { class = fits.class; cells = fits.cells; identity = fits.identity; links = length-set old.links relation.0 link ∙ fits.links })
+    (pointwise_set (link_fits mapped graph.roots) (relations_of mapped old.class) old.links relation.0 link no_relation (fit_links mapped graph object fit within) good held)
     refl)
 
 -- other marks
@@ -140,9 +159,9 @@ fit_marks mapped graph new_graph object added marked orphan within is fit =
     let old : Object = object_at graph object in
     let fits : ObjectFits mapped old = fit_at mapped graph object fit within in
     rw is
-    (fit_set mapped graph object (record old { added = added; marked = marked; orphan = orphan }) fit
+    (fit_set mapped graph object (record old { added = added; marked = marked; orphan = orphan }) fit within
     (record { class = fits.class; cells = fits.cells; identity = fits.identity; links = fits.links })
-    refl)
+    refl refl)
 
 kept_fits : (mapped : Mapped) (class : ClassId) (state : State) (identity : Option (List Value)) → identity_fits mapped class identity ≡ true → identity_fits mapped class (kept_identity state identity) ≡ true
 kept_fits mapped class Transient identity h = refl
@@ -157,9 +176,9 @@ fit_state mapped graph new_graph object state within is fit =
     let old : Object = object_at graph object in
     let fits : ObjectFits mapped old = fit_at mapped graph object fit within in
     rw is
-    (fit_set mapped graph object (record old { state = state; identity = kept_identity state old.identity }) fit
+    (fit_set mapped graph object (record old { state = state; identity = kept_identity state old.identity }) fit within
     (record { class = fits.class; cells = fits.cells; identity = kept_fits mapped old.class state old.identity fits.identity; links = fits.links })
-    refl)
+    refl refl)
 
 -- a registration under a key that fits
 pub fit_registered : (mapped : Mapped) (graph new_graph : Graph) (object : ObjId) (key : List Value) → IsObject graph object → new_graph ≡ registered graph object key → IsFit mapped graph → key_fits mapped (object_at graph object).class key ≡ true → IsFit mapped new_graph
@@ -167,9 +186,9 @@ fit_registered mapped graph new_graph object key within is fit good =
     let old : Object = object_at graph object in
     let fits : ObjectFits mapped old = fit_at mapped graph object fit within in
     rw is
-    (fit_set mapped graph object (record old { state = Persistent; identity = Some key }) fit
+    (fit_set mapped graph object (record old { state = Persistent; identity = Some key }) fit within
     (record { class = fits.class; cells = fits.cells; identity = good; links = fits.links })
-    refl)
+    refl refl)
 
 -- an expired object
 pub fit_expired : (mapped : Mapped) (graph new_graph : Graph) (object : ObjId) → IsObject graph object → new_graph ≡ with_object graph object (expired (object_at graph object)) → IsFit mapped graph → IsFit mapped new_graph
@@ -177,13 +196,14 @@ fit_expired mapped graph new_graph object within is fit =
     let old : Object = object_at graph object in
     let fits : ObjectFits mapped old = fit_at mapped graph object fit within in
     rw is
-    (fit_set mapped graph object (expired old) fit
+    (fit_put mapped graph object (expired old) fit
     (record {
       class = fits.class;
       cells = pointwise_map cell_fits (λ cell. expired_cell) (attributes_of mapped old.class) old.cells (λ attribute cell h. refl) fits.cells;
       identity = fits.identity;
       links = length-map old.links (λ link. Unloaded [] []) ∙ fits.links;
     })
+    (links_expired mapped graph.roots old (fit_links mapped graph object fit within))
     refl)
 
 settled_fits : (attribute : Attribute) (cell : Cell) → cell_fits attribute cell ≡ true → cell_fits attribute (settled_cell cell) ≡ true
@@ -205,6 +225,13 @@ settled_object_fits mapped Persistent object fits = fits
 settled_object_fits mapped Deleted object fits = fits
 settled_object_fits mapped Detached object fits = fits
 
+settled_links_fit : (mapped : Mapped) (roots : List ClassId) (state : State) (object : Object) → links_fit mapped roots object ≡ true → links_fit mapped roots (settled state object) ≡ true
+settled_links_fit mapped roots Transient object fits = links_settled mapped roots object fits
+settled_links_fit mapped roots Pending object fits = fits
+settled_links_fit mapped roots Persistent object fits = fits
+settled_links_fit mapped roots Deleted object fits = fits
+settled_links_fit mapped roots Detached object fits = fits
+
 settled_class : (state : State) (object : Object) → (settled state object).class ≡ object.class
 settled_class Transient object = refl
 settled_class Pending object = refl
@@ -222,9 +249,15 @@ pub fit_back : (mapped : Mapped) (graph new_graph : Graph) (object : ObjId) (sta
 fit_back mapped graph new_graph object state identity within is fit good =
     let old : Object = object_at graph object in
     rw is
-    (fit_set mapped graph object (put_back_object old state identity) fit (object_back mapped old state identity (fit_at mapped graph object fit within) good)
+    (fit_put mapped graph object (put_back_object old state identity) fit (object_back mapped old state identity (fit_at mapped graph object fit within) good)
+    (settled_links_fit mapped graph.roots state (record old { state = state; identity = identity; marked = false }) (fit_links mapped graph object fit within))
     (settled_class state (record old { state = state; identity = identity; marked = false })))
+
+-- an object put into a state under its identity
+pub fit_stands : (mapped : Mapped) (graph new_graph : Graph) (object : ObjId) (state : State) → IsObject graph object → new_graph ≡ with_object graph object (put_back_object (object_at graph object) state (object_at graph object).identity) → IsFit mapped graph → IsFit mapped new_graph
+fit_stands mapped graph new_graph object state within is fit =
+    fit_back mapped graph new_graph object state (object_at graph object).identity within is fit (fit_at mapped graph object fit within).identity
 
 -- no objects
 pub fit_empty : (mapped : Mapped) → IsFit mapped empty_graph
-fit_empty mapped = record { objects = All-nil (ObjectFits mapped); roots = refl }
+fit_empty mapped = record { objects = All-nil (ObjectFits mapped); roots = refl; links = All-nil (λ (o : Object). links_fit mapped [] o ≡ true) }

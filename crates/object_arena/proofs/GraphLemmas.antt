@@ -231,3 +231,24 @@ graph_pushed objects roots new root graph less state identity = record {
         let left : is_persistent (get_or (objects ++ new ∷ []) i no_object).state ≡ false = ap is_persistent (transient_past objects new i past state) in
         absurd (let e : true ≡ false = sym persistent ∙ left in cc))
         (cases_lt i (length objects))
+
+-- where an object holds, one is found
+pub held_position : (objects : List Object) (roots : List ClassId) (root : ClassId) (key : List Value) (j : ℕ) → length roots ≡ length objects → holds_at objects roots root key j ≡ true → position (holds root key) (zip objects roots) ≡ None → ⊥
+held_position objects roots root key j rooted held here =
+    let less : j < length objects = held_inside objects roots root key j held in
+    let none : holds root key (get_or (zip objects roots) j (no_object, no_class_id)) ≡ false = none_passes (holds root key) (zip objects roots) j (no_object, no_class_id) here (rw length-zip (omega (arith, rooted))) in
+    let e : true ≡ false = sym held ∙ sym (held_in_zip objects roots root key j rooted less) ∙ none in cc
+
+-- an object that holds a key holds each key that is the same
+pub key_along : (objects : List Object) (roots : List ClassId) (own root : ClassId) (it key : List Value) (j : ℕ) → own.0 ≡ root.0 → same_values it key ≡ true → holds_at objects roots own it j ≡ true → holds_at objects roots root key j ≡ true
+key_along objects roots own root it key j same_root same held =
+    let object : Object = get_or objects j no_object in
+    let its : ClassId = get_or roots j no_class_id in
+    let outer = and_parts (is_persistent object.state) (its.0 == own.0 && has_key it object.identity) held in
+    let inner = and_parts (its.0 == own.0) (has_key it object.identity) outer.1 in
+    and_from (is_persistent object.state) (its.0 == root.0 && has_key key object.identity) outer.0
+    (and_from (its.0 == root.0) (has_key key object.identity) (eq-eqb its.0 root.0 (eqb-true its.0 own.0 inner.0 ∙ same_root)) (key_passed it key object.identity inner.1 same))
+  where
+    key_passed : (it key : List Value) (identity : Option (List Value)) → has_key it identity ≡ true → same_values it key ≡ true → has_key key identity ≡ true
+    key_passed it key None has same = absurd cc
+    key_passed it key (Some held) has same = same_equiv.symm held key ∙ sym (same_equiv.congr it key held same) ∙ same_equiv.symm it held ∙ has

@@ -1,6 +1,8 @@
 pub mod FitLemmas
 pub mod GraphLemmas
 pub mod HolderLemmas
+pub mod KeepLemmas
+pub mod LinkLemmas
 pub mod PartLemmas
 pub mod RowLemmas
 pub mod ClassLemmas

@@ -1,6 +1,6 @@
 //! The arena of objects.
 
-ghost use Rattle.std.specs.Prelude.{◌≡◌, ◌<◌, ◌≤◌, ◌≢◌, ◌+◌, [], List, None, Some, length, true, false, IfOk, IfErr, OnOk, OnErr, IfSome, is_some, ◌++◌, ◌∷◌};
+ghost use Rattle.std.specs.Prelude.{◌≡◌, ◌<◌, ◌≤◌, ◌≢◌, ◌+◌, [], List, None, Some, length, true, false, IsOk, IfOk, IfErr, OnOk, OnErr, IfSome, is_some, ◌++◌, ◌∷◌};
 ghost use Rattle.std.specs.List.{position, zip};
 ghost use Rattle.base_core.specs.Answers.{Takes};
 ghost use Rattle.base_core.specs.declared.ids.ClassId.{ClassId};
@@ -12,7 +12,7 @@ ghost use Rattle.object_arena.specs.declared.object.State.TheVariants.{Persisten
 ghost use Rattle.object_arena.specs.Graph.{IsCell, IsLink, IsObject, cell_at, either_fault, empty_graph, expired, fresh_object, has_identity, is_persistent, key_fault, kind_fault, make, object_at, object_limit, put_back_object, root_at, row_of, set_cell, shown, value_fault, with_cell, with_fresh, with_link, with_marks, with_object, with_state, with_value};
 ghost use Rattle.object_arena.specs.Every.{classes_of};
 ghost use Rattle.object_arena.specs.Identity.{IsFree, IsGraph, IsOne, find_identity, has_key, holds, is_identified, is_other, is_taken, register, registered};
-ghost use Rattle.object_arena.specs.Fit.{IsFit, ObjectFits, cell_fits, identity_fits, key_fits};
+ghost use Rattle.object_arena.specs.Fit.{IsFit, Keeps, KeepsWith, ObjectFits, cell_fits, identity_fits, key_fits, link_fits, links_fit, relation_of};
 
 use crate::{Cell, CellRead, Link, Object, State, parts};
 use base_core::{AttrNo, ClassId, Key, Kind, LimitKind, ObjId, Refusal, RelNo, RequestKind, Value};
@@ -79,6 +79,7 @@ impl Arena {
         ensures is { result.now ≡ object_at self.now object }
         ensures identified { is_identified result.now ≡ true }
         ensures fits { (mapped : Mapped) → IsFit mapped self.now → ObjectFits mapped result.now }
+        ensures links { (mapped : Mapped) → IsFit mapped self.now → links_fit mapped self.now.roots result.now ≡ true }
         ensures cells { (mapped : Mapped) → IsFit mapped self.now → length result.now.cells ≡ length (attributes_of mapped result.now.class) }
         ensures row { (mapped : Mapped) → IsFit mapped self.now → is_row (root_spec mapped result.now.class) (row_of result.now) ≡ true }
     {
@@ -130,7 +131,7 @@ impl Arena {
     }
 
     /// Whether another persistent object has the key that an object is to have.
-    fn is_taken(&self, object: ObjId, key: &Key) -> bool
+    pub fn is_taken(&self, object: ObjId, key: &Key) -> bool
         requires { IsObject self.now object }
         ensures { result ≡ is_taken self.now object key.now }
     {
@@ -178,7 +179,8 @@ impl Arena {
         ensures cause { IfErr result (λ e. e ≡ Memory) }
     {
         let object = parts::fresh_object(self.alloc, mapping, class)?;
-        push_both(&mut self.objects, &mut self.roots, object, class)
+        let root = mapping.root_of(class);
+        push_both(&mut self.objects, &mut self.roots, object, root)
     }
 
     #[tactic(auto, using(crate::proofs::FitLemmas::fit_class, crate::proofs::FitLemmas::fit_cells), unfolding(crate::specs::Graph::set_cell))]
@@ -234,8 +236,8 @@ impl Arena {
         ensures step { Takes (λ _. tt) (register self.old object key) self.old result self.new }
         ensures registered { OnOk result (self.new ≡ registered self.old object key) }
         ensures taken { OnErr result (is_taken self.old object key ≡ true) }
-        ensures fits { (mapped : Mapped) → IsFit mapped self.old → key_fits mapped (object_at self.old object).class key ≡ true → IsFit mapped self.new }
-        ensures classes { classes_of self.new ≡ classes_of self.old }
+        ensures keeps { KeepsWith (λ mapped. key_fits mapped (object_at self.old object).class key ≡ true)
+            self.old self.new }
     {
         if self.is_taken(object, &key) {
             return Err(Refusal::InvalidRequestError(RequestKind::IdentityConflict));
@@ -260,8 +262,7 @@ impl Arena {
         requires object { IsObject self.old object }
         requires persistent { (object_at self.old object).state ≡ Persistent }
         ensures expired { self.new ≡ with_object self.old object (expired (object_at self.old object)) }
-        ensures fits { (mapped : Mapped) → IsFit mapped self.old → IsFit mapped self.new }
-        ensures classes { classes_of self.new ≡ classes_of self.old }
+        ensures keeps { Keeps self.old self.new }
     {
         self.write_expired(object);
     }
@@ -275,15 +276,15 @@ impl Arena {
         parts::expire(self.alloc, &mut self.objects[object.0 as usize - 1]);
     }
 
-    /// Replaces a cell of an object. The only refusal is want of memory, and it changes nothing.
+    /// Replaces a cell of an object. It is never refused.
     pub fn put_cell(&mut self, object: ObjId, attr: AttrNo, cell: Cell) -> Result<(), Refusal>
         requires object { IsObject self.old object }
         requires attr { IsCell self.old object attr }
         ensures ok { OnOk result (self.new ≡ with_cell self.old object attr cell) }
-        ensures err { OnErr result (self.new ≡ self.old) }
-        ensures cause { IfErr result (λ e. e ≡ Memory) }
-        ensures fits { (mapped : Mapped) → IsFit mapped self.old → cell_fits (attribute_of mapped (object_at self.old object).class attr) cell ≡ true → IsFit mapped self.new }
-        ensures classes { classes_of self.new ≡ classes_of self.old }
+        ensures done { IsOk result }
+        ensures keeps { KeepsWith
+            (λ mapped. cell_fits (attribute_of mapped (object_at self.old object).class attr) cell ≡ true)
+            self.old self.new }
     {
         self.write_cell(object, attr, cell);
         Ok(())
@@ -300,15 +301,16 @@ impl Arena {
         let _old = target.cells.replace(attr.0 as usize, cell);
     }
 
-    /// Replaces a link of an object. The only refusal is want of memory, and it changes nothing.
+    /// Replaces a link of an object. The only refusal is out of memory, and it changes nothing.
     pub fn put_link(&mut self, object: ObjId, relation: RelNo, link: Link) -> Result<(), Refusal>
         requires object { IsObject self.old object }
         requires relation { IsLink self.old object relation }
         ensures ok { OnOk result (self.new ≡ with_link self.old object relation link) }
         ensures err { OnErr result (self.new ≡ self.old) }
         ensures cause { IfErr result (λ e. e ≡ Memory) }
-        ensures fits { (mapped : Mapped) → IsFit mapped self.old → IsFit mapped self.new }
-        ensures classes { classes_of self.new ≡ classes_of self.old }
+        ensures keeps { KeepsWith
+            (λ mapped. link_fits mapped self.old.roots (relation_of mapped (object_at self.old object).class relation) link ≡ true)
+            self.old self.new }
     {
         self.write_link(object, relation, link);
         Ok(())
@@ -325,7 +327,7 @@ impl Arena {
         let _old = target.links.replace(relation.0 as usize, link);
     }
 
-    /// Replaces an object's add number and marks. The only refusal is want of memory, and it changes nothing.
+    /// Replaces an object's add number and marks. The only refusal is out of memory, and it changes nothing.
     pub fn put_marks(
         &mut self,
         object: ObjId,
@@ -337,8 +339,7 @@ impl Arena {
         ensures ok { OnOk result (self.new ≡ with_marks self.old object added marked orphan) }
         ensures err { OnErr result (self.new ≡ self.old) }
         ensures cause { IfErr result (λ e. e ≡ Memory) }
-        ensures fits { (mapped : Mapped) → IsFit mapped self.old → IsFit mapped self.new }
-        ensures classes { classes_of self.new ≡ classes_of self.old }
+        ensures keeps { Keeps self.old self.new }
     {
         self.write_marks(object, added, marked, orphan);
         Ok(())
@@ -356,7 +357,7 @@ impl Arena {
         target.orphan = orphan;
     }
 
-    /// Replaces an object's state; a transient or pending object has no identity. The only refusal is want of memory,
+    /// Replaces an object's state; a transient or pending object has no identity. The only refusal is out of memory,
     /// and it changes nothing.
     pub fn put_state(&mut self, object: ObjId, state: State) -> Result<(), Refusal>
         requires object { IsObject self.old object }
@@ -366,8 +367,7 @@ impl Arena {
         ensures frees { OnOk result ((root : ClassId) (key : List Value) → find_identity self.old root key ≡ Some object → find_identity self.new root key ≡ None) }
         ensures err { OnErr result (self.new ≡ self.old) }
         ensures cause { IfErr result (λ e. e ≡ Memory) }
-        ensures fits { (mapped : Mapped) → IsFit mapped self.old → IsFit mapped self.new }
-        ensures classes { classes_of self.new ≡ classes_of self.old }
+        ensures keeps { Keeps self.old self.new }
     {
         self.write_state(object, state);
         Ok(())
@@ -393,8 +393,8 @@ impl Arena {
         requires identity { has_identity state ≡ is_some identity }
         requires one { is_persistent state ≡ true → IsFree self.old object identity }
         ensures back { self.new ≡ with_object self.old object (put_back_object (object_at self.old object) state identity) }
-        ensures fits { (mapped : Mapped) → IsFit mapped self.old → identity_fits mapped (object_at self.old object).class identity ≡ true → IsFit mapped self.new }
-        ensures classes { classes_of self.new ≡ classes_of self.old }
+        ensures keeps { KeepsWith (λ mapped. identity_fits mapped (object_at self.old object).class identity ≡ true)
+            self.old self.new }
     {
         self.write_back(object, state, identity);
     }
@@ -412,6 +412,29 @@ impl Arena {
             state,
             identity,
         );
+    }
+
+    /// Puts an object into a state under the identity that it has, as [`Arena::put_back`] does. Takes no memory.
+    pub fn stand(&mut self, object: ObjId, state: State)
+        requires object { IsObject self.old object }
+        requires identity { has_identity state ≡ is_some (object_at self.old object).identity }
+        requires one { is_persistent state ≡ true → IsFree self.old object (object_at self.old object).identity }
+        ensures stands { self.new ≡ with_object self.old object
+            (put_back_object (object_at self.old object) state (object_at self.old object).identity) }
+        ensures keeps { Keeps self.old self.new }
+    {
+        self.write_standing(object, state);
+    }
+
+    /// Puts an object into a state under the identity that it has.
+    fn write_standing(&mut self, object: ObjId, state: State)
+        requires object { IsObject self.old object }
+        requires identity { has_identity state ≡ is_some (object_at self.old object).identity }
+        requires one { is_persistent state ≡ true → IsFree self.old object (object_at self.old object).identity }
+        ensures { self.new ≡ with_object self.old object
+            (put_back_object (object_at self.old object) state (object_at self.old object).identity) }
+    {
+        parts::stand(self.alloc, &mut self.objects[object.0 as usize - 1], state);
     }
 }
 

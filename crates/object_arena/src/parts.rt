@@ -172,12 +172,19 @@ fn settle_links(alloc: Global, links: &mut ListOf<Link>)
     }
 }
 
-/// The object goes back to a state that it had, without a delete mark.
+/// The object goes back to a state and an identity that it had, without a delete mark.
 pub fn put_back(alloc: Global, object: &mut Object, state: State, identity: Option<Key>)
     ensures { object.new ≡ put_back_object object.old state identity }
 {
-    object.state = state;
     object.identity = identity;
+    stand(alloc, object, state);
+}
+
+/// The object goes back to a state under its identity, without a delete mark.
+pub fn stand(alloc: Global, object: &mut Object, state: State)
+    ensures { object.new ≡ put_back_object object.old state object.old.identity }
+{
+    object.state = state;
     object.marked = false;
     match state {
         State::Transient => {

@@ -1,3 +1,4 @@
 pub mod BackLemmas
-pub mod CopyLemmas
+pub mod KeyLemmas
 pub mod ScopeLemmas
+pub mod TraceLemmas

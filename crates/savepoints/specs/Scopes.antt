@@ -1,18 +1,23 @@
 -- The scopes of a session, and how each object goes back to where it stood at the start of one.
-use Rattle.std.specs.Prelude.{◌≡◌, ℕ, ◌+◌, ◌-◌, ◌<◌, ◌≤◌, true, List, [], ◌∷◌, length, map, slice_index_or, drop, nat_lt, None, Result, Ok, Err, ◌==◌, if◌then◌else◌}
+use Rattle.std.specs.Prelude.{◌≡◌, ℕ, zero, suc, ◌&&◌, ◌+◌, ◌++◌, replicate, slice_set, ◌-◌, ◌<◌, ◌≤◌, Bool, true, false, ◌||◌, List, [], ◌∷◌, length, map, take, min, slice_index_or, drop, nat_le, nat_lt, Option, None, Some, is_some, Result, Ok, Err, ◌==◌, if◌then◌else◌}
+use Rattle.std.specs.List.{All}
+use Rattle.base_core.specs.declared.ids.ObjId.{ObjId}
+use Rattle.base_core.specs.declared.ids.ClassId.{ClassId}
+use Rattle.base_core.specs.declared.value.Value.{Value}
 use Rattle.base_core.specs.declared.refusal.LimitKind.TheVariants.{Savepoints}
 use Rattle.base_core.specs.declared.refusal.Refusal.{Refusal}
 use Rattle.base_core.specs.declared.refusal.Refusal.TheVariants.{LimitReached}
 use Rattle.mapper_core.specs.Mapped.{Mapped}
 use Rattle.object_arena.specs.declared.object.Object.{Object}
 use Rattle.object_arena.specs.declared.object.State.{State}
-use Rattle.object_arena.specs.declared.object.State.TheVariants.{Transient, Pending, Persistent}
-use Rattle.object_arena.specs.Graph.{Graph, expired, no_object, put_back_object}
-use Rattle.object_arena.specs.Identity.{IsGraph}
+use Rattle.object_arena.specs.declared.object.State.TheVariants.{Transient, Pending, Persistent, Deleted, Detached}
+use Rattle.object_arena.specs.Graph.{Graph, expired, has_identity, is_persistent, no_class_id, no_object, object_at, place_of, put_back_object}
+use Rattle.object_arena.specs.Identity.{holds_at}
 use Rattle.object_arena.specs.Fit.{identity_fits}
 use Rattle.object_arena.specs.Every.{each_object, each_placed}
 use Rattle.savepoints.specs.declared.scope.Standing.{Standing}
 use Rattle.savepoints.specs.declared.scope.Scope.{Scope}
+use Rattle.savepoints.specs.declared.traces.Trace.{Trace}
 
 -- ---- where objects stand
 
@@ -31,62 +36,171 @@ standing_at scope place = slice_index_or scope.standings place made_since
 abbrev pub begun_at : Graph → Scope
 begun_at graph = record { standings = map standing_of graph.objects }
 
--- ---- going back
+-- exactly a state that has an identity comes with one
+abbrev pub IsStanding : Standing → Type 0
+IsStanding standing = has_identity standing.state ≡ is_some standing.identity
 
-abbrev pub put_back_to : Standing → Object → Object
-put_back_to standing object = put_back_object object standing.state standing.identity
+-- ---- the scopes in progress
 
--- the graph in which each object stands where it stood at the scope's start
-unfoldable pub put_back_all : Scope → Graph → Graph
-put_back_all scope graph = each_placed (λ place object. put_back_to (standing_at scope place) object) graph
+-- an object that was touched in no scope
+abbrev pub no_trace : Trace
+no_trace = record { depth = 0; loaded = false }
 
--- an object that has no identity while the others go back
-abbrev pub set_free : Object → Object
-set_free object = put_back_object object Pending None
+abbrev pub trace_in : List Trace → ℕ → Trace
+trace_in traces place = slice_index_or traces place no_trace
 
-abbrev pub expired_in : State → Object → Object
-expired_in Persistent object = expired object
-expired_in state object = object
+-- The scopes in progress, the innermost first: the outermost is the transaction, at depth 1, and the others are
+-- savepoints. Beside them, at the place of each object, the depth of the innermost scope in which it was touched, and
+-- whether a load made it since the transaction began; of an object past their end neither was.
+pub record Framed : Type 0 where
+  pub scopes : List Scope
+  pub traces : List Trace
 
--- the graph in which every persistent object is to be read again
-unfoldable pub all_expired : Graph → Graph
-all_expired graph = each_object (λ object. expired_in object.state object) graph
-
--- The scope can be gone back to, as objects change and more are made: the graph with its objects where they stood is one.
-pub record IsCopy (graph : Graph) (scope : Scope) : Type 0 where
-  pub few : length scope.standings ≤ length graph.objects
-  pub back : IsGraph (put_back_all scope graph).objects graph.roots
-
--- the objects had keys of their classes
-abbrev pub HasKeys : Mapped → Graph → Scope → Type 0
-HasKeys mapped graph scope =
-    (place : ℕ) → place < length graph.objects → identity_fits mapped (slice_index_or graph.objects place no_object).class (standing_at scope place).identity ≡ true
-
--- ---- the scopes, the innermost first; the outermost is the transaction, and the others are savepoints
+abbrev pub no_frames : Framed
+no_frames = record { scopes = []; traces = [] }
 
 -- the transaction and 64 savepoints
 abbrev pub scope_limit : ℕ
 scope_limit = 65
 
+-- what the scopes of a session keep
+pub record IsFrames (scopes : List Scope) : Type 0 where
+  pub few : length scopes ≤ scope_limit
+  pub sound : All (λ scope. All IsStanding scope.standings) scopes
+
 abbrev pub no_scope : Scope
 no_scope = record { standings = [] }
-
--- one more scope starts, unless there are 64 savepoints
-unfoldable pub push : Graph → List Scope → Result (Unit {0} × List Scope) Refusal
-push graph scopes = if nat_lt (length scopes) scope_limit then Ok (tt, begun_at graph ∷ scopes) else Err (LimitReached Savepoints)
 
 -- the scope at a depth: the transaction is at depth 1
 abbrev pub scope_at : ℕ → List Scope → Scope
 scope_at depth scopes = slice_index_or scopes (length scopes - depth) no_scope
 
--- the scopes around the one at a depth
-abbrev pub around : ℕ → List Scope → List Scope
-around depth scopes = drop (length scopes - depth + 1) scopes
+-- the object at a place was touched in the scope at a depth or in a scope inside it
+abbrev pub is_touched : Framed → ℕ → ℕ → Bool
+is_touched frames depth place = nat_le depth (trace_in frames.traces place).depth
 
--- what is read again after a rollback: after the transaction's, every persistent object
-abbrev pub read_again : ℕ → Graph → Graph
-read_again depth graph = if depth == 1 then all_expired graph else graph
+-- one more scope starts, unless there are 64 savepoints
+unfoldable pub push : Graph → Framed → Result (Unit {0} × Framed) Refusal
+push graph frames =
+    if nat_lt (length frames.scopes) scope_limit then Ok (tt, record frames { scopes = begun_at graph ∷ frames.scopes })
+    else Err (LimitReached Savepoints)
+
+-- ---- touching
+
+-- A load made the object, where it is persistent when it is touched for the first time since it was made, and it was made
+-- since the transaction began.
+abbrev pub is_load : Framed → ℕ → Object → Bool
+is_load frames place object =
+    (trace_in frames.traces place).loaded
+    || (is_persistent object.state && ((trace_in frames.traces place).depth == 0 && nat_le (length (scope_at 1 frames.scopes).standings) place))
+
+abbrev pub touched_trace : Framed → ℕ → Object → Trace
+touched_trace frames place object = record { depth = length frames.scopes; loaded = is_load frames place object }
+
+-- the traces up to a place
+abbrev pub padded : List Trace → ℕ → List Trace
+padded traces place = traces ++ replicate (place + 1 - length traces) no_trace
+
+abbrev pub with_trace : List Trace → ℕ → Trace → List Trace
+with_trace traces place trace = slice_set (padded traces place) place trace
+
+abbrev pub touch_in : List Scope → Graph → ObjId → Framed → Framed
+touch_in [] graph object frames = frames
+touch_in (scope ∷ scopes) graph object frames =
+    record frames { traces = with_trace frames.traces (place_of object) (touched_trace frames (place_of object) (object_at graph object)) }
+
+-- an object is touched in the innermost scope; where no scope is in progress nothing happens
+unfoldable pub touch : Graph → ObjId → Framed → Framed
+touch graph object frames = touch_in frames.scopes graph object frames
+
+-- ---- ends of scopes
+
+-- what was touched inside passes outwards, and the end of the transaction forgets all
+abbrev pub outward : ℕ → Trace → Trace
+outward depth trace = if depth == 0 then no_trace else record trace { depth = min trace.depth depth }
+
+-- so many scopes are left
+abbrev pub left_at : ℕ → Framed → Framed
+left_at depth frames = record { scopes = drop (length frames.scopes - depth) frames.scopes; traces = map (outward depth) frames.traces }
+
+-- the innermost scope ends, and what was done inside stays
+unfoldable pub released : Framed → Framed
+released frames = left_at (length frames.scopes - 1) frames
+
+-- the scope at a depth ends with those inside it
+unfoldable pub around : ℕ → Framed → Framed
+around depth frames = left_at (depth - 1) frames
+
+-- ---- going back
+
+abbrev pub put_back_to : Standing → Object → Object
+put_back_to standing object = put_back_object object standing.state standing.identity
+
+abbrev pub loaded_standing : Option (List Value) → Standing
+loaded_standing None = made_since
+loaded_standing (Some key) = record { state = Persistent; identity = Some key }
+
+-- an object that was made since the scope's start: one that a load made counts as persistent under its identity
+abbrev pub since : Bool → Option (List Value) → Standing
+since true identity = loaded_standing identity
+since false identity = made_since
+
+-- where an object is to stand again
+abbrev pub wanted : Scope → List Trace → ℕ → Object → Standing
+wanted scope traces place object =
+    if nat_lt place (length scope.standings) then standing_at scope place else since (trace_in traces place).loaded object.identity
+
+-- the objects as they are to stand again
+abbrev pub all_wanted : Scope → List Trace → Graph → Graph
+all_wanted scope traces graph = each_placed (λ place object. put_back_to (wanted scope traces place object) object) graph
+
+-- some number below one passes
+abbrev pub any_below : (ℕ → Bool) → ℕ → Bool
+any_below test zero = false
+any_below test (suc n) = test n || any_below test n
+
+-- an object at a lesser place is persistent under the key and the root of the object at a place
+abbrev pub is_lost : Graph → ℕ → Option (List Value) → Bool
+is_lost graph place None = false
+is_lost graph place (Some key) = any_below (holds_at graph.objects graph.roots (slice_index_or graph.roots place no_class_id) key) place
+
+-- Of several that would be persistent under one identity, the least number keeps it; the others are detached. An object
+-- that stood under it at the scope's start has a lesser number than all that were loaded since.
+abbrev pub contested : Bool → State → State
+contested true Persistent = Detached
+contested lost state = state
+
+abbrev pub back_to : Standing → Bool → Object → Object
+back_to standing lost object = put_back_object object (contested lost standing.state) standing.identity
+
+-- an object stands again where it stood
+abbrev pub stood_again : Scope → List Trace → Graph → ℕ → Object → Object
+stood_again scope traces graph place object =
+    back_to (wanted scope traces place object) (is_lost (all_wanted scope traces graph) place (wanted scope traces place object).identity) object
+
+-- the graph in which each object stands again where it stood at the scope's start
+unfoldable pub put_back_all : Scope → List Trace → Graph → Graph
+put_back_all scope traces graph = each_placed (stood_again scope traces graph) graph
+
+abbrev pub expired_in : State → Object → Object
+expired_in Persistent object = expired object
+expired_in state object = object
+
+abbrev pub expired_where : Bool → Object → Object
+expired_where true object = expired_in object.state object
+expired_where false object = object
+
+-- what is read again after a rollback: the persistent objects touched inside, and after the transaction's all of them
+abbrev pub read_again : ℕ → List Trace → ℕ → Object → Object
+read_again depth traces place object = expired_where (depth == 1 || nat_le depth (trace_in traces place).depth) object
 
 -- the graph after a rollback to the start of the scope at a depth
-unfoldable pub restored : ℕ → List Scope → Graph → Graph
-restored depth scopes graph = read_again depth (put_back_all (scope_at depth scopes) graph)
+unfoldable pub restored : ℕ → Framed → Graph → Graph
+restored depth frames graph = each_placed (read_again depth frames.traces) (put_back_all (scope_at depth frames.scopes) frames.traces graph)
+
+-- ---- keys
+
+-- the objects had keys of their classes at the scope's start
+pub record HasKeys (mapped : Mapped) (graph : Graph) (scope : Scope) : Type 0 where
+  pub few : length scope.standings ≤ length graph.objects
+  pub keys : (place : ℕ) → place < length graph.objects → identity_fits mapped (slice_index_or graph.objects place no_object).class (standing_at scope place).identity ≡ true

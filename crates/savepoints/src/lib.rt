@@ -4,6 +4,8 @@
 mod frames;
 mod restoring;
 mod scope;
+mod traces;
 
 pub use frames::Frames;
 pub use scope::{Scope, Standing};
+pub use traces::Trace;

@@ -1,6 +1,7 @@
 //! What is kept of a scope.
 
-ghost use Rattle.std.specs.Prelude.{◌≡◌, ◌≢◌, ℕ, IfOk, IfErr, map};
+ghost use Rattle.std.specs.Prelude.{◌≡◌, ◌≢◌, ◌<◌, ℕ, IfOk, IfErr, length, slice_set};
+ghost use Rattle.std.specs.List.{All};
 ghost use Rattle.base_core.specs.declared.refusal.Refusal.TheVariants.{Memory};
 ghost use Rattle.mapper_core.specs.Mapped.{Mapped};
 ghost use Rattle.object_arena.specs.Fit.{IsFit};
@@ -24,7 +25,7 @@ pub struct Scope {
 }
 
 /// Where an object stands that was not made yet.
-fn made_since() -> Standing
+pub(crate) fn made_since() -> Standing
     ensures { result ≡ spec.made_since }
 {
     Standing {
@@ -43,10 +44,10 @@ fn standing_of(object: &Object) -> Result<Standing, AllocError>
     })
 }
 
-/// A scope that begins with the objects as they stand now. The only refusal is want of memory.
+/// A scope that begins with the objects as they stand now. The only refusal is out of memory.
 pub(crate) fn begun_at(alloc: Global, arena: &Arena) -> Result<Scope, Refusal>
     ensures scope { IfOk result (λ scope. scope ≡ spec.begun_at arena.now) }
-    ensures copy { IfOk result (λ scope. spec.IsCopy arena.now scope) }
+    ensures sound { IfOk result (λ scope. All spec.IsStanding scope.standings) }
     ensures keys { IfOk result (λ scope. (mapped : Mapped) → IsFit mapped arena.now → spec.HasKeys mapped arena.now scope) }
     ensures cause { IfErr result (λ e. e ≡ Memory) }
 {
@@ -59,11 +60,11 @@ pub(crate) fn begun_at(alloc: Global, arena: &Arena) -> Result<Scope, Refusal>
 
 /// Where the object at a place stood; it is taken out.
 pub(crate) fn take_standing(scope: &mut Scope, place: usize) -> Standing
+    requires { place < length scope.old.standings }
     ensures standing { result ≡ spec.standing_at scope.old place }
+    ensures taken { scope.new.standings ≡ slice_set scope.old.standings place spec.made_since }
+    ensures long { length scope.new.standings ≡ length scope.old.standings }
     ensures others { (other : ℕ) → other ≢ place → spec.standing_at scope.new other ≡ spec.standing_at scope.old other }
 {
-    if place >= scope.standings.len() {
-        return made_since();
-    }
     scope.standings.replace(place, made_since())
 }

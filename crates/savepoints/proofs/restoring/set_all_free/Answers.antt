@@ -1,12 +1,14 @@
 use Rattle.std.proofs.Common.{ℕ, ◌<◌, ◌∙◌, ◌+◌, length, refl, subst}
 use Rattle.object_arena.proofs.ClassLemmas.{classes_long}
+use Rattle.object_arena.proofs.KeepLemmas.{keeps_then}
 use Rattle.object_arena.proofs.TurnLemmas.{changed_more}
-use Rattle.savepoints.specs.Scopes.{set_free}
+use Rattle.savepoints.specs.Restoring.{set_free}
 use Rattle.savepoints.proofs.restoring.set_all_free.Goals as goal
 
 pub loop-number-preserved : goal.loop-number-preserved
 loop-number-preserved c =
     let less : c.loop-number.number < length c.args.arena.now.objects = subst (λ (n : ℕ). c.loop-number.number < n) c.count-number-end.ensures.count c.loop-number-test.true in (
-      changed_more set_free c.args.arena.now c.loop-number.arena c.put_back.new.self c.loop-number.number (c.loop-number.number + 1) less c.loop-number.invariant.1 c.loop-number.invariant.0 refl c.put_back.ensures.back,
-      classes_long c.loop-number.arena c.put_back.new.self c.put_back.ensures.classes ∙ c.loop-number.invariant.1,
+      changed_more set_free c.args.arena.now c.loop-number.arena c.set_free.new.arena c.loop-number.number (c.loop-number.number + 1) less c.loop-number.invariant.1 c.loop-number.invariant.0 refl c.set_free.ensures.free,
+      classes_long c.loop-number.arena c.set_free.new.arena c.set_free.ensures.keeps.classes ∙ c.loop-number.invariant.1,
+      keeps_then c.args.arena.now c.loop-number.arena c.set_free.new.arena c.loop-number.invariant.2 c.set_free.ensures.keeps,
     )

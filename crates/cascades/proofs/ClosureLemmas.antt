@@ -1,0 +1,223 @@
+-- A walk that follows the links of each object to which it came has come to the closure.
+use Rattle.std.proofs.Common.{◌≡◌, ℕ, ◌+◌, ◌-◌, ◌<◌, ◌≤◌, Bool, true, false, ◌||◌, ◌&&◌, List, [], ◌∷◌, ◌++◌, length, map, zero, suc, Result, Ok, Err, IfOk, refl, sym, ap, ◌∙◌, subst, ⊎_elim, ◌⊎◌, inl, inr, arith}
+use Rattle.std.specs.Prelude.{◌==◌, nat_lt, nat_le}
+use Rattle.std.specs.Ordering.{eq_by_cmp, nat_cmp}
+use Rattle.std.specs.Cmp.{unsigned_tied}
+use Rattle.std.specs.List.{All, AllByRecursion, list_all, list_any}
+use Rattle.std.specs.List.Sorted.{IsStrictlySortedBy}
+use Rattle.std.proofs.lemmas.Bool.{and_from, and_parts, cases_Bool, eqb-true, eq-eqb}
+use Rattle.std.proofs.lemmas.Bool.Decides.{nat_tests}
+use Rattle.std.proofs.lemmas.List.Elements.{All-nil, All-cons, All-map}
+use Rattle.std.proofs.lemmas.Map.Views.{length-le_from_below}
+use Rattle.base_core.specs.declared.ids.ObjId.{ObjId}
+use Rattle.base_core.specs.Ascending.{IsAbove, IsAscending, IsBelow}
+use Rattle.std.specs.declared.cmp.Ordering.TheVariants.{Less}
+use Rattle.mapper_core.specs.Mapped.{Mapped}
+use Rattle.object_arena.specs.Graph.{Graph, IsObject}
+use Rattle.object_arena.specs.Fit.{IsFit}
+use Rattle.cascades.specs.declared.closures.Flag.{Flag}
+use Rattle.cascades.specs.Closures.{IsClosed, IsClosure, is_among, linked}
+use Rattle.cascades.specs.Walks.{Comes, has, numbered}
+use Rattle.cascades.proofs.EndLemmas.{is_is_made, is_made, linked_made, made_is}
+use Rattle.cascades.proofs.WalkLemmas.{among_left, among_one, among_split, clash, or_cases}
+
+-- ---- tests of lists
+
+pub at_each : (inside : ObjId → Bool) (objects : List ObjId) (object : ObjId) → list_all inside objects ≡ true → is_among objects object ≡ true → inside object ≡ true
+at_each inside [] object all among = absurd cc
+at_each inside (other ∷ objects) object all among =
+    let parts = and_parts (inside other) (list_all inside objects) all in
+    ⊎_elim
+    (λ (same : (object.0 == other.0) ≡ true). subst (λ (n : ℕ). inside (numbered n) ≡ true) (sym (eqb-true object.0 other.0 same)) parts.0)
+    (λ (later : is_among objects object ≡ true). at_each inside objects object parts.1 later)
+    (or_cases (object.0 == other.0) (is_among objects object) among)
+
+pub from_each : (inside : ObjId → Bool) (objects : List ObjId) → ((object : ObjId) → is_among objects object ≡ true → inside object ≡ true) → list_all inside objects ≡ true
+from_each inside [] each = refl
+from_each inside (other ∷ objects) each =
+    and_from (inside other) (list_all inside objects) (each other (own other.0 (is_among objects other)))
+    (from_each inside objects (λ object among. each object (more (object.0 == other.0) (is_among objects object) among)))
+  where
+    own : (n : ℕ) (rest : Bool) → ((n == n) || rest) ≡ true
+    own n rest = ap (λ (b : Bool). b || rest) (eq-eqb n n refl)
+
+    more : (a b : Bool) → b ≡ true → (a || b) ≡ true
+    more true b h = refl
+    more false b h = h
+
+-- ---- the walk
+
+-- The walk began at the object. All that waits it has come to; the links of what waits no more, but for what is skipped,
+-- lead to where it has come; and it has come to nothing that a closed set with the object lacks.
+pub record IsWalk (flag : Flag) (mapped : Mapped) (graph : Graph) (object : ObjId) (skip : ObjId → Bool) (reached : List ℕ) (waiting : List ObjId) : Type 0 where
+  pub began : has reached object.0 ≡ true
+  pub held : (x : ObjId) → is_among waiting x ≡ true → has reached x.0 ≡ true
+  pub done : (x y : ObjId) → has reached x.0 ≡ true → is_among waiting x ≡ false → skip x ≡ false → is_among (linked flag mapped graph x) y ≡ true → has reached y.0 ≡ true
+  pub least : (inside : ObjId → Bool) → inside object ≡ true → IsClosed flag mapped graph inside → (number : ℕ) → has reached number ≡ true → inside (numbered number) ≡ true
+
+abbrev pub none : ObjId → Bool
+none x = false
+
+abbrev pub is_it : ObjId → ObjId → Bool
+is_it next x = x.0 == next.0
+
+-- it begins
+pub walk_began : (flag : Flag) (mapped : Mapped) (graph : Graph) (object : ObjId) (keys : List ℕ) (waiting : List ObjId) → Comes [] keys [] waiting (object ∷ []) → IsWalk flag mapped graph object none keys waiting
+walk_began flag mapped graph object keys waiting comes = record {
+  began = comes.all object (ap (λ (b : Bool). b || false) (eq-eqb object.0 object.0 refl));
+  held = λ x among. comes.held x among refl;
+  done = λ x y there idle skip linked_to. clash (is_among waiting x) (comes.waits x.0 there refl) idle;
+  least = λ inside begins closed number there. subst (λ (n : ℕ). inside (numbered n) ≡ true) (sym (among_one (numbered number) object (comes.only number there refl))) begins;
+}
+
+-- an object is taken out to be followed
+pub walk_taken : (flag : Flag) (mapped : Mapped) (graph : Graph) (object : ObjId) (keys : List ℕ) (waiting rest : List ObjId) (next : ObjId) → waiting ≡ rest ++ next ∷ [] → IsWalk flag mapped graph object none keys waiting → IsWalk flag mapped graph object (is_it next) keys rest
+walk_taken flag mapped graph object keys waiting rest next is walk = record {
+  began = walk.began;
+  held = λ x among. walk.held x (subst (λ (ws : List ObjId). is_among ws x ≡ true) (sym is) (among_left rest (next ∷ []) x among));
+  done = λ x y there idle skip linked_to. walk.done x y there (subst (λ (ws : List ObjId). is_among ws x ≡ false) (sym is) (out x idle skip)) refl linked_to;
+  least = walk.least;
+}
+  where
+    out : (x : ObjId) → is_among rest x ≡ false → is_it next x ≡ false → is_among (rest ++ next ∷ []) x ≡ false
+    out x idle skip =
+        ⊎_elim
+        (λ (present : is_among (rest ++ next ∷ []) x ≡ true).
+        ⊎_elim
+        (λ (left : is_among rest x ≡ true). clash (is_among rest x) left idle)
+        (λ (right : is_among (next ∷ []) x ≡ true). clash (x.0 == next.0) (eq-eqb x.0 next.0 (among_one x next right)) skip)
+        (among_split rest (next ∷ []) x present))
+        (λ (absent : is_among (rest ++ next ∷ []) x ≡ false). absent)
+        (cases_Bool (is_among (rest ++ next ∷ []) x))
+
+-- the object that was taken out had been reached
+pub taken_reached : (flag : Flag) (mapped : Mapped) (graph : Graph) (object : ObjId) (keys : List ℕ) (waiting rest : List ObjId) (next : ObjId) → waiting ≡ rest ++ next ∷ [] → IsWalk flag mapped graph object none keys waiting → has keys next.0 ≡ true
+taken_reached flag mapped graph object keys waiting rest next is walk =
+    walk.held next (subst (λ (ws : List ObjId). is_among ws next ≡ true) (sym is) (last rest))
+  where
+    last : (xs : List ObjId) → is_among (xs ++ next ∷ []) next ≡ true
+    last [] = ap (λ (b : Bool). b || false) (eq-eqb next.0 next.0 refl)
+    last (x ∷ xs) = more (next.0 == x.0) (is_among (xs ++ next ∷ []) next) (last xs)
+      where
+        more : (a b : Bool) → b ≡ true → (a || b) ≡ true
+        more true b h = refl
+        more false b h = h
+
+-- its links were followed
+pub walk_more : (flag : Flag) (mapped : Mapped) (graph : Graph) (object : ObjId) (old new : List ℕ) (rest waiting : List ObjId) (next : ObjId) → has old next.0 ≡ true → IsWalk flag mapped graph object (is_it next) old rest → Comes old new rest waiting (linked flag mapped graph next) → IsWalk flag mapped graph object none new waiting
+walk_more flag mapped graph object old new rest waiting next reached walk comes = record {
+  began = comes.kept object.0 walk.began;
+  held = λ x among.
+      ⊎_elim
+      (λ (before : is_among rest x ≡ true). comes.kept x.0 (walk.held x before))
+      (λ (now : is_among rest x ≡ false). comes.held x among now)
+      (cases_Bool (is_among rest x));
+  done = λ x y there idle skip linked_to.
+      ⊎_elim
+      (λ (same : (x.0 == next.0) ≡ true).
+      comes.all y (subst (λ (n : ℕ). is_among (linked flag mapped graph (numbered n)) y ≡ true) (eqb-true x.0 next.0 same) linked_to))
+      (λ (other : (x.0 == next.0) ≡ false).
+      ⊎_elim
+      (λ (before : has old x.0 ≡ true). comes.kept y.0 (walk.done x y before (still_out x idle) other linked_to))
+      (λ (now : has old x.0 ≡ false). clash (is_among waiting x) (comes.waits x.0 there now) idle)
+      (cases_Bool (has old x.0)))
+      (cases_Bool (x.0 == next.0));
+  least = λ inside begins closed number there.
+      ⊎_elim
+      (λ (before : has old number ≡ true). walk.least inside begins closed number before)
+      (λ (now : has old number ≡ false). at_each inside (linked flag mapped graph next) (numbered number) (closed next (walk.least inside begins closed next.0 reached)) (comes.only number there now))
+      (cases_Bool (has old number));
+}
+  where
+    still_out : (x : ObjId) → is_among waiting x ≡ false → is_among rest x ≡ false
+    still_out x idle =
+        ⊎_elim
+        (λ (present : is_among rest x ≡ true). clash (is_among waiting x) (comes.still x present) idle)
+        (λ (absent : is_among rest x ≡ false). absent)
+        (cases_Bool (is_among rest x))
+
+-- ---- objects alone
+
+made_closed : (flag : Flag) (mapped : Mapped) (graph : Graph) → IsFit mapped graph → IsClosed flag mapped graph (is_made graph)
+made_closed flag mapped graph fit x made = linked_made flag mapped graph x fit (made_is graph x made)
+
+pub reached_made : (flag : Flag) (mapped : Mapped) (graph : Graph) (object : ObjId) (skip : ObjId → Bool) (keys : List ℕ) (waiting : List ObjId) (number : ℕ) → IsFit mapped graph → IsObject graph object → IsWalk flag mapped graph object skip keys waiting → has keys number ≡ true → IsObject graph (numbered number)
+reached_made flag mapped graph object skip keys waiting number fit within walk there =
+    made_is graph (numbered number) (walk.least (is_made graph) (is_is_made graph object within) (made_closed flag mapped graph fit) number there)
+
+-- each number of a list is in it
+own_key : (key : ℕ) (keys : List ℕ) → has (key ∷ keys) key ≡ true
+own_key key keys = ap (λ (b : Bool). b || has keys key) (unsigned_tied key key ∙ eq-eqb key key refl)
+
+later_key : (a b : Bool) → b ≡ true → (a || b) ≡ true
+later_key true b h = refl
+later_key false b h = h
+
+below : (count : ℕ) (keys : List ℕ) → ((number : ℕ) → has keys number ≡ true → number < count) → All (λ number. number < count) keys
+below count [] each = All-nil (λ number. number < count)
+below count (key ∷ keys) each =
+    All-cons (λ number. number < count) key keys (each key (own_key key keys)) (below count keys (λ number there. each number (later_key _ (has keys number) there)))
+
+-- no more than there are objects
+pub reached_few : (flag : Flag) (mapped : Mapped) (graph : Graph) (object : ObjId) (skip : ObjId → Bool) (keys : List ℕ) (waiting : List ObjId) → IsFit mapped graph → IsObject graph object → IsStrictlySortedBy nat_cmp keys → IsWalk flag mapped graph object skip keys waiting → length keys ≤ length graph.objects + 1
+reached_few flag mapped graph object skip keys waiting fit within ascending walk =
+    length-le_from_below (length graph.objects + 1) keys ascending
+    (below (length graph.objects + 1) keys (λ number there.
+    let inside : number ≤ length graph.objects = (reached_made flag mapped graph object skip keys waiting number fit within walk there).1 in
+    omega arith))
+
+-- ---- numbers in order are objects in order
+
+below_all : (key : ℕ) (keys : List ℕ) → AllByRecursion (λ y. nat_cmp key y ≡ Less) keys → IsBelow (numbered key) (map numbered keys)
+below_all key [] all = tt
+below_all key (next ∷ keys) all = let less : nat_cmp key next ≡ Less = all.0 in (grind (arith, nat_tests), below_all key keys all.1)
+
+pub in_order : (keys : List ℕ) → IsStrictlySortedBy nat_cmp keys → IsAscending (map numbered keys)
+unfolding IsStrictlySortedBy
+in_order [] ascending = tt
+in_order (key ∷ keys) ascending = (below_all key keys ascending.0, in_order keys ascending.1)
+
+below_one : (x : ObjId) (xs : List ObjId) (y : ObjId) (ys : List ObjId) → IsBelow x (xs ++ y ∷ ys) → x.0 < y.0
+below_one x [] y ys below = below.0
+below_one x (z ∷ zs) y ys below = below_one x zs y ys below.1
+
+-- in a list in order an object is above those before it
+pub above_before : (xs : List ObjId) (y : ObjId) (ys : List ObjId) → IsAscending (xs ++ y ∷ ys) → IsAbove xs y
+above_before [] y ys ascending = tt
+above_before (x ∷ xs) y ys ascending = (below_one x xs y ys ascending.0, above_before xs y ys ascending.1)
+
+-- ---- the end
+
+among_has : (keys : List ℕ) (object : ObjId) → is_among (map numbered keys) object ≡ has keys object.0
+among_has [] object = refl
+among_has (key ∷ keys) object =
+    ap (λ (b : Bool). b || is_among (map numbered keys) object) (sym (unsigned_tied object.0 key)) ∙ ap (λ (b : Bool). eq_by_cmp nat_cmp object.0 key || b) (among_has keys object)
+
+-- nothing waits any more
+pub walk_ended : (flag : Flag) (mapped : Mapped) (graph : Graph) (object : ObjId) (keys : List ℕ) (waiting : List ObjId) (set : List ObjId) → IsFit mapped graph → IsObject graph object → IsAscending set → waiting ≡ [] → set ≡ map numbered keys → IsWalk flag mapped graph object none keys waiting → IsClosure flag mapped graph object set
+walk_ended flag mapped graph object keys waiting set fit within ascending ended is walk =
+    let there : (x : ObjId) → is_among set x ≡ has keys x.0 = λ x. ap (λ (xs : List ObjId). is_among xs x) is ∙ among_has keys x in
+    record {
+      ascending = ascending;
+      has = there object ∙ walk.began;
+      closed = λ x inside. from_each (is_among set) (linked flag mapped graph x) (λ y linked_to.
+          there y ∙ walk.done x y (sym (there x) ∙ inside) (ap (λ (ws : List ObjId). is_among ws x) ended) refl linked_to);
+      least = λ inside begins closed. from_each inside set (λ x among. walk.least inside begins closed x.0 (sym (there x) ∙ among));
+      objects = all_objects set (λ x among. reached_made flag mapped graph object none keys waiting x.0 fit within walk (sym (there x) ∙ among));
+    }
+  where
+    all_objects : (objects : List ObjId) → ((x : ObjId) → is_among objects x ≡ true → IsObject graph x) → All (IsObject graph) objects
+    all_objects [] each = All-nil (IsObject graph)
+    all_objects (x ∷ objects) each =
+        All-cons (IsObject graph) x objects (each x (ap (λ (b : Bool). b || is_among objects x) (eq-eqb x.0 x.0 refl)))
+        (all_objects objects (λ y among. each y (later_key (y.0 == x.0) (is_among objects y) among)))
+
+-- ---- answers
+
+pub empty_of : {X : Type 0} (xs : List X) → length xs ≡ 0 → xs ≡ []
+empty_of [] h = refl
+empty_of (x ∷ xs) h = absurd (omega (arith, h))
+
+pub if_ok : {X E : Type 0} (P Q : X → Type 0) (result : Result X E) → ((x : X) → P x → Q x) → IfOk result P → IfOk result Q
+if_ok P Q (Ok x) step h = step x h
+if_ok P Q (Err e) step h = h

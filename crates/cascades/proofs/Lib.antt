@@ -1,0 +1,4 @@
+pub mod EndLemmas
+pub mod WalkLemmas
+pub mod ClosureLemmas
+pub mod OneLemmas

@@ -1,0 +1,60 @@
+-- The closures of an object: to which objects a call goes on along relationships that have its flag.
+use Rattle.std.specs.Prelude.{◌≡◌, ℕ, ◌<◌, ◌≤◌, Bool, true, false, List, [], ◌∷◌, ◌++◌, length, ◌==◌, Option, None, Some, if◌then◌else◌}
+use Rattle.std.specs.List.{All, list_all, list_any}
+use Rattle.base_core.specs.declared.ids.ObjId.{ObjId}
+use Rattle.base_core.specs.Ascending.{IsAscending}
+use Rattle.mapper_types.specs.declared.declared.Cascade.{Cascade}
+use Rattle.mapper_types.specs.declared.mapped.Relation.{Relation}
+use Rattle.mapper_core.specs.Mapped.{Mapped, relations_of}
+use Rattle.object_arena.specs.declared.object.Link.{Link}
+use Rattle.object_arena.specs.declared.object.Link.TheVariants.{Unset, Unloaded, One, Many}
+use Rattle.object_arena.specs.Graph.{Graph, IsObject, object_at}
+use Rattle.cascades.specs.declared.closures.Flag.{Flag}
+use Rattle.cascades.specs.declared.closures.Flag.TheVariants.{SaveUpdate, RefreshExpire, Expunge, Delete}
+
+-- the relationship's calls of this kind go on along it
+abbrev pub has_flag : Flag → Cascade → Bool
+has_flag SaveUpdate cascade = cascade.save_update
+has_flag RefreshExpire cascade = cascade.refresh_expire
+has_flag Expunge cascade = cascade.expunge
+has_flag Delete cascade = cascade.delete
+
+abbrev pub end_of : Option ObjId → List ObjId
+end_of None = []
+end_of (Some end) = end ∷ []
+
+-- the objects that a link holds: those that are loaded, and of an unloaded collection the kept adds
+abbrev pub ends_of : Link → List ObjId
+ends_of Unset = []
+ends_of (Unloaded added removed) = added
+ends_of (One end changed) = end_of end
+ends_of (Many members base) = members
+
+abbrev pub ends_with : Bool → Link → List ObjId
+ends_with true link = ends_of link
+ends_with false link = []
+
+-- what the links hold whose relationships have the flag
+abbrev pub ends_along : Flag → List Relation → List Link → List ObjId
+ends_along flag [] links = []
+ends_along flag (relation ∷ relations) [] = []
+ends_along flag (relation ∷ relations) (link ∷ links) = ends_with (has_flag flag relation.cascade) link ++ ends_along flag relations links
+
+-- the objects to which an object is linked along relationships with the flag
+unfoldable pub linked : Flag → Mapped → Graph → ObjId → List ObjId
+linked flag mapped graph object = ends_along flag (relations_of mapped (object_at graph object).class) (object_at graph object).links
+
+-- with each object the set has all to which it is linked
+abbrev pub IsClosed : Flag → Mapped → Graph → (ObjId → Bool) → Type 0
+IsClosed flag mapped graph inside = (object : ObjId) → inside object ≡ true → list_all inside (linked flag mapped graph object) ≡ true
+
+abbrev pub is_among : List ObjId → ObjId → Bool
+is_among objects object = list_any (λ other. object.0 == other.0) objects
+
+-- the least closed set that has the object, ascending by number
+pub record IsClosure (flag : Flag) (mapped : Mapped) (graph : Graph) (object : ObjId) (closure : List ObjId) : Type 0 where
+  pub ascending : IsAscending closure
+  pub has : is_among closure object ≡ true
+  pub closed : IsClosed flag mapped graph (is_among closure)
+  pub least : (inside : ObjId → Bool) → inside object ≡ true → IsClosed flag mapped graph inside → list_all inside closure ≡ true
+  pub objects : All (IsObject graph) closure

@@ -1,0 +1,191 @@
+//! The four closures of an object.
+
+ghost use Rattle.std.specs.Prelude.{◌≡◌, ◌++◌, true, IfOk, IfErr, OnOk};
+ghost use Rattle.base_core.specs.declared.refusal.Refusal.TheVariants.{Memory};
+ghost use Rattle.object_arena.specs.Graph.{IsObject};
+ghost use Rattle.object_arena.specs.Fit.{IsFit};
+ghost use Rattle.cascades.specs.declared.closures.Flag.TheVariants.{SaveUpdate, RefreshExpire, Expunge, Delete};
+ghost use Rattle.cascades.specs.Closures as spec;
+
+use crate::walk::Walk;
+use base_core::{ListOf, ObjId, ObjList, ObjSet, Refusal};
+use mapper_core::{Cascade, Mapping, Relation};
+use object_arena::{Arena, Link};
+use std::alloc::Global;
+
+/// The calls that go on along relationships.
+#[derive(Clone, Copy, Debug, PartialEq, Eq)]
+pub enum Flag {
+    SaveUpdate,
+    RefreshExpire,
+    Expunge,
+    Delete,
+}
+
+/// The objects that are added to the session with an object. The only refusal is out of memory.
+pub fn save_closure(
+    alloc: Global,
+    arena: &Arena,
+    mapping: &Mapping,
+    object: ObjId,
+) -> Result<ObjSet, Refusal>
+    requires configured { mapping.now.configured ≡ true }
+    requires fit { IsFit mapping.now arena.now }
+    requires object { IsObject arena.now object }
+    ensures closure { IfOk result (spec.IsClosure SaveUpdate mapping.now arena.now object) }
+    ensures cause { IfErr result (λ e. e ≡ Memory) }
+{
+    closure(alloc, arena, mapping, Flag::SaveUpdate, object)
+}
+
+/// The objects that are deleted with an object. The only refusal is out of memory.
+pub fn delete_closure(
+    alloc: Global,
+    arena: &Arena,
+    mapping: &Mapping,
+    object: ObjId,
+) -> Result<ObjSet, Refusal>
+    requires configured { mapping.now.configured ≡ true }
+    requires fit { IsFit mapping.now arena.now }
+    requires object { IsObject arena.now object }
+    ensures closure { IfOk result (spec.IsClosure Delete mapping.now arena.now object) }
+    ensures cause { IfErr result (λ e. e ≡ Memory) }
+{
+    closure(alloc, arena, mapping, Flag::Delete, object)
+}
+
+/// The objects that leave the session with an object. The only refusal is out of memory.
+pub fn expunge_closure(
+    alloc: Global,
+    arena: &Arena,
+    mapping: &Mapping,
+    object: ObjId,
+) -> Result<ObjSet, Refusal>
+    requires configured { mapping.now.configured ≡ true }
+    requires fit { IsFit mapping.now arena.now }
+    requires object { IsObject arena.now object }
+    ensures closure { IfOk result (spec.IsClosure Expunge mapping.now arena.now object) }
+    ensures cause { IfErr result (λ e. e ≡ Memory) }
+{
+    closure(alloc, arena, mapping, Flag::Expunge, object)
+}
+
+/// The objects that are expired with an object. The only refusal is out of memory.
+pub fn expire_closure(
+    alloc: Global,
+    arena: &Arena,
+    mapping: &Mapping,
+    object: ObjId,
+) -> Result<ObjSet, Refusal>
+    requires configured { mapping.now.configured ≡ true }
+    requires fit { IsFit mapping.now arena.now }
+    requires object { IsObject arena.now object }
+    ensures closure { IfOk result (spec.IsClosure RefreshExpire mapping.now arena.now object) }
+    ensures cause { IfErr result (λ e. e ≡ Memory) }
+{
+    closure(alloc, arena, mapping, Flag::RefreshExpire, object)
+}
+
+/// The least closed set that has an object.
+fn closure(
+    alloc: Global,
+    arena: &Arena,
+    mapping: &Mapping,
+    flag: Flag,
+    object: ObjId,
+) -> Result<ObjSet, Refusal>
+    requires configured { mapping.now.configured ≡ true }
+    requires fit { IsFit mapping.now arena.now }
+    requires object { IsObject arena.now object }
+    ensures closure { IfOk result (spec.IsClosure flag mapping.now arena.now object) }
+    ensures cause { IfErr result (λ e. e ≡ Memory) }
+{
+    let mut walk = Walk::new(alloc);
+    walk.come_to(object)?;
+    while let Some(next) = walk.waiting.pop() {
+        let ends = linked(alloc, arena, mapping, flag, next)?;
+        walk.come_to_all(ends.as_slice())?;
+    }
+    walk.into_set(alloc)
+}
+
+/// The objects to which an object is linked along relationships with the flag.
+#[tactic(auto, unfolding(crate::specs::Closures::linked))]
+fn linked(
+    alloc: Global,
+    arena: &Arena,
+    mapping: &Mapping,
+    flag: Flag,
+    object: ObjId,
+) -> Result<ObjList, Refusal>
+    requires configured { mapping.now.configured ≡ true }
+    requires fit { IsFit mapping.now arena.now }
+    requires object { IsObject arena.now object }
+    ensures linked { IfOk result (λ ends. ends ≡ spec.linked flag mapping.now arena.now object) }
+    ensures cause { IfErr result (λ e. e ≡ Memory) }
+{
+    let record = arena.object(object);
+    ends_along(
+        alloc,
+        flag,
+        mapping.relations(record.class),
+        record.links.as_slice(),
+    )
+}
+
+/// What the links hold whose relationships have the flag.
+fn ends_along(
+    alloc: Global,
+    flag: Flag,
+    relations: &[Relation],
+    links: &[Link],
+) -> Result<ObjList, Refusal>
+    ensures ends { IfOk result (λ ends. ends ≡ spec.ends_along flag relations.now links.now) }
+    ensures cause { IfErr result (λ e. e ≡ Memory) }
+{
+    let mut ends = ListOf::new(alloc);
+    for place in 0..relations.len().min(links.len()) {
+        let goes_on = has_flag(flag, &relations[place].cascade);
+        add_ends(&mut ends, goes_on, &links[place])?;
+    }
+    Ok(ends)
+}
+
+/// Whether calls go on along a relationship with such cascades.
+fn has_flag(flag: Flag, cascade: &Cascade) -> bool
+    ensures { result ≡ spec.has_flag flag cascade.now }
+{
+    match flag {
+        Flag::SaveUpdate => cascade.save_update,
+        Flag::RefreshExpire => cascade.refresh_expire,
+        Flag::Expunge => cascade.expunge,
+        Flag::Delete => cascade.delete,
+    }
+}
+
+/// What a link holds goes to the end, where calls go on along it.
+fn add_ends(ends: &mut ObjList, goes_on: bool, link: &Link) -> Result<(), Refusal>
+    ensures ok { OnOk result (ends.new ≡ ends.old ++ spec.ends_with goes_on link.now) }
+    ensures cause { IfErr result (λ e. e ≡ Memory) }
+{
+    if !goes_on {
+        return Ok(());
+    }
+    match link {
+        Link::Unset | Link::One { end: None, .. } => Ok(()),
+        Link::One { end: Some(end), .. } => ends.push(*end),
+        Link::Unloaded { added, .. } => add_all(ends, added.as_slice()),
+        Link::Many { members, .. } => add_all(ends, members.as_slice()),
+    }
+}
+
+/// Objects go to the end.
+fn add_all(ends: &mut ObjList, objects: &[ObjId]) -> Result<(), Refusal>
+    ensures ok { OnOk result (ends.new ≡ ends.old ++ objects.now) }
+    ensures cause { IfErr result (λ e. e ≡ Memory) }
+{
+    for object in objects {
+        ends.push(*object)?;
+    }
+    Ok(())
+}

@@ -1,0 +1,70 @@
+//! A walk along links.
+
+ghost use Rattle.std.specs.Prelude.{◌≡◌, [], ◌∷◌, IfOk, IfErr, OnOk, map};
+ghost use Rattle.std.specs.Ordering.{nat_cmp};
+ghost use Rattle.std.specs.List.Sorted.{IsStrictlySortedBy};
+ghost use Rattle.base_core.specs.declared.refusal.Refusal.TheVariants.{Memory};
+ghost use Rattle.cascades.specs.Walks.{Comes, numbered};
+
+use base_core::{ObjId, ObjSet, Refusal};
+use std::alloc::Global;
+use std::collections::BTreeSet;
+
+/// The numbers of the objects that a walk has come to, and the objects whose links it has still to follow.
+#[derive(Drop)]
+pub(crate) struct Walk {
+    pub(crate) reached: BTreeSet<u32>,
+    pub(crate) waiting: Vec<ObjId>,
+}
+
+impl Walk {
+    /// A walk that has come nowhere yet.
+    pub(crate) fn new(alloc: Global) -> Walk
+        ensures reached { result.reached.keys ≡ [] }
+        ensures waiting { result.waiting.items ≡ [] }
+    {
+        Walk {
+            reached: BTreeSet::new(alloc),
+            waiting: Vec::new(alloc),
+        }
+    }
+
+    /// The walk comes to an object. Where it comes there first, its links are to be followed.
+    pub(crate) fn come_to(&mut self, object: ObjId) -> Result<(), Refusal>
+        ensures ok { OnOk result (Comes self.old.reached.keys self.new.reached.keys self.old.waiting.items self.new.waiting.items (object ∷ [])) }
+        ensures ascending { OnOk result (IsStrictlySortedBy nat_cmp self.new.reached.keys) }
+        ensures cause { IfErr result (λ e. e ≡ Memory) }
+    {
+        if !self.reached.insert(object.0)? {
+            return Ok(());
+        }
+        self.waiting.push(object)?;
+        Ok(())
+    }
+
+    /// The walk comes to objects, one after another.
+    pub(crate) fn come_to_all(&mut self, objects: &[ObjId]) -> Result<(), Refusal>
+        requires { IsStrictlySortedBy nat_cmp self.old.reached.keys }
+        ensures ok { OnOk result (Comes self.old.reached.keys self.new.reached.keys self.old.waiting.items self.new.waiting.items objects.now) }
+        ensures ascending { OnOk result (IsStrictlySortedBy nat_cmp self.new.reached.keys) }
+        ensures cause { IfErr result (λ e. e ≡ Memory) }
+    {
+        for object in objects {
+            self.come_to(*object)?;
+        }
+        Ok(())
+    }
+
+    /// The objects that the walk has come to.
+    pub(crate) fn into_set(self, alloc: Global) -> Result<ObjSet, Refusal>
+        requires { IsStrictlySortedBy nat_cmp self.reached.keys }
+        ensures set { IfOk result (λ set. set ≡ map numbered self.reached.keys) }
+        ensures cause { IfErr result (λ e. e ≡ Memory) }
+    {
+        let mut set = ObjSet::new(alloc);
+        for number in self.reached {
+            set.push(ObjId(number))?;
+        }
+        Ok(set)
+    }
+}
