@@ -1,10 +1,9 @@
 -- The last token of a line of bytes closes it, and what stands behind a minus that digits must follow is a number.
-use Rattle.std.proofs.Common.{◌≡◌, ℕ, zero, suc, ◌+◌, ◌-◌, Bool, true, false, not, ◌&&◌, if◌then◌else◌, ◌==◌, List, [], ◌∷◌, take, drop, map, slice_index, Option, Some, None, refl, ap, ◌∙◌, arith}
+use Rattle.std.proofs.Common.{◌≡◌, ℕ, zero, suc, ◌+◌, ◌-◌, Bool, true, false, not, ◌&&◌, if◌then◌else◌, ◌==◌, List, [], ◌∷◌, ◌++◌, take, drop, slice_index, Option, Some, None, refl, ap, ◌∙◌, arith}
 use Rattle.std.specs.Char.{is_ascii_digit}
 use Rattle.std.specs.Str.{bytes_eq}
 use Rattle.script_lex.specs.declared.kind.Kind.{Kind}
 use Rattle.script_lex.specs.declared.kind.Kind.TheVariants as k
-use Rattle.script_lex.specs.declared.kind.TheConstants.{WORDS}
 use Rattle.script_lex.specs.declared.shape.Class.TheVariants as class
 use Rattle.script_lex.specs.declared.token.Content.{Content}
 use Rattle.script_lex.specs.declared.token.Token.{Token}
@@ -51,7 +50,7 @@ no_word (w ∷ ws) word all =
 
 no_keyword : (word : Text) → s.keyword word ≡ k.Signed → ⊥
 unfolding s.keyword unsigned same_kind
-no_keyword word = no_word (map (λ w. (w.0.now, w.1)) WORDS) word refl
+no_keyword word = no_word (s.reserved_words ++ s.other_words) word refl
 
 closed_minus : (kd : Kind) (o : Option ℕ) (next : ℕ) → (kd ≡ k.Signed → ⊥) → IsMinus next (s.closed kd o)
 closed_minus kd None next differs = no_minus k.Bad 1 next (λ e. cc)

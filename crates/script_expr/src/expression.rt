@@ -1,7 +1,7 @@
 //! Expressions.
 
 ghost use Rattle.std.specs.Prelude.{[], ◌∷◌, ◌≡◌, IfOk};
-ghost use Rattle.script_tokens.specs.Input.{Reads, separated_from};
+ghost use Rattle.script_tokens.specs.Input.{Reads};
 ghost use Rattle.script_expr.specs.Expr as spec;
 ghost use Rattle.script_expr.specs.Nests.{Nests};
 ghost use Rattle.script_lex.specs.declared.kind.Kind.TheVariants as k;
@@ -18,14 +18,14 @@ use sqlite_items::{Boxed, Items};
 use std::alloc::{AllocError, Global};
 
 /// What joins two operands.
-#[derive(Clone, Copy, Debug)]
+#[derive(Clone, Copy)]
 pub enum Joint {
     Arith(ArithOp),
     Concat,
 }
 
 /// What may follow the first operand of a comparison.
-#[derive(Clone, Copy, Debug)]
+#[derive(Clone, Copy)]
 pub enum Test {
     Compare(CompareOp),
     /// `is distinct from` or `is not distinct from`.
@@ -157,9 +157,18 @@ fn path(tokens: &mut Tokens<'_>, first: Name) -> Result<Syn, Fault>
     Ok(Syn::Path(first, name(tokens)?))
 }
 
-// An operand is boxed before more is read. A fault then drops a box, by a call of its `drop`; the drop of a `Syn` stands in
-// the function itself, form by form, and each form is a step to prove.
+// An operand is boxed before more is read: a fault then drops a box, by a call of its `drop`, where the drop of a `Syn` would
+// stand in the function itself, form by form, each form a step to prove.
 impl<F: Fn(Global, &mut Tokens<'_>, usize, Level) -> Result<Syn, Fault>> Grammar<F> {
+    /// An operand inside this expression, boxed.
+    fn boxed_inner(&self, tokens: &mut Tokens<'_>, level: Level) -> Result<Boxed<Syn>, Fault>
+        requires { Nests self.now.depth (F.pre self.now.expr) (F.post self.now.expr) }
+        ensures { Reads (spec.expr self.now.depth level tokens.old) result tokens.new }
+    {
+        let inner = self.inner(tokens, level)?;
+        Ok(Boxed::new(self.alloc, inner)?)
+    }
+
     #[tactic(auto, unfolding(crate::specs::Expr::deeper))]
     fn deeper(&self, tokens: &mut Tokens<'_>, kind: Kind) -> Result<(), Fault>
         requires { Nests self.now.depth (F.pre self.now.expr) (F.post self.now.expr) }
@@ -189,9 +198,10 @@ impl<F: Fn(Global, &mut Tokens<'_>, usize, Level) -> Result<Syn, Fault>> Grammar
         self.deeper(tokens, Kind::LParen)?;
         let from = source(tokens)?;
         tokens.expect(Kind::Where)?;
-        let inner = Boxed::new(self.alloc, self.inner(tokens, Level::Whole)?)?;
-        tokens.expect(Kind::RParen)?;
-        Ok(Syn::Exists(from, inner))
+        let inner = self.boxed_inner(tokens, Level::Whole)?;
+        tokens
+            .expect(Kind::RParen)
+            .and(Ok(Syn::Exists(from, inner)))
     }
 
     fn arguments(&self, tokens: &mut Tokens<'_>) -> Result<Items<Syn>, Fault>
@@ -273,8 +283,7 @@ impl<F: Fn(Global, &mut Tokens<'_>, usize, Level) -> Result<Syn, Fault>> Grammar
         match tokens.kind() {
             Kind::Minus => {
                 self.deeper(tokens, Kind::Minus)?;
-                let inner = self.inner(tokens, Level::Unary)?;
-                Ok(Syn::Neg(Boxed::new(self.alloc, inner)?))
+                Ok(Syn::Neg(self.boxed_inner(tokens, Level::Unary)?))
             }
             _ => self.atom(tokens),
         }
@@ -330,30 +339,40 @@ impl<F: Fn(Global, &mut Tokens<'_>, usize, Level) -> Result<Syn, Fault>> Grammar
         self.summands(tokens, first)
     }
 
+    /// A sum, boxed.
+    fn boxed_sum(&self, tokens: &mut Tokens<'_>) -> Result<Boxed<Syn>, Fault>
+        requires { Nests self.now.depth (F.pre self.now.expr) (F.post self.now.expr) }
+        ensures { Reads (spec.sum self.now.depth (spec.expr self.now.depth) tokens.old) result tokens.new }
+    {
+        let operand = self.sum(tokens)?;
+        Ok(Boxed::new(self.alloc, operand)?)
+    }
+
     #[tactic(auto, unfolding(crate::specs::Expr::compared))]
-    fn compared(&self, tokens: &mut Tokens<'_>, op: CompareOp, left: Syn) -> Result<Syn, Fault>
+    fn compared(
+        &self,
+        tokens: &mut Tokens<'_>,
+        op: CompareOp,
+        left: Boxed<Syn>,
+    ) -> Result<Syn, Fault>
         requires { Nests self.now.depth (F.pre self.now.expr) (F.post self.now.expr) }
         ensures { Reads (spec.compared self.now.depth (spec.expr self.now.depth) op left tokens.old) result tokens.new }
     {
-        let left = Boxed::new(self.alloc, left)?;
         if null_after(tokens, op) {
             return Ok(Syn::IsNull(is_unlike(op), left));
         }
-        let right = self.sum(tokens)?;
-        Ok(Syn::Compare(op, left, Boxed::new(self.alloc, right)?))
+        Ok(Syn::Compare(op, left, self.boxed_sum(tokens)?))
     }
 
     #[tactic(auto, unfolding(crate::specs::Expr::distinct))]
-    fn distinct(&self, tokens: &mut Tokens<'_>, left: Syn) -> Result<Syn, Fault>
+    fn distinct(&self, tokens: &mut Tokens<'_>, left: Boxed<Syn>) -> Result<Syn, Fault>
         requires { Nests self.now.depth (F.pre self.now.expr) (F.post self.now.expr) }
         ensures { Reads (spec.distinct self.now.depth (spec.expr self.now.depth) left tokens.old) result tokens.new }
     {
-        let left = Boxed::new(self.alloc, left)?;
         let negated = tokens.eat(Kind::Not);
         tokens.expect(Kind::Distinct)?;
         tokens.expect(Kind::From)?;
-        let right = self.sum(tokens)?;
-        Ok(Syn::Distinct(negated, left, Boxed::new(self.alloc, right)?))
+        Ok(Syn::Distinct(negated, left, self.boxed_sum(tokens)?))
     }
 
     #[tactic(auto, unfolding(crate::specs::Expr::members))]
@@ -366,53 +385,50 @@ impl<F: Fn(Global, &mut Tokens<'_>, usize, Level) -> Result<Syn, Fault>> Grammar
             return Ok(RowValues::new(self.alloc));
         }
         let found = literals(self.alloc, tokens)?;
-        tokens.expect(Kind::RParen)?;
-        Ok(found)
+        tokens.expect(Kind::RParen).and(Ok(found))
     }
 
     #[tactic(auto, unfolding(crate::specs::Expr::between))]
-    fn between(&self, tokens: &mut Tokens<'_>, negated: bool, left: Syn) -> Result<Syn, Fault>
+    fn between(
+        &self,
+        tokens: &mut Tokens<'_>,
+        negated: bool,
+        left: Boxed<Syn>,
+    ) -> Result<Syn, Fault>
         requires { Nests self.now.depth (F.pre self.now.expr) (F.post self.now.expr) }
         ensures { Reads (spec.between self.now.depth (spec.expr self.now.depth) negated left tokens.old) result tokens.new }
     {
-        let left = Boxed::new(self.alloc, left)?;
-        let low = Boxed::new(self.alloc, self.sum(tokens)?)?;
+        let low = self.boxed_sum(tokens)?;
         tokens.expect(Kind::And)?;
-        let high = self.sum(tokens)?;
-        Ok(Syn::Between(negated, left, low, Boxed::new(self.alloc, high)?))
+        Ok(Syn::Between(negated, left, low, self.boxed_sum(tokens)?))
     }
 
     #[tactic(auto, unfolding(crate::specs::Expr::liked))]
-    fn liked(&self, tokens: &mut Tokens<'_>, negated: bool, left: Syn) -> Result<Syn, Fault>
+    fn liked(&self, tokens: &mut Tokens<'_>, negated: bool, left: Boxed<Syn>) -> Result<Syn, Fault>
         requires { Nests self.now.depth (F.pre self.now.expr) (F.post self.now.expr) }
         ensures { Reads (spec.liked self.now.depth (spec.expr self.now.depth) negated left tokens.old) result tokens.new }
     {
-        let left = Boxed::new(self.alloc, left)?;
-        let right = self.sum(tokens)?;
-        Ok(Syn::Like(negated, left, Boxed::new(self.alloc, right)?))
+        Ok(Syn::Like(negated, left, self.boxed_sum(tokens)?))
     }
 
     #[tactic(auto, unfolding(crate::specs::Expr::iliked))]
-    fn iliked(&self, tokens: &mut Tokens<'_>, negated: bool, left: Syn) -> Result<Syn, Fault>
+    fn iliked(&self, tokens: &mut Tokens<'_>, negated: bool, left: Boxed<Syn>) -> Result<Syn, Fault>
         requires { Nests self.now.depth (F.pre self.now.expr) (F.post self.now.expr) }
         ensures { Reads (spec.iliked self.now.depth (spec.expr self.now.depth) negated left tokens.old) result tokens.new }
     {
-        let left = Boxed::new(self.alloc, left)?;
-        let right = self.sum(tokens)?;
-        Ok(Syn::Ilike(negated, left, Boxed::new(self.alloc, right)?))
+        Ok(Syn::Ilike(negated, left, self.boxed_sum(tokens)?))
     }
 
     #[tactic(auto, unfolding(crate::specs::Expr::among))]
-    fn among(&self, tokens: &mut Tokens<'_>, negated: bool, left: Syn) -> Result<Syn, Fault>
+    fn among(&self, tokens: &mut Tokens<'_>, negated: bool, left: Boxed<Syn>) -> Result<Syn, Fault>
         requires { Nests self.now.depth (F.pre self.now.expr) (F.post self.now.expr) }
         ensures { Reads (spec.among self.now.depth (spec.expr self.now.depth) negated left tokens.old) result tokens.new }
     {
-        let left = Boxed::new(self.alloc, left)?;
         Ok(Syn::InList(negated, left, self.members(tokens)?))
     }
 
     #[tactic(auto, unfolding(crate::specs::Expr::tested))]
-    fn tested(&self, tokens: &mut Tokens<'_>, negated: bool, left: Syn) -> Result<Syn, Fault>
+    fn tested(&self, tokens: &mut Tokens<'_>, negated: bool, left: Boxed<Syn>) -> Result<Syn, Fault>
         requires { Nests self.now.depth (F.pre self.now.expr) (F.post self.now.expr) }
         ensures { Reads (spec.tested self.now.depth (spec.expr self.now.depth) negated left tokens.old) result tokens.new }
     {
@@ -437,12 +453,12 @@ impl<F: Fn(Global, &mut Tokens<'_>, usize, Level) -> Result<Syn, Fault>> Grammar
         }
     }
 
-    #[tactic(auto, unfolding(crate::specs::Expr::follow))]
-    fn follow(&self, tokens: &mut Tokens<'_>, left: Syn) -> Result<Syn, Fault>
+    /// What follows the first sum of a comparison, where this test begins.
+    fn follow(&self, tokens: &mut Tokens<'_>, test: Test, left: Boxed<Syn>) -> Result<Syn, Fault>
         requires { Nests self.now.depth (F.pre self.now.expr) (F.post self.now.expr) }
-        ensures { Reads (spec.follow self.now.depth (spec.expr self.now.depth) left tokens.old) result tokens.new }
+        ensures { Reads (spec.follow_by self.now.depth (spec.expr self.now.depth) left test tokens.old) result tokens.new }
     {
-        match test_kind(tokens.kind()) {
+        match test {
             Test::Compare(op) => {
                 tokens.take();
                 self.compared(tokens, op, left)
@@ -456,17 +472,20 @@ impl<F: Fn(Global, &mut Tokens<'_>, usize, Level) -> Result<Syn, Fault>> Grammar
                 self.tested(tokens, true, left)
             }
             Test::Plain => self.tested(tokens, false, left),
-            Test::Absent => Ok(left),
+            Test::Absent => Ok(left.into_inner()),
         }
     }
 
-    #[tactic(auto, unfolding(crate::specs::Expr::comparison))]
+    #[tactic(auto, unfolding(crate::specs::Expr::comparison, crate::specs::Expr::follow))]
     fn comparison(&self, tokens: &mut Tokens<'_>) -> Result<Syn, Fault>
         requires { Nests self.now.depth (F.pre self.now.expr) (F.post self.now.expr) }
         ensures { Reads (spec.comparison self.now.depth (spec.expr self.now.depth) tokens.old) result tokens.new }
     {
         let left = self.sum(tokens)?;
-        self.follow(tokens, left)
+        match test_kind(tokens.kind()) {
+            Test::Absent => Ok(left),
+            test => self.follow(tokens, test, Boxed::new(self.alloc, left)?),
+        }
     }
 
     #[tactic(auto, unfolding(crate::specs::Expr::negation))]
@@ -477,8 +496,7 @@ impl<F: Fn(Global, &mut Tokens<'_>, usize, Level) -> Result<Syn, Fault>> Grammar
         match tokens.kind() {
             Kind::Not => {
                 self.deeper(tokens, Kind::Not)?;
-                let inner = self.inner(tokens, Level::Negation)?;
-                Ok(Syn::Not(Boxed::new(self.alloc, inner)?))
+                Ok(Syn::Not(self.boxed_inner(tokens, Level::Negation)?))
             }
             _ => self.comparison(tokens),
         }

@@ -9,7 +9,7 @@ use script_types::Syn;
 use std::alloc::Global;
 
 /// Where an expression stands.
-#[derive(Clone, Copy, Debug)]
+#[derive(Clone, Copy)]
 pub enum Level {
     /// Anywhere.
     Whole,
@@ -23,7 +23,7 @@ pub enum Level {
 const NESTING: usize = 101;
 
 /// The forms of an expression.
-#[derive(Clone, Copy)]
+#[derive(Drop)]
 pub struct Grammar<F> {
     pub alloc: Global,
     /// How many more of parentheses, `not` and unary minus may nest.

@@ -1,5 +1,5 @@
 -- The kind and the length of the token at the front of a text. A text reads as 0 past its end.
-use Rattle.std.specs.Prelude.{◌≡◌, ◌≤◌, ℕ, ◌+◌, ◌%◌, Bool, true, false, not, ◌&&◌, ◌||◌, if◌then◌else◌, ◌==◌, List, [], ◌∷◌, take, drop, map, slice_index, Option, Some, None}
+use Rattle.std.specs.Prelude.{◌≡◌, ◌≤◌, ℕ, ◌+◌, ◌%◌, Bool, true, false, not, ◌&&◌, ◌||◌, if◌then◌else◌, ◌==◌, List, [], ◌∷◌, ◌++◌, take, drop, codes, slice_index, Option, Some, None}
 use Rattle.std.specs.Char.{is_ascii_digit, is_ascii_hexdigit, is_ascii_alphanumeric}
 use Rattle.std.specs.List.{prefix_len}
 use Rattle.std.specs.Str.{bytes_eq}
@@ -7,7 +7,6 @@ use Rattle.script_lex.specs.declared.shape.Class.{Class}
 use Rattle.script_lex.specs.declared.shape.Class.TheVariants as class
 use Rattle.script_lex.specs.declared.kind.Kind.{Kind}
 use Rattle.script_lex.specs.declared.kind.Kind.TheVariants as k
-use Rattle.script_lex.specs.declared.kind.TheConstants.{WORDS}
 
 abbrev pub Text : Type 0
 Text = List ℕ
@@ -25,9 +24,46 @@ abbrev pub lookup : List (Text × Kind) → Text → Kind
 lookup [] word = k.Other
 lookup (w ∷ ws) word = if bytes_eq w.0 word then w.1 else lookup ws word
 
+-- the words that are no name
+abbrev pub reserved_words : List (Text × Kind)
+reserved_words =
+    (codes "and", k.And) ∷ (codes "or", k.Or) ∷ (codes "not", k.Not) ∷ (codes "like", k.Like) ∷
+    (codes "ilike", k.Ilike) ∷ (codes "in", k.In) ∷ (codes "between", k.Between) ∷ (codes "is", k.Is) ∷
+    (codes "exists", k.Exists) ∷ (codes "null", k.Null) ∷ (codes "true", k.True) ∷ (codes "false", k.False) ∷
+    (codes "where", k.Where) ∷ (codes "order", k.Order) ∷ (codes "group", k.Group) ∷ (codes "having", k.Having) ∷
+    (codes "limit", k.Limit) ∷ (codes "offset", k.Offset) ∷ (codes "join", k.Join) ∷ (codes "left", k.Left) ∷
+    (codes "on", k.On) ∷ (codes "from", k.From) ∷ (codes "as", k.As) ∷ (codes "with", k.With) ∷
+    (codes "by", k.By) ∷ (codes "asc", k.Asc) ∷ (codes "desc", k.Desc) ∷ (codes "distinct", k.Distinct) ∷ []
+
+-- the words of the forms that are also names
+abbrev pub other_words : List (Text × Kind)
+other_words =
+    (codes "table", k.Table) ∷ (codes "class", k.Class) ∷ (codes "discriminator", k.Discriminator) ∷
+    (codes "identity", k.Identity) ∷ (codes "extends", k.Extends) ∷ (codes "owns", k.Owns) ∷
+    (codes "one", k.One) ∷ (codes "many", k.Many) ∷ (codes "validate", k.Validate) ∷ (codes "end", k.End) ∷
+    (codes "back", k.Back) ∷ (codes "backref", k.Backref) ∷ (codes "using", k.Using) ∷
+    (codes "cascade", k.Cascade) ∷ (codes "post_update", k.PostUpdate) ∷ (codes "secondary", k.Secondary) ∷
+    (codes "save", k.Save) ∷ (codes "update", k.Update) ∷ (codes "refresh", k.Refresh) ∷
+    (codes "expire", k.Expire) ∷ (codes "merge", k.Merge) ∷ (codes "expunge", k.Expunge) ∷
+    (codes "delete", k.Delete) ∷ (codes "orphan", k.Orphan) ∷ (codes "all", k.All) ∷ (codes "none", k.NoneWord) ∷
+    (codes "configure", k.Configure) ∷ (codes "create_all", k.CreateAll) ∷ (codes "drop_all", k.DropAll) ∷
+    (codes "dump", k.Dump) ∷ (codes "new", k.New) ∷ (codes "get", k.Get) ∷ (codes "objects", k.Objects) ∷
+    (codes "related", k.Related) ∷ (codes "begin_nested", k.BeginNested) ∷ (codes "set", k.Set) ∷
+    (codes "append", k.Append) ∷ (codes "remove", k.Remove) ∷ (codes "add", k.Add) ∷ (codes "show", k.Show) ∷
+    (codes "state", k.State) ∷ (codes "flush", k.Flush) ∷ (codes "commit", k.Commit) ∷
+    (codes "rollback", k.Rollback) ∷ (codes "close", k.Close) ∷ (codes "rows", k.Rows) ∷ (codes "bulk", k.Bulk) ∷
+    (codes "compile", k.Compile) ∷ (codes "sqlite", k.Sqlite) ∷ (codes "postgresql", k.Postgresql) ∷
+    (codes "mysql", k.Mysql) ∷ (codes "insert", k.Insert) ∷ (codes "values", k.Values) ∷
+    (codes "joined", k.Joined) ∷ (codes "selectin", k.Selectin) ∷ (codes "integer", k.Integer) ∷
+    (codes "varchar", k.Varchar) ∷ (codes "text", k.Text) ∷ (codes "boolean", k.Boolean) ∷
+    (codes "bytes", k.Bytes) ∷ (codes "primary", k.Primary) ∷ (codes "key", k.Key) ∷ (codes "unique", k.Unique) ∷
+    (codes "foreign", k.Foreign) ∷ (codes "references", k.References) ∷ (codes "count", k.Count) ∷
+    (codes "sum", k.Sum) ∷ (codes "min", k.Min) ∷ (codes "max", k.Max) ∷ (codes "lower", k.Lower) ∷
+    (codes "upper", k.Upper) ∷ (codes "length", k.Length) ∷ (codes "coalesce", k.Coalesce) ∷ []
+
 -- the kind of a word
 unfoldable pub keyword : Text → Kind
-keyword = lookup (map (λ w. (w.0.now, w.1)) WORDS)
+keyword = lookup (reserved_words ++ other_words)
 
 abbrev pub word : Text → Kind × ℕ
 word z = (keyword (take (past class.Word z 0) z), past class.Word z 0)

@@ -67,7 +67,7 @@ fn behind(z: &[u8], n: usize) -> &[u8]
 
 /// The tokens of a line in their order. The last one is the end of the line, or `Bad` at the first byte that begins no token.
 ///
-/// The only error is want of memory.
+/// The only error is that memory ran out.
 #[tactic(auto, using(crate::proofs::TokensGo::tokens_step, crate::proofs::TokensGo::tokens_end), unfolding(crate::specs::Lex::tokens))]
 pub fn tokens(alloc: Global, line: &[u8]) -> Result<Vec<Token>, AllocError>
     ensures { IfOk result (λ v. v.items ≡ spec.tokens line.now) }

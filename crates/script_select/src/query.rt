@@ -97,9 +97,8 @@ pub fn query(alloc: Global, tokens: &mut Tokens<'_>) -> Result<SynQuery, Fault>
     let class = name(tokens)?;
     let joins = joins(alloc, tokens)?;
     let filter = condition(alloc, tokens, Kind::Where)?;
-    let end = last_part(alloc, tokens)?;
-    let options = options(alloc, tokens)?;
-    Ok(SynQuery {
+    let (filter, end) = last_part(alloc, tokens).map(|end| (filter, end))?;
+    options(alloc, tokens).map(|options| SynQuery {
         class,
         joins,
         filter,

@@ -16,7 +16,7 @@ use script_types::{Syn, SynJoin, SynSelect};
 use std::alloc::Global;
 
 /// The end of a select or query.
-#[derive(Debug, Drop)]
+#[derive(Drop)]
 pub struct Ending {
     /// The expressions by which rows are ordered; true for `desc`.
     pub order: ListOf<(Syn, bool)>,
@@ -25,7 +25,7 @@ pub struct Ending {
 }
 
 /// The middle of a select.
-#[derive(Debug, Drop)]
+#[derive(Drop)]
 pub struct Grouping {
     pub filter: Option<Syn>,
     pub groups: ListOf<Syn>,

@@ -36,7 +36,7 @@ impl Copied for Term {
 }
 
 /// A line of the script.
-#[derive(Debug, Drop)]
+#[derive(Drop)]
 pub enum Command {
     /// A blank line or a comment.
     Skip,

@@ -19,7 +19,7 @@ impl Copied for SynSource {
 }
 
 /// An expression as it is written. A first `bool` is true for the negated form. No `Lit` holds `Null`.
-#[derive(Debug, Drop)]
+#[derive(Drop)]
 pub enum Syn {
     Lit(Value),
     /// A source or class, and its column or attribute.

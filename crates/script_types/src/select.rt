@@ -4,7 +4,7 @@ use crate::{Syn, SynSource};
 use base_core::{ListOf, Name, RowValues};
 
 /// A further source of a select: joined, or left-joined.
-#[derive(Debug, Drop)]
+#[derive(Drop)]
 pub struct SynJoin {
     pub left: bool,
     pub source: SynSource,
@@ -12,7 +12,7 @@ pub struct SynJoin {
 }
 
 /// A select as it is written.
-#[derive(Debug, Drop)]
+#[derive(Drop)]
 pub struct SynSelect {
     pub distinct: bool,
     /// Each item with the name that it is given.
@@ -29,7 +29,7 @@ pub struct SynSelect {
 }
 
 /// A query for objects as it is written.
-#[derive(Debug, Drop)]
+#[derive(Drop)]
 pub struct SynQuery {
     pub class: Name,
     /// The relationships that are joined, each as a class and its relationship.
@@ -44,7 +44,7 @@ pub struct SynQuery {
 }
 
 /// A bulk statement as it is written.
-#[derive(Debug, Drop)]
+#[derive(Drop)]
 pub enum SynBulk {
     Insert {
         table: Name,
