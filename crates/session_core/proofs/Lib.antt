@@ -1,8 +1,8 @@
-pub mod ObjectLemmas
 pub mod CellLemmas
-pub mod WriteLemmas
 pub mod MakeLemmas
+pub mod ObjectLemmas
+mod OneRow
 pub mod QueueLemmas
-pub mod RunLemmas
-pub mod StepLemmas
 pub mod SessionLemmas
+pub mod StepLemmas
+pub mod WriteLemmas

@@ -52,13 +52,11 @@ two_none : (first second : Option (Kind × Kind)) → first_of_two first second 
 two_none None second h = (refl, h)
 two_none (Some kinds) second h = absurd cc
 
--- where none is refused, each is taken
-pub taken_at : (attributes : List Attribute) (cells : List (AttrNo × Value)) (i : ℕ) (cell : AttrNo × Value) → mismatch attributes cells ≡ None → i < length cells → cell ≡ get_or cells i cell → mismatch_at (slice_get attributes cell.0.0) cell.1 ≡ None
-taken_at attributes [] i cell h less is = absurd (omega arith)
-taken_at attributes (c ∷ cells) zero cell h less is =
-    ap (λ (x : AttrNo × Value). mismatch_at (slice_get attributes x.0.0) x.1) is ∙ (two_none (mismatch_at (slice_get attributes c.0.0) c.1) (mismatch attributes cells) h).0
-taken_at attributes (c ∷ cells) (suc i) cell h less is =
-    taken_at attributes cells i cell (two_none (mismatch_at (slice_get attributes c.0.0) c.1) (mismatch attributes cells) h).1 (omega arith) is
+-- where none is refused, the first is taken and the others are
+pub mismatch_cons : (attributes : List Attribute) (all : List (AttrNo × Value)) (cell : AttrNo × Value) (cells : List (AttrNo × Value)) → all ≡ cell ∷ cells → mismatch attributes all ≡ None
+    → (mismatch_at (slice_get attributes cell.0.0) cell.1 ≡ None) × (mismatch attributes cells ≡ None)
+mismatch_cons attributes all cell cells is none =
+    two_none (mismatch_at (slice_get attributes cell.0.0) cell.1) (mismatch attributes cells) (sym (ap (mismatch attributes) is) ∙ none)
 
 -- ---- a value in a cell
 
@@ -83,12 +81,5 @@ taken_fits mapped graph object attr value fit made inside taken =
 pub past_cell : (graph : Graph) (object : ObjId) (attr : AttrNo) (cell : Cell) → length (object_at graph object).cells ≤ attr.0 → graph ≡ with_cell graph object attr cell
 past_cell graph object attr cell past =
     sym (ap (λ (cells : List Cell). with_object graph object (record (object_at graph object) { cells = cells })) (set_past (object_at graph object).cells attr.0 cell past) ∙ with_same graph object)
-
--- one value more
-pub values_more : (graph now new : Graph) (object : ObjId) (cells : List (AttrNo × Value)) (i : ℕ) (cell : AttrNo × Value) → i < length cells → cell ≡ get_or cells i cell → now ≡ with_values graph object (take i cells)
-    → new ≡ with_cell now object cell.0 (record { value = Some cell.1; base = None }) → new ≡ with_values graph object (take (i + 1) cells)
-values_more graph now new object cells i cell less is so_far write =
-    let put : Graph → AttrNo × Value → Graph = λ g c. with_cell g object c.0 (record { value = Some c.1; base = None }) in
-    write ∙ ap (λ (g : Graph). put g cell) so_far ∙ ap (put (with_values graph object (take i cells))) is ∙ sym (fold_more put graph cells i cell less)
 
 pub ruleset mismatches = (mismatch_passed, mismatch_found, mismatch_none)

@@ -1,4 +1,4 @@
--- What was read of a list, what holds at Ok, and an object that has left the session.
+-- What was read of a list, what holds at Ok, and an object that has object_left the session.
 use Rattle.std.proofs.Common.{◌≡◌, ℕ, ◌<◌, List, length, get_or, Result, Ok, Err, IfOk, OnOk, ap, ◌∙◌}
 use Rattle.std.proofs.lemmas.List.{get_or_default}
 use Rattle.base_core.specs.declared.ids.ObjId.{ObjId}
@@ -6,7 +6,7 @@ use Rattle.object_arena.specs.declared.object.Object.{Object}
 use Rattle.object_arena.specs.declared.object.State.{State}
 use Rattle.object_arena.specs.Graph.{Graph, IsObject, kept_identity, object_at, with_object, with_state}
 use Rattle.object_arena.proofs.TurnLemmas.{written_twice}
-use Rattle.session_core.specs.Flush.{left, left_state, unmarked}
+use Rattle.session_core.specs.Flush.{object_left, left_state, object_unmarked}
 
 -- an item that was read of a list
 pub read_same : {A : Type 0} (xs ys : List A) (i : ℕ) (d : A) → xs ≡ ys → i < length xs → get_or xs i d ≡ get_or ys i (get_or xs i d)
@@ -25,9 +25,9 @@ pub on_both : {A E P Q R : Type 0} (r : Result A E) → (P → Q → R) → OnOk
 on_both (Ok x) f p q = f p q
 on_both (Err e) f p q = tt
 
--- an object that has left the session
-pub left_is : (graph mid new : Graph) (object : ObjId) (read : Object) (state : State) → IsObject graph object → mid ≡ with_object graph object (unmarked (object_at graph object)) → read ≡ object_at mid object → state ≡ left_state read.state
-    → new ≡ with_state mid object state → new ≡ with_object graph object (left (object_at graph object))
+-- an object that has object_left the session
+pub left_is : (graph mid new : Graph) (object : ObjId) (read : Object) (state : State) → IsObject graph object → mid ≡ with_object graph object (object_unmarked (object_at graph object)) → read ≡ object_at mid object → state ≡ left_state read.state
+    → new ≡ with_state mid object state → new ≡ with_object graph object (object_left (object_at graph object))
 left_is graph mid new object read state made first is to second =
-    written_twice (λ o. record o { state = left_state o.state; identity = kept_identity (left_state o.state) o.identity }) graph mid new object (unmarked (object_at graph object)) made first
+    written_twice (λ o. record o { state = left_state o.state; identity = kept_identity (left_state o.state) o.identity }) graph mid new object (object_unmarked (object_at graph object)) made first
     (second ∙ ap (with_state mid object) (to ∙ ap (λ (o : Object). left_state o.state) is))

@@ -9,25 +9,25 @@ use Rattle.std.proofs.lemmas.Map.Views.{All-values-insert_entry}
 use Rattle.base_core.specs.declared.ids.ObjId.{ObjId}
 use Rattle.object_arena.specs.declared.object.Object.{Object}
 use Rattle.object_arena.specs.Graph.{Graph, IsObject, no_object, object_at}
-use Rattle.session_core.specs.Flush.{Queue, is_pending, pending_in_order, queued, rank_cmp}
+use Rattle.session_core.specs.Flush.{Queue, is_pending, pending_in_order, with_queued, rank_cmp}
 
 -- what is left begins with the next object
 pub queue_next : (queue : Queue) (objects : List Object) (i : ℕ) → i < length objects
-    → fold queued queue (enumerate_from (i + 1) (drop i objects)) ≡ fold queued (queued queue (i + 1, get_or objects i no_object)) (enumerate_from (i + 1 + 1) (drop (i + 1) objects))
-queue_next queue objects i less = ap (λ (rest : List Object). fold queued queue (enumerate_from (i + 1) rest)) (drop_more objects i no_object less)
+    → fold with_queued queue (enumerate_from (i + 1) (drop i objects)) ≡ fold with_queued (with_queued queue (i + 1, get_or objects i no_object)) (enumerate_from (i + 1 + 1) (drop (i + 1) objects))
+queue_next queue objects i less = ap (λ (rest : List Object). fold with_queued queue (enumerate_from (i + 1) rest)) (drop_more objects i no_object less)
 
 -- nothing is left
-pub queue_ended : (queue : Queue) (objects : List Object) (i : ℕ) → length objects ≤ i → fold queued queue (enumerate_from (i + 1) (drop i objects)) ≡ queue
-queue_ended queue objects i ended = ap (λ (rest : List Object). fold queued queue (enumerate_from (i + 1) rest)) (drop_all i objects ended)
+pub queue_ended : (queue : Queue) (objects : List Object) (i : ℕ) → length objects ≤ i → fold with_queued queue (enumerate_from (i + 1) (drop i objects)) ≡ queue
+queue_ended queue objects i ended = ap (λ (rest : List Object). fold with_queued queue (enumerate_from (i + 1) rest)) (drop_all i objects ended)
 
 -- a turn
-pub queue_more : (whole queue new : Queue) (graph : Graph) (i n : ℕ) → i < length graph.objects → fold queued queue (enumerate_from (i + 1) (drop i graph.objects)) ≡ whole → n ≡ i + 1
-    → (let object : ObjId = record { 0 = n } in new ≡ queued queue (n, object_at graph object)) → fold queued new (enumerate_from (i + 1 + 1) (drop (i + 1) graph.objects)) ≡ whole
+pub queue_more : (whole queue new : Queue) (graph : Graph) (i n : ℕ) → i < length graph.objects → fold with_queued queue (enumerate_from (i + 1) (drop i graph.objects)) ≡ whole → n ≡ i + 1
+    → (let object : ObjId = record { 0 = n } in new ≡ with_queued queue (n, object_at graph object)) → fold with_queued new (enumerate_from (i + 1 + 1) (drop (i + 1) graph.objects)) ≡ whole
 queue_more whole queue new graph i n less so_far number put =
     let rest : List (ℕ × Object) = enumerate_from (i + 1 + 1) (drop (i + 1) graph.objects) in
     let at : n - 1 ≡ i = omega arith in
-    ap (λ (q : Queue). fold queued q rest)
-    (put ∙ ap (λ (p : ℕ). queued queue (n, get_or graph.objects p no_object)) at ∙ ap (λ (m : ℕ). queued queue (m, get_or graph.objects i no_object)) number)
+    ap (λ (q : Queue). fold with_queued q rest)
+    (put ∙ ap (λ (p : ℕ). with_queued queue (n, get_or graph.objects p no_object)) at ∙ ap (λ (m : ℕ). with_queued queue (m, get_or graph.objects i no_object)) number)
     ∙ sym (queue_next queue graph.objects i less) ∙ so_far
 
 one_made : (P : ObjId → Type 0) (queue : Queue) (n : ℕ) (object : Object) (is : Bool) → All P (values_of queue) → (let number : ObjId = record { 0 = n } in P number)
@@ -36,10 +36,10 @@ one_made P queue n object true all one = All-values-insert_entry rank_cmp (objec
 one_made P queue n object false all one = all
 
 all_made : (P : ObjId → Type 0) (queue : Queue) (n : ℕ) (objects : List Object) → All P (values_of queue) → ((i : ℕ) → n ≤ i → i < n + length objects → (let number : ObjId = record { 0 = i } in P number))
-    → All P (values_of (fold queued queue (enumerate_from n objects)))
+    → All P (values_of (fold with_queued queue (enumerate_from n objects)))
 all_made P queue n [] all each = all
 all_made P queue n (object ∷ objects) all each =
-    all_made P (queued queue (n, object)) (n + 1) objects (one_made P queue n object (is_pending object.state) all (each n (omega arith) (omega arith)))
+    all_made P (with_queued queue (n, object)) (n + 1) objects (one_made P queue n object (is_pending object.state) all (each n (omega arith) (omega arith)))
     (λ i above below. each i (omega arith) (omega arith))
 
 -- the pending objects have been made

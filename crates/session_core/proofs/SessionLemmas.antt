@@ -10,27 +10,25 @@ use Rattle.object_arena.specs.Graph.{Graph, object_limit, with_fresh}
 use Rattle.object_arena.specs.Fit.{IsFit}
 use Rattle.object_arena.specs.Every.{classes_of}
 use Rattle.savepoints.specs.declared.scope.Scope.{Scope}
-use Rattle.savepoints.specs.Scopes.{HasKeys, IsCopy, begun_at, push}
-use Rattle.savepoints.proofs.CopyLemmas.{copy_kept, copy_made, keys_kept, keys_made}
+use Rattle.savepoints.specs.Scopes.{Framed, HasKeys, begun_at, push}
+use Rattle.savepoints.proofs.KeyLemmas.{all_kept, all_made}
 use Rattle.session_core.specs.SessionState.{IsSession, has_scope}
 
 -- objects that change, each in its class
-pub session_kept : (mapped : Mapped) (old new : Graph) (scopes : List Scope) → IsFit mapped new → classes_of new ≡ classes_of old → IsSession mapped old scopes → IsSession mapped new scopes
-session_kept mapped old new scopes fit same session = record {
+pub session_kept : (mapped : Mapped) (old new : Graph) (frames : Framed) → IsFit mapped new → classes_of new ≡ classes_of old → IsSession mapped old frames.scopes → IsSession mapped new frames.scopes
+session_kept mapped old new frames fit same session = record {
   configured = session.configured;
   fit = fit;
-  copies = λ k d less. copy_kept old new _ same (session.copies k d less);
-  keys = λ k d less. keys_kept mapped old new _ same (session.keys k d less);
+  keys = all_kept mapped old new frames.scopes same session.keys;
   one = session.one;
 }
 
 -- an object that is made
-pub session_made : (mapped : Mapped) (old new : Graph) (class : ClassId) (scopes : List Scope) → IsFit mapped new → new ≡ with_fresh old mapped class → length old.objects < object_limit → IsSession mapped old scopes → IsSession mapped new scopes
-session_made mapped old new class scopes fit is room session = record {
+pub session_made : (mapped : Mapped) (old new : Graph) (class : ClassId) (frames : Framed) → IsFit mapped new → new ≡ with_fresh old mapped class → length old.objects < object_limit → IsSession mapped old frames.scopes → IsSession mapped new frames.scopes
+session_made mapped old new class frames fit is room session = record {
   configured = session.configured;
   fit = fit;
-  copies = λ k d less. copy_made mapped old new class _ is room (session.copies k d less);
-  keys = λ k d less. keys_made mapped old new class _ is (session.copies k d less).few (session.keys k d less);
+  keys = all_made mapped old new class frames.scopes is session.keys;
   one = session.one;
 }
 
@@ -39,18 +37,17 @@ pub session_outside : (mapped : Mapped) (graph : Graph) → mapped.configured �
 session_outside mapped graph configured fit = record {
   configured = configured;
   fit = fit;
-  copies = All-nil (IsCopy graph);
   keys = All-nil (HasKeys mapped graph);
   one = omega arith;
 }
 
 -- the transaction's scope starts, unless that is refused
-pub session_begun : (mapped : Mapped) (graph : Graph) (old new : List Scope) (r : Result (Unit {0}) Refusal) → old ≡ [] → Takes (λ _. tt) (push graph old) old r new → OnOk r (new ≡ begun_at graph ∷ old) → All (IsCopy graph) new → All (HasKeys mapped graph) new → IsSession mapped graph old → IsSession mapped graph new
-session_begun mapped graph old new (Ok u) outside step is copies keys session =
-    let long : length new ≡ 1 = ap (λ (scopes : List Scope). length scopes) (is ∙ ap (λ (scopes : List Scope). begun_at graph ∷ scopes) outside) in
-    record { configured = session.configured; fit = session.fit; copies = copies; keys = keys; one = omega (arith, long) }
-session_begun mapped graph old new (Err e) outside step is copies keys session =
-    record { configured = session.configured; fit = session.fit; copies = copies; keys = keys; one = rw step.0 session.one }
+pub session_entered : (mapped : Mapped) (graph : Graph) (old new : Framed) (r : Result (Unit {0}) Refusal) → old.scopes ≡ [] → Takes (λ _. tt) (push graph old) old r new → OnOk r (new ≡ record old { scopes = begun_at graph ∷ old.scopes }) → All (HasKeys mapped graph) new.scopes → IsSession mapped graph old.scopes → IsSession mapped graph new.scopes
+session_entered mapped graph old new (Ok u) outside step is keys session =
+    let long : length new.scopes ≡ 1 = ap (λ (frames : Framed). length frames.scopes) is ∙ ap (λ (scopes : List Scope). length (begun_at graph ∷ scopes)) outside in
+    record { configured = session.configured; fit = session.fit; keys = keys; one = omega (arith, long) }
+session_entered mapped graph old new (Err e) outside step is keys session =
+    record { configured = session.configured; fit = session.fit; keys = keys; one = rw step.0 session.one }
 
 -- a scope is in progress or none is
 pub inside : (scopes : List Scope) → 0 < length scopes → has_scope scopes ≡ true

@@ -23,7 +23,7 @@ use Rattle.object_arena.specs.declared.object.State.TheVariants.{Detached, Persi
 use Rattle.object_arena.specs.Fit.{IsFit, cell_fits, is_just_of_kind, is_of_kind, key_fits, key_value_fits, value_fits}
 use Rattle.object_arena.proofs.FitLemmas.{fit_at, fit_cells}
 use Rattle.object_arena.proofs.PartLemmas.{pointwise_at}
-use Rattle.session_core.specs.Flush.{IsUnderKey, Written, freed, held_cell, settled, value_under, written_object, written_value}
+use Rattle.session_core.specs.Flush.{IsUnderKey, Written, holder_freed, held_cell, graph_settled, value_under, written_object, written_value}
 
 -- ---- the cells
 
@@ -90,13 +90,13 @@ class_kept graph object other new made same =
 
 -- no one stood for the key
 pub freed_none : (graph : Graph) (object : ObjId) (root : ClassId) (key : List Value) → root_at graph object ≡ root → find_identity graph root key ≡ None
-    → graph ≡ freed graph (find_identity graph (root_at graph object) key)
-freed_none graph object root key same is = sym (ap (freed graph) (ap (λ (r : ClassId). find_identity graph r key) same ∙ is))
+    → graph ≡ holder_freed graph (find_identity graph (root_at graph object) key)
+freed_none graph object root key same is = sym (ap (holder_freed graph) (ap (λ (r : ClassId). find_identity graph r key) same ∙ is))
 
 -- another object did, and is detached
 pub freed_some : (graph new : Graph) (object holder : ObjId) (root : ClassId) (key : List Value) → root_at graph object ≡ root → find_identity graph root key ≡ Some holder → new ≡ with_state graph holder Detached
-    → new ≡ freed graph (find_identity graph (root_at graph object) key)
-freed_some graph new object holder root key same is write = write ∙ sym (ap (freed graph) (ap (λ (r : ClassId). find_identity graph r key) same ∙ is))
+    → new ≡ holder_freed graph (find_identity graph (root_at graph object) key)
+freed_some graph new object holder root key same is write = write ∙ sym (ap (holder_freed graph) (ap (λ (r : ClassId). find_identity graph r key) same ∙ is))
 
 -- no one stands for the key then
 pub not_taken : (graph : Graph) (object : ObjId) (root : ClassId) (key : List Value) → root_at graph object ≡ root → find_identity graph root key ≡ None → is_taken graph object key ≡ false
@@ -138,7 +138,7 @@ past_key key found place own is none = past_key_at key place own none ∙ sym (a
 kept_made : (graph : Graph) (object other : ObjId) (new : Object) → IsObject graph other → IsObject (with_object graph object new) other
 kept_made graph object other new made = (made.0, rw length-set made.1)
 
-freed_keeps : (graph : Graph) (found : Option ObjId) (other : ObjId) → IsObject graph other → IsObject (freed graph found) other × ((object_at (freed graph found) other).class ≡ (object_at graph other).class)
+freed_keeps : (graph : Graph) (found : Option ObjId) (other : ObjId) → IsObject graph other → IsObject (holder_freed graph found) other × ((object_at (holder_freed graph found) other).class ≡ (object_at graph other).class)
 freed_keeps graph None other made = (made, refl)
 freed_keeps graph (Some holder) other made =
     let new : Object = record (object_at graph holder) { state = Detached; identity = kept_identity Detached (object_at graph holder).identity } in
@@ -146,9 +146,9 @@ freed_keeps graph (Some holder) other made =
 
 -- an object that becomes persistent leaves every object's class
 pub settled_keeps : (mapped : Mapped) (graph : Graph) (written : Written) (other : ObjId) → IsObject graph other
-    → IsObject (settled mapped graph written) other × ((object_at (settled mapped graph written) other).class ≡ (object_at graph other).class)
+    → IsObject (graph_settled mapped graph written) other × ((object_at (graph_settled mapped graph written) other).class ≡ (object_at graph other).class)
 settled_keeps mapped graph written other made =
-    let free : Graph = freed graph (find_identity graph (root_at graph written.0) written.1) in
+    let free : Graph = holder_freed graph (find_identity graph (root_at graph written.0) written.1) in
     let first = freed_keeps graph (find_identity graph (root_at graph written.0) written.1) other made in
     let held : Object = record (object_at free written.0) { state = Persistent; identity = Some written.1 } in
     let under : Graph = with_object free written.0 held in
@@ -158,13 +158,13 @@ settled_keeps mapped graph written other made =
       class_kept under written.0 other last made_under refl ∙ class_kept free written.0 other held first.0 refl ∙ first.1,
     )
 
-under_key_after : (mapped : Mapped) (graph : Graph) (first other : Written) → IsUnderKey mapped graph other → IsUnderKey mapped (settled mapped graph first) other
+under_key_after : (mapped : Mapped) (graph : Graph) (first other : Written) → IsUnderKey mapped graph other → IsUnderKey mapped (graph_settled mapped graph first) other
 under_key_after mapped graph first other under =
     let kept = settled_keeps mapped graph first other.0 under.0 in
     (kept.0, ap (λ (k : ClassId). key_fits mapped k other.1) kept.1 ∙ under.1)
 
 -- the objects that are still to become persistent
-pub rest_under_key : (mapped : Mapped) (graph new : Graph) (first : Written) (rest : List Written) → new ≡ settled mapped graph first → All (IsUnderKey mapped graph) (first ∷ rest) → All (IsUnderKey mapped new) rest
+pub rest_under_key : (mapped : Mapped) (graph new : Graph) (first : Written) (rest : List Written) → new ≡ graph_settled mapped graph first → All (IsUnderKey mapped graph) (first ∷ rest) → All (IsUnderKey mapped new) rest
 rest_under_key mapped graph new first rest is all =
     subst (λ (g : Graph). All (IsUnderKey mapped g) rest) (sym is)
     (λ k d less. under_key_after mapped graph first (get_or rest k d) (All-tail (IsUnderKey mapped graph) first rest all k d less))

@@ -1,5 +1,5 @@
 -- What a flush writes, and what becomes of the objects at its end and at the end of the transaction.
-use Rattle.std.specs.Prelude.{◌≡◌, ℕ, Bool, true, false, List, [], map, fold, slice_index_or, ◌==◌, Option, None, Some, if◌then◌else◌}
+use Rattle.std.specs.Prelude.{◌≡◌, ℕ, Bool, true, false, List, [], ◌∷◌, map, fold, slice_index_or, ◌==◌, Option, None, Some, if◌then◌else◌}
 use Rattle.std.specs.List.{enumerate_from, position}
 use Rattle.std.specs.declared.cmp.Ordering.{Ordering}
 use Rattle.std.specs.Ordering.{nat_cmp, ordering_then}
@@ -36,16 +36,21 @@ abbrev pub Queue : Type 0
 Queue = List (Rank × ObjId)
 
 -- the queue with the object of a number, where it is pending
-abbrev pub queued : Queue → ℕ × Object → Queue
-queued queue numbered = if is_pending numbered.1.state then insert_entry rank_cmp queue (numbered.1.added, numbered.0) (record { 0 = numbered.0 }) else queue
+abbrev pub with_queued : Queue → ℕ × Object → Queue
+with_queued queue numbered = if is_pending numbered.1.state then insert_entry rank_cmp queue (numbered.1.added, numbered.0) (record { 0 = numbered.0 }) else queue
 
 -- the pending objects in the order in which they were added
 unfoldable pub pending_in_order : Graph → List ObjId
-pending_in_order graph = map (λ entry. entry.1) (fold queued [] (enumerate_from 1 graph.objects))
+pending_in_order graph = map (λ entry. entry.1) (fold with_queued [] (enumerate_from 1 graph.objects))
 
--- the INSERT of an object's row
+-- the INSERT of an object's row alone
 abbrev pub insert_of : Mapped → Object → RowStmt
-insert_of mapped object = Insert (root_table mapped object.class) (row_of object)
+insert_of mapped object = Insert (root_table mapped object.class) (row_of object ∷ [])
+
+-- the key of a row that was written alone
+abbrev pub key_alone : List (List Value) → List Value
+key_alone [] = []
+key_alone (key ∷ keys) = key
 
 -- ---- after success
 
@@ -58,9 +63,9 @@ abbrev pub IsUnderKey : Mapped → Graph → Written → Type 0
 IsUnderKey mapped graph written = IsObject graph written.0 × (key_fits mapped (object_at graph written.0).class written.1 ≡ true)
 
 -- the object that stood for the key until now is detached
-abbrev pub freed : Graph → Option ObjId → Graph
-freed graph None = graph
-freed graph (Some holder) = with_state graph holder Detached
+abbrev pub holder_freed : Graph → Option ObjId → Graph
+holder_freed graph None = graph
+holder_freed graph (Some holder) = with_state graph holder Detached
 
 -- a cell that holds what was written
 abbrev pub held_cell : Value → Cell
@@ -80,28 +85,28 @@ written_object keys key object = record object { cells = map (λ placed. held_ce
 
 -- the graph in which the object is persistent under its key, no other object is, and its cells hold what was written
 abbrev pub under_key : Graph → Written → Graph
-under_key graph written = registered (freed graph (find_identity graph (root_at graph written.0) written.1)) written.0 written.1
+under_key graph written = registered (holder_freed graph (find_identity graph (root_at graph written.0) written.1)) written.0 written.1
 
 abbrev pub with_written : Mapped → Graph → Written → Graph
 with_written mapped graph written =
     with_object graph written.0 (written_object (key_attributes mapped (object_at graph written.0).class) written.1 (object_at graph written.0))
 
-abbrev pub settled : Mapped → Graph → Written → Graph
-settled mapped graph written = with_written mapped (under_key graph written) written
+abbrev pub graph_settled : Mapped → Graph → Written → Graph
+graph_settled mapped graph written = with_written mapped (under_key graph written) written
 
 -- ---- at a commit and at a close
 
-abbrev pub unmarked : Object → Object
-unmarked object = record object { marked = false }
+abbrev pub object_unmarked : Object → Object
+object_unmarked object = record object { marked = false }
 
-abbrev pub committed_in : State → Object → Object
-committed_in Persistent object = expired object
-committed_in Deleted object = record object { state = Detached }
-committed_in state object = object
+abbrev pub object_committed_in : State → Object → Object
+object_committed_in Persistent object = expired object
+object_committed_in Deleted object = record object { state = Detached }
+object_committed_in state object = object
 
 -- an object after a commit: a persistent one is expired, a deleted one detached
-abbrev pub committed : Object → Object
-committed object = committed_in object.state object
+abbrev pub object_committed : Object → Object
+object_committed object = object_committed_in object.state object
 
 -- where an object stands once it has left the session
 abbrev pub left_state : State → State
@@ -110,5 +115,5 @@ left_state Pending = Transient
 left_state state = Detached
 
 -- an object after the session was closed: a pending one is transient, a persistent or deleted one detached, with its cells and links as they are
-abbrev pub left : Object → Object
-left object = record object { state = left_state object.state; identity = kept_identity (left_state object.state) object.identity; marked = false }
+abbrev pub object_left : Object → Object
+object_left object = record object { state = left_state object.state; identity = kept_identity (left_state object.state) object.identity; marked = false }

@@ -6,13 +6,13 @@ use Rattle.base_core.specs.declared.ids.ObjId.{ObjId}
 use Rattle.base_core.specs.declared.value.Kind.{Kind}
 use Rattle.base_core.specs.declared.value.Value.{Value}
 use Rattle.base_core.specs.declared.refusal.Refusal.{Refusal}
-use Rattle.base_core.specs.declared.refusal.Refusal.TheVariants.{Memory, TypeMismatch}
+use Rattle.base_core.specs.declared.refusal.Refusal.TheVariants.{TypeMismatch}
 use Rattle.schema_core.specs.Catalog.{same_kind}
 use Rattle.schema_core.specs.Tables.{kind_of_value}
 use Rattle.mapper_types.specs.declared.mapped.Attribute.{Attribute}
 use Rattle.mapper_core.specs.Mapped.{attributes_of}
 use Rattle.object_arena.specs.Graph.{Graph, make, with_cell}
-use Rattle.keeper_core.specs.Acting.{Run, ends_early, is_of_tables, quiet}
+use Rattle.programs.specs.Programs.{Run, quiet}
 use Rattle.session_core.specs.SessionState.{SessionState}
 
 abbrev pub kinds_apart : Kind → Option Kind → Option (Kind × Kind)
@@ -46,12 +46,6 @@ made_unless (Some kinds) session values made = quiet (Err (TypeMismatch kinds.0 
 made_unless None session values made = made_as session values made
 
 -- a transient object with these values; the others are NULL
-unfoldable pub made : ClassId → List (AttrNo × Value) → SessionState → Run SessionState ObjId
-made class values session =
+unfoldable pub object_made : ClassId → List (AttrNo × Value) → SessionState → Run SessionState ObjId
+object_made class values session =
     made_unless (mismatch (attributes_of session.mapping class) values) session values (make session.graph session.mapping class)
-
--- the call did what the program says, which sends nothing, unless memory ran out; its refusals are its own
-abbrev pub IsQuiet : {S A X : Type 0} → (X → A) → Run S A → Result X Refusal → S → Type 0
-IsQuiet view run (Ok x) now = run ≡ quiet (Ok (view x)) now
-IsQuiet view run (Err Memory) now = Unit {0}
-IsQuiet view run (Err e) now = (run ≡ quiet (Err e) now) × (ends_early e ≡ false) × (is_of_tables e ≡ false)

@@ -6,31 +6,36 @@ use Rattle.mapper_core.specs.Mapped.{Mapped}
 use Rattle.object_arena.specs.Graph.{Graph, empty_graph}
 use Rattle.object_arena.specs.Fit.{IsFit}
 use Rattle.savepoints.specs.declared.scope.Scope.{Scope}
-use Rattle.savepoints.specs.Scopes.{HasKeys, IsCopy}
-use Rattle.keeper_core.specs.Acting.{ends_early}
-use Rattle.keeper_core.specs.Moment.{Moment}
+use Rattle.savepoints.specs.declared.traces.Trace.{Trace}
+use Rattle.savepoints.specs.Scopes.{Framed, HasKeys}
+use Rattle.programs.specs.Programs.{ends_early}
+use Rattle.programs.specs.Moment.{Moment}
 
--- a session: its mapping and objects, the scopes in progress, the innermost first, whether a flush failed that was not
--- rolled back yet, and how many add numbers were given
+-- a session: its mapping and objects, the scopes in progress, the innermost first, what is kept of each object inside
+-- them, whether a flush failed that was not rolled back yet, and how many add numbers were given
 pub record SessionState : Type 0 where
   pub mapping : Mapped
   pub graph : Graph
   pub scopes : List Scope
+  pub traces : List Trace
   pub failed : Bool
   pub added : ℕ
 
--- What every session keeps: its mapping is configured, its objects fit it, and each scope can be gone back to. The only
--- scope is the transaction.
+-- What every session keeps: its mapping is configured, its objects fit it, and had keys of their classes at each scope's
+-- start. The only scope is the transaction.
 pub record IsSession (mapped : Mapped) (graph : Graph) (scopes : List Scope) : Type 0 where
   pub configured : mapped.configured ≡ true
   pub fit : IsFit mapped graph
-  pub copies : All (IsCopy graph) scopes
   pub keys : All (HasKeys mapped graph) scopes
   pub one : length scopes ≤ 1
 
 -- a session over a mapping, with no objects and no transaction
 abbrev pub new_session : Mapped → SessionState
-new_session mapping = record { mapping = mapping; graph = empty_graph; scopes = []; failed = false; added = 0 }
+new_session mapping = record { mapping = mapping; graph = empty_graph; scopes = []; traces = []; failed = false; added = 0 }
+
+-- the scopes in progress
+abbrev pub frames_of : SessionState → Framed
+frames_of session = record { scopes = session.scopes; traces = session.traces }
 
 abbrev pub has_scope : List Scope → Bool
 has_scope [] = false

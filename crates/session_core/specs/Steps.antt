@@ -7,18 +7,18 @@ use Rattle.base_core.specs.declared.ids.ObjId.{ObjId}
 use Rattle.base_core.specs.declared.value.Value.{Value}
 use Rattle.base_core.specs.declared.refusal.RequestKind.TheVariants as requests
 use Rattle.base_core.specs.declared.refusal.Refusal.TheVariants.{InvalidRequestError, NotBuilt, PendingRollbackError}
-use Rattle.keeper_core.specs.Store.{Store}
-use Rattle.keeper_core.specs.Acting.{Run, ◌>>=◌, change, each, give, guarded, refuse}
-use Rattle.keeper_core.specs.Beside.{Beside, by_own, changes, on_own, on_store}
+use Rattle.programs.specs.Store.{Store}
+use Rattle.programs.specs.Programs.{Run, ◌>>=◌, change, each, give, guarded, refuse}
+use Rattle.programs.specs.Beside.{Beside, by_own, changes, on_own, on_store, unnoted}
 use Rattle.keeper_core.specs.Calls as call
 use Rattle.object_arena.specs.declared.object.State.{State}
 use Rattle.object_arena.specs.declared.object.State.TheVariants.{Transient, Pending, Deleted, Detached}
 use Rattle.object_arena.specs.Graph.{object_at, with_marks, with_state}
 use Rattle.object_arena.specs.Every.{each_object}
 use Rattle.savepoints.specs.Scopes.{around, begun_at, restored}
-use Rattle.session_core.specs.SessionState.{SessionState, in_transaction}
-use Rattle.session_core.specs.Flush.{Written, committed, insert_of, left, pending_in_order, settled}
-use Rattle.session_core.specs.Making.{made}
+use Rattle.session_core.specs.SessionState.{SessionState, frames_of, in_transaction}
+use Rattle.session_core.specs.Flush.{Written, graph_settled, insert_of, key_alone, object_committed, object_left, pending_in_order}
+use Rattle.session_core.specs.Making.{object_made}
 
 -- the world of a session's calls
 abbrev pub World : Type 0
@@ -27,40 +27,41 @@ World = Beside SessionState
 -- ---- what becomes of the session
 
 -- a transaction has begun
-abbrev pub begun : SessionState → SessionState
-begun session = record session { scopes = begun_at session.graph ∷ session.scopes }
+abbrev pub session_begun : SessionState → SessionState
+session_begun session = record session { scopes = begun_at session.graph ∷ session.scopes }
 
 -- an object whose row was written is persistent under its key
-abbrev pub settled_one : Written → SessionState → SessionState
-settled_one written session = record session { graph = settled session.mapping session.graph written }
+abbrev pub session_settled : Written → SessionState → SessionState
+session_settled written session = record session { graph = graph_settled session.mapping session.graph written }
 
 -- the objects whose rows were written are persistent under their keys
-abbrev pub flushed : List Written → SessionState → SessionState
-flushed written session = record session { graph = fold (settled session.mapping) session.graph written }
+abbrev pub session_flushed : List Written → SessionState → SessionState
+session_flushed written session = record session { graph = fold (graph_settled session.mapping) session.graph written }
 
 -- the innermost scope was rolled back for a flush that failed: each object stands where it stood at the scope's start, and a
 -- rollback is awaited
-abbrev pub failed : SessionState → SessionState
-failed session = record session {
-  graph = restored (length session.scopes) session.scopes session.graph;
-  scopes = around (length session.scopes) session.scopes;
+abbrev pub session_failed : SessionState → SessionState
+session_failed session = record session {
+  graph = restored (length session.scopes) (frames_of session) session.graph;
+  scopes = (around (length session.scopes) (frames_of session)).scopes;
+  traces = (around (length session.scopes) (frames_of session)).traces;
   failed = true;
 }
 
 -- the transaction was committed
-abbrev pub ended : SessionState → SessionState
-ended session = record session { graph = each_object committed session.graph; scopes = [] }
+abbrev pub session_committed : SessionState → SessionState
+session_committed session = record session { graph = each_object object_committed session.graph; scopes = []; traces = [] }
 
 -- the session has no transaction and no objects in it
-abbrev pub closed : SessionState → SessionState
-closed session = record session { graph = each_object left session.graph; scopes = []; failed = false }
+abbrev pub session_closed : SessionState → SessionState
+session_closed session = record session { graph = each_object object_left session.graph; scopes = []; traces = []; failed = false }
 
 -- ---- the transaction
 
 abbrev pub entering : Bool → Bool → World → Run World (Unit {0})
 entering true begun_before = refuse PendingRollbackError
 entering false true = give tt
-entering false false = on_store call.begin >>= λ _. changes begun
+entering false false = on_store unnoted call.begin >>= λ _. changes session_begun
 
 -- refused while a failed flush waits for its rollback; else a transaction begins where none is in progress
 unfoldable pub enter : World → Run World (Unit {0})
@@ -71,7 +72,7 @@ enter = by_own (λ session. entering session.failed (in_transaction session))
 -- the row of an object is written, and its key is known then
 unfoldable pub insert_one : SessionState → ObjId → List Written → Store → Run Store (List Written)
 insert_one session object written =
-    call.write session.mapping.schema (insert_of session.mapping (object_at session.graph object)) >>= λ key. give (written ++ (object, key) ∷ [])
+    call.write session.mapping.schema (insert_of session.mapping (object_at session.graph object)) >>= λ keys. give (written ++ (object, key_alone keys) ∷ [])
 
 -- the rows of objects are written in order
 unfoldable pub insert_all : SessionState → List ObjId → Store → Run Store (List Written)
@@ -79,21 +80,21 @@ insert_all session objects = each (insert_one session) [] objects
 
 -- the transaction is rolled back, and its pending objects are transient again
 unfoldable pub give_up : World → Run World (Unit {0})
-give_up = on_store call.rollback >>= λ _. changes failed
+give_up = on_store unnoted call.rollback >>= λ _. changes session_failed
 
 -- the rows are written, and where one is refused all of them are given up
 unfoldable pub write_pending : List ObjId → World → Run World (List Written)
-write_pending objects = guarded (by_own (λ session. on_store (insert_all session objects))) give_up
+write_pending objects = guarded (by_own (λ session. on_store unnoted (insert_all session objects))) give_up
 
 -- the rows of the pending objects are written in the order of adding, and the objects are persistent then
 unfoldable pub flush : World → Run World (Unit {0})
-flush = by_own (λ session. write_pending (pending_in_order session.graph) >>= λ written. changes (flushed written))
+flush = by_own (λ session. write_pending (pending_in_order session.graph) >>= λ written. changes (session_flushed written))
 
 -- ---- the calls
 
 -- a transient object with these values is made
 unfoldable pub make : ClassId → List (AttrNo × Value) → World → Run World ObjId
-make class values = on_own (made class values)
+make class values = on_own (object_made class values)
 
 abbrev pub added_in : State → ObjId → SessionState → SessionState
 added_in Transient object session =
@@ -115,12 +116,12 @@ add object = enter >>= λ _. on_own (take_in object)
 
 -- what is pending is written, and the transaction committed
 unfoldable pub commit : World → Run World (Unit {0})
-commit = enter >>= λ _. (flush >>= λ _. (on_store call.commit >>= λ _. changes ended))
+commit = enter >>= λ _. (flush >>= λ _. (on_store unnoted call.commit >>= λ _. changes session_committed))
 
 abbrev pub leaving : Bool → World → Run World (Unit {0})
-leaving true = on_store call.rollback
+leaving true = on_store unnoted call.rollback
 leaving false = give tt
 
 -- the transaction ends without its rows, and all objects leave the session
 unfoldable pub close : World → Run World (Unit {0})
-close = by_own (λ session. leaving (in_transaction session) >>= λ _. changes closed)
+close = by_own (λ session. leaving (in_transaction session) >>= λ _. changes session_closed)

@@ -5,9 +5,9 @@ ghost use Rattle.schema_core.specs.WellFormed.{IsWellFormed, is_key};
 ghost use Rattle.base_core.specs.declared.value.Value.{Value};
 ghost use Rattle.mapper_core.specs.Mapped.{root_spec};
 ghost use Rattle.object_arena.specs.Graph.{IsObject, object_at};
-ghost use Rattle.keeper_core.specs.Acting.{ends_early};
-ghost use Rattle.keeper_core.specs.Beside.{moment_beside, on_store, by_own};
-ghost use Rattle.keeper_core.specs.Moment.{Runs};
+ghost use Rattle.programs.specs.Programs.{ends_early};
+ghost use Rattle.programs.specs.Beside.{moment_beside, on_store, unnoted, unnoted, by_own};
+ghost use Rattle.programs.specs.Moment.{Runs};
 ghost use Rattle.session_core.specs.SessionState.{IsInStep, StaysInStep, SameObjects};
 ghost use Rattle.keeper_core.specs.Calls as call;
 ghost use Rattle.object_arena.specs.Fit.{key_fits};
@@ -18,10 +18,11 @@ ghost use Rattle.session_core.specs.Steps as steps;
 use crate::Session;
 use crate::rows::row_of;
 use crate::settling::settle;
-use base_core::{Key, ListOf, ObjId, Refusal};
+use base_core::{Key, KeyList, ListOf, ObjId, Refusal};
 use keeper_core::{Keeper, calls};
 use object_arena::State;
 use schema_core::RowStmt;
+use std::alloc::Global;
 use std::collections::BTreeMap;
 
 /// The pending objects by add number, and then by number.
@@ -33,7 +34,7 @@ pub(crate) type Written = ListOf<(ObjId, Key)>;
 impl Session {
     /// Writes the rows of the pending objects, and makes them persistent under their keys. Where that is refused the
     /// transaction is rolled back, its pending objects are transient again, and the session waits for a rollback.
-    #[tactic(auto, using(keeper_core::proofs::Sequence::sequence, keeper_core::proofs::Lifting::lifting), unfolding(crate::specs::Steps::flush))]
+    #[tactic(auto, using(programs::proofs::Sequence::sequence, programs::proofs::Lifting::lifting), unfolding(crate::specs::Steps::flush))]
     pub(crate) fn flush<K: Keeper>(&mut self, keeper: &mut K) -> Result<(), Refusal>
         requires in_step { IsInStep self.old (K.moment keeper.old) }
         requires inside { length self.old.scopes ≡ 1 }
@@ -59,7 +60,7 @@ impl Session {
 
     /// The pending objects by their rank.
     fn queue(&self) -> Result<Queue, Refusal>
-        ensures queue { IfOk result (λ queue. queue.entries ≡ fold spec.queued [] (enumerate_from 1 self.now.graph.objects)) }
+        ensures queue { IfOk result (λ queue. queue.entries ≡ fold spec.with_queued [] (enumerate_from 1 self.now.graph.objects)) }
         ensures cause { IfErr result (λ e. e ≡ Refusal.Memory) }
     {
         let mut queue = BTreeMap::new(self.alloc);
@@ -72,7 +73,7 @@ impl Session {
     /// An object goes to its place in the queue, where it is pending. The only refusal is want of memory.
     fn put_in_queue(&self, queue: &mut Queue, object: ObjId) -> Result<(), Refusal>
         requires { IsObject self.now.graph object }
-        ensures put { OnOk result (queue.new.entries ≡ spec.queued queue.old.entries (object.0, object_at self.now.graph object)) }
+        ensures put { OnOk result (queue.new.entries ≡ spec.with_queued queue.old.entries (object.0, object_at self.now.graph object)) }
         ensures cause { IfErr result (λ e. e ≡ Refusal.Memory) }
     {
         let record = self.arena.object(object);
@@ -86,7 +87,7 @@ impl Session {
     }
 
     /// Writes rows, and where one is refused gives all of them up.
-    #[tactic(auto, using(keeper_core::proofs::Sequence::sequence, keeper_core::proofs::Lifting::lifting), unfolding(crate::specs::Steps::write_pending))]
+    #[tactic(auto, using(programs::proofs::Sequence::sequence, programs::proofs::Lifting::lifting), unfolding(crate::specs::Steps::write_pending))]
     fn write_pending<K: Keeper>(
         &mut self,
         keeper: &mut K,
@@ -114,7 +115,7 @@ impl Session {
     }
 
     /// Rolls the transaction back; a rollback is awaited then.
-    #[tactic(auto, using(keeper_core::proofs::Sequence::sequence, keeper_core::proofs::Lifting::lifting), unfolding(crate::specs::Steps::give_up))]
+    #[tactic(auto, using(programs::proofs::Sequence::sequence, programs::proofs::Lifting::lifting), unfolding(crate::specs::Steps::give_up))]
     fn give_up<K: Keeper>(&mut self, keeper: &mut K) -> Result<(), Refusal>
         requires in_step { IsInStep self.old (K.moment keeper.old) }
         requires inside { length self.old.scopes ≡ 1 }
@@ -129,11 +130,11 @@ impl Session {
     }
 
     /// Rolls the transaction back, and leaves the session as it is.
-    #[tactic(auto, using(keeper_core::proofs::Lifting::lifting))]
+    #[tactic(auto, using(programs::proofs::Lifting::lifting))]
     pub(crate) fn roll_back<K: Keeper>(&self, keeper: &mut K) -> Result<(), Refusal>
         requires in_step { IsInStep self.now (K.moment keeper.old) }
         requires inside { length self.now.scopes ≡ 1 }
-        ensures step { Runs (moment_beside K.moment) (λ u. u) (on_store call.rollback) (self.now, keeper.old) result (self.now, keeper.new) }
+        ensures step { Runs (moment_beside K.moment) (λ u. u) (on_store unnoted call.rollback) (self.now, keeper.old) result (self.now, keeper.new) }
         ensures ended { (K.moment keeper.new).depth ≡ 0 }
         ensures attached { (K.moment keeper.new).attached ≡ true }
         ensures stops { IfErr result (λ e. ends_early e ≡ true) }
@@ -141,10 +142,11 @@ impl Session {
         calls::rollback(keeper)
     }
 
+    #[tactic(auto, unfolding(savepoints::specs::Scopes::around))]
     /// A flush failed: the transaction has ended, each object stands where it stood at its start, and a rollback is awaited.
     fn fail(&mut self)
         requires inside { length self.old.scopes ≡ 1 }
-        ensures failed { self.new ≡ steps.failed self.old }
+        ensures failed { self.new ≡ steps.session_failed self.old }
         ensures ended { self.new.scopes ≡ [] }
         ensures same { SameObjects self.old self.new }
     {
@@ -154,7 +156,7 @@ impl Session {
     }
 
     /// Writes the rows of objects in order, beside the session as it is.
-    #[tactic(auto, using(keeper_core::proofs::Lifting::lifting))]
+    #[tactic(auto, using(programs::proofs::Lifting::lifting))]
     fn write_all<K: Keeper>(
         &self,
         keeper: &mut K,
@@ -163,7 +165,7 @@ impl Session {
         requires in_step { IsInStep self.now (K.moment keeper.old) }
         requires inside { length self.now.scopes ≡ 1 }
         requires objects { All (IsObject self.now.graph) objects.now }
-        ensures step { Runs (moment_beside K.moment) (λ written. written) (by_own (λ session. on_store (steps.insert_all session objects.now))) (self.now, keeper.old) result (self.now, keeper.new) }
+        ensures step { Runs (moment_beside K.moment) (λ written. written) (by_own (λ session. on_store unnoted (steps.insert_all session objects.now))) (self.now, keeper.old) result (self.now, keeper.new) }
         ensures in_step { StaysInStep result self.now (K.moment keeper.new) }
         ensures keys { IfOk result (All (spec.IsUnderKey self.now.mapping self.now.graph)) }
     {
@@ -171,7 +173,7 @@ impl Session {
     }
 
     /// Writes the rows of objects in order, and answers their keys.
-    #[tactic(auto, using(keeper_core::proofs::Sequence::loops), unfolding(crate::specs::Steps::insert_all))]
+    #[tactic(auto, using(programs::proofs::Sequence::loops), unfolding(crate::specs::Steps::insert_all))]
     fn insert_all<K: Keeper>(
         &self,
         keeper: &mut K,
@@ -192,7 +194,7 @@ impl Session {
     }
 
     /// Writes the row of an object, which is then one of those that were written.
-    #[tactic(auto, using(keeper_core::proofs::Sequence::sequence), unfolding(crate::specs::Steps::insert_one))]
+    #[tactic(auto, using(programs::proofs::Sequence::sequence), unfolding(crate::specs::Steps::insert_one))]
     fn insert_one<K: Keeper>(
         &self,
         keeper: &mut K,
@@ -207,24 +209,26 @@ impl Session {
         ensures in_step { StaysInStep result self.now (K.moment keeper.new) }
         ensures keys { OnOk result (All (spec.IsUnderKey self.now.mapping self.now.graph) written.new) }
     {
-        let key = self.write(keeper, object)?;
-        written.push((object, key))
+        let keys = self.write(keeper, object)?;
+        written.push((object, key_alone(self.alloc, keys)))
     }
 
-    /// Writes the row of an object, and answers its key.
-    fn write<K: Keeper>(&self, keeper: &mut K, object: ObjId) -> Result<Key, Refusal>
+    #[tactic(auto, using(crate::proofs::OneRow::one_key))]
+    /// Writes the row of an object, and answers its key alone.
+    fn write<K: Keeper>(&self, keeper: &mut K, object: ObjId) -> Result<KeyList, Refusal>
         requires in_step { IsInStep self.now (K.moment keeper.old) }
         requires inside { length self.now.scopes ≡ 1 }
         requires object { IsObject self.now.graph object }
-        ensures step { Runs K.moment (λ key. key) (call.write self.now.mapping.schema (spec.insert_of self.now.mapping (object_at self.now.graph object))) keeper.old result keeper.new }
+        ensures step { Runs K.moment (λ keys. keys) (call.write self.now.mapping.schema (spec.insert_of self.now.mapping (object_at self.now.graph object))) keeper.old result keeper.new }
         ensures in_step { StaysInStep result self.now (K.moment keeper.new) }
-        ensures key { IfOk result (λ key. key_fits self.now.mapping (object_at self.now.graph object).class key ≡ true) }
+        ensures key { IfOk result (λ keys. key_fits self.now.mapping (object_at self.now.graph object).class (spec.key_alone keys) ≡ true) }
     {
         let statement = self.insert_of(object)?;
         calls::write(self.alloc, keeper, self.mapping.schema(), &statement)
     }
 
-    /// The INSERT of an object's row. The only refusal is want of memory.
+    #[tactic(auto, using(crate::proofs::OneRow::one_row))]
+    /// The INSERT of an object's row alone. The only refusal is want of memory.
     fn insert_of(&self, object: ObjId) -> Result<RowStmt, Refusal>
         requires object { IsObject self.now.graph object }
         ensures statement { IfOk result (λ statement. statement ≡ spec.insert_of self.now.mapping (object_at self.now.graph object)) }
@@ -235,13 +239,15 @@ impl Session {
         let record = self.arena.object(object);
         let table = self.mapping.root_table(self.arena.class_of(object));
         let row = row_of(self.alloc, record.cells.as_slice())?;
-        Ok(RowStmt::Insert { table, row })
+        let mut rows = ListOf::new(self.alloc);
+        rows.push(row)?;
+        Ok(RowStmt::Insert { table, rows })
     }
 
     /// The objects whose rows were written are persistent under their keys. The only refusal is want of memory.
     fn settle_all(&mut self, written: Written) -> Result<(), Refusal>
         requires keys { All (spec.IsUnderKey self.old.mapping self.old.graph) written }
-        ensures ok { OnOk result (self.new ≡ steps.flushed written self.old) }
+        ensures ok { OnOk result (self.new ≡ steps.session_flushed written self.old) }
         ensures cause { IfErr result (λ e. e ≡ Refusal.Memory) }
         ensures scope { self.new.scopes ≡ self.old.scopes }
         ensures same { SameObjects self.old self.new }
@@ -255,11 +261,22 @@ impl Session {
     /// An object whose row was written is persistent under its key. The only refusal is want of memory.
     fn settle_one(&mut self, object: ObjId, key: Key) -> Result<(), Refusal>
         requires key { spec.IsUnderKey self.old.mapping self.old.graph (object, key) }
-        ensures ok { OnOk result (self.new ≡ steps.settled_one (object, key) self.old) }
+        ensures ok { OnOk result (self.new ≡ steps.session_settled (object, key) self.old) }
         ensures cause { IfErr result (λ e. e ≡ Refusal.Memory) }
         ensures scope { self.new.scopes ≡ self.old.scopes }
         ensures same { SameObjects self.old self.new }
     {
         settle(&mut self.arena, &self.mapping, object, key)
     }
+}
+
+/// The key of a row that was written alone.
+fn key_alone(alloc: Global, keys: KeyList) -> Key
+    ensures { result ≡ spec.key_alone keys }
+{
+    let mut keys = keys.into_vec();
+    if keys.is_empty() {
+        return ListOf::new(alloc);
+    }
+    keys.remove(0)
 }

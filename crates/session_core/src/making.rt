@@ -1,6 +1,6 @@
 //! The values with which an object is made.
 
-ghost use Rattle.std.specs.Prelude.{◌≡◌, None, Some, length, slice_get, IfErr, OnOk};
+ghost use Rattle.std.specs.Prelude.{◌≡◌, None, Some, length, slice_get, IfErr, IfOk};
 ghost use Rattle.mapper_core.specs.Mapped.{Mapped, attributes_of};
 ghost use Rattle.object_arena.specs.Graph.{IsObject, object_at, with_cell};
 ghost use Rattle.object_arena.specs.Fit.{IsFit};
@@ -11,6 +11,10 @@ use base_core::{AttrNo, Copied, Kind, ObjId, Refusal, Value};
 use mapper_core::Attribute;
 use object_arena::{Arena, Cell};
 use schema_core::{kind_of_value, same_kind};
+use std::alloc::Global;
+
+/// Values for attributes.
+pub(crate) type Values = Vec<(AttrNo, Value)>;
 
 /// The kind that is wanted and the one that is found of the first value that is not of its attribute's kind.
 pub(crate) fn mismatch(attributes: &[Attribute], cells: &[(AttrNo, Value)]) -> Option<(Kind, Kind)>
@@ -36,41 +40,48 @@ fn mismatch_at(attributes: &[Attribute], attr: AttrNo, value: &Value) -> Option<
     Some((wanted, found))
 }
 
-/// Values go into cells of an object, which are then to be written. The only refusal is want of memory.
-pub(crate) fn put_values(
-    arena: &mut Arena,
-    object: ObjId,
-    cells: &[(AttrNo, Value)],
-) -> Result<(), Refusal>
-    requires object { IsObject arena.old object }
-    ensures ok { OnOk result (arena.new ≡ spec.with_values arena.old object cells.now) }
+/// A copy of values for attributes. The only refusal is that memory ran out.
+pub(crate) fn values_of(alloc: Global, cells: &[(AttrNo, Value)]) -> Result<Values, Refusal>
+    ensures values { IfOk result (λ values. values.items ≡ cells.now) }
     ensures cause { IfErr result (λ e. e ≡ Refusal.Memory) }
-    ensures same { length arena.new.objects ≡ length arena.old.objects }
-    ensures fits { (mapped : Mapped) → IsFit mapped arena.old → spec.mismatch (attributes_of mapped (object_at arena.old object).class) cells.now ≡ None → IsFit mapped arena.new }
-    ensures classes { classes_of arena.new ≡ classes_of arena.old }
 {
+    let mut values = Vec::new(alloc);
     for (attr, value) in cells {
-        put_value(arena, object, *attr, value)?;
+        values.push((*attr, value.copied()?))?;
     }
-    Ok(())
+    Ok(values)
 }
 
-/// A value goes into a cell of an object, where the object has it. The only refusal is want of memory.
-fn put_value(arena: &mut Arena, object: ObjId, attr: AttrNo, value: &Value) -> Result<(), Refusal>
+/// Values go into cells of an object, which are then to be written.
+pub(crate) fn put_values(arena: &mut Arena, object: ObjId, values: Values)
     requires object { IsObject arena.old object }
-    ensures ok { OnOk result (arena.new ≡ with_cell arena.old object attr (record { value = Some value.now; base = None })) }
-    ensures cause { IfErr result (λ e. e ≡ Refusal.Memory) }
-    ensures fits { (mapped : Mapped) → IsFit mapped arena.old → spec.mismatch_at (slice_get (attributes_of mapped (object_at arena.old object).class) attr.0) value.now ≡ None → IsFit mapped arena.new }
+    ensures made { arena.new ≡ spec.with_values arena.old object values.items }
+    ensures same { length arena.new.objects ≡ length arena.old.objects }
+    ensures fits { (mapped : Mapped) → IsFit mapped arena.old
+        → spec.mismatch (attributes_of mapped (object_at arena.old object).class) values.items ≡ None → IsFit mapped arena.new }
+    ensures classes { classes_of arena.new ≡ classes_of arena.old }
+{
+    for (attr, value) in values {
+        put_value(arena, object, attr, value);
+    }
+}
+
+/// A value goes into a cell of an object, where the object has it.
+fn put_value(arena: &mut Arena, object: ObjId, attr: AttrNo, value: Value)
+    requires object { IsObject arena.old object }
+    ensures put { arena.new ≡ with_cell arena.old object attr (record { value = Some value; base = None }) }
+    ensures fits { (mapped : Mapped) → IsFit mapped arena.old
+        → spec.mismatch_at (slice_get (attributes_of mapped (object_at arena.old object).class) attr.0) value ≡ None → IsFit mapped arena.new }
     ensures same { length arena.new.objects ≡ length arena.old.objects }
     ensures class { (object_at arena.new object).class ≡ (object_at arena.old object).class }
     ensures classes { classes_of arena.new ≡ classes_of arena.old }
 {
     if attr.0 as usize >= arena.object(object).cells.len() {
-        return Ok(());
+        return;
     }
     let cell = Cell {
-        value: Some(value.copied()?),
+        value: Some(value),
         base: None,
     };
-    arena.put_cell(object, attr, cell)
+    let _put = arena.put_cell(object, attr, cell);
 }

@@ -1,18 +1,18 @@
 //! The session and its calls.
 
-ghost use Rattle.std.specs.Prelude.{◌≡◌, ◌≢◌, [], true, length, OnOk, IfOk, IfErr};
+ghost use Rattle.std.specs.Prelude.{◌≡◌, ◌≢◌, [], true, length, OnErr, OnOk, IfOk, IfErr};
 ghost use Rattle.mapper_core.specs.Mapped.{IsClass};
 ghost use Rattle.object_arena.specs.Graph.{IsObject, object_at};
-ghost use Rattle.keeper_core.specs.Acting.{ends_early};
-ghost use Rattle.keeper_core.specs.Beside.{moment_beside, on_store};
+ghost use Rattle.programs.specs.Programs.{ends_early};
+ghost use Rattle.programs.specs.Beside.{moment_beside, on_store, unnoted, unnoted};
 ghost use Rattle.keeper_core.specs.Calls as call;
-ghost use Rattle.keeper_core.specs.Moment.{Acts, Runs};
+ghost use Rattle.programs.specs.Moment.{Runs};
 ghost use Rattle.session_core.specs.SessionState.{IsInStep, StaysInStep, SameObjects, depth_of, in_transaction, new_session};
 ghost use Rattle.session_core.specs.Making as making;
-ghost use Rattle.session_core.specs.Making.{IsQuiet};
+ghost use Rattle.programs.specs.Alone.{IsQuiet};
 ghost use Rattle.session_core.specs.Steps as steps;
 
-use crate::making::{mismatch, put_values};
+use crate::making::{mismatch, put_values, values_of};
 use crate::settling::{commit_all, let_go_all, put_pending, unmark};
 use base_core::{AttrNo, ClassId, ObjId, Refusal, RequestKind, Value};
 use keeper_core::{Keeper, calls};
@@ -40,9 +40,9 @@ impl Model for Session {
 
     ghost Value = { SessionState };
 
-    ghost view = { λ s. record { mapping = s.mapping; graph = s.arena; scopes = s.frames; failed = s.failed; added = s.added } };
+    ghost view = { λ s. record { mapping = s.mapping; graph = s.arena; scopes = s.frames.scopes; traces = s.frames.traces; failed = s.failed; added = s.added } };
 
-    ghost invariant = { λ s. IsSession s.mapping s.arena s.frames };
+    ghost invariant = { λ s. IsSession s.mapping s.arena s.frames.scopes };
 }
 
 impl Session {
@@ -103,13 +103,14 @@ impl Session {
     /// Makes a transient object with these values, each attribute once; the others are NULL.
     ///
     /// # Errors
-    /// `TypeMismatch` for the first value of another kind than its attribute's, then `LimitReached(Objects)`. A refusal
-    /// changes nothing, unless memory ran out.
-    #[tactic(auto, unfolding(crate::specs::Making::made, object_arena::specs::Graph::make))]
+    /// `TypeMismatch` for the first value of another kind than its attribute's, then `LimitReached(Objects)`, and memory that
+    /// ran out. A refusal changes nothing.
+    #[tactic(auto, unfolding(crate::specs::Making::object_made, object_arena::specs::Graph::make))]
     pub fn make(&mut self, class: ClassId, cells: &[(AttrNo, Value)]) -> Result<ObjId, Refusal>
         requires class { IsClass self.old.mapping class }
-        ensures step { IsQuiet (λ object. object) (making.made class cells.now self.old) result self.new }
+        ensures step { IsQuiet (λ object. object) (making.object_made class cells.now self.old) result self.new }
         ensures exists { IfOk result (λ object. IsObject self.new.graph object) }
+        ensures err { OnErr result (self.new ≡ self.old) }
         ensures scopes { self.new.scopes ≡ self.old.scopes }
         ensures mapping { self.new.mapping ≡ self.old.mapping }
         ensures cause { IfErr result (λ e. e ≢ Refusal.KeeperFault) }
@@ -117,8 +118,9 @@ impl Session {
         if let Some((wanted, found)) = mismatch(self.mapping.attributes(class), cells) {
             return Err(Refusal::TypeMismatch(wanted, found));
         }
+        let values = values_of(self.alloc, cells)?;
         let object = self.arena.make(&self.mapping, class)?;
-        put_values(&mut self.arena, object, cells)?;
+        put_values(&mut self.arena, object, values);
         Ok(object)
     }
 
@@ -128,12 +130,11 @@ impl Session {
     /// # Errors
     /// `PendingRollbackError` where a flush failed that was not rolled back. Then, in the transaction,
     /// `InvalidRequestError(Deleted)` for a deleted object.
-    #[tactic(auto, using(keeper_core::proofs::Sequence::sequence, keeper_core::proofs::Lifting::lifting), unfolding(crate::specs::Steps::add))]
+    #[tactic(auto, using(programs::proofs::Sequence::sequence, programs::proofs::Lifting::lifting), unfolding(crate::specs::Steps::add))]
     pub fn add<K: Keeper>(&mut self, keeper: &mut K, object: ObjId) -> Result<(), Refusal>
         requires object { IsObject self.old.graph object }
         requires in_step { IsInStep self.old (K.moment keeper.old) }
         ensures step { Runs (moment_beside K.moment) (λ u. u) (steps.add object) (self.old, keeper.old) result (self.new, keeper.new) }
-        ensures acts { Acts (K.moment keeper.old) result (K.moment keeper.new) }
         ensures in_step { StaysInStep result self.new (K.moment keeper.new) }
         ensures same { SameObjects self.old self.new }
     {
@@ -146,11 +147,10 @@ impl Session {
     /// # Errors
     /// `PendingRollbackError` where a flush failed that was not rolled back; what the keeper refuses of the rows. Then
     /// the transaction is rolled back, and its pending objects are transient again.
-    #[tactic(auto, using(keeper_core::proofs::Sequence::sequence, keeper_core::proofs::Lifting::lifting), unfolding(crate::specs::Steps::commit))]
+    #[tactic(auto, using(programs::proofs::Sequence::sequence, programs::proofs::Lifting::lifting), unfolding(crate::specs::Steps::commit))]
     pub fn commit<K: Keeper>(&mut self, keeper: &mut K) -> Result<(), Refusal>
         requires in_step { IsInStep self.old (K.moment keeper.old) }
         ensures step { Runs (moment_beside K.moment) (λ u. u) steps.commit (self.old, keeper.old) result (self.new, keeper.new) }
-        ensures acts { Acts (K.moment keeper.old) result (K.moment keeper.new) }
         ensures in_step { StaysInStep result self.new (K.moment keeper.new) }
         ensures same { SameObjects self.old self.new }
     {
@@ -164,11 +164,10 @@ impl Session {
     ///
     /// # Errors
     /// `KeeperFault` and want of memory alone.
-    #[tactic(auto, using(keeper_core::proofs::Sequence::sequence, keeper_core::proofs::Lifting::lifting), unfolding(crate::specs::Steps::close))]
+    #[tactic(auto, using(programs::proofs::Sequence::sequence, programs::proofs::Lifting::lifting), unfolding(crate::specs::Steps::close))]
     pub fn close<K: Keeper>(&mut self, keeper: &mut K) -> Result<(), Refusal>
         requires in_step { IsInStep self.old (K.moment keeper.old) }
         ensures step { Runs (moment_beside K.moment) (λ u. u) steps.close (self.old, keeper.old) result (self.new, keeper.new) }
-        ensures acts { Acts (K.moment keeper.old) result (K.moment keeper.new) }
         ensures in_step { StaysInStep result self.new (K.moment keeper.new) }
         ensures same { SameObjects self.old self.new }
         ensures outside { OnOk result (self.new.scopes ≡ []) }
@@ -179,7 +178,7 @@ impl Session {
     }
 
     /// A call is refused while a failed flush waits for its rollback; else a transaction begins where none is in progress.
-    #[tactic(auto, using(keeper_core::proofs::Sequence::sequence, keeper_core::proofs::Lifting::lifting, crate::proofs::SessionLemmas::scopes), unfolding(crate::specs::Steps::enter))]
+    #[tactic(auto, using(programs::proofs::Sequence::sequence, programs::proofs::Lifting::lifting, crate::proofs::SessionLemmas::scopes), unfolding(crate::specs::Steps::enter))]
     fn enter<K: Keeper>(&mut self, keeper: &mut K) -> Result<(), Refusal>
         requires in_step { IsInStep self.old (K.moment keeper.old) }
         ensures step { Runs (moment_beside K.moment) (λ u. u) steps.enter (self.old, keeper.old) result (self.new, keeper.new) }
@@ -200,7 +199,7 @@ impl Session {
     /// The transaction's scope starts with the objects as they stand now. The only refusal is want of memory.
     fn begin_scope(&mut self) -> Result<(), Refusal>
         requires outside { self.old.scopes ≡ [] }
-        ensures ok { OnOk result (self.new ≡ steps.begun self.old) }
+        ensures ok { OnOk result (self.new ≡ steps.session_begun self.old) }
         ensures cause { IfErr result (λ e. e ≡ Refusal.Memory) }
         ensures same { SameObjects self.old self.new }
     {
@@ -208,11 +207,11 @@ impl Session {
     }
 
     /// Begins a transaction of the store, and leaves the session as it is.
-    #[tactic(auto, using(keeper_core::proofs::Lifting::lifting))]
+    #[tactic(auto, using(programs::proofs::Lifting::lifting))]
     fn begin<K: Keeper>(&self, keeper: &mut K) -> Result<(), Refusal>
         requires in_step { IsInStep self.now (K.moment keeper.old) }
         requires outside { self.now.scopes ≡ [] }
-        ensures step { Runs (moment_beside K.moment) (λ u. u) (on_store call.begin) (self.now, keeper.old) result (self.now, keeper.new) }
+        ensures step { Runs (moment_beside K.moment) (λ u. u) (on_store unnoted call.begin) (self.now, keeper.old) result (self.now, keeper.new) }
         ensures depth { OnOk result ((K.moment keeper.new).depth ≡ 1) }
         ensures attached { (K.moment keeper.new).attached ≡ true }
         ensures stops { IfErr result (λ e. ends_early e ≡ true) }
@@ -221,11 +220,11 @@ impl Session {
     }
 
     /// Commits the transaction of the store, and leaves the session as it is.
-    #[tactic(auto, using(keeper_core::proofs::Lifting::lifting))]
+    #[tactic(auto, using(programs::proofs::Lifting::lifting))]
     fn commit_store<K: Keeper>(&self, keeper: &mut K) -> Result<(), Refusal>
         requires in_step { IsInStep self.now (K.moment keeper.old) }
         requires inside { length self.now.scopes ≡ 1 }
-        ensures step { Runs (moment_beside K.moment) (λ u. u) (on_store call.commit) (self.now, keeper.old) result (self.now, keeper.new) }
+        ensures step { Runs (moment_beside K.moment) (λ u. u) (on_store unnoted call.commit) (self.now, keeper.old) result (self.now, keeper.new) }
         ensures ended { (K.moment keeper.new).depth ≡ 0 }
         ensures attached { (K.moment keeper.new).attached ≡ true }
         ensures stops { IfErr result (λ e. ends_early e ≡ true) }
@@ -234,7 +233,7 @@ impl Session {
     }
 
     /// Rolls the transaction of the store back, where one is in progress.
-    #[tactic(auto, using(keeper_core::proofs::Sequence::sequence, keeper_core::proofs::Lifting::lifting, crate::proofs::SessionLemmas::scopes))]
+    #[tactic(auto, using(programs::proofs::Sequence::sequence, programs::proofs::Lifting::lifting, crate::proofs::SessionLemmas::scopes))]
     fn leave<K: Keeper>(&self, keeper: &mut K) -> Result<(), Refusal>
         requires in_step { IsInStep self.now (K.moment keeper.old) }
         ensures step { Runs (moment_beside K.moment) (λ u. u) (steps.leaving (in_transaction self.now)) (self.now, keeper.old) result (self.now, keeper.new) }
@@ -249,7 +248,7 @@ impl Session {
     }
 
     /// What `add` does of an object.
-    #[tactic(auto, unfolding(crate::specs::Steps::take_in, keeper_core::specs::Acting::refuse, keeper_core::specs::Acting::change))]
+    #[tactic(auto, unfolding(crate::specs::Steps::take_in, programs::specs::Programs::refuse, programs::specs::Programs::change))]
     fn take_in(&mut self, object: ObjId) -> Result<(), Refusal>
         requires object { IsObject self.old.graph object }
         ensures step { IsQuiet (λ u. u) (steps.take_in object self.old) result self.new }
@@ -271,7 +270,7 @@ impl Session {
 
     /// The transaction was committed: every persistent object is expired.
     fn end_transaction(&mut self) -> Result<(), Refusal>
-        ensures ok { OnOk result (self.new ≡ steps.ended self.old) }
+        ensures ok { OnOk result (self.new ≡ steps.session_committed self.old) }
         ensures cause { IfErr result (λ e. e ≡ Refusal.Memory) }
         ensures same { SameObjects self.old self.new }
     {
@@ -281,7 +280,7 @@ impl Session {
 
     /// No transaction is in progress, and every object leaves the session. The only refusal is want of memory.
     fn let_go(&mut self) -> Result<(), Refusal>
-        ensures ok { OnOk result (self.new ≡ steps.closed self.old) }
+        ensures ok { OnOk result (self.new ≡ steps.session_closed self.old) }
         ensures cause { IfErr result (λ e. e ≡ Refusal.Memory) }
         ensures same { SameObjects self.old self.new }
     {

@@ -28,7 +28,7 @@ pub(crate) fn settle(
     requires fit { IsFit mapping.now arena.old }
     requires object { IsObject arena.old object }
     requires key { key_fits mapping.now (object_at arena.old object).class key ≡ true }
-    ensures ok { OnOk result (arena.new ≡ spec.settled mapping.now arena.old (object, key)) }
+    ensures ok { OnOk result (arena.new ≡ spec.graph_settled mapping.now arena.old (object, key)) }
     ensures cause { IfErr result (λ e. e ≡ Refusal.Memory) }
     ensures fit { IsFit mapping.now arena.new }
     ensures same { length arena.new.objects ≡ length arena.old.objects }
@@ -64,7 +64,7 @@ fn put_under_key(
 fn free(arena: &mut Arena, mapping: &Mapping, object: ObjId, key: &Key) -> Result<(), Refusal>
     requires fit { IsFit mapping.now arena.old }
     requires object { IsObject arena.old object }
-    ensures ok { OnOk result (arena.new ≡ spec.freed arena.old (find_identity arena.old (root_at arena.old object) key.now)) }
+    ensures ok { OnOk result (arena.new ≡ spec.holder_freed arena.old (find_identity arena.old (root_at arena.old object) key.now)) }
     ensures free { OnOk result (is_taken arena.new object key.now ≡ false) }
     ensures cause { IfErr result (λ e. e ≡ Refusal.Memory) }
     ensures fit { IsFit mapping.now arena.new }
@@ -72,8 +72,7 @@ fn free(arena: &mut Arena, mapping: &Mapping, object: ObjId, key: &Key) -> Resul
     ensures class { (object_at arena.new object).class ≡ (object_at arena.old object).class }
     ensures classes { classes_of arena.new ≡ classes_of arena.old }
 {
-    let root = arena.class_of(object);
-    match arena.find_identity(root, key) {
+    match arena.find_identity(arena.root_at(object), key) {
         None => Ok(()),
         Some(holder) => arena.put_state(holder, State::Detached),
     }
@@ -175,7 +174,7 @@ fn value_under(key: &Key, found: Option<usize>, cell: &Cell) -> Result<Value, Al
 /// A delete mark is taken away. The only refusal is want of memory.
 pub(crate) fn unmark(arena: &mut Arena, object: ObjId) -> Result<(), Refusal>
     requires { IsObject arena.old object }
-    ensures ok { OnOk result (arena.new ≡ with_object arena.old object (spec.unmarked (object_at arena.old object))) }
+    ensures ok { OnOk result (arena.new ≡ with_object arena.old object (spec.object_unmarked (object_at arena.old object))) }
     ensures cause { IfErr result (λ e. e ≡ Refusal.Memory) }
     ensures fits { (mapped : Mapped) → IsFit mapped arena.old → IsFit mapped arena.new }
     ensures same { length arena.new.objects ≡ length arena.old.objects }
@@ -191,7 +190,7 @@ pub(crate) fn unmark(arena: &mut Arena, object: ObjId) -> Result<(), Refusal>
 #[tactic(auto, using(object_arena::proofs::TurnLemmas::turns))]
 /// Every object is as it is after a commit. The only refusal is want of memory.
 pub(crate) fn commit_all(arena: &mut Arena) -> Result<(), Refusal>
-    ensures ok { OnOk result (arena.new ≡ each_object spec.committed arena.old) }
+    ensures ok { OnOk result (arena.new ≡ each_object spec.object_committed arena.old) }
     ensures cause { IfErr result (λ e. e ≡ Refusal.Memory) }
     ensures fits { (mapped : Mapped) → IsFit mapped arena.old → IsFit mapped arena.new }
     ensures same { length arena.new.objects ≡ length arena.old.objects }
@@ -205,7 +204,7 @@ pub(crate) fn commit_all(arena: &mut Arena) -> Result<(), Refusal>
 /// A persistent object is expired, and a deleted one detached.
 fn commit_one(arena: &mut Arena, object: ObjId) -> Result<(), Refusal>
     requires { IsObject arena.old object }
-    ensures ok { OnOk result (arena.new ≡ with_object arena.old object (spec.committed (object_at arena.old object))) }
+    ensures ok { OnOk result (arena.new ≡ with_object arena.old object (spec.object_committed (object_at arena.old object))) }
     ensures cause { IfErr result (λ e. e ≡ Refusal.Memory) }
     ensures fits { (mapped : Mapped) → IsFit mapped arena.old → IsFit mapped arena.new }
     ensures same { length arena.new.objects ≡ length arena.old.objects }
@@ -223,7 +222,7 @@ fn commit_one(arena: &mut Arena, object: ObjId) -> Result<(), Refusal>
 #[tactic(auto, using(object_arena::proofs::TurnLemmas::turns))]
 /// Every object leaves the session. The only refusal is want of memory.
 pub(crate) fn let_go_all(arena: &mut Arena) -> Result<(), Refusal>
-    ensures ok { OnOk result (arena.new ≡ each_object spec.left arena.old) }
+    ensures ok { OnOk result (arena.new ≡ each_object spec.object_left arena.old) }
     ensures cause { IfErr result (λ e. e ≡ Refusal.Memory) }
     ensures fits { (mapped : Mapped) → IsFit mapped arena.old → IsFit mapped arena.new }
     ensures same { length arena.new.objects ≡ length arena.old.objects }
@@ -237,7 +236,7 @@ pub(crate) fn let_go_all(arena: &mut Arena) -> Result<(), Refusal>
 /// A pending object is transient, a persistent or deleted one detached, and no delete mark stays.
 fn let_go(arena: &mut Arena, object: ObjId) -> Result<(), Refusal>
     requires { IsObject arena.old object }
-    ensures ok { OnOk result (arena.new ≡ with_object arena.old object (spec.left (object_at arena.old object))) }
+    ensures ok { OnOk result (arena.new ≡ with_object arena.old object (spec.object_left (object_at arena.old object))) }
     ensures cause { IfErr result (λ e. e ≡ Refusal.Memory) }
     ensures fits { (mapped : Mapped) → IsFit mapped arena.old → IsFit mapped arena.new }
     ensures same { length arena.new.objects ≡ length arena.old.objects }

@@ -19,18 +19,18 @@ use Rattle.shell_parts.specs.declared.block.Declared.{Declared}
 use Rattle.shell_parts.specs.declared.block.Declared.TheVariants.{Table, Class}
 
 -- the block, without lines yet, that the head of this number opens; every other line is not built
-abbrev pub opened : Command → ℕ → Result Block Refusal
-opened (line.TableHead name) first = Ok (record {
+abbrev pub block_of : Command → ℕ → Result Block Refusal
+block_of (line.TableHead name) first = Ok (record {
   declared = Table (record { name = name; columns = []; uniques = []; foreigns = [] });
   first = first;
   skipping = false;
 })
-opened (line.ClassHead name base table discriminator identity owned) first = Ok (record {
+block_of (line.ClassHead name base table discriminator identity owned) first = Ok (record {
   declared = Class (record { name = name; base = base; table = table; discriminator = discriminator; identity = identity; owned = owned; relations = []; validators = [] });
   first = first;
   skipping = false;
 })
-opened other first = Err NotBuilt
+block_of other first = Err NotBuilt
 
 -- the forms of the block's lines
 abbrev pub forms_of : Declared → Inside

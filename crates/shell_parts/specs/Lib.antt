@@ -2,3 +2,4 @@ pub mod Bindings
 pub mod Blocks
 pub mod TableNames
 pub mod Replies
+pub mod Lines

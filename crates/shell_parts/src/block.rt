@@ -1,10 +1,10 @@
 //! Blocks of lines that declare a table or a class.
 
-ghost use Rattle.std.specs.Prelude.{◌≡◌, ◌&&◌, ◌==◌, true, IfErr, OnErr, OnOk};
+ghost use Rattle.std.specs.Prelude.{◌≡◌, ◌&&◌, ◌==◌, ◌<◌, ◌↔◌, true, IfErr, OnErr, OnOk, IsTrue};
 ghost use Rattle.std.specs.List.{count_by, list_any};
-ghost use Rattle.base_core.specs.Answers.{Gives, Takes};
+ghost use Rattle.base_core.specs.Answers.{Takes};
 ghost use Rattle.mapper_core.specs.Declaring.{declare_class as classes_then, declare_table as tables_then, is_plain_root};
-ghost use Rattle.shell_parts.specs.Blocks.{IsOfDeclaring, declare, forms_of, has_one_integer_key, is_built_block, is_integer, opened, with_class_line, with_line, with_table_line, without_number};
+ghost use Rattle.shell_parts.specs.Blocks.{IsOfDeclaring, block_of, declare, forms_of, has_one_integer_key, is_built_block, is_integer, with_class_line, with_line, with_table_line, without_number};
 
 use base_core::{ListOf, Refusal};
 use mapper_core::Mapping;
@@ -12,16 +12,17 @@ use mapper_types::ClassSpec;
 use schema_core::{ColumnKind, ColumnSpec, TableSpec};
 use script_types::{Command, Inside};
 use std::alloc::Global;
+use std::mem::drop;
 
 /// What a block has declared so far.
-#[derive(Debug, Drop)]
+#[derive(Drop)]
 pub enum Declared {
     Table(TableSpec),
     Class(ClassSpec),
 }
 
 /// A block that is not ended yet.
-#[derive(Debug, Drop)]
+#[derive(Drop)]
 pub struct Block {
     declared: Declared,
     /// The number of its first line.
@@ -35,8 +36,8 @@ impl Block {
     ///
     /// # Errors
     /// `NotBuilt` for a line that is no head.
-    pub fn opened(alloc: Global, head: Command, first: u32) -> Result<Block, Refusal>
-        ensures { Gives (λ block. block) result (opened head first) }
+    pub fn of_head(alloc: Global, head: Command, first: u32) -> Result<Block, Refusal>
+        ensures { result ≡ block_of head first }
     {
         let declared = match head {
             Command::TableHead(name) => Declared::Table(TableSpec {
@@ -62,7 +63,10 @@ impl Block {
                 relations: ListOf::new(alloc),
                 validators: ListOf::new(alloc),
             }),
-            _ => return Err(Refusal::NotBuilt),
+            other => {
+                drop(other);
+                return Err(Refusal::NotBuilt);
+            }
         };
         Ok(Block {
             declared,
@@ -153,7 +157,10 @@ fn take_table_line(spec: &mut TableSpec, line: Command) -> Result<(), Refusal>
         Command::ColumnLine(column) => spec.columns.push(column),
         Command::UniqueLine(columns) => spec.uniques.push(columns),
         Command::ForeignLine(foreign) => spec.foreigns.push(foreign),
-        _ => Ok(()),
+        other => {
+            drop(other);
+            Ok(())
+        }
     }
 }
 
@@ -166,8 +173,18 @@ fn take_class_line(spec: &mut ClassSpec, line: Command) -> Result<(), Refusal>
     match line {
         Command::RelationLine(relation) => spec.relations.push(relation),
         Command::ValidateLine(attribute, hook) => spec.validators.push((attribute, hook)),
-        _ => Ok(()),
+        other => {
+            drop(other);
+            Ok(())
+        }
     }
+}
+
+/// Whether one more can be numbered in 32 bits beside so many.
+fn has_room(count: u32) -> bool
+    ensures { IsTrue result ↔ (count < 4294967295) }
+{
+    count < u32::MAX
 }
 
 /// Declares a table in a mapping.
@@ -175,7 +192,7 @@ fn declare_table(spec: TableSpec, mapping: &mut Mapping) -> Result<(), Refusal>
     ensures step { Takes (λ _. tt) (without_number (tables_then mapping.old spec)) mapping.old result mapping.new }
     ensures cause { IfErr result IsOfDeclaring }
 {
-    if mapping.schema().count() == u32::MAX {
+    if !has_room(mapping.schema().count()) {
         return Err(Refusal::Memory);
     }
     match mapping.declare_table(spec) {
@@ -189,7 +206,7 @@ fn declare_class(spec: ClassSpec, mapping: &mut Mapping) -> Result<(), Refusal>
     ensures step { Takes (λ _. tt) (without_number (classes_then mapping.old spec)) mapping.old result mapping.new }
     ensures cause { IfErr result IsOfDeclaring }
 {
-    if mapping.count() == u32::MAX {
+    if !has_room(mapping.count()) {
         return Err(Refusal::Memory);
     }
     match mapping.declare_class(spec) {

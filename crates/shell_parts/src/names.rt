@@ -10,7 +10,7 @@ use std::alloc::Global;
 use std::marker::Model;
 
 /// What a name of the script stands for.
-#[derive(Debug, Drop)]
+#[derive(Drop)]
 pub enum Bound {
     /// `null`.
     Nothing,

@@ -3,19 +3,20 @@ use Rattle.std.proofs.Common.{◌≡◌, ℕ, if◌then◌else◌, true, Result,
 use Rattle.base_core.specs.declared.refusal.Refusal.{Refusal}
 use Rattle.base_core.specs.declared.refusal.Refusal.TheVariants.{Memory, ArgumentError, NotBuilt, ScriptError}
 use Rattle.base_core.specs.Answers.{Gives, Takes}
-use Rattle.keeper_core.specs.Moment.{Runs}
+use Rattle.programs.specs.Moment.{Runs}
 use Rattle.mapper_core.specs.Mapped.{Mapped}
-use Rattle.shell_lines.specs.Lines.{IsOfReading}
+use Rattle.shell_parts.specs.Lines.{IsOfReading}
 use Rattle.shell_parts.specs.declared.block.Block.{Block}
 use Rattle.script_types.specs.declared.command.Command.{Command}
 use Rattle.script_types.specs.declared.command.Command.TheVariants.{TableHead, ClassHead}
-use Rattle.shell_parts.specs.Blocks.{IsOfDeclaring, declare, is_built_block, opened}
+use Rattle.shell_parts.specs.Blocks.{IsOfDeclaring, block_of, declare, is_built_block}
 use Rattle.shell_steps.specs.declared.stage.Stage.{Stage}
 use Rattle.shell_steps.specs.declared.stage.Stage.TheVariants.{Declaring}
-use Rattle.shell_steps.specs.Alone.{alone, asked, Turns, Turned}
+use Rattle.programs.specs.Alone.{alone, Turns, Turned}
+use Rattle.programs.specs.Programs.{asked}
 use Rattle.shell_steps.specs.ShellState.{ShellState}
 use Rattle.shell_steps.specs.Step.{declared, declared_at, declaring_on, opened_here}
-use Rattle.shell_steps.proofs.AloneLemmas.{asked_ok, asked_err, alone_lost, turns_ok, turns_err, turns_lost}
+use Rattle.programs.proofs.AloneLemmas.{asked_ok, asked_err, alone_lost, turns_ok, turns_err, turns_lost}
 
 -- a line was read
 pub reads : {S A X : Type 0} {v : X → A} (question : S → Result A Refusal) {s : S} {r : Result X Refusal} → Gives v r (question s) → IfErr r IsOfReading → Runs alone v (asked question) s r s
@@ -24,18 +25,17 @@ reads question {r = Err Memory} p cause = alone_lost
 reads question {r = Err (ScriptError line column)} p cause = asked_err question refl refl p
 reads question {r = Err e} p cause = absurd cause
 
-opened_refuses : (head : Command) (first : ℕ) (e : Refusal) → opened head first ≡ Err e → e ≡ NotBuilt
-opened_refuses (TableHead name) first e is = cc
-opened_refuses (ClassHead name base table discriminator identity owned) first e is = cc
-opened_refuses head first e is = cc
+block_refused : (head : Command) (first : ℕ) (e : Refusal) → block_of head first ≡ Err e → e ≡ NotBuilt
+block_refused (TableHead name) first e is = cc
+block_refused (ClassHead name base table discriminator identity owned) first e is = cc
+block_refused head first e is = cc
 
 -- a head was tried
-pub opens : (head : Command) {own : ShellState} {r : Result Block Refusal} → Gives (λ (block : Block). block) r (opened head own.line) → Runs alone (λ (block : Block). block) (asked (opened_here head)) own r own
-opens head {r = Ok x} p = asked_ok (opened_here head) p
-opens head {r = Err Memory} p = alone_lost
+pub opens : (head : Command) {own : ShellState} {r : Result Block Refusal} → r ≡ block_of head own.line → Runs alone (λ (block : Block). block) (asked (opened_here head)) own r own
+opens head {r = Ok x} p = asked_ok (opened_here head) (sym p)
 opens head {own = own} {r = Err e} p =
-    let is = opened_refuses head own.line e p in
-    subst (λ (d : Refusal). Runs alone (λ (block : Block). block) (asked (opened_here head)) own (Err d) own) (sym is) (asked_err (opened_here head) refl refl (p ∙ ap Err is))
+    let is = block_refused head own.line e (sym p) in
+    subst (λ (d : Refusal). Runs alone (λ (block : Block). block) (asked (opened_here head)) own (Err d) own) (sym is) (asked_err (opened_here head) refl refl (sym p ∙ ap Err is))
 
 -- the mapping took the declaration of a block, or refused it
 declares_at : (block : Block) (mapping now : Mapped) (r : Result (Unit {0}) Refusal)

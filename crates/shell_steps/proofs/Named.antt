@@ -5,17 +5,18 @@ use Rattle.base_core.specs.declared.ids.ObjId.{ObjId}
 use Rattle.base_core.specs.declared.refusal.Refusal.{Refusal}
 use Rattle.base_core.specs.declared.refusal.Refusal.TheVariants.{InvalidRequestError}
 use Rattle.base_core.specs.declared.refusal.RequestKind.TheVariants.{NotConfigured}
-use Rattle.keeper_core.specs.Moment.{Runs}
+use Rattle.programs.specs.Moment.{Runs}
 use Rattle.mapper_core.specs.Mapped.{Mapped, find_class}
 use Rattle.session_core.specs.SessionState.{SessionState}
 use Rattle.shell_parts.specs.declared.names.Bound.{Bound}
 use Rattle.shell_parts.specs.Bindings.{bound_to}
 use Rattle.shell_steps.specs.declared.stage.Stage.{Stage}
 use Rattle.shell_steps.specs.declared.stage.Stage.TheVariants.{Declaring, Configured}
-use Rattle.shell_steps.specs.Alone.{alone, asked, Tells}
+use Rattle.programs.specs.Alone.{alone, Tells}
+use Rattle.programs.specs.Programs.{asked}
 use Rattle.shell_steps.specs.Naming.{class_named, known, object_bound, object_named, of_session}
 use Rattle.shell_steps.specs.ShellState.{ShellState}
-use Rattle.shell_steps.proofs.AloneLemmas.{alone_lost, asked_err, asked_tells, tells_ok, tells_err, tells_lost}
+use Rattle.programs.proofs.AloneLemmas.{alone_lost, asked_err, asked_tells, tells_ok, tells_err, tells_lost}
 
 pub class_asked : (name : List ℕ) {own : ShellState} {session : SessionState} {r : Result ClassId Refusal}
     → own.stage ≡ Configured session → Tells (λ (class : ClassId). class) (known name (find_class session.mapping.classes name)) r → Runs alone (λ (class : ClassId). class) (asked (class_named name)) own r own

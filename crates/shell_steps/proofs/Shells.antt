@@ -5,74 +5,27 @@ use Rattle.base_core.specs.declared.refusal.Refusal.{Refusal}
 use Rattle.base_core.specs.declared.refusal.Refusal.TheVariants.{Memory, KeeperFault, InvalidRequestError, NotBuilt, ScriptError}
 use Rattle.base_core.specs.declared.value.Value.{Value}
 use Rattle.base_core.specs.declared.refusal.RequestKind.TheVariants.{InTransaction, NotConfigured}
-use Rattle.keeper_core.specs.Store.{Store}
-use Rattle.keeper_core.specs.Acting.{Run, ◌>>=◌, change, ends_early, give, is_of_tables, quiet, refuse}
-use Rattle.keeper_core.specs.Moment.{Told, Moment, IsRun, IsCutOff, Outcome, AsTold, IsShown, IsCalm, Acts, Acted, Runs, Ran}
-use Rattle.keeper_core.specs.Beside.{Beside, by_own, on_own, on_store, told_beside, moment_beside}
-use Rattle.keeper_core.proofs.Sequence.{then_ok, then_err, refused, done as given, no_memory, ran_out, guard_ok, guard_early, guard_refused}
-use Rattle.keeper_core.proofs.Lifting.{on_keeper}
+use Rattle.programs.specs.Store.{Store}
+use Rattle.programs.specs.Programs.{Run, ◌>>=◌, change, ends_early, give, is_of_tables, quiet, refuse, asked}
+use Rattle.programs.specs.Moment.{Told, Moment, IsRun, IsCutOff, Outcome, AsTold, Runs, Ran}
+use Rattle.programs.specs.Beside.{Beside, by_own, on_own, on_store, unnoted, told_beside, moment_beside, moment_answering}
+use Rattle.programs.proofs.Sequence.{then_ok, then_err, refused, done as given, no_memory, ran_out, guard_ok, guard_early, guard_refused}
+use Rattle.programs.proofs.Lifting.{on_keeper, same_beside, then_store_err, then_store_ok}
 use Rattle.mapper_core.specs.Mapped.{Mapped}
 use Rattle.script_types.specs.declared.command.Command.{Command}
 use Rattle.script_types.specs.declared.command.Command.TheVariants as line
 use Rattle.script_types.specs.declared.command.Term.{Term}
 use Rattle.session_core.specs.SessionState.{SessionState}
-use Rattle.session_core.specs.Making.{IsQuiet}
+use Rattle.programs.specs.Alone.{alone, IsQuiet, Turns, Turned}
 use Rattle.session_core.specs.Steps as session
-use Rattle.shell_lines.specs.Lines.{is_built}
+use Rattle.shell_parts.specs.Lines.{is_built}
 use Rattle.shell_parts.specs.declared.block.Block.{Block}
 use Rattle.shell_steps.specs.declared.stage.Stage.{Stage}
 use Rattle.shell_steps.specs.declared.stage.Stage.TheVariants.{Declaring, Configured}
-use Rattle.shell_steps.specs.Alone.{alone, Turns, Turned, asked, no_log}
-use Rattle.shell_steps.specs.Replies.{moment_answering}
 use Rattle.shell_steps.specs.ShellState.{ShellState}
 use Rattle.shell_steps.specs.Step.{World, alone_at, alone_run, at_stage, at_stage_of, closing, closing_at, commit, configured, do_command, do_line, done, done_at, done_if, ended, create_tables, creating, creating_if, declared, ended_in, error_text, goes, in_session, in_session_alone, in_block, is_open, is_skipped, line_if, line_step, next_line, on_tables, open_block, read_and_do, reply_to, run_at, session_run, skip_block, skip_line, skipping, tables_at, take_line, taken, tell, tell_here, unless_end, with_block, with_refused, with_session}
-use Rattle.shell_steps.proofs.AloneLemmas.{asked_ok, asked_err, asked_tells, alone_ok, alone_err, alone_lost, becomes_ok, becomes_err, beside_alone, change_ok, told_alone, alone_fault}
-use Rattle.shell_steps.proofs.Replies.{caught_ok, caught_early, caught_refused}
-
--- ---- calls in a row
-
--- a call of the shell alone, and what goes on from its answer
-pub then_own_ok : {S K A B X Y : Type 0} (moment : K → Moment Store) {v : X → A} {v' : Y → B} {m : S → Run S A} (next : A → Beside S → Run (Beside S) B) {own mid now : S} {old new : K} {x : X} {r : Result Y Refusal}
-    → Runs alone v m own (Ok x) mid → Runs (moment_beside moment) v' (next (v x)) (mid, old) r (now, new) → Runs (moment_beside moment) v' (on_own m >>= next) (own, old) r (now, new)
-then_own_ok moment next p q = then_ok next (beside_alone moment p) q
-
--- a call of the shell alone that was refused
-pub then_own_err : {S K A B X Y : Type 0} (moment : K → Moment Store) {v : X → A} {v' : Y → B} {m : S → Run S A} (next : A → Beside S → Run (Beside S) B) {own now : S} {keeper : K} {e : Refusal}
-    → Runs alone v m own (Err e) now → Runs (moment_beside moment) v' (on_own m >>= next) (own, keeper) (Err e) (now, keeper)
-then_own_err moment next p = then_err next (beside_alone moment p)
-
--- a call of the keeper, and what goes on from its answer
-pub then_store_ok : {S K A B X Y : Type 0} {moment : K → Moment Store} {v : X → A} {v' : Y → B} {m : Store → Run Store A} (next : A → Beside S → Run (Beside S) B) {own now : S} {old mid new : K} {x : X} {r : Result Y Refusal}
-    → Runs moment v m old (Ok x) mid → Runs (moment_beside moment) v' (next (v x)) (own, mid) r (now, new) → Runs (moment_beside moment) v' (on_store m >>= next) (own, old) r (now, new)
-then_store_ok next p q = then_ok next (on_keeper p) q
-
--- a call of the keeper that was refused
-pub then_store_err : {S K A B X Y : Type 0} {moment : K → Moment Store} {v : X → A} {v' : Y → B} {m : Store → Run Store A} (next : A → Beside S → Run (Beside S) B) {own : S} {old new : K} {e : Refusal}
-    → Runs moment v m old (Err e) new → Runs (moment_beside moment) v' (on_store m >>= next) (own, old) (Err e) (own, new)
-then_store_err next p = then_err next (on_keeper p)
-
--- ---- programs that do the same here
-
-told_same : {S A X : Type 0} (v : X → A) (m m' : Beside S → Run (Beside S) A) (own : S) (old : Option (Told Store)) (r : Result X Refusal) (new : Option (Told (Beside S)))
-    → ((store : Store) → m (record { own = own; store = store }) ≡ m' (record { own = own; store = store })) → AsTold v m (told_beside own old) r new → AsTold v m' (told_beside own old) r new
-told_same v m m' own None r new same p = tt
-told_same v m m' own (Some t) r None same p = p
-told_same v m m' own (Some t) r (Some n) same p = subst (λ run. Outcome v run t.log r n) (same t.world) p
-
-same_beside : {S K A X : Type 0} (moment : K → Moment Store) {v : X → A} (m m' : Beside S → Run (Beside S) A) {own now : S} {old new : K} {r : Result X Refusal}
-    → ((store : Store) → m (record { own = own; store = store }) ≡ m' (record { own = own; store = store }))
-    → Runs (moment_beside moment) v m (own, old) r (now, new) → Runs (moment_beside moment) v m' (own, old) r (now, new)
-unfolding moment_beside
-same_beside moment {v = v} m m' {own = own} {now = now} {old = old} {new = new} {r = r} same (Ran p) = Ran (record {
-  told = told_same v m m' own (moment old).told r (told_beside now (moment new).told) same p.told;
-  faults = p.faults;
-  refusals = p.refusals;
-  fault = p.fault;
-  shown = p.shown;
-  calm = p.calm;
-  target = p.target;
-  attached = p.attached;
-})
+use Rattle.programs.proofs.AloneLemmas.{alone_err, alone_lost, alone_ok, alone_same, answering_alone, asked_err, asked_ok, asked_tells, becomes_err, becomes_ok, beside_alone, change_ok, lost_alone, then_own_err, then_own_ok}
+use Rattle.programs.proofs.Recovering.{answering_ends, caught_early, caught_ok, caught_refused}
 
 -- ---- the session in the shell
 
@@ -97,7 +50,7 @@ told_in_session {X = X} v m own session now (Some t) (Some n) r opened p =
             (IsRun (m (record { own = session; store = t.world })) t.log (Err e) (record { world = record { own = now; store = n.world }; log = n.log }))
             → MatchBool b (IsCutOff (session_run own (m (record { own = session; store = t.world }))) t.log (record { world = record { own = with_session own now; store = n.world }; log = n.log }))
             (IsRun (session_run own (m (record { own = session; store = t.world }))) t.log (Err e) (record { world = record { own = with_session own now; store = n.world }; log = n.log }))
-        stops true q = record { front = q.front; rest = q.rest; events = q.events; log = q.log }
+        stops true q = record { prefix = q.prefix; rest = q.rest; events = q.events; log = q.log }
         stops false q = record { answer = q.answer; world = ap (λ w. record { own = with_session own w.own; store = w.store }) q.world; log = q.log }
 
 -- a call of the session
@@ -107,13 +60,7 @@ unfolding moment_beside
 session_runs moment {v = v} m {own = own} {after = after} {session = session} {now = now} {old = old} {new = new} {r = r} opened is (Ran p) =
     subst (λ (s : ShellState). Runs (moment_beside moment) v (in_session m) (own, old) r (s, new)) (sym is) (Ran (record {
       told = told_in_session v m own session now (moment old).told (moment new).told r opened p.told;
-      faults = p.faults;
-      refusals = p.refusals;
-      fault = p.fault;
-      shown = p.shown;
-      calm = p.calm;
-      target = p.target;
-      attached = p.attached;
+      keeps = p.keeps;
     }))
 
 -- before there is a session its calls are refused
@@ -128,7 +75,7 @@ pub tables_open : {K A X : Type 0} {moment : K → Moment Store} {v : X → A} (
     → own.stage ≡ Configured state → Runs moment v (m state) old r new → Runs (moment_beside moment) v (on_tables m) (own, old) r (own, new)
 unfolding on_tables on_store
 tables_open {moment = moment} m {own = own} {state = state} opened p =
-    same_beside moment (on_store (m state)) (on_tables m) (λ store. sym (ap (λ stage. tables_at stage m (record { own = own; store = store })) opened)) (on_keeper p)
+    same_beside moment (on_store unnoted (m state)) (on_tables m) (λ store. sym (ap (λ stage. tables_at stage m (record { own = own; store = store })) opened)) (on_keeper p)
 
 pub tables_none : {K A X : Type 0} (moment : K → Moment Store) {v : X → A} (m : SessionState → Store → Run Store A) {own : ShellState} {mapping : Mapped} {keeper : K}
     → own.stage ≡ Declaring mapping → Runs (moment_beside moment) v (on_tables m) (own, keeper) (Err (InvalidRequestError NotConfigured)) (own, keeper)
@@ -154,7 +101,7 @@ alone_session {v = v} m {own = own} {now = now} {r = Ok x} opened is p =
     alone_ok {v = v} (in_session_alone m) (ap (λ stage. alone_at stage m own) opened ∙ ap (alone_run own) p ∙ ap (quiet (Ok (v x))) (sym is))
 alone_session m {r = Err Memory} opened is p = alone_lost
 alone_session {v = v} m {own = own} {now = now} {r = Err e} opened is p =
-    alone_err {v = v} (in_session_alone m) p.1 p.2 (ap (λ stage. alone_at stage m own) opened ∙ ap (alone_run own) p.0 ∙ ap (quiet (Err e)) (sym is))
+    alone_err {v = v} (in_session_alone m) p.1.0 p.1.1 (ap (λ stage. alone_at stage m own) opened ∙ ap (alone_run own) p.0 ∙ ap (quiet (Err e)) (sym is))
 
 pub alone_none : {A X : Type 0} {v : X → A} (m : SessionState → Run SessionState A) {own : ShellState} {mapping : Mapped} → own.stage ≡ Declaring mapping → Runs alone v (in_session_alone m) own (Err (InvalidRequestError NotConfigured)) own
 unfolding in_session_alone
@@ -229,19 +176,6 @@ pub told_text : {X : Type 0} {v : X → List ℕ} (number : ℕ) (e : Refusal) {
 unfolding tell
 told_text {v = v} number e is text = then_ok (λ _. asked (λ shell. Ok (error_text number e shell))) {x = tt} (change_ok {X = Unit {0}} with_refused is) (asked_ok {v = v} (λ shell. Ok (error_text number e shell)) (ap Ok (sym text)))
 
-alone_same : {S A X : Type 0} {v : X → A} (m m' : S → Run S A) {own now : S} {r : Result X Refusal} → m own ≡ m' own → Runs alone v m own r now → Runs alone v m' own r now
-unfolding alone
-alone_same {v = v} m m' {own = own} {now = now} {r = r} same (Ran p) = Ran (record {
-  told = subst (λ run. Outcome v run no_log r (record { world = now; log = no_log })) same p.told;
-  faults = p.faults;
-  refusals = p.refusals;
-  fault = p.fault;
-  shown = p.shown;
-  calm = p.calm;
-  target = p.target;
-  attached = p.attached;
-})
-
 -- no block was opened at the end
 pub ended_none : {X : Type 0} {v : X → List ℕ} {own : ShellState} {x : X} → own.block ≡ None → [] ≡ v x → Runs alone v ended own (Ok x) own
 unfolding ended
@@ -252,33 +186,9 @@ pub ended_some : {X : Type 0} {v : X → List ℕ} {own now : ShellState} {block
 unfolding ended
 ended_some {own = own} {block = block} some p = alone_same (tell block.first (ScriptError block.first 1)) ended (sym (ap (λ block. ended_in block own) some)) p
 
--- memory ran out
-pub lost : {S A X : Type 0} {v : X → A} {m : S → Run S A} {own now : S} {e : Refusal} → e ≡ Memory → Runs alone v m own (Err e) now
-lost {v = v} {m = m} {own = own} {now = now} is = subst (λ (d : Refusal). Runs alone v m own (Err d) now) (sym is) alone_lost
-
--- a call of the shell alone, where refusals are answered
-pub answering_alone : {S K A X : Type 0} (moment : K → Moment Store) {v : X → A} {m : S → Run S A} {own now : S} {keeper : K} {r : Result X Refusal}
-    → Runs alone v m own r now → Runs (moment_answering moment) v (on_own m) (own, keeper) r (now, keeper)
-unfolding alone moment_answering
-answering_alone moment {v = v} {m = m} {own = own} {now = now} {keeper = keeper} {r = r} (Ran p) = Ran (record {
-  told = told_alone v m own now (moment keeper).told r p.told;
-  faults = omega arith;
-  refusals = omega arith;
-  fault = alone_fault r (moment keeper).faults p.fault;
-  shown = p.shown;
-  calm = p.calm;
-  target = refl;
-  attached = refl;
-})
-
-early_apart : (e : Refusal) → ends_early e ≡ true → is_of_tables e ≡ false
-early_apart Memory early = refl
-early_apart KeeperFault early = refl
-early_apart e early = cc
-
 told_here : {X : Type 0} {v : X → List ℕ} (e : Refusal) {own now : ShellState} {r : Result X Refusal} → Runs alone v (tell own.line e) own r now → Runs alone v (tell_here e) own r now
 unfolding alone
-told_here e (Ran p) = Ran (record { told = p.told; faults = p.faults; refusals = p.refusals; fault = p.fault; shown = p.shown; calm = p.calm; target = p.target; attached = p.attached })
+told_here e (Ran p) = Ran (record { told = p.told; keeps = p.keeps })
 
 pub answer_ok : {K X Y : Type 0} (moment : K → Moment Store) {v : X → List ℕ} {v' : Y → List ℕ} (bytes : List ℕ) {old new : ShellState × K} {x : X} {y : Y}
     → v x ≡ v' y → Runs (moment_beside moment) v (line_step bytes) old (Ok x) new → Runs (moment_answering moment) v' (reply_to bytes) old (Ok y) new
@@ -288,7 +198,7 @@ answer_ok moment bytes same p = caught_ok moment (λ e. on_own (tell_here e)) sa
 pub answer_early : {K X Y : Type 0} (moment : K → Moment Store) {v : X → List ℕ} {v' : Y → List ℕ} (bytes : List ℕ) {old new : ShellState × K} {e : Refusal}
     → ends_early e ≡ true → Runs (moment_beside moment) v (line_step bytes) old (Err e) new → Runs (moment_answering moment) v' (reply_to bytes) old (Err e) new
 unfolding reply_to
-answer_early moment bytes {e = e} early p = caught_early moment (λ e. on_own (tell_here e)) early (early_apart e early) p
+answer_early moment bytes {e = e} early p = caught_early moment (λ e. on_own (tell_here e)) early p
 
 pub answer_refused : {K X Y : Type 0} (moment : K → Moment Store) {v : X → List ℕ} {v' : Y → List ℕ} (bytes : List ℕ) {own mid now : ShellState} {old new : K} {number : ℕ} {e : Refusal} {r : Result Y Refusal}
     → ends_early e ≡ false → number ≡ mid.line → Runs (moment_beside moment) v (line_step bytes) (own, old) (Err e) (mid, new) → Runs alone v' (tell number e) mid r now
@@ -298,31 +208,6 @@ answer_refused moment {v' = v'} bytes {mid = mid} {now = now} {e = e} {r = r} ea
     caught_refused moment (λ e. on_own (tell_here e)) early p (answering_alone moment (told_here e (subst (λ (n : ℕ). Runs alone v' (tell n e) mid r now) is q)))
 
 -- ---- the end
-
-answering_shown : {X : Type 0} (r : Result X Refusal) {W : Type 0} (old new : Moment W) → IfErr r (λ e. ends_early e ≡ true) → IfErr r (λ e. IsShown e old new)
-answering_shown (Ok x) old new early = tt
-answering_shown (Err Memory) old new early = tt
-answering_shown (Err KeeperFault) old new early = tt
-answering_shown (Err e) old new early = cc
-
-answering_calm : {X : Type 0} (r : Result X Refusal) {W : Type 0} (old new : Moment W) → new.refusals ≡ old.refusals → new.last ≡ old.last → OnOk r (IsCalm old new)
-answering_calm (Ok x) old new refusals last = (refusals, last)
-answering_calm (Err e) old new refusals last = tt
-
--- a call that is refused by an early end alone, where refusals are answered
-answering_ends : {S K A X : Type 0} (moment : K → Moment Store) {v : X → A} {m : Beside S → Run (Beside S) A} {old new : S × K} {r : Result X Refusal}
-    → IfErr r (λ e. ends_early e ≡ true) → Runs (moment_beside moment) v m old r new → Runs (moment_answering moment) v m old r new
-unfolding moment_beside moment_answering
-answering_ends moment {old = old} {new = new} {r = r} early (Ran p) = Ran (record {
-  told = p.told;
-  faults = p.faults;
-  refusals = omega arith;
-  fault = p.fault;
-  shown = answering_shown r (moment_answering moment old) (moment_answering moment new) early;
-  calm = answering_calm r (moment_answering moment old) (moment_answering moment new) refl refl;
-  target = p.target;
-  attached = p.attached;
-})
 
 closing_same : (own : ShellState) (state : SessionState) → own.stage ≡ Configured state → (store : Store)
     → in_session session.close (record { own = own; store = store }) ≡ closing (record { own = own; store = store })
@@ -342,19 +227,6 @@ pub closes_none : {K : Type 0} (moment : K → Moment Store) {own : ShellState} 
 unfolding closing by_own
 closes_none moment {own = own} closed =
     answering_ends moment {r = Ok tt} tt (same_beside moment (give tt) closing (λ store. sym (ap (λ stage. closing_at stage (record { own = own; store = store })) closed)) (given refl))
-
--- ---- what every keeper shows
-
--- a run is a call that keeps the target and its counts
-pub acts_beside : {S K A X : Type 0} (moment : K → Moment Store) {v : X → A} {m : Beside S → Run (Beside S) A} {own now : S} {old new : K} {r : Result X Refusal}
-    → Runs (moment_beside moment) v m (own, old) r (now, new) → Acts (moment old) r (moment new)
-unfolding moment_beside
-acts_beside moment (Ran p) = Acted (record { faults = p.faults; fault = p.fault; kept = p.target; attached = p.attached })
-
-pub acts_answering : {S K A X : Type 0} (moment : K → Moment Store) {v : X → A} {m : Beside S → Run (Beside S) A} {own now : S} {old new : K} {r : Result X Refusal}
-    → Runs (moment_answering moment) v m (own, old) r (now, new) → Acts (moment old) r (moment new)
-unfolding moment_answering
-acts_answering moment (Ran p) = Acted (record { faults = p.faults; fault = p.fault; kept = p.target; attached = p.attached })
 
 -- ---- changes of the shell
 
@@ -383,16 +255,6 @@ pub does_alone : {K X : Type 0} (moment : K → Moment Store) {v : X → List �
     → done command ≡ on_own m → Runs alone v m own r now → Runs (moment_beside moment) v (done command) (own, keeper) r (now, keeper)
 does_alone moment {v = v} command m {own = own} {now = now} {keeper = keeper} {r = r} is p =
     subst (λ (n : World → Run World (List ℕ)). Runs (moment_beside moment) v n (own, keeper) r (now, keeper)) (sym is) (beside_alone moment p)
-
--- ---- what every keeper shows
-
--- a refusal was told
-pub acts_told : {W X Y : Type 0} {old new : Moment W} {e : Refusal} {r : Result Y Refusal} → Acts {X = X} old (Err e) new → IfErr r (λ d. d ≡ Memory) → Acts old r new
-acts_told {r = Ok y} (Acted p) cause = Acted (record { faults = p.faults; fault = tt; kept = p.kept; attached = p.attached })
-acts_told {r = Err d} (Acted p) cause = Acted (record { faults = p.faults; fault = λ is. absurd (memory_apart (sym cause ∙ is)); kept = p.kept; attached = p.attached })
-  where
-    memory_apart : Memory ≡ KeeperFault → ⊥
-    memory_apart is = cc
 
 -- ---- what a line is that has no case of its own
 
@@ -428,12 +290,12 @@ pub commits : {S X : Type 0} {tell : S → Moment World} {v : X → List ℕ} (s
 commits None built p = p
 commits (Some name) built p = absurd (false≢true built)
 
-pub ruleset acting = (changes_to, skips, skips_none, skipped_end, skipped_on, line_counted, told_text, ended_none, ended_some, lost, then_own_ok, then_own_err, then_store_ok, then_store_err, then_ok, then_err, given, beside_alone, on_keeper, no_memory, refused, ran_out, session_runs, session_none, alone_session, alone_none, goes_declared, goes_configured, line_skipped, line_read, command_outside, command_inside, not_built, built, guard_ok, guard_early, guard_refused, asked_ok, asked_err, asked_tells, change_ok, alone_lost, commits)
+pub ruleset acting = (changes_to, skips, skips_none, skipped_end, skipped_on, line_counted, told_text, ended_none, ended_some, lost_alone, then_own_ok, then_own_err, then_store_ok, then_store_err, then_ok, then_err, given, beside_alone, on_keeper, no_memory, refused, ran_out, session_runs, session_none, alone_session, alone_none, goes_declared, goes_configured, line_skipped, line_read, command_outside, command_inside, not_built, built, guard_ok, guard_early, guard_refused, asked_ok, asked_err, asked_tells, change_ok, alone_lost, commits)
 
 pub ruleset tables = (tables_open, tables_none)
 
 pub ruleset creates = (created, not_created)
 
-pub ruleset answers = (answer_ok, answer_early, answer_refused, acts_told)
+pub ruleset answers = (answer_ok, answer_early, answer_refused)
 
 pub ruleset closes = (closes_open, closes_none)

@@ -8,9 +8,9 @@ use Rattle.base_core.specs.declared.ids.TableId.{TableId}
 use Rattle.base_core.specs.declared.refusal.Refusal.{Refusal}
 use Rattle.schema_core.specs.Catalog.{Catalog, IsTable}
 use Rattle.schema_core.specs.DependencyOrder.{dependency_order, first_tables, is_ready, least_left, next_table, table_ids}
-use Rattle.keeper_core.specs.Acting.{Run, each}
-use Rattle.keeper_core.specs.Moment.{Moment, Reaches, Runs}
-use Rattle.keeper_core.proofs.Sequence.{each_turn, each_err, each_end, no_memory, reaches_end, reaches_start}
+use Rattle.programs.specs.Programs.{Run, each}
+use Rattle.programs.specs.Moment.{Moment, Reaches, Runs}
+use Rattle.programs.proofs.Sequence.{each_turn, each_err, each_end, no_memory, reaches_end, reaches_start}
 
 -- ---- each table of the order of creation is declared
 
@@ -76,19 +76,3 @@ pub table_end : {W C X S : Type 0} {tell : S → Moment W} {v : X → C} {whole 
 table_end step schema i p h same = each_end step (table_ids schema) i p (ended schema i h) same
 
 pub ruleset tables = (table_turn, table_err, table_end, reaches_start)
-
--- ---- steps without an answer
-
-pub unit_turn : {W A S : Type 0} {tell : S → Moment W} {v : Unit {0} → Unit {0}} {whole : W → Run W (Unit {0})} (step : A → Unit {0} → W → Run W (Unit {0})) (xs : List A) (i : ℕ) {x : A} {old mid new : S} {t : Unit {0}}
-    → Reaches tell whole old (each step tt (drop i xs)) mid → i < length xs → x ≡ get_or xs i x → Runs tell v (step x tt) mid (Ok t) new → Reaches tell whole old (each step tt (drop (i + 1) xs)) new
-unit_turn step xs i p h is q = each_turn step xs i p h is q refl
-
-pub unit_err : {W A S : Type 0} {tell : S → Moment W} {v v' : Unit {0} → Unit {0}} {whole : W → Run W (Unit {0})} (step : A → Unit {0} → W → Run W (Unit {0})) (xs : List A) (i : ℕ) {x : A} {old mid new : S} {e : Refusal}
-    → Reaches tell whole old (each step tt (drop i xs)) mid → i < length xs → x ≡ get_or xs i x → Runs tell v (step x tt) mid (Err e) new → Runs tell v' whole old (Err e) new
-unit_err step xs i p h is q = each_err step xs i p h is q
-
-pub unit_end : {W A S : Type 0} {tell : S → Moment W} {v : Unit {0} → Unit {0}} {whole : W → Run W (Unit {0})} (step : A → Unit {0} → W → Run W (Unit {0})) (xs : List A) (i : ℕ) {old mid : S} {x : Unit {0}}
-    → Reaches tell whole old (each step tt (drop i xs)) mid → length xs ≤ i → Runs tell v whole old (Ok x) mid
-unit_end step xs i p h = each_end step xs i p h refl
-
-pub ruleset orders = (unit_turn, unit_err, unit_end, reaches_start)

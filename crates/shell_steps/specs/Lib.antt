@@ -1,5 +1,3 @@
-pub mod Alone
 pub mod Naming
-pub mod Replies
 pub mod ShellState
 pub mod Step

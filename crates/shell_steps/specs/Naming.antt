@@ -13,7 +13,7 @@ use Rattle.schema_core.specs.Catalog.{same_name}
 use Rattle.mapper_types.specs.declared.mapped.Attribute.{Attribute}
 use Rattle.mapper_core.specs.Mapped.{attributes_of, find_class}
 use Rattle.object_arena.specs.Graph.{Graph}
-use Rattle.keeper_core.specs.Acting.{Run, each}
+use Rattle.programs.specs.Programs.{Run, each, asked}
 use Rattle.session_core.specs.SessionState.{SessionState}
 use Rattle.shell_parts.specs.declared.names.Bound.{Bound}
 use Rattle.shell_parts.specs.declared.names.Bound.TheVariants.{Object}
@@ -21,7 +21,6 @@ use Rattle.shell_parts.specs.Bindings.{bound_to}
 use Rattle.shell_steps.specs.declared.stage.Stage.{Stage}
 use Rattle.shell_steps.specs.declared.stage.Stage.TheVariants.{Declaring, Configured}
 use Rattle.shell_steps.specs.ShellState.{ShellState, mapping_of}
-use Rattle.shell_steps.specs.Alone.{asked}
 
 abbrev pub unknown : {A : Type 0} → List ℕ → Result A Refusal
 unknown name = Err (InvalidRequestError (Unknown name))

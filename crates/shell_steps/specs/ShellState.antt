@@ -5,8 +5,8 @@ use Rattle.base_core.specs.declared.ids.ClassId.{ClassId}
 use Rattle.base_core.specs.declared.ids.ObjId.{ObjId}
 use Rattle.mapper_core.specs.Mapped.{IsClass, Mapped}
 use Rattle.object_arena.specs.Graph.{IsObject}
-use Rattle.keeper_core.specs.Acting.{ends_early}
-use Rattle.keeper_core.specs.Moment.{Moment}
+use Rattle.programs.specs.Programs.{ends_early}
+use Rattle.programs.specs.Moment.{Moment}
 use Rattle.session_core.specs.SessionState.{IsInStep}
 use Rattle.shell_parts.specs.declared.block.Block.{Block}
 use Rattle.shell_parts.specs.declared.names.Bound.{Bound}

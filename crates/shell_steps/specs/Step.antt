@@ -16,25 +16,23 @@ use Rattle.script_types.specs.declared.command.Command.TheVariants as line
 use Rattle.script_types.specs.declared.command.Inside.{Inside}
 use Rattle.script_types.specs.declared.command.Inside.TheVariants as inside
 use Rattle.script_read.specs.Line.{line as said_by}
-use Rattle.shell_lines.specs.Lines.{is_built, is_end}
+use Rattle.shell_parts.specs.Lines.{is_built, is_end}
 use Rattle.shell_parts.specs.declared.block.Block.{Block}
 use Rattle.shell_parts.specs.declared.names.Bound.TheVariants.{Object}
 use Rattle.shell_parts.specs.Bindings.{bind}
-use Rattle.shell_parts.specs.Blocks.{declare, forms_of, is_built_block, opened, with_line}
+use Rattle.shell_parts.specs.Blocks.{block_of, declare, forms_of, is_built_block, with_line}
 use Rattle.shell_parts.specs.Replies.{error_line, table_text}
 use Rattle.shell_parts.specs.TableNames.{table_names}
-use Rattle.keeper_core.specs.Store.{Store}
-use Rattle.keeper_core.specs.Acting.{Run, ◌>>=◌, change, each, give, guarded, quiet, refuse}
-use Rattle.keeper_core.specs.Beside.{Beside, beside_run, by_own, on_own}
+use Rattle.programs.specs.Store.{Store}
+use Rattle.programs.specs.Programs.{Run, ◌>>=◌, change, each, give, guarded, quiet, refuse, asked, becomes, caught}
+use Rattle.programs.specs.Beside.{Beside, beside_run, by_own, on_own}
 use Rattle.keeper_core.specs.Calls as call
 use Rattle.session_core.specs.SessionState.{SessionState, in_transaction, new_session}
-use Rattle.session_core.specs.Making.{made}
+use Rattle.session_core.specs.Making.{object_made}
 use Rattle.session_core.specs.Steps as session
 use Rattle.shell_steps.specs.declared.stage.Stage.{Stage}
 use Rattle.shell_steps.specs.declared.stage.Stage.TheVariants.{Declaring, Configured}
-use Rattle.shell_steps.specs.Alone.{asked, becomes}
 use Rattle.shell_steps.specs.Naming.{cells_named, class_named, object_named}
-use Rattle.shell_steps.specs.Replies.{caught}
 use Rattle.shell_steps.specs.ShellState.{ShellState, mapping_of}
 
 -- the world of a line: the shell, and the store
@@ -168,7 +166,7 @@ with_bound name class object shell = record shell { names = bind shell.names nam
 -- an object of the class is made with these values, and bound to the name
 unfoldable pub make : List ℕ → List ℕ → List (List ℕ × Value) → ShellState → Run ShellState (List ℕ)
 make name class given =
-    asked (class_named class) >>= λ class. (cells_named class given >>= λ cells. (in_session_alone (made class cells) >>= λ object. (change (with_bound name class object) >>= λ _. give [])))
+    asked (class_named class) >>= λ class. (cells_named class given >>= λ cells. (in_session_alone (object_made class cells) >>= λ object. (change (with_bound name class object) >>= λ _. give [])))
 
 unfoldable pub add : List ℕ → World → Run World (List ℕ)
 add name = on_own (asked (object_named name)) >>= λ object. (in_session (session.add object) >>= λ _. give [])
@@ -182,7 +180,7 @@ abbrev pub with_block : Option Block → ShellState → ShellState
 with_block block shell = record shell { block = block }
 
 abbrev pub opened_here : Command → ShellState → Result Block Refusal
-opened_here head shell = opened head shell.line
+opened_here head shell = block_of head shell.line
 
 -- a head opens a block, and every other line is not built
 unfoldable pub open_block : Command → ShellState → Run ShellState (List ℕ)

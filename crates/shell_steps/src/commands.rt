@@ -1,16 +1,16 @@
 //! The commands that are done over the mapping, the session and the keeper.
 
 ghost use Rattle.std.specs.Prelude.{◌≡◌, ◌≤◌, ◌<◌, ◌++◌, [], true, false, length, IfErr, IfOk, OnOk};
-ghost use Rattle.keeper_core.specs.Acting.{change, each, ends_early};
-ghost use Rattle.keeper_core.specs.Beside.{moment_beside};
-ghost use Rattle.keeper_core.specs.Moment.{Runs};
+ghost use Rattle.programs.specs.Programs.{change, each, ends_early};
+ghost use Rattle.programs.specs.Beside.{moment_beside};
+ghost use Rattle.programs.specs.Moment.{Runs};
 ghost use Rattle.std.specs.List.{All};
 ghost use Rattle.schema_core.specs.Catalog.{IsTable};
 ghost use Rattle.schema_core.specs.DependencyOrder.{dependency_order};
 ghost use Rattle.session_core.specs.SessionState.{IsInStep, StaysInStep};
-ghost use Rattle.session_core.specs.Making.{made};
+ghost use Rattle.session_core.specs.Making.{object_made};
 ghost use Rattle.session_core.specs.Steps as session;
-ghost use Rattle.shell_steps.specs.Alone.{Turns, alone};
+ghost use Rattle.programs.specs.Alone.{Turns, alone};
 ghost use Rattle.shell_steps.specs.ShellState.{DepthStays, HasClass, HasObject, IsKept, IsReady, StaysReady};
 ghost use Rattle.shell_steps.specs.Step as step;
 
@@ -108,7 +108,7 @@ impl Shell {
     #[tactic(auto, using(crate::proofs::Shells::acting))]
     fn make_object(&mut self, class: ClassId, cells: &[(AttrNo, Value)]) -> Result<ObjId, Refusal>
         requires { HasClass self.old.stage class }
-        ensures step { Runs alone (λ object. object) (step.in_session_alone (made class cells.now)) self.old result self.new }
+        ensures step { Runs alone (λ object. object) (step.in_session_alone (object_made class cells.now)) self.old result self.new }
         ensures kept { IsKept self.old.stage self.new.stage }
     {
         match &mut self.stage {
@@ -185,7 +185,7 @@ impl Shell {
 }
 
 /// Checks all declarations, closes the mapping and opens the session.
-#[tactic(auto, using(crate::proofs::AloneLemmas::standing), unfolding(crate::specs::Step::configured))]
+#[tactic(auto, using(programs::proofs::AloneLemmas::standing), unfolding(crate::specs::Step::configured))]
 fn open_session(alloc: Global, stage: &mut Stage) -> Result<(), Refusal>
     ensures step { Turns (step.configured stage.old) stage.old result stage.new }
     ensures kept { IsKept stage.old stage.new }
@@ -212,7 +212,7 @@ fn is_open(session: &Session) -> bool
 }
 
 /// Makes the tables of a session that are not there, outside transactions.
-#[tactic(auto, using(keeper_core::proofs::Sequence::sequence, crate::proofs::Shells::creates), unfolding(crate::specs::Step::creating))]
+#[tactic(auto, using(programs::proofs::Sequence::sequence, crate::proofs::Shells::creates), unfolding(crate::specs::Step::creating))]
 fn create_all<K: Keeper>(alloc: Global, session: &Session, keeper: &mut K) -> Result<Reply, Refusal>
     requires resolved { session.now.mapping.schema.resolved ≡ true }
     requires in_step { IsInStep session.now (K.moment keeper.old) }
@@ -238,7 +238,7 @@ fn order_of(alloc: Global, schema: &Schema) -> Result<Vec<TableId>, Refusal>
 }
 
 /// Makes the tables that are not there, in the order of their dependencies.
-#[tactic(auto, using(keeper_core::proofs::Sequence::sequence), unfolding(crate::specs::Step::create_tables))]
+#[tactic(auto, using(programs::proofs::Sequence::sequence), unfolding(crate::specs::Step::create_tables))]
 fn create_tables<K: Keeper>(alloc: Global, keeper: &mut K, schema: &Schema) -> Result<(), Refusal>
     requires attached { (K.moment keeper.old).attached ≡ true }
     requires outside { (K.moment keeper.old).depth ≡ 0 }
@@ -252,7 +252,7 @@ fn create_tables<K: Keeper>(alloc: Global, keeper: &mut K, schema: &Schema) -> R
 }
 
 /// Makes the tables of an order that are not there.
-#[tactic(auto, using(crate::proofs::Tables::orders))]
+#[tactic(auto, using(programs::proofs::Sequence::unit_loops))]
 fn create_each<K: Keeper>(
     alloc: Global,
     keeper: &mut K,
@@ -273,7 +273,7 @@ fn create_each<K: Keeper>(
 }
 
 /// Makes a table where it is not there.
-#[tactic(auto, using(keeper_core::proofs::Sequence::sequence), unfolding(crate::specs::Step::create_one))]
+#[tactic(auto, using(programs::proofs::Sequence::sequence), unfolding(crate::specs::Step::create_one))]
 fn create_one<K: Keeper>(
     alloc: Global,
     keeper: &mut K,
@@ -316,7 +316,7 @@ fn dump_tables<K: Keeper>(alloc: Global, keeper: &mut K, schema: &Schema) -> Res
 }
 
 /// A table and its rows go behind the reply, where it was created.
-#[tactic(auto, using(keeper_core::proofs::Sequence::sequence), unfolding(crate::specs::Step::dump_one))]
+#[tactic(auto, using(programs::proofs::Sequence::sequence), unfolding(crate::specs::Step::dump_one))]
 fn dump_one<K: Keeper>(
     alloc: Global,
     keeper: &mut K,
@@ -334,7 +334,7 @@ fn dump_one<K: Keeper>(
     with_rows(schema, table, rows, reply)
 }
 
-/// The reply with a table and its rows behind it, where there are some. The only refusal is want of memory.
+/// The reply with a table and its rows behind it, where there are some. The only refusal is that memory ran out.
 fn with_rows(
     schema: &Schema,
     table: TableId,

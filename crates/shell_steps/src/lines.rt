@@ -1,11 +1,11 @@
 //! The lines of a script.
 
 ghost use Rattle.std.specs.Prelude.{◌≡◌, true, false, IsOk};
-ghost use Rattle.keeper_core.specs.Beside.{moment_beside};
-ghost use Rattle.keeper_core.specs.Moment.{Acts, Runs};
-ghost use Rattle.shell_lines.specs.Lines.{is_built as is_built_line};
-ghost use Rattle.keeper_core.specs.Acting.{change};
-ghost use Rattle.shell_steps.specs.Alone.{Turns, alone, asked};
+ghost use Rattle.programs.specs.Beside.{moment_beside};
+ghost use Rattle.programs.specs.Moment.{Runs};
+ghost use Rattle.shell_parts.specs.Lines.{is_built as is_built_line};
+ghost use Rattle.programs.specs.Programs.{change, asked};
+ghost use Rattle.programs.specs.Alone.{Turns, alone};
 ghost use Rattle.shell_steps.specs.ShellState.{IsKept, IsReady, StaysReady};
 ghost use Rattle.shell_steps.specs.Step as step;
 
@@ -14,8 +14,7 @@ use crate::stage::Stage;
 use base_core::{Refusal, RequestKind};
 use keeper_core::{Keeper, calls};
 use script_types::{Command, Inside};
-use shell_lines::{is_built, is_end, read};
-use shell_parts::{Block, Reply};
+use shell_parts::{Block, Reply, is_built, is_end, read};
 use std::mem;
 
 impl Shell {
@@ -23,11 +22,10 @@ impl Shell {
     ///
     /// # Errors
     /// Why the line, or the block that it ends, is refused. `Memory` and `KeeperFault` end the run.
-    #[tactic(auto, using(crate::proofs::Shells::line_counted, crate::proofs::Shells::acts_beside))]
+    #[tactic(auto, using(crate::proofs::Shells::line_counted))]
     pub(crate) fn step<K: Keeper>(&mut self, keeper: &mut K, line: &[u8]) -> Result<Reply, Refusal>
         requires { IsReady self.old.stage (K.moment keeper.old) }
         ensures step { Runs (moment_beside K.moment) (λ reply. reply) (step.line_step line.now) (self.old, keeper.old) result (self.new, keeper.new) }
-        ensures acts { Acts (K.moment keeper.old) result (K.moment keeper.new) }
         ensures ready { StaysReady result self.new.stage (K.moment keeper.new) }
     {
         self.count_line();
@@ -203,7 +201,7 @@ impl Shell {
     fn opened(&self, head: Command) -> Result<Block, Refusal>
         ensures { Runs alone (λ block. block) (asked (step.opened_here head)) self.now result self.now }
     {
-        Block::opened(self.alloc, head, self.line)
+        Block::of_head(self.alloc, head, self.line)
     }
 
     /// The block that is open from here on.

@@ -3,11 +3,12 @@
 ghost use Rattle.std.specs.Prelude.{◌≡◌, ◌≤◌, ◌<◌, [], length, true, false, IfOk, IfErr, IfSome};
 ghost use Rattle.std.specs.List.{position};
 ghost use Rattle.std.specs.Option.{option_copied};
-ghost use Rattle.keeper_core.specs.Moment.{Runs};
+ghost use Rattle.programs.specs.Moment.{Runs};
 ghost use Rattle.schema_core.specs.Catalog.{same_name};
 ghost use Rattle.mapper_core.specs.Mapped.{IsClass, find_class};
 ghost use Rattle.object_arena.specs.Graph.{IsObject};
-ghost use Rattle.shell_steps.specs.Alone.{Tells, alone, asked};
+ghost use Rattle.programs.specs.Alone.{Tells, alone};
+ghost use Rattle.programs.specs.Programs.{asked};
 ghost use Rattle.shell_steps.specs.Naming as naming;
 ghost use Rattle.shell_steps.specs.ShellState.{HasClass, HasObject};
 
@@ -31,7 +32,7 @@ fn is_object(session: &Session, object: ObjId) -> bool
 }
 
 /// The object of the session that a name is bound to.
-#[tactic(auto, using(crate::proofs::AloneLemmas::standing))]
+#[tactic(auto, using(programs::proofs::AloneLemmas::standing))]
 fn object_bound(session: &Session, name: &Name, bound: Option<&Bound>) -> Result<ObjId, Refusal>
     ensures told { Tells (λ object. object) (naming.object_bound session.now name.now (option_copied bound.entry)) result }
     ensures found { IfOk result (IsObject session.now.graph) }
@@ -52,7 +53,7 @@ fn object_bound(session: &Session, name: &Name, bound: Option<&Bound>) -> Result
 }
 
 /// The class of a name.
-#[tactic(auto, using(crate::proofs::AloneLemmas::standing))]
+#[tactic(auto, using(programs::proofs::AloneLemmas::standing))]
 fn class_known(mapping: &Mapping, name: &Name) -> Result<ClassId, Refusal>
     ensures told { Tells (λ class. class) (naming.known name.now (find_class mapping.now.classes name.now)) result }
     ensures found { IfOk result (IsClass mapping.now) }
@@ -98,7 +99,7 @@ fn is_given(cells: &[(AttrNo, Value)], attr: AttrNo) -> bool
 }
 
 /// The values with one more, for the attribute of its name, which is to have none yet.
-#[tactic(auto, using(crate::proofs::AloneLemmas::standing))]
+#[tactic(auto, using(programs::proofs::AloneLemmas::standing))]
 fn with_given(
     attributes: &[Attribute],
     given: &(Name, Value),
@@ -144,7 +145,7 @@ impl Shell {
     }
 
     /// One value more, for an attribute of a class.
-    #[tactic(auto, using(crate::proofs::AloneLemmas::standing), unfolding(crate::specs::Naming::give_value))]
+    #[tactic(auto, using(programs::proofs::AloneLemmas::standing), unfolding(crate::specs::Naming::give_value))]
     fn give_value(
         &self,
         class: ClassId,
@@ -158,7 +159,7 @@ impl Shell {
     }
 
     /// The values for attributes of a class by their names, each attribute once.
-    #[tactic(auto, using(keeper_core::proofs::Sequence::loops), unfolding(crate::specs::Naming::cells_named))]
+    #[tactic(auto, using(programs::proofs::Sequence::loops), unfolding(crate::specs::Naming::cells_named))]
     pub(crate) fn cells_named(
         &self,
         class: ClassId,

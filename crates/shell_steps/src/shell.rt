@@ -1,10 +1,10 @@
 //! The state of a run between two lines, and what a line answers.
 
 ghost use Rattle.std.specs.Prelude.{◌≡◌, true, IfErr, OnOk};
-ghost use Rattle.keeper_core.specs.Acting.{ends_early};
-ghost use Rattle.keeper_core.specs.Moment.{Acts, Runs};
-ghost use Rattle.shell_steps.specs.Alone.{alone};
-ghost use Rattle.shell_steps.specs.Replies.{moment_answering};
+ghost use Rattle.programs.specs.Programs.{ends_early};
+ghost use Rattle.programs.specs.Moment.{Runs};
+ghost use Rattle.programs.specs.Alone.{alone};
+ghost use Rattle.programs.specs.Beside.{moment_answering};
 ghost use Rattle.shell_steps.specs.ShellState.{IsReady, mapping_of, new_shell};
 ghost use Rattle.shell_steps.specs.Step as step;
 
@@ -87,7 +87,6 @@ impl Shell {
     pub fn answer<K: Keeper>(&mut self, keeper: &mut K, line: &[u8]) -> Result<Reply, Refusal>
         requires { IsReady self.old.stage (K.moment keeper.old) }
         ensures step { Runs (moment_answering K.moment) (λ reply. reply) (step.reply_to line.now) (self.old, keeper.old) result (self.new, keeper.new) }
-        ensures acts { Acts (K.moment keeper.old) result (K.moment keeper.new) }
         ensures ready { OnOk result (IsReady self.new.stage (K.moment keeper.new)) }
         ensures stops { IfErr result (λ e. ends_early e ≡ true) }
     {
@@ -103,7 +102,7 @@ impl Shell {
         }
     }
 
-    /// The reply that says why the line of this number is refused. The only refusal is want of memory.
+    /// The reply that says why the line of this number is refused. The only refusal is that memory ran out.
     #[tactic(auto, using(crate::proofs::Shells::acting))]
     fn tell(&mut self, number: u32, refusal: &Refusal) -> Result<Reply, Refusal>
         ensures step { Runs alone (λ reply. reply) (step.tell number refusal.now) self.old result self.new }
@@ -116,8 +115,8 @@ impl Shell {
         Ok(reply)
     }
 
-    /// The script has ended: a block that is open is refused at its first line. The only refusal is want of memory.
-    #[tactic(auto, using(crate::proofs::Shells::answering_alone), unfolding(crate::specs::Step::end_reply))]
+    /// The script has ended: a block that is open is refused at its first line. The only refusal is that memory ran out.
+    #[tactic(auto, using(programs::proofs::AloneLemmas::answering_alone), unfolding(crate::specs::Step::end_reply))]
     pub fn answer_end<K: Keeper>(&mut self, keeper: &K) -> Result<Reply, Refusal>
         ensures step { Runs (moment_answering K.moment) (λ reply. reply) step.end_reply (self.old, keeper.now) result (self.new, keeper.now) }
         ensures stage { self.new.stage ≡ self.old.stage }
@@ -144,11 +143,10 @@ impl Shell {
     ///
     /// # Errors
     /// `Memory` and `KeeperFault`.
-    #[tactic(auto, using(crate::proofs::Shells::closes, keeper_core::proofs::ActsLemmas::acting))]
+    #[tactic(auto, using(crate::proofs::Shells::closes))]
     pub fn close<K: Keeper>(&mut self, keeper: &mut K) -> Result<(), Refusal>
         requires { IsReady self.old.stage (K.moment keeper.old) }
         ensures step { Runs (moment_answering K.moment) (λ u. u) step.closing (self.old, keeper.old) result (self.new, keeper.new) }
-        ensures acts { Acts (K.moment keeper.old) result (K.moment keeper.new) }
         ensures stops { IfErr result (λ e. ends_early e ≡ true) }
         ensures outside { OnOk result ((K.moment keeper.new).depth ≡ 0) }
     {

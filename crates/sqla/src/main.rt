@@ -1,7 +1,10 @@
 //! The program `sqla`: a script from standard input, done over a keeper in memory, and answered to standard output.
 #![tactic(auto)]
 
+ghost use Rattle.std.specs.Prelude.{◌≡◌, None};
+
 use byte_streams::{StdSink, StdSource};
+use keeper_core::Keeper;
 use keeper_mem::MemKeeper;
 use sqla_shell::{Status, run};
 use std::alloc::Global;
@@ -30,10 +33,21 @@ fn words_of(rt: &(impl Env + AllocGlobal)) -> io::Result<Vec<String>> {
 /// Runs the script of standard input with these words.
 fn run_words(rt: &(impl Input + Print + AllocGlobal), words: &Vec<String>) -> Status {
     let alloc: Global = rt.alloc();
-    let Ok(mut keeper) = MemKeeper::new(alloc, &[]) else {
-        return Status::Memory;
-    };
+    match MemKeeper::new(alloc, &[]) {
+        Ok(keeper) => run_over(rt, words, keeper),
+        Err(_) => Status::Memory,
+    }
+}
+
+/// Runs it over a keeper that was given no target.
+fn run_over<K: Keeper + Drop>(
+    rt: &(impl Input + Print + AllocGlobal),
+    words: &Vec<String>,
+    mut keeper: K,
+) -> Status
+    requires { (K.moment keeper).target ≡ None }
+{
     let mut source = StdSource::new(rt.reader());
     let mut sink = StdSink::new(writer(rt));
-    run(alloc, words, &mut source, &mut sink, &mut keeper)
+    run(rt.alloc(), words, &mut source, &mut sink, &mut keeper)
 }

@@ -1,27 +1,31 @@
 -- The end of a script, and how a run is concluded.
-use Rattle.std.proofs.Common.{◌≡◌, ℕ, Bool, true, false, List, [], ◌∷◌, ◌++◌, length, Option, None, Some, Result, Ok, Err, IsErrAnd, IfSome, refl, sym, ap, ◌∙◌, subst, inl, inr}
+use Rattle.std.proofs.Common.{◌≡◌, ◌≤◌, IfOk, ℕ, Bool, true, false, List, [], ◌∷◌, ◌++◌, length, Option, None, Some, Result, Ok, Err, IsErrAnd, refl, sym, ap, ◌∙◌, subst, inl, inr, arith, if◌then◌else◌}
 use Rattle.std.specs.Prelude.{◌⊎◌}
 use Rattle.schema_core.specs.Tables.{Tables}
 use Rattle.base_core.specs.declared.refusal.Refusal.{Refusal}
-use Rattle.keeper_core.specs.declared.sent.Sent.TheVariants.{Rollback}
+use Rattle.programs.specs.declared.sent.Sent.TheVariants.{Rollback}
 use Rattle.keeper_core.specs.declared.keeper.KeeperStop.{KeeperStop}
 use Rattle.keeper_core.specs.declared.keeper.KeeperStop.TheVariants as stops
-use Rattle.keeper_core.specs.Store.{Store, committed_of, outermost}
-use Rattle.keeper_core.specs.Acting.{Event, Log, Run, Sends, after_events}
-use Rattle.keeper_core.specs.Beside.{Beside}
+use Rattle.programs.specs.Store.{Store, committed_of, outermost}
+use Rattle.programs.specs.Programs.{Event, Log, Run, Sends, after_events, as_refusal, ends_early}
+use Rattle.programs.specs.Beside.{Beside}
 use Rattle.keeper_core.specs.Calls as call
-use Rattle.keeper_core.specs.Calls.{as_refusal, sends, stop_refusal as keeper_refusal}
-use Rattle.keeper_core.specs.Moment.{AsTold, IsCoherent, IsCutOff, Moment, Outcome, Runs, Told, parts}
-use Rattle.keeper_core.proofs.Sequence.{after_append, done, then_err, then_ok}
+use Rattle.keeper_core.specs.Calls.{sends, stop_refusal as keeper_refusal}
+use Rattle.programs.specs.Moment.{AsTold, IsCutOff, Moment, Outcome, Runs, Told, parts}
+use Rattle.keeper_core.specs.Keeping.{IsCoherent, IsCoherentTold, IsRollback, depth_left}
+use Rattle.programs.proofs.Counts.{faults_rise}
+use Rattle.programs.proofs.Sequence.{after_append, done, then_err, then_ok}
 use Rattle.shell_steps.specs.ShellState.{ShellState, new_shell}
 use Rattle.sqla_shell.specs.declared.ending.Ending.{Ending}
 use Rattle.sqla_shell.specs.declared.ending.Ending.TheVariants.{Finished, TooLong}
 use Rattle.sqla_shell.specs.declared.status.Status.{Status}
+use Rattle.sqla_shell.specs.declared.status.Status.TheVariants as status
 use Rattle.sqla_shell.specs.declared.stop.Stop.{Stop}
 use Rattle.sqla_shell.specs.declared.stop.Stop.TheVariants as stopped
-use Rattle.sqla_shell.specs.Causes.{done_status, stop_refusal}
-use Rattle.sqla_shell.specs.Outcome.{Concludes, DoesLines, DoesScript, Ends, IsDone, IsRolledBack, IsSettled, IsStopped, IsWhole, IsUndone, ending_of, first_log, moment_writing, seen, told_writing}
-use Rattle.sqla_shell.specs.Reference.{ending, finished, lines_of, reference, script}
+use Rattle.sqla_shell.specs.Causes.{CountsFaults, ShowsFaults, done_status, faults, stop_refusal}
+use Rattle.sqla_shell.specs.Outcome.{Rests, Concludes, DoesLines, DoesScript, Ends, HasNothingLeft, IsDoneOf, IsReadThrough, IsRolledBack, IsSettled, IsStopped, IsWhole, IsUndone, IsUsage, ending_of, first_log, log_with, moment_writing, told_writing}
+use Rattle.script_lines.specs.Scripts.{lines_of}
+use Rattle.sqla_shell.specs.Reference.{ending, finished, reference, script}
 
 -- ---- the end of the lines, and then what the end asks for
 
@@ -64,37 +68,34 @@ first_of : List Event → List Event
 first_of [] = []
 first_of (y ∷ ys) = y ∷ []
 
-undone_cut : (front rest : List Event) (e : Event) → front ++ rest ≡ e ∷ [] → (front ≡ []) ⊎ (front ≡ e ∷ [])
+undone_cut : (prefix rest : List Event) (e : Event) → prefix ++ rest ≡ e ∷ [] → (prefix ≡ []) ⊎ (prefix ≡ e ∷ [])
 unfolding first_of
 undone_cut [] rest e is = inl refl
 undone_cut (x ∷ []) rest e is = inr (ap first_of is)
-undone_cut (x ∷ y ∷ front) rest e is = cc
-
-abbrev IsCoherentTold : ℕ → Option (Told Store) → Type 0
-IsCoherentTold depth told = IfSome told (λ t. (depth ≡ length t.world.scopes) × (t.log.committed ≡ committed_of t.world) × (t.log.written ≡ []))
+undone_cut (x ∷ y ∷ prefix) rest e is = cc
 
 cut_back : (log : Log) (store : Store) (now : Told Store) → log.committed ≡ committed_of store → IsCutOff (call.rollback store) log now
     → (undone : List Event) × IsUndone log undone × (now.log ≡ after_events log undone)
 unfolding call.rollback
-cut_back log store now committed p = (p.front, by (undone_cut p.front p.rest (Sends Rollback (committed_of store)) p.events), p.log)
+cut_back log store now committed p = (p.prefix, by (undone_cut p.prefix p.rest (Sends Rollback (committed_of store)) p.events), p.log)
   where
-    by : (p.front ≡ []) ⊎ (p.front ≡ Sends Rollback (committed_of store) ∷ []) → IsUndone log p.front
+    by : (p.prefix ≡ []) ⊎ (p.prefix ≡ Sends Rollback (committed_of store) ∷ []) → IsUndone log p.prefix
     by (inl is) = inl is
     by (inr is) = inr (is ∙ ap (λ c. Sends Rollback c ∷ []) (sym committed))
 
-rolled_back_by : (depth : ℕ) (old new : Option (Told Store)) (r : Result (Unit {0}) KeeperStop) → IsCoherentTold depth old
+rolled_back_by : (tells : Bool) (depth : ℕ) (old new : Option (Told Store)) (r : Result (Unit {0}) KeeperStop) → IsCoherentTold tells depth old
     → AsTold (λ u. u) call.rollback old (as_refusal keeper_refusal r) new → IsRolledBack old new
 unfolding call.rollback
-rolled_back_by depth None new r c p = tt
-rolled_back_by depth (Some t) None r c p = absurd p
-rolled_back_by depth (Some t) (Some n) (Ok u) c p = (Sends Rollback (committed_of t.world) ∷ [], inr (ap (λ d. Sends Rollback d ∷ []) (sym c.1)), p.log)
-rolled_back_by depth (Some t) (Some n) (Err stops.Fault) c p = cut_back t.log t.world n c.1 p
-rolled_back_by depth (Some t) (Some n) (Err stops.Memory) c p = cut_back t.log t.world n c.1 p
+rolled_back_by tells depth None new r c p = tt
+rolled_back_by tells depth (Some t) None r c p = absurd p
+rolled_back_by tells depth (Some t) (Some n) (Ok u) c p = (Sends Rollback (committed_of t.world) ∷ [], inr (ap (λ d. Sends Rollback d ∷ []) (sym c.2)), p.log)
+rolled_back_by tells depth (Some t) (Some n) (Err stops.Fault) c p = cut_back t.log t.world n c.2 p
+rolled_back_by tells depth (Some t) (Some n) (Err stops.Memory) c p = cut_back t.log t.world n c.2 p
 
 -- the keeper rolled back, or was stopped there
 pub rolled_back : {K : Type 0} (moment : K → Moment Store) (old new : K) (r : Result (Unit {0}) KeeperStop)
     → IsCoherent (moment old) → Runs moment (λ u. u) call.rollback old (as_refusal keeper_refusal r) new → IsRolledBack (moment old).told (moment new).told
-rolled_back moment old new r coherent ran = rolled_back_by (moment old).depth (moment old).told (moment new).told r coherent (parts ran).told
+rolled_back moment old new r coherent ran = rolled_back_by (moment old).tells (moment old).depth (moment old).told (moment new).told r coherent (parts ran).told
 
 -- nothing was to be rolled back
 pub not_rolled_back : (told : Option (Told Store)) → IsRolledBack told told
@@ -112,34 +113,34 @@ settled_by : (scopes : List Tables) (tables committed : Tables) (depth : ℕ) �
 settled_by [] tables committed depth count none is = (refl, sym is)
 settled_by (s ∷ scopes) tables committed depth count none is = cc
 
-settled_told : (depth : ℕ) (told : Option (Told Store)) → IsCoherentTold depth told → depth ≡ 0 → IsSettledTold told
-settled_told depth None c none = tt
-settled_told depth (Some t) c none = settled_by t.world.scopes t.world.tables t.log.committed depth c.0 none c.1
+settled_told : (tells : Bool) (depth : ℕ) (told : Option (Told Store)) → IsCoherentTold tells depth told → depth ≡ 0 → IsSettledTold told
+settled_told tells depth None c none = tt
+settled_told tells depth (Some t) c none = settled_by t.world.scopes t.world.tables t.log.committed depth c.1 none c.2
 
-seen_undone : (log : Log) (undone : List Event) (written : List ℕ) → IsUndone log undone → seen (after_events log undone) written ≡ after_events (seen log written) undone
+log_undone : (log : Log) (undone : List Event) (written : List ℕ) → IsUndone log undone → log_with (after_events log undone) written ≡ after_events (log_with log written) undone
 unfolding after_events
-seen_undone log undone written (inl is) = subst (λ es. seen (after_events log es) written ≡ after_events (seen log written) es) (sym is) refl
-seen_undone log undone written (inr is) = subst (λ es. seen (after_events log es) written ≡ after_events (seen log written) es) (sym is) refl
+log_undone log undone written (inl is) = subst (λ es. log_with (after_events log es) written ≡ after_events (log_with log written) es) (sym is) refl
+log_undone log undone written (inr is) = subst (λ es. log_with (after_events log es) written ≡ after_events (log_with log written) es) (sym is) refl
 
 -- ---- how a run ends
 
 abbrev mid_told : ShellState → Told Store → List ℕ → Told (Beside ShellState)
-mid_told own mid written = record { world = record { own = own; store = mid.world }; log = seen mid.log written }
+mid_told own mid written = record { world = record { own = own; store = mid.world }; log = log_with mid.log written }
 
-undone_log : (before : List ℕ) (front : List Event) (mid now : Told Store) (written : List ℕ) (undone : List Event) → seen mid.log written ≡ after_events (first_log before) front
-    → IsUndone mid.log undone → now.log ≡ after_events mid.log undone → seen now.log written ≡ after_events (first_log before) (front ++ undone)
-undone_log before front mid now written undone here undoing is =
-    ap (λ l. seen l written) is ∙ seen_undone mid.log undone written undoing ∙ ap (λ l. after_events l undone) here ∙ sym (after_append (first_log before) front undone)
+undone_log : (before : List ℕ) (prefix : List Event) (mid now : Told Store) (written : List ℕ) (undone : List Event) → log_with mid.log written ≡ after_events (first_log before) prefix
+    → IsUndone mid.log undone → now.log ≡ after_events mid.log undone → log_with now.log written ≡ after_events (first_log before) (prefix ++ undone)
+undone_log before prefix mid now written undone here undoing is =
+    ap (λ l. log_with l written) is ∙ log_undone mid.log undone written undoing ∙ ap (λ l. after_events l undone) here ∙ sym (after_append (first_log before) prefix undone)
 
 stopped_at : (run : Run (Beside ShellState) Ending) (before : List ℕ) (mid now : Told Store) (own : ShellState) (written : List ℕ)
-    → IsCutOff run (first_log before) (mid_told own mid written) → IsRolledBack (Some mid) (Some now) → IsStopped run before (seen now.log written)
+    → IsCutOff run (first_log before) (mid_told own mid written) → IsRolledBack (Some mid) (Some now) → IsStopped run before (log_with now.log written)
 stopped_at run before mid now own written p back = record {
-  front = p.front;
+  prefix = p.prefix;
   rest = p.rest;
   undone = back.0;
   events = p.events;
   undoing = subst (λ l. IsUndone l back.0) p.log back.1;
-  log = undone_log before p.front mid now written back.0 p.log back.1 back.2;
+  log = undone_log before p.prefix mid now written back.0 p.log back.1 back.2;
 }
 
 whole_by : (run : Run (Beside ShellState) Ending) (before : List ℕ) (now : Log) (b : Bool) → IsWhole run Finished before now → run.after.own.refused ≡ b → Ends run before (done_status b) now
@@ -155,21 +156,21 @@ unfolding some_of
 same_told mid now is = ap (some_of mid) is
 
 ended : (run : Run (Beside ShellState) Ending) (before : List ℕ) (done : Result Ending Stop) (end : Status) (mid now : Told Store) (own : ShellState) (written : List ℕ)
-    → Outcome (λ e. e) run (first_log before) (as_refusal stop_refusal done) (mid_told own mid written) → Concludes done own.refused (Some mid) end (Some now) → Ends run before end (seen now.log written)
+    → Outcome (λ e. e) run (first_log before) (as_refusal stop_refusal done) (mid_told own mid written) → Concludes done own.refused (Some mid) end (Some now) → Ends run before end (log_with now.log written)
 ended run before (Ok Finished) end mid now own written p c =
-    subst (λ s. Ends run before s (seen now.log written)) (sym c.0)
-    (whole_by run before (seen now.log written) own.refused (record { answer = p.answer; log = ap (λ t. seen t.log written) (same_told mid now c.1) ∙ p.log }) (sym (ap (λ w. w.own.refused) p.world)))
+    subst (λ s. Ends run before s (log_with now.log written)) (sym c.0)
+    (whole_by run before (log_with now.log written) own.refused (record { answer = p.answer; log = ap (λ t. log_with t.log written) (same_told mid now c.1) ∙ p.log }) (sym (ap (λ w. w.own.refused) p.world)))
 ended run before (Ok TooLong) end mid now own written p c =
-    subst (λ s. Ends run before s (seen now.log written)) (sym c.0) (record {
+    subst (λ s. Ends run before s (log_with now.log written)) (sym c.0) (record {
       undone = c.1.0;
       answer = p.answer;
       undoing = subst (λ l. IsUndone l c.1.0) p.log c.1.1;
       log = undone_log before run.events mid now written c.1.0 p.log c.1.1 c.1.2;
     })
-ended run before (Err stopped.Read) end mid now own written p c = subst (λ s. Ends run before s (seen now.log written)) (sym c.0) (stopped_at run before mid now own written p c.1)
-ended run before (Err stopped.Write) end mid now own written p c = subst (λ s. Ends run before s (seen now.log written)) (sym c.0) (stopped_at run before mid now own written p c.1)
-ended run before (Err stopped.Keeper) end mid now own written p c = subst (λ s. Ends run before s (seen now.log written)) (sym c.0) (stopped_at run before mid now own written p c.1)
-ended run before (Err stopped.Memory) end mid now own written p c = subst (λ s. Ends run before s (seen now.log written)) (sym c.0) (stopped_at run before mid now own written p c.1)
+ended run before (Err stopped.Read) end mid now own written p c = subst (λ s. Ends run before s (log_with now.log written)) (sym c.0) (stopped_at run before mid now own written p c.1)
+ended run before (Err stopped.Write) end mid now own written p c = subst (λ s. Ends run before s (log_with now.log written)) (sym c.0) (stopped_at run before mid now own written p c.1)
+ended run before (Err stopped.Keeper) end mid now own written p c = subst (λ s. Ends run before s (log_with now.log written)) (sym c.0) (stopped_at run before mid now own written p c.1)
+ended run before (Err stopped.Memory) end mid now own written p c = subst (λ s. Ends run before s (log_with now.log written)) (sym c.0) (stopped_at run before mid now own written p c.1)
 
 goes_on : (done : Result Ending Stop) (refused : Bool) (mid : Told Store) (end : Status) → Concludes done refused (Some mid) end None → ⊥
 goes_on (Ok Finished) refused mid end c = cc
@@ -178,7 +179,7 @@ goes_on (Err stop) refused mid end c = c.1
 
 is_done_by : (bytes : List ℕ) (before after : Option (List ℕ)) (first mid last : Option (Told Store)) (own : ShellState) (done : Result Ending Stop) (end : Status)
     → AsTold (λ e. e) (script bytes) (told_writing new_shell first before) (as_refusal stop_refusal done) (told_writing own mid after)
-    → Concludes done own.refused mid end last → IsSettledTold last → IsDone (Some bytes) before first end after last
+    → Concludes done own.refused mid end last → IsSettledTold last → IsDoneOf (Some bytes) before first end after last
 is_done_by bytes None after first mid last own done end p c settled = tt
 is_done_by bytes (Some b) after None mid last own done end p c settled = tt
 is_done_by bytes (Some b) None (Some t) None last own done end p c settled = absurd p
@@ -187,7 +188,7 @@ is_done_by bytes (Some b) (Some a) (Some t) None last own done end p c settled =
 is_done_by bytes (Some b) (Some a) (Some t) (Some m) None own done end p c settled = absurd (goes_on done own.refused m end c)
 is_done_by bytes (Some b) (Some a) (Some t) (Some m) (Some n) own done end p c settled = λ is. (
   ended (reference bytes) b done end m n own a
-      (subst (λ first. Outcome (λ e. e) (script bytes (record { own = new_shell; store = first.world })) (seen first.log b) (as_refusal stop_refusal done) (mid_told own m a)) is p) c,
+      (subst (λ first. Outcome (λ e. e) (script bytes (record { own = new_shell; store = first.world })) (log_with first.log b) (as_refusal stop_refusal done) (mid_told own m a)) is p) c,
   settled,
 )
 
@@ -195,10 +196,97 @@ is_done_by bytes (Some b) (Some a) (Some t) (Some m) (Some n) own done end p c s
 pub is_done : {K O : Type 0} (moment : K → Moment Store) (written : O → Option (List ℕ)) (left : Option (List ℕ)) (shell own : ShellState) (first mid last : K) (sink after : O) (done : Result Ending Stop) (end : Status)
     → shell ≡ new_shell → DoesScript left (moment_writing moment written) (shell, first, sink) (as_refusal stop_refusal done) (own, mid, after)
     → Concludes done own.refused (moment mid).told end (moment last).told → IsCoherent (moment last) → (moment last).depth ≡ 0
-    → IsDone left (written sink) (moment first).told end (written after) (moment last).told
+    → IsDoneOf left (written sink) (moment first).told end (written after) (moment last).told
 unfolding moment_writing
 is_done moment written None shell own first mid last sink after done end is p c coherent depth = tt
 is_done moment written (Some bytes) shell own first mid last sink after done end is p c coherent depth =
     is_done_by bytes (written sink) (written after) (moment first).told (moment mid).told (moment last).told own done end
     (subst (λ s. AsTold (λ e. e) (script bytes) (told_writing s (moment first).told (written sink)) (as_refusal stop_refusal done) (told_writing own (moment mid).told (written after))) is (parts p).told)
-    c (settled_told (moment last).depth (moment last).told coherent depth)
+    c (settled_told (moment last).tells (moment last).depth (moment last).told coherent depth)
+
+-- ---- what a status shows
+
+-- nothing is left of a script that was done to its end
+pub read_through : (done : Result Ending Stop) (refused : Bool) (mid last : Option (Told Store)) (end : Status) (old new : Option (List ℕ))
+    → Concludes done refused mid end last → IfOk done (λ ending. ending ≡ Finished → HasNothingLeft old new) → IsReadThrough end old new
+read_through (Ok Finished) true mid last end old new c nothing = subst (λ s. IsReadThrough s old new) (sym c.0) (nothing refl)
+read_through (Ok Finished) false mid last end old new c nothing = subst (λ s. IsReadThrough s old new) (sym c.0) (nothing refl)
+read_through (Ok TooLong) refused mid last end old new c nothing = subst (λ s. IsReadThrough s old new) (sym c.0) tt
+read_through (Err stopped.Read) refused mid last end old new c nothing = subst (λ s. IsReadThrough s old new) (sym c.0) tt
+read_through (Err stopped.Write) refused mid last end old new c nothing = subst (λ s. IsReadThrough s old new) (sym c.0) tt
+read_through (Err stopped.Keeper) refused mid last end old new c nothing = subst (λ s. IsReadThrough s old new) (sym c.0) tt
+read_through (Err stopped.Memory) refused mid last end old new c nothing = subst (λ s. IsReadThrough s old new) (sym c.0) tt
+
+abbrev IsOfScript : Status → Type 0
+IsOfScript status.Usage = ⊥
+IsOfScript end = Unit {0}
+
+of_script : (end : Status) → IsOfScript end → end ≡ status.Usage → ⊥
+of_script end is same = subst IsOfScript same is
+
+-- no script ends as a run with words does
+pub concludes_script : (done : Result Ending Stop) (refused : Bool) (mid last : Option (Told Store)) (end : Status) → Concludes done refused mid end last → end ≡ status.Usage → ⊥
+concludes_script (Ok Finished) true mid last end c = of_script end (subst IsOfScript (sym c.0) tt)
+concludes_script (Ok Finished) false mid last end c = of_script end (subst IsOfScript (sym c.0) tt)
+concludes_script (Ok TooLong) refused mid last end c = of_script end (subst IsOfScript (sym c.0) tt)
+concludes_script (Err stopped.Read) refused mid last end c = of_script end (subst IsOfScript (sym c.0) tt)
+concludes_script (Err stopped.Write) refused mid last end c = of_script end (subst IsOfScript (sym c.0) tt)
+concludes_script (Err stopped.Keeper) refused mid last end c = of_script end (subst IsOfScript (sym c.0) tt)
+concludes_script (Err stopped.Memory) refused mid last end c = of_script end (subst IsOfScript (sym c.0) tt)
+
+-- the status shows the faults that the script counted
+pub concludes_faults : (done : Result Ending Stop) (refused : Bool) (mid last : Option (Told Store)) (end : Status) (source sink keeper source' sink' keeper' keeper'' : ℕ)
+    → Concludes done refused mid end last → CountsFaults done (faults source sink keeper) (faults source' sink' keeper') → keeper' ≤ keeper''
+    → IfOk done (λ ending. ending ≡ Finished → keeper'' ≡ keeper') → ShowsFaults end true (faults source sink keeper) (faults source' sink' keeper'')
+concludes_faults (Ok Finished) true mid last end s k n s' k' n' n'' c p le same =
+    subst (λ e. ShowsFaults e true (faults s k n) (faults s' k' n'')) (sym c.0) (p.0, p.1, same refl ∙ p.2)
+concludes_faults (Ok Finished) false mid last end s k n s' k' n' n'' c p le same =
+    subst (λ e. ShowsFaults e true (faults s k n) (faults s' k' n'')) (sym c.0) (p.0, p.1, same refl ∙ p.2)
+concludes_faults (Ok TooLong) refused mid last end s k n s' k' n' n'' c p le same =
+    subst (λ e. ShowsFaults e true (faults s k n) (faults s' k' n'')) (sym c.0) (p.0, p.1, omega (arith, p.2, le))
+concludes_faults (Err stopped.Read) refused mid last end s k n s' k' n' n'' c p le same =
+    subst (λ e. ShowsFaults e true (faults s k n) (faults s' k' n'')) (sym c.0) (p.0, p.1, omega (arith, p.2, le))
+concludes_faults (Err stopped.Write) refused mid last end s k n s' k' n' n'' c p le same =
+    subst (λ e. ShowsFaults e true (faults s k n) (faults s' k' n'')) (sym c.0) (p.0, p.1, omega (arith, p.2, le))
+concludes_faults (Err stopped.Keeper) refused mid last end s k n s' k' n' n'' c p le same =
+    subst (λ e. ShowsFaults e true (faults s k n) (faults s' k' n'')) (sym c.0) (p.0, p.1, (omega (arith, p.2.0, le), omega (arith, p.2.1, le)))
+concludes_faults (Err stopped.Memory) refused mid last end s k n s' k' n' n'' c p le same =
+    subst (λ e. ShowsFaults e true (faults s k n) (faults s' k' n'')) (sym c.0) (p.0, p.1, omega (arith, p.2, le))
+
+-- with words a run ends by the usage line, a fault of the sink or for memory
+pub usage_through : (before : Option (List ℕ)) (end : Status) (now : Option (List ℕ)) (old new : Option (List ℕ)) → IsUsage before end now → IsReadThrough end old new
+usage_through None end now old new (inl is) = subst (λ s. IsReadThrough s old new) (sym is) tt
+usage_through None end now old new (inr (inl is)) = subst (λ s. IsReadThrough s old new) (sym is) tt
+usage_through None end now old new (inr (inr is)) = subst (λ s. IsReadThrough s old new) (sym is) tt
+usage_through (Some b) status.Done None old new is = absurd is
+usage_through (Some b) status.Done (Some n) old new is = absurd is
+usage_through (Some b) status.Refused None old new is = absurd is
+usage_through (Some b) status.Refused (Some n) old new is = absurd is
+usage_through (Some b) status.Usage now old new is = tt
+usage_through (Some b) status.ReadFault now old new is = tt
+usage_through (Some b) status.WriteFault now old new is = tt
+usage_through (Some b) status.KeeperFault now old new is = tt
+usage_through (Some b) status.Memory now old new is = tt
+usage_through (Some b) status.TooLong now old new is = tt
+
+-- ---- a keeper at the end of a run
+
+-- nothing was to be rolled back
+pub rests_same : {m : Moment Store} → m.depth ≡ 0 → Rests m m
+rests_same outside = record { depth = outside; faults = omega arith; keeper = record { target = refl; attached = refl; tells = refl } }
+
+none_left : {A : Type 0} (r : Result A Refusal) (n : ℕ) → n ≡ 0 → depth_left r n ≡ 0
+none_left (Ok x) n is = is
+none_left (Err e) n is = elim (ends_early e) as (λ b. ◌≡◌ {A = ℕ} (if b then 0 else n) 0) [ true ↦ refl | false ↦ is ]
+
+-- the transaction was rolled back, or that was stopped
+pub rests_call : {K : Type 0} {moment : K → Moment Store} {old new : K} {r : Result (Unit {0}) Refusal} → IsRollback moment old r new → Rests (moment old) (moment new)
+rests_call {moment = moment} {old = old} {new = new} {r = r} p =
+    let keeps = (parts p.step).keeps in
+    record {
+      depth = p.depth ∙ none_left r 0 refl;
+      faults = faults_rise r (moment old).faults (moment new).faults keeps.faults;
+      keeper = record { target = keeps.target; attached = keeps.attached; tells = keeps.tells };
+    }
+
+pub ruleset resting = (rests_same, rests_call)

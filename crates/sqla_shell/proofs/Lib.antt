@@ -1,3 +1,4 @@
 pub mod EndLemmas
 pub mod LinesLemmas
 pub mod WritingLemmas
+pub mod KeepsLemmas

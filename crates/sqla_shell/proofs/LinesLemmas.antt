@@ -1,26 +1,28 @@
 -- The lines of a script, one after the other.
-use Rattle.std.proofs.Common.{◌≡◌, ℕ, zero, suc, ◌+◌, ◌<◌, ◌≤◌, Bool, true, false, List, [], ◌∷◌, length, drop, get_or, Option, None, Some, Result, Ok, Err, IsErrAnd, refl, sym, ap, ◌∙◌, subst, arith, add-one, drop-cons}
-use Rattle.std.proofs.lemmas.List.{length-drop}
+use Rattle.std.proofs.Common.{◌++◌, cond, ◌≡◌, ℕ, zero, suc, ◌+◌, ◌<◌, ◌≤◌, Bool, true, false, List, [], ◌∷◌, length, drop, get_or, Option, None, Some, Result, Ok, Err, IsErrAnd, refl, sym, ap, ◌∙◌, subst, arith, add-one, drop-cons}
+use Rattle.std.specs.Prelude.{nat_eq}
+use Rattle.std.proofs.lemmas.Bool.Decides.{nat_tests}
+use Rattle.std.proofs.lemmas.List.{length-drop, nil_from_length}
 use Rattle.std.specs.Io.KnownBytes.{prepend_known}
 use Rattle.base_core.specs.declared.refusal.Refusal.{Refusal}
 use Rattle.base_core.specs.declared.refusal.Refusal.TheVariants.{Memory}
-use Rattle.keeper_core.specs.Acting.{each}
-use Rattle.keeper_core.specs.Calls.{as_refusal}
-use Rattle.keeper_core.specs.Beside.{Beside}
-use Rattle.keeper_core.specs.Moment.{Moment, Reaches, Runs}
-use Rattle.keeper_core.proofs.Sequence.{each_end, each_err, each_turn, no_memory, reaches_end, reaches_start}
+use Rattle.programs.specs.Programs.{each, as_refusal}
+use Rattle.programs.specs.Beside.{Beside}
+use Rattle.programs.specs.Moment.{Moment, Reaches, Runs}
+use Rattle.programs.proofs.Sequence.{each_end, each_err, each_turn, no_memory, reaches_end, reaches_start}
 use Rattle.script_lines.specs.declared.lines.NextLine.{NextLine}
 use Rattle.script_lines.specs.declared.lines.NextLine.TheVariants as next
 use Rattle.script_lines.specs.declared.lines.ReadStop.{ReadStop}
 use Rattle.script_lines.specs.declared.lines.ReadStop.TheVariants as read
-use Rattle.script_lines.specs.Cutting.{Cut, Ended, TooLong, Line, IsNext, IsNextOf, cut, most_bytes}
+use Rattle.script_lines.specs.Cutting.{Cut, Ended, TooLong, Line, IsNext, IsNextOf, cut, has_newline, last_line, line_width, most_bytes, passes_limit, whole_line}
 use Rattle.shell_steps.specs.ShellState.{ShellState}
 use Rattle.sqla_shell.specs.declared.ending.Ending.{Ending}
 use Rattle.sqla_shell.specs.declared.ending.Ending.TheVariants as ending
 use Rattle.sqla_shell.specs.declared.stop.Stop.{Stop}
 use Rattle.sqla_shell.specs.Causes.{read_stop, stop_refusal}
-use Rattle.sqla_shell.specs.Outcome.{DoesLines, ending_of}
-use Rattle.sqla_shell.specs.Reference.{Lines, answered, lines_by, lines_from, lines_of}
+use Rattle.sqla_shell.specs.Outcome.{DoesLines, HasNothingLeft, ending_of}
+use Rattle.script_lines.specs.Scripts.{Lines, lines_by, lines_from, lines_of}
+use Rattle.sqla_shell.specs.Reference.{answered}
 
 -- so many lines were done, and what is left of the bytes has the lines behind them
 pub record OnWay {S : Type 0} (tell : S → Moment (Beside ShellState)) (all : Lines) (old : S) (i taken : ℕ) (bytes : List ℕ) (mid : S) : Type 0 where
@@ -180,3 +182,37 @@ read_stopped tell old mid (Some script) i taken (Some bytes) stop cause is on =
     memory : (stop : Stop) (cause : ReadStop) → stop ≡ read_stop cause → stop_refusal stop ≡ Memory
     memory stop read.Fault is = ap stop_refusal is
     memory stop read.Memory is = ap stop_refusal is
+
+-- ---- the end of the source
+
+-- nothing is cut of nothing alone
+cut_empty : (taken : ℕ) (bytes : List ℕ) → cut taken bytes ≡ Ended → bytes ≡ []
+unfolding cut
+cut_empty taken bytes is = by (has_newline bytes) (nat_eq (length bytes) 0) refl is
+  where
+    long : (b : Bool) (line : Cut) → cond b TooLong line ≡ Ended → (line ≡ Ended → ⊥) → ⊥
+    long true line same apart = cc
+    long false line same apart = apart same
+
+    by : (newline none : Bool) → nat_eq (length bytes) 0 ≡ none → cond newline (whole_line taken bytes) (cond none Ended (last_line taken bytes)) ≡ Ended → bytes ≡ []
+    by true none here same = absurd (long (passes_limit (line_width bytes) (taken + (line_width bytes + 1))) _ same (λ same. cc))
+    by false true here same = nil_from_length bytes (grind (arith, nat_tests))
+    by false false here same = absurd (long (passes_limit (length bytes) (taken + length bytes)) _ same (λ same. cc))
+
+nothing_behind : (pending left : List ℕ) → pending ++ left ≡ [] → left ≡ []
+nothing_behind [] left is = is
+nothing_behind (b ∷ pending) left is = cc
+
+-- the script has ended, and nothing is left with the source
+pub nothing_left : {S : Type 0} (tell : S → Moment (Beside ShellState)) (old mid : S) (start : Option (List ℕ)) (i taken : ℕ) (come : Option (List ℕ)) (now : ℕ) (pending : List ℕ) (left : Option (List ℕ))
+    → OnLines start tell old i taken come mid → IsNextOf taken come next.End now (prepend_known pending left) → HasNothingLeft start left
+nothing_left tell old mid None i taken come now pending left on is = tt
+nothing_left tell old mid (Some script) i taken None now pending left on is = absurd on
+nothing_left tell old mid (Some script) i taken (Some bytes) now pending None on is = absurd is
+nothing_left tell old mid (Some script) i taken (Some bytes) now pending (Some rest) on is =
+    by (cut taken bytes) refl is
+  where
+    by : (c : Cut) → cut taken bytes ≡ c → IsNext c next.End taken bytes now (pending ++ rest) → Some rest ≡ Some []
+    by Ended same p = ap Some (nothing_behind pending rest (p.1 ∙ cut_empty taken bytes same))
+    by TooLong same p = absurd p
+    by (Line l t r) same p = absurd p

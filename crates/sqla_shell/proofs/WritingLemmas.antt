@@ -1,22 +1,22 @@
 -- Calls of a shell and writes to a sink as runs of the world whose log has both statements and bytes.
-use Rattle.std.proofs.Common.{◌≡◌, ℕ, ◌≤◌, Bool, true, false, List, [], ◌∷◌, ◌++◌, map, length, ◌+◌, ◌-◌, take, drop, Option, None, Some, Result, Ok, Err, IfErr, IsErr, IsErrAnd, MatchBool, refl, sym, ap, ◌∙◌, subst, append_assoc, append-nil, arith}
+use Rattle.std.proofs.Common.{◌≡◌, ℕ, ◌≤◌, Bool, true, false, List, [], ◌∷◌, ◌++◌, map, length, ◌+◌, ◌-◌, take, drop, Option, None, Some, Result, Ok, Err, IsErr, IsErrAnd, MatchBool, refl, sym, ap, ◌∙◌, subst, append_assoc, append-nil, arith}
 use Rattle.std.proofs.Math.Seq.{take-add}
 use Rattle.std.proofs.lemmas.List.{length-drop, map-append, take-append-drop, take_all}
 use Rattle.std.specs.Io.KnownBytes.{Appends, Keeps}
 use Rattle.base_core.specs.declared.refusal.Refusal.{Refusal}
 use Rattle.base_core.specs.declared.refusal.Refusal.TheVariants.{KeeperFault, Memory}
-use Rattle.keeper_core.specs.Store.{Store}
-use Rattle.keeper_core.proofs.Sequence.{then_err}
-use Rattle.keeper_core.specs.Acting.{◌>>=◌, Event, Sends, Writes, Log, Run, after_event, after_events, ends_early}
-use Rattle.keeper_core.specs.Moment.{Told, Moment, IsRun, IsCutOff, AsTold, IsCoherent, Runs, Ran}
-use Rattle.keeper_core.specs.Beside.{Beside, told_beside}
-use Rattle.shell_steps.specs.Replies.{moment_answering}
-use Rattle.sqla_shell.specs.Causes.{IsShownBy, keeper_stop, stop_refusal}
-use Rattle.sqla_shell.specs.Outcome.{HasWritten, moment_writing, seen, told_writing}
+use Rattle.programs.specs.Store.{Store}
+use Rattle.programs.proofs.Counts.{keeps_answer, keeps_memory}
+use Rattle.programs.proofs.Sequence.{then_err}
+use Rattle.programs.specs.Programs.{◌>>=◌, Event, Sends, Writes, Log, Run, after_event, after_events, ends_early, as_refusal}
+use Rattle.programs.specs.Moment.{Told, Moment, IsRun, IsCutOff, AsTold, Runs, Ran}
+use Rattle.keeper_core.specs.Keeping.{IsCoherent}
+use Rattle.programs.specs.Beside.{Beside, told_beside, moment_answering}
+use Rattle.sqla_shell.specs.Causes.{CountsFaults, CountsStop, faults, keeper_stop, stop_refusal}
+use Rattle.sqla_shell.specs.Outcome.{HasWritten, log_with, moment_writing, told_writing}
 use Rattle.sqla_shell.specs.Reference.{writes}
 use Rattle.sqla_shell.specs.declared.stop.Stop.{Stop}
 use Rattle.sqla_shell.specs.declared.stop.Stop.TheVariants.{Read, Write, Keeper, Memory as StopMemory}
-use Rattle.keeper_core.specs.Calls.{as_refusal}
 
 -- ---- the bytes of a log
 
@@ -34,7 +34,7 @@ after_written log (Writes byte ∷ events) = after_written (after_event log (Wri
 none≢cons : {A : Type 0} {x : A} {xs : List A} → x ∷ xs ≡ [] → ⊥
 none≢cons is = cc
 
-after_seen : (log : Log) (bytes : List ℕ) (events : List Event) → bytes_of events ≡ [] → after_events (seen log bytes) events ≡ seen (after_events log events) bytes
+after_seen : (log : Log) (bytes : List ℕ) (events : List Event) → bytes_of events ≡ [] → after_events (log_with log bytes) events ≡ log_with (after_events log events) bytes
 unfolding after_events
 after_seen log bytes [] none = refl
 after_seen log bytes (Sends statement committed ∷ events) none = after_seen (after_event log (Sends statement committed)) bytes events none
@@ -46,8 +46,8 @@ quiet_events log events now before after is =
     ap (λ bytes. bytes ++ bytes_of events) (sym before) ∙ sym (after_written log events) ∙ ap (λ l. l.written) (sym is) ∙ after
 
 seen_after : (log now : Log) (bytes : List ℕ) (events : List Event) → log.written ≡ [] → now.written ≡ [] → now ≡ after_events log events
-    → seen now bytes ≡ after_events (seen log bytes) events
-seen_after log now bytes events before after is = ap (λ l. seen l bytes) is ∙ sym (after_seen log bytes events (quiet_events log events now before after is))
+    → log_with now bytes ≡ after_events (log_with log bytes) events
+seen_after log now bytes events before after is = ap (λ l. log_with l bytes) is ∙ sym (after_seen log bytes events (quiet_events log events now before after is))
 
 -- ---- a call of the shell
 
@@ -58,10 +58,10 @@ told_quiet (Some told) = told.log.written ≡ []
 stops_writing : {S A : Type 0} (run : Run (Beside S) A) (log : Log) (e : Refusal) (own : S) (now : Told Store) (bytes : List ℕ) (b : Bool)
     → log.written ≡ [] → now.log.written ≡ []
     → MatchBool b (IsCutOff run log (record { world = record { own = own; store = now.world }; log = now.log })) (IsRun run log (Err e) (record { world = record { own = own; store = now.world }; log = now.log }))
-    → MatchBool b (IsCutOff run (seen log bytes) (record { world = record { own = own; store = now.world }; log = seen now.log bytes }))
-    (IsRun run (seen log bytes) (Err e) (record { world = record { own = own; store = now.world }; log = seen now.log bytes }))
+    → MatchBool b (IsCutOff run (log_with log bytes) (record { world = record { own = own; store = now.world }; log = log_with now.log bytes }))
+    (IsRun run (log_with log bytes) (Err e) (record { world = record { own = own; store = now.world }; log = log_with now.log bytes }))
 stops_writing run log e own now bytes true before after p =
-    record { front = p.front; rest = p.rest; events = p.events; log = seen_after log now.log bytes p.front before after p.log }
+    record { prefix = p.prefix; rest = p.rest; events = p.events; log = seen_after log now.log bytes p.prefix before after p.log }
 stops_writing run log e own now bytes false before after p =
     record { answer = p.answer; world = p.world; log = seen_after log now.log bytes run.events before after p.log }
 
@@ -81,7 +81,7 @@ quiet_of moment coherent = by moment.told coherent
   where
     by : (told : Option (Told Store)) → IsCoherent (record moment { told = told }) → told_quiet told
     by None p = tt
-    by (Some t) p = p.2
+    by (Some t) p = p.3
 
 -- a call of the shell leaves the sink
 pub on_shell : {S K O A X : Type 0} (moment : K → Moment Store) (written : O → Option (List ℕ)) (coherent : (keeper : K) → IsCoherent (moment keeper)) {v : X → A}
@@ -90,21 +90,15 @@ pub on_shell : {S K O A X : Type 0} (moment : K → Moment Store) (written : O �
 unfolding moment_answering moment_writing
 on_shell {S = S} moment written coherent {v = v} {m = m} {own = own} {mine = mine} {old = old} {new = new} sink {r = r} (Ran p) = Ran (record {
   told = told_shell v m own (moment old).told mine (moment new).told r (written sink) (quiet_of (moment old) (coherent old)) (quiet_of (moment new) (coherent new)) p.told;
-  faults = p.faults;
-  refusals = p.refusals;
-  fault = p.fault;
-  shown = p.shown;
-  calm = p.calm;
-  target = p.target;
-  attached = p.attached;
+  keeps = p.keeps;
 })
 
 -- ---- a write
 
-after_bytes : (log : Log) (bytes piece : List ℕ) → after_events (seen log bytes) (map Writes piece) ≡ seen log (bytes ++ piece)
+after_bytes : (log : Log) (bytes piece : List ℕ) → after_events (log_with log bytes) (map Writes piece) ≡ log_with log (bytes ++ piece)
 unfolding after_events
-after_bytes log bytes [] = ap (seen log) (sym (append-nil bytes))
-after_bytes log bytes (byte ∷ piece) = after_bytes log (bytes ++ byte ∷ []) piece ∙ ap (seen log) (append_assoc bytes (byte ∷ []) piece)
+after_bytes log bytes [] = ap (log_with log) (sym (append-nil bytes))
+after_bytes log bytes (byte ∷ piece) = after_bytes log (bytes ++ byte ∷ []) piece ∙ ap (log_with log) (append_assoc bytes (byte ∷ []) piece)
 
 split_writes : (count : ℕ) (piece : List ℕ) → map Writes (take count piece) ++ map Writes (drop count piece) ≡ map Writes piece
 split_writes count piece = sym (map-append Writes (take count piece) (drop count piece)) ∙ ap (map Writes) (take-append-drop count piece)
@@ -115,7 +109,7 @@ unfolding writes
 told_written own None before after piece p = tt
 told_written own (Some t) None after piece p = tt
 told_written own (Some t) (Some bytes) None piece p = absurd p
-told_written own (Some t) (Some bytes) (Some more) piece p = record { answer = refl; world = refl; log = ap (seen t.log) p ∙ sym (after_bytes t.log bytes piece) }
+told_written own (Some t) (Some bytes) (Some more) piece p = record { answer = refl; world = refl; log = ap (log_with t.log) p ∙ sym (after_bytes t.log bytes piece) }
 
 told_stopped : {S : Type 0} (own : S) (told : Option (Told Store)) (before after : Option (List ℕ)) (piece : List ℕ) (stop : Stop)
     → HasWritten before piece (Err stop) after → AsTold (λ u. u) (writes piece) (told_writing own told before) (Err Memory) (told_writing own told after)
@@ -124,10 +118,10 @@ told_stopped own None before after piece stop p = tt
 told_stopped own (Some t) None after piece stop p = tt
 told_stopped own (Some t) (Some bytes) None piece stop p = absurd p
 told_stopped own (Some t) (Some bytes) (Some more) piece stop p = record {
-  front = map Writes (take p.0 piece);
+  prefix = map Writes (take p.0 piece);
   rest = map Writes (drop p.0 piece);
   events = split_writes p.0 piece;
-  log = ap (seen t.log) p.1 ∙ sym (after_bytes t.log bytes (take p.0 piece));
+  log = ap (log_with t.log) p.1 ∙ sym (after_bytes t.log bytes (take p.0 piece));
 }
 
 -- all of a piece went out
@@ -136,39 +130,27 @@ wrote : {S K O : Type 0} (moment : K → Moment Store) (written : O → Option (
 unfolding moment_writing
 wrote moment written own keeper old new piece p = Ran (record {
   told = told_written own (moment keeper).told (written old) (written new) piece p;
-  faults = omega arith;
-  refusals = omega arith;
-  fault = tt;
-  shown = tt;
-  calm = (refl, refl);
-  target = refl;
-  attached = refl;
+  keeps = keeps_answer;
 })
 
--- a front of a piece went out
-wrote_front : {S K O : Type 0} (moment : K → Moment Store) (written : O → Option (List ℕ)) (own : S) (keeper : K) (old new : O) (piece : List ℕ) (stop : Stop)
+-- a prefix of a piece went out
+wrote_prefix : {S K O : Type 0} (moment : K → Moment Store) (written : O → Option (List ℕ)) (own : S) (keeper : K) (old new : O) (piece : List ℕ) (stop : Stop)
     → HasWritten (written old) piece (Err stop) (written new) → Runs (moment_writing moment written) (λ u. u) (writes piece) (own, keeper, old) (Err Memory) (own, keeper, new)
 unfolding moment_writing
-wrote_front moment written own keeper old new piece stop p = Ran (record {
+wrote_prefix moment written own keeper old new piece stop p = Ran (record {
   told = told_stopped own (moment keeper).told (written old) (written new) piece stop p;
-  faults = omega arith;
-  refusals = omega arith;
-  fault = λ is. cc;
-  shown = tt;
-  calm = tt;
-  target = refl;
-  attached = refl;
+  keeps = keeps_memory;
 })
 
 -- a write ran, however it ended
-pub on_sink : {S K O : Type 0} (moment : K → Moment Store) (written : O → Option (List ℕ)) (P : Type 0) (own : S) (keeper : K) (old new : O) (piece : List ℕ) (r : Result (Unit {0}) Stop)
-    → HasWritten (written old) piece r (written new) → IfErr r (λ stop. IsShownBy stop ⊥ P ⊥)
+pub on_sink : {S K O : Type 0} (moment : K → Moment Store) (written : O → Option (List ℕ)) (before after : ℕ) (own : S) (keeper : K) (old new : O) (piece : List ℕ) (r : Result (Unit {0}) Stop)
+    → HasWritten (written old) piece r (written new) → CountsFaults r (faults 0 before 0) (faults 0 after 0)
     → Runs (moment_writing moment written) (λ u. u) (writes piece) (own, keeper, old) (as_refusal stop_refusal r) (own, keeper, new)
-on_sink moment written P own keeper old new piece (Ok u) p cause = wrote moment written own keeper old new piece p
-on_sink moment written P own keeper old new piece (Err Read) p cause = wrote_front moment written own keeper old new piece Read p
-on_sink moment written P own keeper old new piece (Err Write) p cause = wrote_front moment written own keeper old new piece Write p
-on_sink moment written P own keeper old new piece (Err Keeper) p cause = absurd cause
-on_sink moment written P own keeper old new piece (Err StopMemory) p cause = wrote_front moment written own keeper old new piece StopMemory p
+on_sink moment written before after own keeper old new piece (Ok u) p cause = wrote moment written own keeper old new piece p
+on_sink moment written before after own keeper old new piece (Err Read) p cause = wrote_prefix moment written own keeper old new piece Read p
+on_sink moment written before after own keeper old new piece (Err Write) p cause = wrote_prefix moment written own keeper old new piece Write p
+on_sink moment written before after own keeper old new piece (Err Keeper) p cause = absurd (omega (arith, cause.2.1))
+on_sink moment written before after own keeper old new piece (Err StopMemory) p cause = wrote_prefix moment written own keeper old new piece StopMemory p
 
 -- a refusal that ends a run early is what its stop says below
 pub stopped_as : (e : Refusal) (stop : Stop) → ends_early e ≡ true → stop ≡ keeper_stop e → stop_refusal stop ≡ e
@@ -192,14 +174,14 @@ answer_stopped moment written coherent v' {m = m} next {own = own} {mine = mine}
     (then_err next (on_shell moment written coherent sink ran))
 
 -- a write was stopped
-pub sink_stopped : {S K O B Y : Type 0} (moment : K → Moment Store) (written : O → Option (List ℕ)) (P : Type 0) (v : Y → B) (next : Unit {0} → Beside S → Run (Beside S) B)
+pub sink_stopped : {S K O B Y : Type 0} (moment : K → Moment Store) (written : O → Option (List ℕ)) (before after : ℕ) (v : Y → B) (next : Unit {0} → Beside S → Run (Beside S) B)
     (own : S) (keeper : K) (old new : O) (piece : List ℕ) (stop : Stop) (r : Result Y Stop)
-    → HasWritten (written old) piece (Err stop) (written new) → IsShownBy stop ⊥ P ⊥ → IsErrAnd r (λ d. d ≡ stop)
+    → HasWritten (written old) piece (Err stop) (written new) → CountsStop stop (faults 0 before 0) (faults 0 after 0) → IsErrAnd r (λ d. d ≡ stop)
     → Runs (moment_writing moment written) v (writes piece >>= next) (own, keeper, old) (as_refusal stop_refusal r) (own, keeper, new)
-sink_stopped moment written P v next own keeper old new piece stop (Ok y) p cause is = absurd is
-sink_stopped moment written P v next own keeper old new piece stop (Err d) p cause is =
+sink_stopped moment written before after v next own keeper old new piece stop (Ok y) p cause is = absurd is
+sink_stopped moment written before after v next own keeper old new piece stop (Err d) p cause is =
     subst (λ e. Runs (moment_writing moment written) v (writes piece >>= next) (own, keeper, old) (Err (stop_refusal e)) (own, keeper, new)) (sym is)
-    (then_err next (on_sink moment written P own keeper old new piece (Err stop) p cause))
+    (then_err next (on_sink moment written before after own keeper old new piece (Err stop) p cause))
 
 -- ---- a piece that goes out in parts
 
@@ -217,13 +199,13 @@ all_written None now piece count p whole = tt
 all_written (Some b) None piece count p whole = absurd p
 all_written (Some b) (Some x) piece count p whole = p ∙ ap (λ l. b ++ l) (take_all count piece whole)
 
--- a front of the piece went out
-pub front_written : (before mid now : Option (List ℕ)) (piece : List ℕ) (count : ℕ) (r : Result (Unit {0}) Stop) → IsErr r → Appends before mid (take count piece) → Keeps mid now → HasWritten before piece r now
-front_written before mid now piece count (Ok u) is p q = cc
-front_written None mid now piece count (Err stop) is p q = tt
-front_written (Some b) None now piece count (Err stop) is p q = absurd p
-front_written (Some b) (Some m) None piece count (Err stop) is p q = absurd q
-front_written (Some b) (Some m) (Some x) piece count (Err stop) is p q = (count, q ∙ p)
+-- a prefix of the piece went out
+pub prefix_written : (before mid now : Option (List ℕ)) (piece : List ℕ) (count : ℕ) (r : Result (Unit {0}) Stop) → IsErr r → Appends before mid (take count piece) → Keeps mid now → HasWritten before piece r now
+prefix_written before mid now piece count (Ok u) is p q = cc
+prefix_written None mid now piece count (Err stop) is p q = tt
+prefix_written (Some b) None now piece count (Err stop) is p q = absurd p
+prefix_written (Some b) (Some m) None piece count (Err stop) is p q = absurd q
+prefix_written (Some b) (Some m) (Some x) piece count (Err stop) is p q = (count, q ∙ p)
 
 -- what a write of the rest of a piece took
 pub part_of : (piece : List ℕ) (count n : ℕ) → take n (take (length piece - count) (drop count piece)) ≡ take n (drop count piece)

@@ -1,5 +1,6 @@
 -- Why a run does not come to its script's end, and what each cause shows.
-use Rattle.std.specs.Prelude.{Bool, true, false}
+use Rattle.std.specs.Prelude.{◌≡◌, ◌≤◌, ℕ, Bool, true, false, Result, Ok, Err}
+use Rattle.base_core.specs.Counts.{Rose}
 use Rattle.base_core.specs.declared.refusal.Refusal.{Refusal}
 use Rattle.base_core.specs.declared.refusal.Refusal.TheVariants.{KeeperFault, Memory as NoMemory}
 use Rattle.byte_streams.specs.declared.streams.SinkStop.{SinkStop}
@@ -40,9 +41,53 @@ abbrev pub done_status : Bool → Status
 done_status true = status.Refused
 done_status false = status.Done
 
--- a stop comes only where the count of faults of what it names rose: of the source, of the sink, of the keeper
-abbrev pub IsShownBy : Stop → Type 0 → Type 0 → Type 0 → Type 0
-IsShownBy Read source sink keeper = source
-IsShownBy Write source sink keeper = sink
-IsShownBy Keeper source sink keeper = keeper
-IsShownBy Memory source sink keeper = Unit {0}
+-- the number with which the program ends
+abbrev pub status_code : Status → ℕ
+status_code status.Done = 0
+status_code status.Refused = 1
+status_code status.Usage = 2
+status_code status.ReadFault = 3
+status_code status.WriteFault = 4
+status_code status.KeeperFault = 5
+status_code status.Memory = 6
+status_code status.TooLong = 7
+
+-- ---- faults
+
+-- how often a source, a sink and a keeper failed
+pub record Faults : Type 0 where
+  pub source : ℕ
+  pub sink : ℕ
+  pub keeper : ℕ
+
+abbrev pub faults : ℕ → ℕ → ℕ → Faults
+faults source sink keeper = record { source = source; sink = sink; keeper = keeper }
+
+-- one fault more was counted
+abbrev pub IsOneMore : ℕ → ℕ → Type 0
+IsOneMore before now = (before ≤ now) × Rose before now
+
+-- what stopped a call was counted, and nothing else was
+abbrev pub CountsStop : Stop → Faults → Faults → Type 0
+CountsStop Read old new = IsOneMore old.source new.source × (new.sink ≡ old.sink) × (new.keeper ≡ old.keeper)
+CountsStop Write old new = (new.source ≡ old.source) × IsOneMore old.sink new.sink × (new.keeper ≡ old.keeper)
+CountsStop Keeper old new = (new.source ≡ old.source) × (new.sink ≡ old.sink) × IsOneMore old.keeper new.keeper
+CountsStop Memory old new = (new.source ≡ old.source) × (new.sink ≡ old.sink) × (new.keeper ≡ old.keeper)
+
+-- a call that answers counted no fault, and one that was stopped just its own
+abbrev pub CountsFaults : {X : Type 0} → Result X Stop → Faults → Faults → Type 0
+CountsFaults (Ok x) old new = (new.source ≡ old.source) × (new.sink ≡ old.sink) × (new.keeper ≡ old.keeper)
+CountsFaults (Err stop) old new = CountsStop stop old new
+
+-- The same of a status: the rollback at the end of a run that was stopped may count one fault more of the keeper, where it took
+-- its target.
+abbrev pub ShowsFaults : Status → Bool → Faults → Faults → Type 0
+ShowsFaults status.Done attached old new = (new.source ≡ old.source) × (new.sink ≡ old.sink) × (new.keeper ≡ old.keeper)
+ShowsFaults status.Refused attached old new = (new.source ≡ old.source) × (new.sink ≡ old.sink) × (new.keeper ≡ old.keeper)
+ShowsFaults status.Usage attached old new = (new.source ≡ old.source) × (new.sink ≡ old.sink) × (new.keeper ≡ old.keeper)
+ShowsFaults status.ReadFault attached old new = IsOneMore old.source new.source × (new.sink ≡ old.sink) × (old.keeper ≤ new.keeper)
+ShowsFaults status.WriteFault attached old new = (new.source ≡ old.source) × IsOneMore old.sink new.sink × (old.keeper ≤ new.keeper)
+ShowsFaults status.KeeperFault attached old new = (new.source ≡ old.source) × (new.sink ≡ old.sink) × IsOneMore old.keeper new.keeper
+ShowsFaults status.Memory true old new = (new.source ≡ old.source) × (new.sink ≡ old.sink) × (old.keeper ≤ new.keeper)
+ShowsFaults status.Memory false old new = (new.source ≡ old.source) × (new.sink ≡ old.sink) × (new.keeper ≡ old.keeper)
+ShowsFaults status.TooLong attached old new = (new.source ≡ old.source) × (new.sink ≡ old.sink) × (old.keeper ≤ new.keeper)

@@ -1,3 +1,4 @@
 pub mod Causes
 pub mod Outcome
 pub mod Reference
+pub mod Seen

@@ -1,35 +1,39 @@
 -- How a run stands to the reference: what went out, the statements that were sent, the status and the tables.
-use Rattle.std.specs.Prelude.{◌≡◌, ℕ, Bool, true, false, List, [], ◌∷◌, ◌++◌, take, codes, Option, None, Some, Result, Ok, Err, IfOk, ◌⊎◌}
+use Rattle.std.specs.Prelude.{◌≡◌, ◌≤◌, ℕ, Bool, true, false, List, [], ◌∷◌, ◌++◌, take, codes, Option, None, Some, Result, Ok, Err, IfOk, ◌⊎◌}
 use Rattle.base_core.specs.declared.refusal.Refusal.{Refusal}
-use Rattle.keeper_core.specs.declared.sent.Sent.TheVariants.{Rollback}
-use Rattle.keeper_core.specs.Store.{Store}
-use Rattle.keeper_core.specs.Acting.{Event, Log, Run, Sends, after_events, each}
-use Rattle.keeper_core.specs.Moment.{Moment, Told, Runs, new_store}
-use Rattle.keeper_core.specs.Beside.{Beside}
+use Rattle.programs.specs.declared.sent.Sent.TheVariants.{Rollback}
+use Rattle.programs.specs.Store.{Store}
+use Rattle.programs.specs.Programs.{Event, Log, Run, Sends, after_events, each}
+use Rattle.programs.specs.Moment.{Moment, Told, Runs}
+use Rattle.keeper_core.specs.Keeping.{new_store}
+use Rattle.programs.specs.Beside.{Beside}
 use Rattle.shell_steps.specs.ShellState.{ShellState}
 use Rattle.sqla_shell.specs.declared.ending.Ending.{Ending}
 use Rattle.sqla_shell.specs.declared.ending.Ending.TheVariants.{Finished, TooLong}
 use Rattle.sqla_shell.specs.declared.stop.Stop.{Stop}
 use Rattle.sqla_shell.specs.declared.status.Status.{Status}
 use Rattle.sqla_shell.specs.declared.status.Status.TheVariants as status
+use Rattle.sqla_shell.specs.Seen.{KeepsKeeper, Seen}
 use Rattle.sqla_shell.specs.Causes.{done_status, stop_status}
-use Rattle.sqla_shell.specs.Reference.{answered, lines_of, reference, script}
+use Rattle.script_lines.specs.Scripts.{lines_of}
+use Rattle.sqla_shell.specs.Reference.{answered, reference, script}
 
 -- ---- what is seen of a shell, a keeper and a sink
 
 -- what the outside has seen of a keeper and of a sink
-abbrev pub seen : Log → List ℕ → Log
-seen log written = record { sent = log.sent; committed = log.committed; written = written }
+abbrev pub log_with : Log → List ℕ → Log
+log_with log written = record { sent = log.sent; committed = log.committed; written = written }
 
 abbrev pub told_writing : {S : Type 0} → S → Option (Told Store) → Option (List ℕ) → Option (Told (Beside S))
 told_writing own None written = None
 told_writing own (Some told) None = None
-told_writing own (Some told) (Some written) = Some (record { world = record { own = own; store = told.world }; log = seen told.log written })
+told_writing own (Some told) (Some written) = Some (record { world = record { own = own; store = told.world }; log = log_with told.log written })
 
 -- what is seen where both the keeper and the sink tell; refusals have been answered in text
 unfoldable pub moment_writing : {S K O : Type 0} → (K → Moment Store) → (O → Option (List ℕ)) → S × K × O → Moment (Beside S)
 moment_writing moment written s = record {
   told = told_writing s.0 (moment s.1).told (written s.2);
+  tells = (moment s.1).tells;
   faults = (moment s.1).faults;
   refusals = 0;
   last = None;
@@ -40,12 +44,17 @@ moment_writing moment written s = record {
 
 -- ---- the parts of a run
 
--- all of a piece went out, or where that stopped a front of it
+-- all of a piece went out, or where that stopped a prefix of it
 abbrev pub HasWritten : Option (List ℕ) → List ℕ → Result (Unit {0}) Stop → Option (List ℕ) → Type 0
 HasWritten None piece result now = Unit {0}
 HasWritten (Some before) piece result None = ⊥
 HasWritten (Some before) piece (Ok u) (Some now) = now ≡ before ++ piece
 HasWritten (Some before) piece (Err stop) (Some now) = (count : ℕ) × (now ≡ before ++ take count piece)
+
+-- nothing is left with a source that told what it had
+abbrev pub HasNothingLeft : Option (List ℕ) → Option (List ℕ) → Type 0
+HasNothingLeft None left = Unit {0}
+HasNothingLeft (Some bytes) left = left ≡ Some []
 
 -- how the lines end
 abbrev pub ending_of : Bool → Ending
@@ -78,14 +87,14 @@ pub record IsWhole (run : Run (Beside ShellState) Ending) (ending : Ending) (bef
   pub answer : run.answer ≡ Ok ending
   pub log : now ≡ after_events (first_log before) run.events
 
--- the reference was stopped: what the outside has seen is a front of its events, with the transaction rolled back
+-- the reference was stopped: what the outside has seen is a prefix of its events, with the transaction rolled back
 pub record IsStopped (run : Run (Beside ShellState) Ending) (before : List ℕ) (now : Log) : Type 0 where
-  pub front : List Event
+  pub prefix : List Event
   pub rest : List Event
   pub undone : List Event
-  pub events : front ++ rest ≡ run.events
-  pub undoing : IsUndone (after_events (first_log before) front) undone
-  pub log : now ≡ after_events (first_log before) (front ++ undone)
+  pub events : prefix ++ rest ≡ run.events
+  pub undoing : IsUndone (after_events (first_log before) prefix) undone
+  pub log : now ≡ after_events (first_log before) (prefix ++ undone)
 
 -- a limit was passed: the lines before it were done, and the transaction rolled back
 pub record IsCutShort (run : Run (Beside ShellState) Ending) (before : List ℕ) (now : Log) : Type 0 where
@@ -110,19 +119,28 @@ abbrev pub IsSettled : Told Store → Type 0
 IsSettled told = (told.world.scopes ≡ []) × (told.world.tables ≡ told.log.committed)
 
 -- a keeper that took no target is left as it was, and nothing goes out
-abbrev pub IsUntouched : Status → List ℕ → Told Store → List ℕ → Told Store → Type 0
+abbrev pub IsUntouched : Status → List ℕ → Option (Told Store) → List ℕ → Option (Told Store) → Type 0
 IsUntouched end before told written now = (written ≡ before) × (now ≡ told) × ((end ≡ status.KeeperFault) ⊎ (end ≡ status.Memory))
 
--- The run of a script is the reference's: where the source tells the script's bytes, the sink what was written and the keeper
--- its tables, what went out, the statements sent, the status and the tables at the end are those of the reference.
-abbrev pub IsReference : Option (List ℕ) → Option (List ℕ) → Option (Told Store) → Status → Bool → Option (List ℕ) → Option (Told Store) → Type 0
-IsReference None before told end attached written now = Unit {0}
-IsReference (Some bytes) None told end attached written now = Unit {0}
-IsReference (Some bytes) (Some before) None end attached written now = Unit {0}
-IsReference (Some bytes) (Some before) (Some told) end attached None now = ⊥
-IsReference (Some bytes) (Some before) (Some told) end attached (Some written) None = ⊥
-IsReference (Some bytes) (Some before) (Some told) end false (Some written) (Some now) = IsUntouched end before told written now
-IsReference (Some bytes) (Some before) (Some told) end true (Some written) (Some now) = Ends (reference bytes) before end (seen now.log written) × IsSettled now
+abbrev pub IsReferenceOf : Option (List ℕ) → Option (List ℕ) → Option (Told Store) → Status → Bool → Option (List ℕ) → Option (Told Store) → Type 0
+IsReferenceOf None before told end attached written now = Unit {0}
+IsReferenceOf (Some bytes) None told end attached written now = Unit {0}
+IsReferenceOf (Some bytes) (Some before) told end attached written None = told ≡ None
+IsReferenceOf (Some bytes) (Some before) told end attached None (Some now) = ⊥
+IsReferenceOf (Some bytes) (Some before) told end false (Some written) (Some now) = IsUntouched end before told written (Some now)
+IsReferenceOf (Some bytes) (Some before) told end true (Some written) (Some now) = Ends (reference bytes) before end (log_with now.log written) × IsSettled now
+
+-- The run of a script is the reference's: where the source tells the script's bytes, the sink what was written and the keeper its
+-- tables once it has its target, what went out, the statements sent, the status and the tables at the end are those of the
+-- reference. A keeper that told before goes on telling.
+abbrev pub IsReference : Seen → Status → Seen → Type 0
+IsReference old end new = IsReferenceOf old.left old.written old.keeper.told end new.keeper.attached new.written new.keeper.told
+
+-- nothing is left of a script that was done to its end
+abbrev pub IsReadThrough : Status → Option (List ℕ) → Option (List ℕ) → Type 0
+IsReadThrough status.Done old new = HasNothingLeft old new
+IsReadThrough status.Refused old new = HasNothingLeft old new
+IsReadThrough end old new = Unit {0}
 
 -- ---- the parts of the end
 
@@ -132,26 +150,36 @@ IsRolledBack None now = Unit {0}
 IsRolledBack (Some told) None = ⊥
 IsRolledBack (Some told) (Some now) = (undone : List Event) × IsUndone told.log undone × (now.log ≡ after_events told.log undone)
 
+-- a keeper at the end of a run: no scope is open, its count of faults did not fall, and it stays what it is
+pub record Rests (old new : Moment Store) : Type 0 where
+  pub depth : new.depth ≡ 0
+  pub faults : old.faults ≤ new.faults
+  pub keeper : KeepsKeeper old new
+
 -- how a run is concluded once its script was done or stopped
 abbrev pub Concludes : Result Ending Stop → Bool → Option (Told Store) → Status → Option (Told Store) → Type 0
 Concludes (Ok Finished) refused told end now = (end ≡ done_status refused) × (now ≡ told)
 Concludes (Ok TooLong) refused told end now = (end ≡ status.TooLong) × IsRolledBack told now
 Concludes (Err stop) refused told end now = (end ≡ stop_status stop) × IsRolledBack told now
 
+abbrev pub IsDoneOf : Option (List ℕ) → Option (List ℕ) → Option (Told Store) → Status → Option (List ℕ) → Option (Told Store) → Type 0
+IsDoneOf None before told end written now = Unit {0}
+IsDoneOf (Some bytes) None told end written now = Unit {0}
+IsDoneOf (Some bytes) (Some before) None end written now = Unit {0}
+IsDoneOf (Some bytes) (Some before) (Some told) end None now = told ≡ new_store → ⊥
+IsDoneOf (Some bytes) (Some before) (Some told) end (Some written) None = told ≡ new_store → ⊥
+IsDoneOf (Some bytes) (Some before) (Some told) end (Some written) (Some now) =
+    told ≡ new_store → Ends (reference bytes) before end (log_with now.log written) × IsSettled now
+
 -- the run of a script over a keeper that has nothing yet
-abbrev pub IsDone : Option (List ℕ) → Option (List ℕ) → Option (Told Store) → Status → Option (List ℕ) → Option (Told Store) → Type 0
-IsDone None before told end written now = Unit {0}
-IsDone (Some bytes) None told end written now = Unit {0}
-IsDone (Some bytes) (Some before) None end written now = Unit {0}
-IsDone (Some bytes) (Some before) (Some told) end None now = told ≡ new_store → ⊥
-IsDone (Some bytes) (Some before) (Some told) end (Some written) None = told ≡ new_store → ⊥
-IsDone (Some bytes) (Some before) (Some told) end (Some written) (Some now) = told ≡ new_store → Ends (reference bytes) before end (seen now.log written) × IsSettled now
+abbrev pub IsDone : Seen → Status → Seen → Type 0
+IsDone old end new = IsDoneOf old.left old.written old.keeper.told end new.written new.keeper.told
 
 -- the line that is written where words are none that the program takes
 abbrev pub usage_line : List ℕ
 usage_line = codes "usage: sqla [--dialect D] [--echo] [--store FILE] [--generate N]" ++ 10 ∷ []
 
--- the usage line went out, or a front of it where the sink failed or memory ran out
+-- the usage line went out, or a prefix of it where the sink failed or memory ran out
 abbrev pub IsUsage : Option (List ℕ) → Status → Option (List ℕ) → Type 0
 IsUsage None end now = (end ≡ status.Usage) ⊎ ((end ≡ status.WriteFault) ⊎ (end ≡ status.Memory))
 IsUsage (Some before) status.Usage now = now ≡ Some (before ++ usage_line)

@@ -1,38 +1,12 @@
 -- The reference run: what the bytes of a script do, line by line, and what goes out.
-use Rattle.std.specs.Prelude.{ℕ, zero, suc, ◌+◌, Bool, true, false, List, [], ◌∷◌, map, Ok}
-use Rattle.keeper_core.specs.Acting.{Run, Writes, ◌>>=◌, give, each}
-use Rattle.keeper_core.specs.Beside.{Beside}
-use Rattle.script_lines.specs.Cutting.{Cut, Ended, TooLong as CutTooLong, Line, cut, most_bytes}
+use Rattle.std.specs.Prelude.{ℕ, Bool, true, false, List, [], map, Ok}
+use Rattle.programs.specs.Programs.{Run, Writes, ◌>>=◌, give, each}
+use Rattle.programs.specs.Beside.{Beside}
+use Rattle.script_lines.specs.Scripts.{lines_of}
 use Rattle.shell_steps.specs.ShellState.{ShellState, new_shell}
 use Rattle.shell_steps.specs.Step.{reply_to, end_reply, closing}
 use Rattle.sqla_shell.specs.declared.ending.Ending.{Ending}
 use Rattle.sqla_shell.specs.declared.ending.Ending.TheVariants.{Finished, TooLong}
-
--- ---- lines
-
--- the lines of a script, and whether it or the line behind them is too long
-pub record Lines : Type 0 where
-  pub lines : List (List ℕ)
-  pub too_long : Bool
-
--- a line before other lines
-abbrev pub led_by : List ℕ → Lines → Lines
-led_by line behind = record { lines = line ∷ behind.lines; too_long = behind.too_long }
-
--- the lines from the next cut on, where those behind it are known
-abbrev pub lines_by : Cut → (ℕ → List ℕ → Lines) → Lines
-lines_by Ended behind = record { lines = []; too_long = false }
-lines_by CutTooLong behind = record { lines = []; too_long = true }
-lines_by (Line line taken rest) behind = led_by line (behind taken rest)
-
--- the lines of the bytes that are left, at most so many, where so many bytes were taken
-unfoldable pub lines_from : ℕ → ℕ → List ℕ → Lines
-lines_from zero taken bytes = record { lines = []; too_long = false }
-lines_from (suc most) taken bytes = lines_by (cut taken bytes) (lines_from most)
-
--- the lines of a script: each takes a byte at least, so that a script within the limits has no more of them than bytes
-abbrev pub lines_of : List ℕ → Lines
-lines_of bytes = lines_from (most_bytes + 1) 0 bytes
 
 -- ---- the run
 

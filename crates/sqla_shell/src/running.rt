@@ -1,10 +1,11 @@
 //! The top call.
 
-ghost use Rattle.std.specs.Prelude.{◌≡◌, ◌≢◌, ◌≤◌, [], None, Some, true, IfErr, IsErr, Ok, ◌⊎◌};
-ghost use Rattle.base_core.specs.Counts.{Rose};
-ghost use Rattle.keeper_core.specs.declared.keeper.Target.TheVariants as targets;
-ghost use Rattle.sqla_shell.specs.Causes.{done_status, stop_status};
-ghost use Rattle.sqla_shell.specs.Outcome.{Concludes, IsDone, IsReference, IsRolledBack, IsUsage};
+ghost use Rattle.std.specs.Prelude.{◌≡◌, ◌≢◌, ◌≤◌, ℕ, Bool, [], None, Some, true, Ok, IfOk};
+ghost use Rattle.keeper_core.specs.Keeping.{new_store};
+ghost use Rattle.programs.specs.declared.target.Target.TheVariants as targets;
+ghost use Rattle.sqla_shell.specs.Causes.{CountsFaults, ShowsFaults, done_status, faults, stop_status};
+ghost use Rattle.sqla_shell.specs.Outcome.{Concludes, IsDone, IsReadThrough, IsReference, IsRolledBack, IsUsage, Rests};
+ghost use Rattle.sqla_shell.specs.Seen.{KeepsKeeper, seen};
 
 use crate::ending::Ending;
 use crate::script::{do_script, write_all};
@@ -37,14 +38,19 @@ pub fn run<S: Source, O: Sink, K: Keeper>(
     requires { (K.moment keeper.old).target ≡ None }
     // With words the usage line is written, and nothing else happens.
     ensures usage { words.now.items ≢ [] → IsUsage (O.written sink.old) result (O.written sink.new) }
+    ensures unread { words.now.items ≢ [] → source.new ≡ source.old }
     ensures unused { words.now.items ≢ [] → keeper.new ≡ keeper.old }
     // Without words the run is the reference's, and the keeper's target is memory.
-    ensures reference { words.now.items ≡ [] → IsReference (S.left source.old) (O.written sink.old) (K.moment keeper.old).told result (K.moment keeper.new).attached (O.written sink.new) (K.moment keeper.new).told }
+    ensures reference { words.now.items ≡ [] → IsReference
+        (seen (S.left source.old) (S.faults source.old) (O.written sink.old) (O.faults sink.old) (K.moment keeper.old))
+        result
+        (seen (S.left source.new) (S.faults source.new) (O.written sink.new) (O.faults sink.new) (K.moment keeper.new)) }
+    ensures through { IsReadThrough result (S.left source.old) (S.left source.new) }
     ensures target { words.now.items ≡ [] → (K.moment keeper.new).target ≡ Some targets.Memory }
     ensures words { result ≡ Status.Usage → words.now.items ≢ [] }
-    ensures read { result ≡ Status.ReadFault → Rose (S.faults source.old) (S.faults source.new) }
-    ensures write { result ≡ Status.WriteFault → Rose (O.faults sink.old) (O.faults sink.new) }
-    ensures keeper { result ≡ Status.KeeperFault → Rose (K.moment keeper.old).faults (K.moment keeper.new).faults }
+    ensures faults { ShowsFaults result (K.moment keeper.new).attached
+        (faults (S.faults source.old) (O.faults sink.old) (K.moment keeper.old).faults)
+        (faults (S.faults source.new) (O.faults sink.new) (K.moment keeper.new).faults) }
 {
     if !words.is_empty() {
         return answer_words(sink);
@@ -59,7 +65,8 @@ pub fn run<S: Source, O: Sink, K: Keeper>(
 /// Writes the usage line.
 fn answer_words<O: Sink>(sink: &mut O) -> Status
     ensures usage { IsUsage (O.written sink.old) result (O.written sink.new) }
-    ensures write { result ≡ Status.WriteFault → Rose (O.faults sink.old) (O.faults sink.new) }
+    ensures faults { (attached : Bool) (source keeper : ℕ) → ShowsFaults result attached
+        (faults source (O.faults sink.old) keeper) (faults source (O.faults sink.new) keeper) }
 {
     match write_all(sink, USAGE) {
         Ok(()) => Status::Usage,
@@ -77,31 +84,31 @@ fn run_script<S: Source, O: Sink, K: Keeper>(
 ) -> Status
     requires attached { (K.moment keeper.old).attached ≡ true }
     requires outside { (K.moment keeper.old).depth ≡ 0 }
-    ensures reference { IsDone (S.left source.old) (O.written sink.old) (K.moment keeper.old).told result (O.written sink.new) (K.moment keeper.new).told }
-    ensures attached { (K.moment keeper.new).attached ≡ true }
-    ensures target { (K.moment keeper.new).target ≡ (K.moment keeper.old).target }
+    ensures reference { IsDone
+        (seen (S.left source.old) (S.faults source.old) (O.written sink.old) (O.faults sink.old) (K.moment keeper.old))
+        result
+        (seen (S.left source.new) (S.faults source.new) (O.written sink.new) (O.faults sink.new) (K.moment keeper.new)) }
+    ensures through { IsReadThrough result (S.left source.old) (S.left source.new) }
+    ensures keeper { KeepsKeeper (K.moment keeper.old) (K.moment keeper.new) }
     ensures usage { result ≢ Status.Usage }
-    ensures read { result ≡ Status.ReadFault → Rose (S.faults source.old) (S.faults source.new) }
-    ensures write { result ≡ Status.WriteFault → Rose (O.faults sink.old) (O.faults sink.new) }
-    ensures keeper { result ≡ Status.KeeperFault → Rose (K.moment keeper.old).faults (K.moment keeper.new).faults }
+    ensures faults { ShowsFaults result true
+        (faults (S.faults source.old) (O.faults sink.old) (K.moment keeper.old).faults)
+        (faults (S.faults source.new) (O.faults sink.new) (K.moment keeper.new).faults) }
 {
     let mut shell = Shell::new(alloc);
     let done = do_script(alloc, &mut shell, source, sink, keeper);
     conclude(&shell, keeper, done)
 }
 
+#[tactic(auto, using(crate::proofs::EndLemmas::resting))]
 /// The status of a script that was done or stopped. Where it was not done to its end, the transaction is rolled back.
 fn conclude<K: Keeper>(shell: &Shell, keeper: &mut K, done: Result<Ending, Stop>) -> Status
     requires attached { (K.moment keeper.old).attached ≡ true }
     requires outside { done ≡ Ok Ending.Finished → (K.moment keeper.old).depth ≡ 0 }
     ensures concluded { Concludes done shell.now.refused (K.moment keeper.old).told result (K.moment keeper.new).told }
-    ensures cause { IfErr done (λ stop. result ≡ stop_status stop) }
-    ensures none { IsErr done ⊎ ((result ≢ Status.ReadFault) × (result ≢ Status.WriteFault) × (result ≢ Status.KeeperFault)) }
-    ensures usage { result ≢ Status.Usage }
-    ensures depth { (K.moment keeper.new).depth ≡ 0 }
-    ensures faults { (K.moment keeper.old).faults ≤ (K.moment keeper.new).faults }
-    ensures attached { (K.moment keeper.new).attached ≡ true }
-    ensures target { (K.moment keeper.new).target ≡ (K.moment keeper.old).target }
+    ensures rests { Rests (K.moment keeper.old) (K.moment keeper.new) }
+    ensures counted { IfOk done (λ ending. ending ≡ Ending.Finished
+        → (K.moment keeper.new).faults ≡ (K.moment keeper.old).faults) }
 {
     match done {
         Ok(Ending::Finished) => end_status(shell),
@@ -120,10 +127,7 @@ fn conclude<K: Keeper>(shell: &Shell, keeper: &mut K, done: Result<Ending, Stop>
 fn roll_back<K: Keeper>(keeper: &mut K)
     requires { (K.moment keeper.old).attached ≡ true }
     ensures undone { IsRolledBack (K.moment keeper.old).told (K.moment keeper.new).told }
-    ensures depth { (K.moment keeper.new).depth ≡ 0 }
-    ensures faults { (K.moment keeper.old).faults ≤ (K.moment keeper.new).faults }
-    ensures attached { (K.moment keeper.new).attached ≡ true }
-    ensures target { (K.moment keeper.new).target ≡ (K.moment keeper.old).target }
+    ensures rests { Rests (K.moment keeper.old) (K.moment keeper.new) }
 {
     if keeper.depth() > 0 {
         let _rolled_back = keeper.rollback();

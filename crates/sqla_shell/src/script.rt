@@ -1,14 +1,14 @@
 //! The lines of a script, each done and answered before the next is read.
 
-ghost use Rattle.std.specs.Prelude.{◌≡◌, ◌≤◌, [], true, false, IfErr, IfOk, OnOk};
-ghost use Rattle.base_core.specs.Counts.{Rose};
-ghost use Rattle.keeper_core.specs.Calls.{as_refusal};
-ghost use Rattle.keeper_core.specs.Moment.{Runs};
+ghost use Rattle.std.specs.Prelude.{◌≡◌, [], None, true, false, IfOk, OnOk};
+ghost use Rattle.programs.specs.Programs.{as_refusal};
+ghost use Rattle.programs.specs.Moment.{Runs};
 ghost use Rattle.script_lines.specs.Cutting.{FitsSource, Pending, to_come};
 ghost use Rattle.shell_steps.specs.ShellState.{IsReady};
-ghost use Rattle.sqla_shell.specs.Causes.{IsShownBy, stop_refusal};
-ghost use Rattle.sqla_shell.specs.Outcome.{HasWritten, DoesLines, DoesScript, moment_writing};
+ghost use Rattle.sqla_shell.specs.Causes.{CountsFaults, faults, stop_refusal};
+ghost use Rattle.sqla_shell.specs.Outcome.{DoesLines, DoesScript, HasNothingLeft, HasWritten, moment_writing};
 ghost use Rattle.sqla_shell.specs.Reference.{answered, finished, writes};
+ghost use Rattle.sqla_shell.specs.Seen.{Keeps, seen};
 
 use crate::ending::Ending;
 use crate::stop::Stop;
@@ -21,8 +21,7 @@ use std::alloc::Global;
 /// Writes all of a piece.
 pub fn write_all<O: Sink>(sink: &mut O, piece: &[u8]) -> Result<(), Stop>
     ensures bytes { HasWritten (O.written sink.old) piece.now result (O.written sink.new) }
-    ensures faults { O.faults sink.old ≤ O.faults sink.new }
-    ensures cause { IfErr result (λ stop. IsShownBy stop ⊥ (Rose (O.faults sink.old) (O.faults sink.new)) ⊥) }
+    ensures faults { CountsFaults result (faults 0 (O.faults sink.old) 0) (faults 0 (O.faults sink.new) 0) }
 {
     let mut written = 0;
     while written < piece.len() {
@@ -40,12 +39,14 @@ pub fn do_script<S: Source, O: Sink, K: Keeper>(
     keeper: &mut K,
 ) -> Result<Ending, Stop>
     requires ready { IsReady shell.old.stage (K.moment keeper.old) }
-    requires attached { (K.moment keeper.old).attached ≡ true }
-    ensures reference { DoesScript (S.left source.old) (moment_writing K.moment O.written) (shell.old, keeper.old, sink.old) (as_refusal stop_refusal result) (shell.new, keeper.new, sink.new) }
-    ensures faults { (K.moment keeper.old).faults ≤ (K.moment keeper.new).faults }
-    ensures attached { (K.moment keeper.new).attached ≡ true }
-    ensures target { (K.moment keeper.new).target ≡ (K.moment keeper.old).target }
-    ensures cause { IfErr result (λ stop. IsShownBy stop (Rose (S.faults source.old) (S.faults source.new)) (Rose (O.faults sink.old) (O.faults sink.new)) (Rose (K.moment keeper.old).faults (K.moment keeper.new).faults)) }
+    ensures reference { DoesScript (S.left source.old) (moment_writing K.moment O.written)
+        (shell.old, keeper.old, sink.old) (as_refusal stop_refusal result) (shell.new, keeper.new, sink.new) }
+    ensures through { IfOk result (λ ending. ending ≡ Ending.Finished
+        → HasNothingLeft (S.left source.old) (S.left source.new)) }
+    ensures keeps { Keeps
+        (seen (S.left source.old) (S.faults source.old) (O.written sink.old) (O.faults sink.old) (K.moment keeper.old))
+        result
+        (seen (S.left source.new) (S.faults source.new) (O.written sink.new) (O.faults sink.new) (K.moment keeper.new)) }
     ensures outside { IfOk result (λ ending. ending ≡ Ending.Finished → (K.moment keeper.new).depth ≡ 0) }
 {
     let mut lines = LineBuffer::new(alloc);
@@ -65,15 +66,15 @@ fn do_lines<S: Source, O: Sink, K: Keeper>(
 ) -> Result<Ending, Stop>
     requires start { lines.old ≡ record { bytes = []; taken = 0; ended = false } }
     requires ready { IsReady shell.old.stage (K.moment keeper.old) }
-    requires attached { (K.moment keeper.old).attached ≡ true }
-    ensures reference { DoesLines (S.left source.old) (moment_writing K.moment O.written) (shell.old, keeper.old, sink.old) (as_refusal stop_refusal result) (shell.new, keeper.new, sink.new) }
+    ensures reference { DoesLines (S.left source.old) (moment_writing K.moment O.written)
+        (shell.old, keeper.old, sink.old) (as_refusal stop_refusal result) (shell.new, keeper.new, sink.new) }
+    ensures through { IfOk result (λ ending. ending ≡ Ending.Finished
+        → HasNothingLeft (S.left source.old) (S.left source.new)) }
     ensures ready { OnOk result (IsReady shell.new.stage (K.moment keeper.new)) }
-    ensures faults { (K.moment keeper.old).faults ≤ (K.moment keeper.new).faults }
-    ensures attached { (K.moment keeper.new).attached ≡ true }
-    ensures target { (K.moment keeper.new).target ≡ (K.moment keeper.old).target }
-    ensures source_faults { S.faults source.old ≤ S.faults source.new }
-    ensures sink_faults { O.faults sink.old ≤ O.faults sink.new }
-    ensures cause { IfErr result (λ stop. IsShownBy stop (Rose (S.faults source.old) (S.faults source.new)) (Rose (O.faults sink.old) (O.faults sink.new)) (Rose (K.moment keeper.old).faults (K.moment keeper.new).faults)) }
+    ensures keeps { Keeps
+        (seen (S.left source.old) (S.faults source.old) (O.written sink.old) (O.faults sink.old) (K.moment keeper.old))
+        result
+        (seen (S.left source.new) (S.faults source.new) (O.written sink.new) (O.faults sink.new) (K.moment keeper.new)) }
 {
     for _turn in 0..u64::MAX {
         match lines.next_line(source)? {
@@ -93,13 +94,13 @@ fn answer_line<O: Sink, K: Keeper>(
     line: &[u8],
 ) -> Result<(), Stop>
     requires { IsReady shell.old.stage (K.moment keeper.old) }
-    ensures step { Runs (moment_writing K.moment O.written) (λ u. u) (answered line.now tt) (shell.old, keeper.old, sink.old) (as_refusal stop_refusal result) (shell.new, keeper.new, sink.new) }
+    ensures step { Runs (moment_writing K.moment O.written) (λ u. u) (answered line.now tt)
+        (shell.old, keeper.old, sink.old) (as_refusal stop_refusal result) (shell.new, keeper.new, sink.new) }
     ensures ready { OnOk result (IsReady shell.new.stage (K.moment keeper.new)) }
-    ensures sink_faults { O.faults sink.old ≤ O.faults sink.new }
-    ensures faults { (K.moment keeper.old).faults ≤ (K.moment keeper.new).faults }
-    ensures attached { (K.moment keeper.new).attached ≡ true }
-    ensures target { (K.moment keeper.new).target ≡ (K.moment keeper.old).target }
-    ensures cause { IfErr result (λ stop. IsShownBy stop ⊥ (Rose (O.faults sink.old) (O.faults sink.new)) (Rose (K.moment keeper.old).faults (K.moment keeper.new).faults)) }
+    ensures keeps { Keeps
+        (seen None 0 (O.written sink.old) (O.faults sink.old) (K.moment keeper.old))
+        result
+        (seen None 0 (O.written sink.new) (O.faults sink.new) (K.moment keeper.new)) }
 {
     let reply = shell.answer(keeper, line)?;
     write_all(sink, reply.bytes())
@@ -112,14 +113,14 @@ fn finish<O: Sink, K: Keeper>(
     keeper: &mut K,
 ) -> Result<Ending, Stop>
     requires { IsReady shell.old.stage (K.moment keeper.old) }
-    ensures step { Runs (moment_writing K.moment O.written) (λ e. e) finished (shell.old, keeper.old, sink.old) (as_refusal stop_refusal result) (shell.new, keeper.new, sink.new) }
+    ensures step { Runs (moment_writing K.moment O.written) (λ e. e) finished
+        (shell.old, keeper.old, sink.old) (as_refusal stop_refusal result) (shell.new, keeper.new, sink.new) }
     ensures finished { IfOk result (λ ending. ending ≡ Ending.Finished) }
     ensures outside { OnOk result ((K.moment keeper.new).depth ≡ 0) }
-    ensures sink_faults { O.faults sink.old ≤ O.faults sink.new }
-    ensures faults { (K.moment keeper.old).faults ≤ (K.moment keeper.new).faults }
-    ensures attached { (K.moment keeper.new).attached ≡ true }
-    ensures target { (K.moment keeper.new).target ≡ (K.moment keeper.old).target }
-    ensures cause { IfErr result (λ stop. IsShownBy stop ⊥ (Rose (O.faults sink.old) (O.faults sink.new)) (Rose (K.moment keeper.old).faults (K.moment keeper.new).faults)) }
+    ensures keeps { Keeps
+        (seen None 0 (O.written sink.old) (O.faults sink.old) (K.moment keeper.old))
+        result
+        (seen None 0 (O.written sink.new) (O.faults sink.new) (K.moment keeper.new)) }
 {
     let reply = shell.answer_end(keeper)?;
     write_all(sink, reply.bytes())?;

@@ -1,5 +1,7 @@
 //! How a run ends.
 
+ghost use Rattle.std.specs.Prelude.{◌≡◌};
+
 /// How a run ended. Its number is the status of the program.
 #[derive(Clone, Copy, Debug, PartialEq, Eq)]
 pub enum Status {
@@ -22,8 +24,21 @@ pub enum Status {
 }
 
 impl Status {
+    ghost use Rattle.sqla_shell.specs.Causes.{status_code};
+
     /// The number with which the program ends.
-    pub fn code(self) -> u8 {
-        self as u8
+    pub fn code(self) -> u8
+        ensures { result ≡ status_code self }
+    {
+        match self {
+            Status::Done => 0,
+            Status::Refused => 1,
+            Status::Usage => 2,
+            Status::ReadFault => 3,
+            Status::WriteFault => 4,
+            Status::KeeperFault => 5,
+            Status::Memory => 6,
+            Status::TooLong => 7,
+        }
     }
 }

@@ -1,26 +1,30 @@
-use Rattle.std.proofs.Common.{◌≡◌, ◌∙◌, None, subst, sym}
+use Rattle.std.proofs.Common.{◌≡◌, ◌∙◌, ◌∷◌, List, None, ap, subst, sym}
 use Rattle.std.specs.Prelude.{slice_get}
+use Rattle.std.specs.Vec.Iter.{into_iter_items}
+use Rattle.base_core.specs.declared.ids.AttrNo.{AttrNo}
 use Rattle.base_core.specs.declared.ids.ClassId.{ClassId}
+use Rattle.base_core.specs.declared.value.Value.{Value}
 use Rattle.mapper_core.specs.Mapped.{attributes_of}
-use Rattle.object_arena.specs.Graph.{object_at}
-use Rattle.session_core.specs.Making.{mismatch_at}
-use Rattle.session_core.proofs.MakeLemmas.{taken_at, values_more}
+use Rattle.object_arena.specs.Graph.{Graph, object_at}
+use Rattle.session_core.specs.Making.{mismatch_at, with_values}
+use Rattle.session_core.proofs.MakeLemmas.{mismatch_cons}
 use Rattle.session_core.proofs.making.put_values.Goals as goal
 
-pub returns-in_err-put_value-clause-fits : goal.returns-in_err-put_value-clause-fits
-returns-in_err-put_value-clause-fits c = λ mapped fit none.
-    c.put_value.ensures.fits mapped (c.loop-attr.invariant.3 mapped fit none)
-    (subst (λ (k : ClassId). mismatch_at (slice_get (attributes_of mapped k) c.loop-attr-item.result.0.0) c.loop-attr-item.result.1 ≡ None) (sym c.loop-attr.invariant.2)
-    (taken_at (attributes_of mapped (object_at c.args.arena.now c.args.object).class) c.args.cells.now c.loop-attr.attr-index c.loop-attr-item.result none c.loop-attr-test.true c.loop-attr-item.is))
-
 pub loop-attr-preserved : goal.loop-attr-preserved
-loop-attr-preserved c = (
-  values_more c.args.arena.now c.loop-attr.arena c.put_value.new.arena c.args.object c.args.cells.now c.loop-attr.attr-index c.loop-attr-item.result c.loop-attr-test.true c.loop-attr-item.is c.loop-attr.invariant.0 c.in_ok-put_value.ensures.ok,
-  c.in_ok-put_value.ensures.same ∙ c.loop-attr.invariant.1,
-  c.in_ok-put_value.ensures.class ∙ c.loop-attr.invariant.2,
-  λ mapped fit none.
-      c.put_value.ensures.fits mapped (c.loop-attr.invariant.3 mapped fit none)
-      (subst (λ (k : ClassId). mismatch_at (slice_get (attributes_of mapped k) c.loop-attr-item.result.0.0) c.loop-attr-item.result.1 ≡ None) (sym c.loop-attr.invariant.2)
-      (taken_at (attributes_of mapped (object_at c.args.arena.now c.args.object).class) c.args.cells.now c.loop-attr.attr-index c.loop-attr-item.result none c.loop-attr-test.true c.loop-attr-item.is)),
-  c.in_ok-put_value.ensures.classes ∙ c.loop-attr.invariant.4,
-)
+loop-attr-preserved c =
+    let rest : List (AttrNo × Value) = into_iter_items c.next.new.self in
+    let items : into_iter_items c.loop-attr.attr-iterator ≡ (c.in-Some.attr, c.in-Some.value) ∷ rest = c.in-Some.ensures.steps.0 in (
+      tt,
+      tt,
+      ap (λ (g : Graph). with_values g c.args.object rest) c.put_value.ensures.put ∙ sym (ap (with_values c.loop-attr.arena c.args.object) items) ∙ c.loop-attr.invariant.2,
+      c.put_value.ensures.same ∙ c.loop-attr.invariant.3,
+      c.put_value.ensures.class ∙ c.loop-attr.invariant.4,
+      λ mapped fit none.
+          let now = c.loop-attr.invariant.5 mapped fit none in
+          let two = mismatch_cons (attributes_of mapped (object_at c.args.arena.now c.args.object).class) (into_iter_items c.loop-attr.attr-iterator) (c.in-Some.attr, c.in-Some.value) rest items now.1 in (
+            c.put_value.ensures.fits mapped now.0
+                (subst (λ (k : ClassId). mismatch_at (slice_get (attributes_of mapped k) c.in-Some.attr.0) c.in-Some.value ≡ None) (sym c.loop-attr.invariant.4) two.0),
+            two.1,
+          ),
+      c.put_value.ensures.classes ∙ c.loop-attr.invariant.6,
+    )

@@ -1,11 +1,11 @@
 use Rattle.std.proofs.Common.{◌≡◌, length}
 use Rattle.mapper_core.specs.Mapped.{Mapped}
 use Rattle.object_arena.specs.Fit.{IsFit}
-use Rattle.session_core.specs.Flush.{committed}
+use Rattle.session_core.specs.Flush.{object_committed}
 use Rattle.object_arena.proofs.TurnLemmas.{changed_before}
 use Rattle.session_core.proofs.settling.commit_all.Given as goal
 
 abbrev pub invariant-loop-number : goal.invariant-loop-number
 invariant-loop-number l =
-    (l.arena ≡ changed_before committed l.fn.arena l.number) × (length l.arena.objects ≡ length l.fn.arena.objects)
+    (l.arena ≡ changed_before object_committed l.fn.arena l.number) × (length l.arena.objects ≡ length l.fn.arena.objects)
     × ((mapped : Mapped) → IsFit mapped l.fn.arena → IsFit mapped l.arena)

@@ -1,9 +1,8 @@
 use Rattle.std.proofs.Common.{arith, rules, Err}
-use Rattle.keeper_core.specs.Acting.{each}
-use Rattle.keeper_core.specs.Moment.{Runs}
-use Rattle.keeper_core.proofs.Sequence.{passed_on}
+use Rattle.programs.specs.Programs.{each}
+use Rattle.programs.specs.Moment.{Runs}
+use Rattle.programs.proofs.Sequence.{passed_on, unit_err, unit_turn}
 use Rattle.shell_steps.specs.Step.{create_one}
-use Rattle.shell_steps.proofs.Tables.{unit_turn, unit_err}
 use Rattle.shell_steps.proofs.commands.create_each.Goals as goal
 
 pub returns-in_err-create_one-clause-step : goal.returns-in_err-create_one-clause-step

@@ -1,6 +1,6 @@
 use Rattle.std.proofs.Common.{◌≡◌, true, drop}
-use Rattle.keeper_core.specs.Acting.{each}
-use Rattle.keeper_core.specs.Moment.{Reaches}
+use Rattle.programs.specs.Programs.{each}
+use Rattle.programs.specs.Moment.{Reaches}
 use Rattle.shell_steps.specs.Step.{create_one}
 use Rattle.shell_steps.proofs.commands.create_each.Given as goal
 

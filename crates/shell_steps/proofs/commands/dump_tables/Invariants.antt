@@ -1,7 +1,7 @@
 use Rattle.std.proofs.Common.{◌≡◌, true, drop}
 use Rattle.schema_core.specs.DependencyOrder.{table_ids}
-use Rattle.keeper_core.specs.Acting.{each}
-use Rattle.keeper_core.specs.Moment.{Reaches}
+use Rattle.programs.specs.Programs.{each}
+use Rattle.programs.specs.Moment.{Reaches}
 use Rattle.shell_steps.specs.Step.{dump_one, dump_tables}
 use Rattle.shell_steps.proofs.commands.dump_tables.Given as goal
 

@@ -1,12 +1,13 @@
-use Rattle.std.proofs.Common.{◌≡◌, ◌≤◌, true, Ok, Err, refl, sym, ◌∙◌, subst, arith}
+use Rattle.std.proofs.Common.{◌≡◌, ◌≤◌, true, Ok, Err, refl, sym, subst, arith}
 use Rattle.std.specs.Io.KnownBytes.{IsAtEnd}
-use Rattle.keeper_core.specs.Moment.{Runs}
+use Rattle.programs.specs.Moment.{Runs}
 use Rattle.script_lines.specs.Cutting.{IsNextOf, KeepsLimits, to_come}
 use Rattle.shell_steps.specs.ShellState.{ShellState}
 use Rattle.sqla_shell.specs.Causes.{stop_refusal}
 use Rattle.sqla_shell.specs.Outcome.{moment_writing}
 use Rattle.sqla_shell.specs.Reference.{answered}
-use Rattle.sqla_shell.proofs.LinesLemmas.{OnLines, line_done, line_stopped_as, lines_ended, lines_start, lines_too_long}
+use Rattle.sqla_shell.proofs.LinesLemmas.{OnLines, line_done, line_stopped_as, lines_ended, lines_start, lines_too_long, nothing_left}
+use Rattle.sqla_shell.proofs.KeepsLemmas.{beside_source, err_is, keeper_same, keeps_passed, keeps_then, source_read, source_stopped}
 use Rattle.sqla_shell.proofs.script.do_lines.Goals as goal
 
 -- src/script.rt:78:5
@@ -18,11 +19,7 @@ loop-turn-init g c = record {
   few = subst (λ p. p.taken ≤ 16777216) (sym c.requires.start) (omega arith);
   fits = subst (λ p. p.ended ≡ true → IsAtEnd (g.S.Source.left c.args.source.now)) (sym c.requires.start) (λ is. cc);
   ready = c.requires.ready;
-  attached = c.requires.attached;
-  target = refl;
-  keeper_faults = omega arith;
-  source_faults = omega arith;
-  sink_faults = omega arith;
+  keeps = record { faults = (refl, refl, refl); keeper = keeper_same };
 }
 
 -- src/script.rt:80:30
@@ -65,9 +62,25 @@ loop-turn-preserved g c =
       few = limits.2;
       fits = c.in_ok-next_line.ensures.fits;
       ready = c.in_ok-answer_line-in-Line.ensures.ready;
-      attached = c.in_ok-answer_line-in-Line.ensures.attached;
-      target = c.in_ok-answer_line-in-Line.ensures.target ∙ c.loop-turn.invariant.target;
-      keeper_faults = omega (arith, c.loop-turn.invariant.keeper_faults, c.in_ok-answer_line-in-Line.ensures.faults);
-      source_faults = omega (arith, c.loop-turn.invariant.source_faults, c.in_ok-next_line.ensures.faults);
-      sink_faults = omega (arith, c.loop-turn.invariant.sink_faults, c.in_ok-answer_line-in-Line.ensures.sink_faults);
+      keeps = keeps_then c.loop-turn.invariant.keeps (beside_source (c.in_ok-next_line.ensures.quiet (λ is. cc)) c.in_ok-answer_line-in-Line.ensures.keeps);
     }
+
+pub returns-in-End-clause-through : goal.returns-in-End-clause-through
+returns-in-End-clause-through g c = λ is. nothing_left (moment_writing {S = ShellState} g.K.Keeper.moment g.O.Sink.written) (c.args.shell.now, c.args.keeper.now, c.args.sink.now) (c.loop-turn.shell, c.loop-turn.keeper, c.loop-turn.sink)
+    (g.S.Source.left c.args.source.now) c.loop-turn._turn c.loop-turn.lines.taken (to_come c.loop-turn.lines (g.S.Source.left c.loop-turn.source)) c.next_line.new.self.taken c.next_line.new.self.bytes (g.S.Source.left c.next_line.new.source)
+    c.loop-turn.invariant.way
+    (subst (λ a. IsNextOf c.loop-turn.lines.taken (to_come c.loop-turn.lines (g.S.Source.left c.loop-turn.source)) a c.next_line.new.self.taken (to_come c.next_line.new.self (g.S.Source.left c.next_line.new.source))) c.in-End.is c.in_ok-next_line.ensures.next)
+
+pub returns-in-End-clause-keeps : goal.returns-in-End-clause-keeps
+returns-in-End-clause-keeps g c = keeps_then c.loop-turn.invariant.keeps (source_read (c.in_ok-next_line.ensures.quiet (λ is. cc)))
+
+pub returns-in-TooLong-clause-keeps : goal.returns-in-TooLong-clause-keeps
+returns-in-TooLong-clause-keeps g c = keeps_then c.loop-turn.invariant.keeps (source_read (c.in_ok-next_line.ensures.quiet (λ is. cc)))
+
+pub returns-in_err-answer_line-in-Line-clause-keeps : goal.returns-in_err-answer_line-in-Line-clause-keeps
+returns-in_err-answer_line-in-Line-clause-keeps g c =
+    keeps_passed c.from_residual-in_err-answer_line-in-Line.ensures.1 (keeps_then c.loop-turn.invariant.keeps (beside_source (c.in_ok-next_line.ensures.quiet (λ is. cc)) c.in_err-answer_line-in-Line.ensures.keeps))
+
+pub returns-in_err-next_line-clause-keeps : goal.returns-in_err-next_line-clause-keeps
+returns-in_err-next_line-clause-keeps g c =
+    keeps_then c.loop-turn.invariant.keeps (source_stopped c.from_residual.ensures.1 c.in_err-next_line.ensures.faults c.in_err-next_line.ensures.cause (λ apart. c.in_err-next_line.ensures.quiet (λ is. apart (err_is is))))

@@ -1,7 +1,7 @@
 use Rattle.std.proofs.Common.{drop}
 use Rattle.std.specs.List.{All}
-use Rattle.keeper_core.specs.Acting.{each}
-use Rattle.keeper_core.specs.Moment.{Reaches}
+use Rattle.programs.specs.Programs.{each}
+use Rattle.programs.specs.Moment.{Reaches}
 use Rattle.session_core.specs.Flush.{IsUnderKey}
 use Rattle.session_core.specs.SessionState.{IsInStep}
 use Rattle.session_core.specs.Steps.{insert_all, insert_one}

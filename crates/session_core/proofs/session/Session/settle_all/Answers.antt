@@ -5,7 +5,7 @@ use Rattle.std.proofs.lemmas.List.Elements.{All-head}
 use Rattle.mapper_core.specs.Mapped.{Mapped}
 use Rattle.session_core.specs.Flush.{IsUnderKey, Written}
 use Rattle.session_core.specs.SessionState.{SessionState}
-use Rattle.session_core.specs.Steps.{flushed}
+use Rattle.session_core.specs.Steps.{session_flushed}
 use Rattle.session_core.proofs.WriteLemmas.{rest_under_key}
 use Rattle.session_core.proofs.session.Session.settle_all.Goals as goal
 
@@ -26,7 +26,7 @@ loop-object-preserved c =
     rest_under_key c.loop-object.self.mapping c.loop-object.self.graph c.settle_one.new.self.graph (c.in-Some.object, c.in-Some.key) rest (ap (λ (s : SessionState). s.graph) c.in_ok-settle_one.ensures.ok) all in (
       tt,
       tt,
-      ap (flushed rest) c.in_ok-settle_one.ensures.ok ∙ sym (ap (λ (xs : List Written). flushed xs c.loop-object.self) items) ∙ c.loop-object.invariant.2,
+      ap (session_flushed rest) c.in_ok-settle_one.ensures.ok ∙ sym (ap (λ (xs : List Written). session_flushed xs c.loop-object.self) items) ∙ c.loop-object.invariant.2,
       subst (λ (m : Mapped). All (IsUnderKey m c.settle_one.new.self.graph) rest) (sym c.in_ok-settle_one.ensures.same.0) under,
       (c.in_ok-settle_one.ensures.same.0 ∙ c.loop-object.invariant.4.0, c.in_ok-settle_one.ensures.same.1 ∙ c.loop-object.invariant.4.1),
       c.in_ok-settle_one.ensures.scope ∙ c.loop-object.invariant.5,

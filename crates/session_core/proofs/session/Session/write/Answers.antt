@@ -1,5 +1,5 @@
-use Rattle.keeper_core.proofs.Sequence.{passed_on}
-use Rattle.session_core.proofs.RunLemmas.{no_room}
+use Rattle.programs.proofs.Sequence.{passed_on}
+use Rattle.programs.proofs.Lifting.{no_room}
 use Rattle.session_core.proofs.session.Session.write.Goals as goal
 
 pub returns-in_err-statement-clause-step : goal.returns-in_err-statement-clause-step

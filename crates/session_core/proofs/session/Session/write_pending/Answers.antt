@@ -1,5 +1,5 @@
 use Rattle.std.proofs.Common.{◌∙◌, sym}
-use Rattle.keeper_core.proofs.Sequence.{guard_early, guard_lost, guard_refused, passed_on}
+use Rattle.programs.proofs.Sequence.{guard_early, guard_lost, guard_refused, passed_on}
 use Rattle.session_core.specs.Steps.{give_up, write_pending}
 use Rattle.session_core.proofs.session.Session.write_pending.Goals as goal
 

@@ -1,7 +1,7 @@
 use Rattle.std.proofs.Common.{drop}
-use Rattle.keeper_core.specs.Acting.{each}
-use Rattle.keeper_core.specs.Moment.{Reaches}
-use Rattle.shell_steps.specs.Alone.{alone}
+use Rattle.programs.specs.Programs.{each}
+use Rattle.programs.specs.Moment.{Reaches}
+use Rattle.programs.specs.Alone.{alone}
 use Rattle.shell_steps.specs.Naming.{cells_named, give_value}
 use Rattle.shell_steps.proofs.shell.Shell.cells_named.Given as goal
 

@@ -1,6 +1,6 @@
 use Rattle.std.proofs.Common.{◌≡◌, length}
-use Rattle.shell_lines.specs.Lines.{is_end}
-use Rattle.shell_lines.proofs.lines.is_end.Given as goal
+use Rattle.shell_parts.specs.Lines.{is_end}
+use Rattle.shell_parts.proofs.lines.is_end.Given as goal
 
 -- the blanks that were taken count for nothing
 abbrev pub invariant-loop-line : goal.invariant-loop-line

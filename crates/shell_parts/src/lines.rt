@@ -3,7 +3,7 @@
 ghost use Rattle.std.specs.Prelude.{◌≡◌, IfErr};
 ghost use Rattle.base_core.specs.Answers.{Gives};
 ghost use Rattle.script_read.specs.Line.{line as said_by};
-ghost use Rattle.shell_lines.specs.Lines.{IsOfReading, is_built as is_built_line, is_end as is_end_line, is_end_text};
+ghost use Rattle.shell_parts.specs.Lines.{IsOfReading, is_built as is_built_line, is_end as is_end_line, is_end_text};
 ghost use Rattle.std.specs.List.{list_all};
 ghost use Rattle.script_lex.specs.Lex.{is_blank as blank};
 
