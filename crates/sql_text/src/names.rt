@@ -1,0 +1,200 @@
+//! Names as a dialect writes them.
+
+ghost use Rattle.std.specs.Prelude.{◌≡◌, ◌<◌, ◌++◌, ◌∷◌, [], IfOk, string_bytes, map, not};
+ghost use Rattle.std.specs.List.{list_any};
+ghost use Rattle.std.specs.Str.{bytes_eq};
+ghost use Rattle.sql_text.specs.Names as spec;
+
+use std::alloc::{AllocError, Global};
+
+/// A dialect, by its rules of quoting.
+#[derive(Clone, Copy, Debug, PartialEq, Eq)]
+pub enum Quoting {
+    Sqlite,
+    Postgresql,
+    Mysql,
+}
+
+/// The words that are quoted where they are names.
+const RESERVED: [&str; 62] = [
+    "all",
+    "and",
+    "as",
+    "asc",
+    "between",
+    "by",
+    "case",
+    "check",
+    "collate",
+    "column",
+    "constraint",
+    "create",
+    "cross",
+    "default",
+    "delete",
+    "desc",
+    "distinct",
+    "drop",
+    "else",
+    "end",
+    "except",
+    "exists",
+    "foreign",
+    "from",
+    "grant",
+    "group",
+    "having",
+    "in",
+    "index",
+    "insert",
+    "intersect",
+    "into",
+    "is",
+    "join",
+    "key",
+    "left",
+    "like",
+    "limit",
+    "natural",
+    "not",
+    "null",
+    "offset",
+    "on",
+    "or",
+    "order",
+    "primary",
+    "references",
+    "right",
+    "select",
+    "set",
+    "table",
+    "then",
+    "to",
+    "union",
+    "unique",
+    "update",
+    "user",
+    "using",
+    "values",
+    "when",
+    "where",
+    "with",
+];
+
+fn has_word(words: &[&str], name: &str) -> bool
+    ensures { result ≡ list_any (λ word. bytes_eq word.now name.now) words.now }
+{
+    words.iter().any(|word| *word == name)
+}
+
+/// Whether the name is a reserved word.
+fn is_reserved(name: &str) -> bool
+    ensures { result ≡ spec.is_reserved name.now }
+{
+    has_word(&RESERVED, name)
+}
+
+fn is_plain_byte(byte: u8) -> bool
+    ensures { result ≡ spec.is_plain_byte byte }
+{
+    byte.is_ascii_lowercase() || byte.is_ascii_digit() || byte == b'_' || byte == b'$'
+}
+
+fn begins_plain(name: &[u8]) -> bool
+    ensures { result ≡ spec.begins_plain name.now }
+{
+    match name {
+        [] => false,
+        [first, ..] => !first.is_ascii_digit() && *first != b'$',
+    }
+}
+
+fn has_odd_byte(name: &[u8]) -> bool
+    ensures { result ≡ list_any (λ byte. not (spec.is_plain_byte byte)) name.now }
+{
+    name.iter().any(|byte| !is_plain_byte(*byte))
+}
+
+/// Whether the name is quoted where it stands in a text.
+#[tactic(auto, unfolding(crate::specs::Names::needs_quotes))]
+pub(crate) fn needs_quotes(name: &str) -> bool
+    ensures { result ≡ spec.needs_quotes name.now }
+{
+    !begins_plain(name.as_bytes()) || has_odd_byte(name.as_bytes()) || is_reserved(name)
+}
+
+fn quote_of(quoting: Quoting) -> char
+    ensures quote { result ≡ spec.quote_of quoting }
+    ensures ascii { result < 128 }
+{
+    match quoting {
+        Quoting::Sqlite | Quoting::Postgresql => '"',
+        Quoting::Mysql => '`',
+    }
+}
+
+/// The text with each of these bytes doubled.
+fn doubled(alloc: Global, mark: char, text: &str) -> Result<String, AllocError>
+    requires { mark < 128 }
+    ensures { IfOk result (λ shown. string_bytes shown ≡ spec.doubled mark text.now) }
+{
+    let mut shown = String::new(alloc);
+    let mut rest = text;
+    while let Some((before, after)) = rest.split_once(mark) {
+        shown.push_str(before)?;
+        shown.push(mark)?;
+        shown.push(mark)?;
+        rest = after;
+    }
+    shown.push_str(rest)?;
+    Ok(shown)
+}
+
+/// The text with `%` doubled, where the dialect's marks begin with it.
+fn with_percents(alloc: Global, quoting: Quoting, text: &str) -> Result<String, AllocError>
+    ensures { IfOk result (λ shown. string_bytes shown ≡ spec.with_percents quoting text.now) }
+{
+    match quoting {
+        Quoting::Sqlite => String::from_str(alloc, text),
+        Quoting::Postgresql | Quoting::Mysql => doubled(alloc, '%', text),
+    }
+}
+
+/// The name in quotes.
+pub(crate) fn quoted(alloc: Global, quoting: Quoting, name: &str) -> Result<String, AllocError>
+    ensures { IfOk result (λ shown. string_bytes shown ≡ spec.quoted quoting name.now) }
+{
+    let quote = quote_of(quoting);
+    let inner = doubled(alloc, quote, with_percents(alloc, quoting, name)?.as_str())?;
+    let mut shown = String::new(alloc);
+    shown.push(quote)?;
+    shown.push_str(inner.as_str())?;
+    shown.push(quote)?;
+    Ok(shown)
+}
+
+fn cleaned_byte(byte: u8) -> u8
+    ensures cleaned { result ≡ spec.cleaned_byte byte }
+    ensures ascii { result < 128 }
+{
+    if byte.is_ascii_lowercase()
+        || byte.is_ascii_uppercase()
+        || byte.is_ascii_digit()
+        || byte == b'_'
+    {
+        byte
+    } else {
+        b'_'
+    }
+}
+
+/// The base name of a mark: bytes other than letters, digits and `_` become `_`.
+pub(crate) fn cleaned(alloc: Global, base: &str) -> Result<String, AllocError>
+    ensures { IfOk result (λ clean. string_bytes clean ≡ map spec.cleaned_byte base.now) }
+{
+    let mut clean = String::new(alloc);
+    for byte in base.as_bytes() {
+        clean.push(cleaned_byte(*byte) as char)?;
+    }
+    Ok(clean)
+}

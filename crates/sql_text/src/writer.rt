@@ -1,0 +1,208 @@
+//! A text as it is written, piece by piece.
+
+ghost use Rattle.std.specs.Prelude.{◌≡◌, ◌∷◌, [], IfOk, IfErr, OnOk, OnErr, string_bytes};
+ghost use Rattle.base_core.specs.declared.refusal.Refusal.TheVariants.{Memory};
+ghost use Rattle.sql_text.specs.Written as spec;
+ghost use Rattle.sql_text.specs.Written.{Wrote, nothing, numbered};
+
+use crate::Quoting;
+use crate::bases::Bases;
+use crate::names::{cleaned, needs_quotes, quoted};
+use base_core::{Copied, ListOf, Name, Refusal, RowValues, Text, Value};
+use std::alloc::{AllocError, Global};
+use std::marker::Model;
+
+/// A statement's text, the names of its marks and their values, in the order of the text.
+#[derive(Drop)]
+pub struct Compiled {
+    pub text: Text,
+    pub names: ListOf<Name>,
+    pub values: RowValues,
+}
+
+/// A text as it is written, with its marks and their values.
+#[derive(Drop)]
+pub struct Writer {
+    alloc: Global,
+    quoting: Quoting,
+    text: String,
+    bases: Bases,
+    names: Vec<Name>,
+    values: Vec<Value>,
+}
+
+impl Model for Writer {
+    ghost use Rattle.std.specs.Prelude.{string_bytes};
+    ghost use Rattle.sql_text.specs.Written.{Written};
+
+    ghost Value = { Written };
+
+    ghost view = { λ w. record { quoting = w.quoting; text = string_bytes w.text; bases = w.bases; names = w.names.items; values = w.values.items } };
+}
+
+/// A mark's name.
+fn numbered(alloc: Global, base: &str, number: u64) -> Result<Name, AllocError>
+    ensures { IfOk result (λ shown. shown ≡ numbered base.now number) }
+{
+    Ok(Name::new(format!(in alloc; "{base}_{number}")?))
+}
+
+/// A mark of a name as it stands in a text.
+fn mark_text(alloc: Global, quoting: Quoting, shown: &str) -> Result<String, AllocError>
+    ensures { IfOk result (λ text. string_bytes text ≡ spec.mark_text quoting shown.now) }
+{
+    match quoting {
+        Quoting::Sqlite => String::from_str(alloc, "?"),
+        Quoting::Postgresql => format!(in alloc; "%({shown})s"),
+        Quoting::Mysql => String::from_str(alloc, "%s"),
+    }
+}
+
+/// Copies of the items.
+fn copies<T: Copied + Drop>(alloc: Global, items: &[T]) -> Result<Vec<T>, AllocError>
+    ensures { IfOk result (λ copy. copy.items ≡ items.now) }
+{
+    let mut copy = Vec::with_capacity(alloc, items.len())?;
+    for item in items {
+        copy.push(item.copied()?)?;
+    }
+    Ok(copy)
+}
+
+impl Writer {
+    /// Nothing is written yet.
+    pub fn new(alloc: Global, quoting: Quoting) -> Writer
+        ensures { result ≡ nothing quoting }
+    {
+        Writer {
+            alloc,
+            quoting,
+            text: String::new(alloc),
+            bases: Bases::new(alloc),
+            names: Vec::new(alloc),
+            values: Vec::new(alloc),
+        }
+    }
+
+    /// The dialect.
+    pub fn quoting(&self) -> Quoting
+        ensures { result ≡ self.now.quoting }
+    {
+        self.quoting
+    }
+
+    /// The allocator of what is written.
+    pub fn alloc(&self) -> Global {
+        self.alloc
+    }
+
+    /// The words are appended as they are. The only refusal is that memory ran out, and it leaves all as it was.
+    #[tactic(auto, unfolding(crate::specs::Written::put, crate::specs::Written::put_all))]
+    pub fn put_words(&mut self, words: &str) -> Result<(), Refusal>
+        ensures wrote { Wrote (spec.words words.now ∷ []) result self.old self.new }
+        ensures kept { OnErr result (self.new ≡ self.old) }
+    {
+        self.text.push_str(words)?;
+        Ok(())
+    }
+
+    /// The name is appended, quoted where it is to be. The only refusal is that memory ran out, and it leaves all as
+    /// it was.
+    pub fn put_name(&mut self, name: &Name) -> Result<(), Refusal>
+        ensures wrote { Wrote (spec.name name.now ∷ []) result self.old self.new }
+        ensures kept { OnErr result (self.new ≡ self.old) }
+    {
+        self.put_shown(name.get())
+    }
+
+    #[tactic(auto, unfolding(crate::specs::Written::put, crate::specs::Written::put_all, crate::specs::Names::name_text))]
+    pub(crate) fn put_shown(&mut self, name: &str) -> Result<(), Refusal>
+        ensures wrote { Wrote (spec.name name.now ∷ []) result self.old self.new }
+        ensures kept { OnErr result (self.new ≡ self.old) }
+    {
+        if needs_quotes(name) {
+            let shown = quoted(self.alloc, self.quoting, name)?;
+            self.text.push_str(shown.as_str())?;
+        } else {
+            self.text.push_str(name)?;
+        }
+        Ok(())
+    }
+
+    /// The next mark under this base name is appended, with the value as its parameter. The only refusal is that memory
+    /// ran out, and it leaves all as it was.
+    pub fn put_value(&mut self, base: &Name, value: &Value) -> Result<(), Refusal>
+        ensures wrote { Wrote (spec.value base.now value.now ∷ []) result self.old self.new }
+        ensures kept { OnErr result (self.new ≡ self.old) }
+    {
+        self.put_mark(base.get(), value)
+    }
+
+    #[tactic(auto, unfolding(crate::specs::Written::put, crate::specs::Written::put_all))]
+    pub(crate) fn put_mark(&mut self, base: &str, value: &Value) -> Result<(), Refusal>
+        ensures wrote { Wrote (spec.value base.now value.now ∷ []) result self.old self.new }
+        ensures kept { OnErr result (self.new ≡ self.old) }
+    {
+        let base = cleaned(self.alloc, base)?;
+        self.put_next(base, value.copied()?)
+    }
+
+    /// The next mark under a base name that is clean.
+    fn put_next(&mut self, base: String, value: Value) -> Result<(), Refusal>
+        ensures ok { OnOk result (self.new ≡ spec.put_value self.old (string_bytes base) value) }
+        ensures cause { IfErr result (λ e. e ≡ Memory) }
+        ensures kept { OnErr result (self.new ≡ self.old) }
+    {
+        let number = self.bases.next(base.as_str())?;
+        let name = numbered(self.alloc, base.as_str(), number)?;
+        let shown = mark_text(self.alloc, self.quoting, name.get())?;
+        self.names.reserve(1)?;
+        self.values.reserve(1)?;
+        self.text.reserve(shown.len())?;
+        self.bases.push(base, number)?;
+        let Ok(()) = self.text.push_str(shown.as_str()) else {
+            unreachable!();
+        };
+        self.names.push_reserved(name);
+        self.values.push_reserved(value);
+        Ok(())
+    }
+
+    /// The same in memory of its own.
+    pub(crate) fn copied(&self) -> Result<Writer, Refusal>
+        ensures ok { IfOk result (λ copy. copy ≡ self.now) }
+        ensures cause { IfErr result (λ e. e ≡ Memory) }
+    {
+        let text = self.text.clone()?;
+        let bases = self.bases.copied(self.alloc)?;
+        let names = copies(self.alloc, self.names.as_slice())?;
+        let values = copies(self.alloc, self.values.as_slice())?;
+        Ok(Writer {
+            alloc: self.alloc,
+            quoting: self.quoting,
+            text,
+            bases,
+            names,
+            values,
+        })
+    }
+
+    /// What was appended.
+    pub fn finish(self) -> Compiled
+        ensures { result ≡ spec.compiled self }
+    {
+        let Writer {
+            alloc: _,
+            quoting: _,
+            text,
+            bases: _,
+            names,
+            values,
+        } = self;
+        Compiled {
+            text: Text::new(text),
+            names: ListOf::from_vec(names),
+            values: ListOf::from_vec(values),
+        }
+    }
+}
