@@ -1,0 +1,132 @@
+#!/usr/bin/env python3
+"""gate_cost.py LOG: the processor seconds that each crate's proof, tests and wrong bodies took in a run of the gate, dearest crates first.
+
+    tools/gate_cost.py LOG -- rt ci         runs the gate, notes what its processes use in LOG, and prints the table
+    tools/gate_cost.py LOG                  prints the table of a LOG that was noted before
+
+The gate's own output, which tells no seconds, stands in LOG too, a line each as it came. Beside it stand lines
+
+    cost CRATE PART PROCESS SECONDS
+
+one for each process of the prover that ended: PART is `proof`, `tests` or `edits`, SECONDS are user and system. They are read once in
+a while from /proc, so a process is told up to a step short (STEP seconds). Only processes that the gate started are counted. What `rt ci`
+kept from an earlier run costs nothing: for the whole cost run it with nothing kept, or with `--anew`.
+"""
+import collections
+import os
+import re
+import subprocess
+import sys
+import threading
+import time
+
+STEP = 0.5
+TICKS = os.sysconf("SC_CLK_TCK")
+PARTS = ("proof", "tests", "edits")
+
+
+def read(path):
+    try:
+        with open(path, "rb") as it:
+            return it.read()
+    except OSError:
+        return b""
+
+
+def processes():
+    """Returns each process with its parent and the seconds that it has used, those of children that ended not among them."""
+    found = {}
+    for name in os.listdir("/proc"):
+        if name.isdigit():
+            fields = read(f"/proc/{name}/stat").rpartition(b")")[2].split()
+            if len(fields) > 12:
+                found[int(name)] = int(fields[1]), (int(fields[11]) + int(fields[12])) / TICKS
+    return found
+
+
+def is_below(number, top, parents):
+    while number in parents and number != top:
+        number = parents[number][0]
+    return number == top
+
+
+def of_prover(number):
+    """Returns the crate and part that a process of the prover works at, if it is one."""
+    words = read(f"/proc/{number}/cmdline").decode(errors="replace").split("\0")
+    if not words[0].endswith("/rattle") or "--crate-name" not in words:
+        return None
+    crate = words[words.index("--crate-name") + 1]
+    try:
+        room = os.readlink(f"/proc/{number}/cwd")
+    except OSError:
+        room = ""
+    is_edit = "rt-edit" in room or any("rt-edit" in word for word in words)
+    return crate, "edits" if is_edit else "tests" if "--test" in words else "proof"
+
+
+def watch(top, out):
+    """Notes the seconds of each process of the prover below the top one, when it has ended."""
+    known, used = {}, {}
+    while True:
+        now = processes()
+        for number, (_, seconds) in now.items():
+            if not known.get(number) and is_below(number, top, now):
+                # (a process is a copy of its parent before it is the prover)
+                known[number] = of_prover(number)
+            if known.get(number):
+                used[number] = seconds
+        for number in [it for it in used if it not in now]:
+            crate, part = known.pop(number)
+            out(f"cost {crate} {part} {number} {used.pop(number):.2f}")
+        if top not in now:
+            return
+        time.sleep(STEP)
+
+
+def run(log, words):
+    alone = threading.Lock()
+    with open(log, "w", encoding="utf-8") as file:
+
+        def out(line):
+            with alone:
+                print(line, file=file, flush=True)
+
+        gate = subprocess.Popen(words, stdout=subprocess.PIPE, stderr=subprocess.STDOUT, text=True, errors="replace")
+        watcher = threading.Thread(target=watch, args=(gate.pid, out))
+        watcher.start()
+        for line in gate.stdout:
+            print(line, end="", flush=True)
+            out(line.rstrip("\n"))
+        status = gate.wait()
+        watcher.join()
+    return status
+
+
+def table(log):
+    seconds, edits = collections.defaultdict(collections.Counter), collections.Counter()
+    with open(log, encoding="utf-8", errors="replace") as it:
+        for line in it:
+            found = re.fullmatch(r"cost (\w+) (\w+) \d+ ([\d.]+)\n?", line)
+            if found:
+                seconds[found[1]][found[2]] += float(found[3])
+            found = re.match(r"rt: must-fail (\w+)/\S+: refused", line)
+            if found:
+                edits[found[1]] += 1
+    rows = sorted(seconds.items(), key=lambda row: -sum(row[1].values()))
+    print(f"{'crate':<20}" + "".join(f"{part:>9}" for part in PARTS) + f"{'all':>9}{'refused':>9}")
+    for crate, of in rows:
+        print(f"{crate:<20}" + "".join(f"{of[part]:>9.0f}" for part in PARTS) + f"{sum(of.values()):>9.0f}{edits[crate]:>9}")
+    whole = [sum(of[part] for _, of in rows) for part in PARTS]
+    print(f"{'all':<20}" + "".join(f"{it:>9.0f}" for it in whole) + f"{sum(whole):>9.0f}{sum(edits.values()):>9}")
+
+
+def main(words):
+    if not words or "--" in words[:1] or len(words) > 1 and (words[1] != "--" or len(words) < 3):
+        sys.exit(__doc__)
+    status = run(words[0], words[2:]) if len(words) > 1 else 0
+    table(words[0])
+    return status
+
+
+if __name__ == "__main__":
+    sys.exit(main(sys.argv[1:]))
