@@ -31,9 +31,13 @@ repeats_name tables spec =
 abbrev pub has_column : List ColumnSpec → List ℕ → Bool
 has_column columns name = list_any (λ column. same_name column.name name) columns
 
+-- one of the names is no column
+abbrev pub names_unknown : List ColumnSpec → List (List ℕ) → Bool
+names_unknown columns names = list_any (λ name. not (has_column columns name)) names
+
 -- a list of columns has a name that is none
 abbrev pub lists_unknown : TableSpec → Bool
-lists_unknown spec = some_list (list_any (λ name. not (has_column spec.columns name))) spec
+lists_unknown spec = some_list (names_unknown spec.columns) spec
 
 abbrev pub has_key : TableSpec → Bool
 has_key spec = list_any (λ column. column.key) spec.columns

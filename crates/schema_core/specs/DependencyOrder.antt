@@ -29,10 +29,14 @@ least_left schema placed test = find (λ table. not (is_among placed table) && t
 unfoldable pub next_table : Catalog → List TableId → Option TableId
 next_table schema placed = option_or (least_left schema placed (is_ready schema placed)) (least_left schema placed (λ table. true))
 
+-- these and the table that comes after them
+abbrev pub and_next : Catalog → List TableId → List TableId
+and_next schema placed = placed ++ option_to_list (next_table schema placed)
+
 -- the first tables of the order, so many
 unfoldable pub first_tables : Catalog → ℕ → List TableId
 first_tables schema zero = []
-first_tables schema (suc n) = first_tables schema n ++ option_to_list (next_table schema (first_tables schema n))
+first_tables schema (suc n) = and_next schema (first_tables schema n)
 
 -- all declared tables in their order
 unfoldable pub dependency_order : Catalog → List TableId

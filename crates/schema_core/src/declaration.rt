@@ -3,7 +3,7 @@
 ghost use Rattle.std.specs.Prelude.{◌≡◌, ◌<◌, length, not, IfSome};
 ghost use Rattle.std.specs.List.{list_any, position};
 ghost use Rattle.schema_core.specs.Catalog.{same_name, same_kind, kind_of, has_name};
-ghost use Rattle.schema_core.specs.Declaration.{declaration_fault, repeats_name, some_two, has_column, lists_unknown, has_key, shares_one, some_list};
+ghost use Rattle.schema_core.specs.Declaration.{declaration_fault, repeats_name, some_two, has_column, names_unknown, lists_unknown, has_key, shares_one, some_list};
 
 use crate::{ColumnKind, ColumnSpec, ForeignSpec, TableSpec};
 use base_core::{ArgumentKind, Kind, ListOf, Name};
@@ -135,7 +135,7 @@ pub fn misses_column(columns: &[ColumnSpec], names: &[Name]) -> bool
 
 /// Whether a unique constraint lists what is no column.
 fn some_unique_misses(columns: &[ColumnSpec], uniques: &[ListOf<Name>]) -> bool
-    ensures { result ≡ list_any (list_any (λ name. not (has_column columns.now name))) uniques.now }
+    ensures { result ≡ list_any (names_unknown columns.now) uniques.now }
 {
     uniques
         .iter()
@@ -144,7 +144,7 @@ fn some_unique_misses(columns: &[ColumnSpec], uniques: &[ListOf<Name>]) -> bool
 
 /// Whether a foreign key lists what is no column.
 fn some_foreign_misses(columns: &[ColumnSpec], foreigns: &[ForeignSpec]) -> bool
-    ensures { result ≡ list_any (λ foreign. list_any (λ name. not (has_column columns.now name)) foreign.columns) foreigns.now }
+    ensures { result ≡ list_any (λ foreign. names_unknown columns.now foreign.columns) foreigns.now }
 {
     foreigns.iter().any(|foreign| misses_column(columns, foreign.columns.as_slice()))
 }

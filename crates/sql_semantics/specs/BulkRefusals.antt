@@ -31,7 +31,7 @@ abbrev pub has_expressions : Bulk → Bool
 has_expressions (bulk.Insert table columns values) = false
 has_expressions statement = true
 
--- a table of the statement's text, a result outside 64 bits, a rule of the written table, or want of memory
+-- a table of the statement's text, a result outside 64 bits, a rule of the written table, or no memory
 abbrev pub CanRefuse : Bulk → Refusal → Type 0
 CanRefuse statement (OperationalError absent) = IsTrue (list_any (λ t. t == absent.0) (tables_of statement))
 CanRefuse statement (DataError op a b) = IsTrue (has_expressions statement)
