@@ -1,10 +1,10 @@
 //! The declared tables.
 
-ghost use Rattle.std.specs.Prelude.{◌≡◌, ◌<◌, ◌++◌, [], ◌∷◌, length, true, false, Some, IfErr};
+ghost use Rattle.std.specs.Prelude.{◌≡◌, ◌<◌, ◌++◌, [], ◌∷◌, length, true, false, Some, None, Err, IfErr};
 ghost use Rattle.base_core.specs.Answers.{Takes};
 ghost use Rattle.schema_core.specs.Catalog.{find_table, spec_of, foreign_of, target_of, IsTable, has_generated_key};
-ghost use Rattle.schema_core.specs.Declaration.{declare, has_targets, resolve};
-ghost use Rattle.base_core.specs.declared.refusal.Refusal.TheVariants.{ArgumentError};
+ghost use Rattle.schema_core.specs.Declaration.{declaration_fault, declare, has_targets, resolve};
+ghost use Rattle.base_core.specs.declared.refusal.Refusal.TheVariants.{ArgumentError, Memory};
 ghost use Rattle.base_core.specs.declared.refusal.ArgumentKind.TheVariants.{BadTarget};
 
 use crate::declaration::{fault_of, place_of};
@@ -82,11 +82,12 @@ impl Schema {
     /// # Errors
     /// `ArgumentError` with the first that holds: `DuplicateName` (the table's name is taken, or a column stands twice,
     /// or a column twice in a list), `UnknownColumn` (a unique constraint or a foreign key lists a name that is no
-    /// column), `NoPrimaryKey` (no column is flagged), `SharedColumn` (two foreign keys share a column). A refusal
-    /// changes nothing.
+    /// column), `NoPrimaryKey` (no column is flagged), `SharedColumn` (two foreign keys share a column); `Memory` where
+    /// none of these holds. A refusal changes nothing.
     pub fn declare_table(&mut self, spec: TableSpec) -> Result<TableId, Refusal>
         requires { length self.old.tables < 4294967295 }
-        ensures { Takes (λ table. table) (declare self.old spec) self.old result self.new }
+        ensures step { Takes (λ table. table) (declare self.old spec) self.old result self.new }
+        ensures sound { result ≡ Err Memory → declaration_fault self.old.tables spec ≡ None }
     {
         if let Some(fault) = fault_of(self.tables.as_slice(), &spec) {
             return Err(Refusal::ArgumentError(fault));
