@@ -22,7 +22,8 @@ fn of_expression(e: &Option<Expr>, found: &mut Vec<u32>) -> Result<(), AllocErro
 
 #[tactic(auto, using(crate::proofs::Behind::all_named))]
 fn of_cells(cells: &[(ColumnNo, Option<Expr>)], found: &mut Vec<u32>) -> Result<(), AllocError>
-    ensures { OnOk result (found.new.items ≡ found.old.items ++ flat (map (λ cell. named_where cell.1) cells.now)) }
+    ensures { OnOk result (found.new.items
+        ≡ found.old.items ++ flat (map (λ cell. named_where cell.1) cells.now)) }
 {
     for cell in cells {
         of_expression(&cell.1, found)?;

@@ -37,7 +37,8 @@ fn add_row(
     entry: &(Key, RowValues),
     taken: bool,
 ) -> Result<Vec<(Key, RowValues)>, Refusal>
-    ensures { Gives (λ v. v.items) result (spec.one_more tables.now written.now done.items entry.now taken) }
+    ensures { Gives (λ v. v.items) result
+        (spec.one_more tables.now written.now done.items entry.now taken) }
 {
     let mut done = done;
     if taken {
@@ -54,7 +55,8 @@ fn updated_rows(
     filter: &Option<Expr>,
     rows: &[(Key, RowValues)],
 ) -> Result<Vec<(Key, RowValues)>, Refusal>
-    ensures { Gives (λ v. v.items) result (spec.updated_from tables.now written.now filter.now [] rows.now) }
+    ensures { Gives (λ v. v.items) result
+        (spec.updated_from tables.now written.now filter.now [] rows.now) }
 {
     let mut done = Vec::new(alloc);
     for entry in rows {
@@ -76,7 +78,8 @@ pub fn updated(
     filter: &Option<Expr>,
     rows: &ListOf<(Key, RowValues)>,
 ) -> Result<ListOf<(Key, RowValues)>, Refusal>
-    ensures { Gives (λ x. x) result (spec.updated_from tables.now written.now filter.now [] rows.now) }
+    ensures { Gives (λ x. x) result
+        (spec.updated_from tables.now written.now filter.now [] rows.now) }
 {
     Ok(ListOf::from_vec(updated_rows(
         alloc,
@@ -89,7 +92,8 @@ pub fn updated(
 
 /// The key goes to the end where its row is taken.
 fn add_key(done: &mut Vec<Key>, key: &Key, taken: bool) -> Result<(), AllocError>
-    ensures { OnOk result (done.new.items ≡ (if taken then done.old.items ++ key.now ∷ [] else done.old.items)) }
+    ensures { OnOk result (done.new.items
+        ≡ (if taken then done.old.items ++ key.now ∷ [] else done.old.items)) }
 {
     if taken {
         done.push(key.copied()?)?;

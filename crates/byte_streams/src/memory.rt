@@ -37,7 +37,8 @@ impl MemSource {
     /// A source of these bytes; its reads of these numbers, from 1, fail. The only refusal is that memory ran out.
     pub fn new(alloc: Global, bytes: &[u8], failing: &[u64]) -> Result<MemSource, Refusal>
         ensures cause { IfErr result (λ e. e ≡ Memory) }
-        ensures made { IfOk result (λ s. s ≡ record { left = bytes.now; calls = 0; failing = failing.now; faults = 0 }) }
+        ensures made { IfOk result
+            (λ s. s ≡ record { left = bytes.now; calls = 0; failing = failing.now; faults = 0 }) }
     {
         Ok(MemSource {
             bytes: Vec::from_slice(alloc, bytes)?,
@@ -108,7 +109,8 @@ impl MemSink {
     /// An empty sink; its writes of these numbers, from 1, fail. The only refusal is that memory ran out.
     pub fn new(alloc: Global, failing: &[u64]) -> Result<MemSink, Refusal>
         ensures cause { IfErr result (λ e. e ≡ Memory) }
-        ensures made { IfOk result (λ s. s ≡ record { written = []; calls = 0; failing = failing.now; faults = 0 }) }
+        ensures made { IfOk result
+            (λ s. s ≡ record { written = []; calls = 0; failing = failing.now; faults = 0 }) }
     {
         Ok(MemSink {
             bytes: Vec::new(alloc),
@@ -134,7 +136,8 @@ impl Sink for MemSink {
     fn write(&mut self, piece: &[u8]) -> Result<usize, SinkStop>
         ensures bound { WritesAtMost result piece.now }
         ensures takes { IfOk result (λ n. 0 < length piece.now → 0 < n) }
-        ensures bytes { WriteAppends (Some self.old.written) (Some self.new.written) result piece.now }
+        ensures bytes { WriteAppends (Some self.old.written)
+            (Some self.new.written) result piece.now }
         ensures later { self.old.faults ≤ self.new.faults }
         ensures cause { IsErrOf result SinkStop.Fault → Rose self.old.faults self.new.faults }
         ensures quiet { result ≢ Err SinkStop.Fault → self.new.faults ≡ self.old.faults }

@@ -28,7 +28,8 @@ impl<R: Read + Drop> StdSource<R> {
     /// Keeps what the reader answered, and counts its failure.
     fn counted(&mut self, answer: io::Result<usize>) -> Result<usize, ReadFault>
         ensures kept { MatchResult answer (λ count. result ≡ Ok count) (λ _. IsErr result) }
-        ensures counts { self.new ≡ record self.old { faults = count_after (is_ok answer) self.old.faults } }
+        ensures counts { self.new
+            ≡ record self.old { faults = count_after (is_ok answer) self.old.faults } }
         ensures later { self.old.faults ≤ self.new.faults }
     {
         match answer {
@@ -48,7 +49,8 @@ impl<R: Read + Drop> Source for StdSource<R> {
 
     fn read(&mut self, buffer: &mut [u8]) -> Result<usize, ReadFault>
         ensures bound { ReadsAtMost result buffer.new }
-        ensures bytes { ReadConsumes (R.remaining self.old.reader) (R.remaining self.new.reader) result buffer.new }
+        ensures bytes { ReadConsumes (R.remaining self.old.reader)
+            (R.remaining self.new.reader) result buffer.new }
         ensures later { self.old.faults ≤ self.new.faults }
         ensures cause { IsErr result → Rose self.old.faults self.new.faults }
         ensures quiet { IsOk result → self.new.faults ≡ self.old.faults }
@@ -77,8 +79,10 @@ impl<W: Write + Drop> StdSink<W> {
 
     /// Keeps what the writer answered to a piece that is empty or not, and counts its failure, or that it took no byte of some.
     fn counted(&mut self, answer: io::Result<usize>, nothing: bool) -> Result<usize, SinkStop>
-        ensures kept { MatchResult answer (λ count. result ≡ written_of nothing count) (λ _. result ≡ Err SinkStop.Fault) }
-        ensures counts { self.new ≡ record self.old { faults = count_after (is_ok result) self.old.faults } }
+        ensures kept { MatchResult answer (λ count. result ≡ written_of nothing count)
+            (λ _. result ≡ Err SinkStop.Fault) }
+        ensures counts { self.new
+            ≡ record self.old { faults = count_after (is_ok result) self.old.faults } }
         ensures later { self.old.faults ≤ self.new.faults }
     {
         match answer {
@@ -99,7 +103,8 @@ impl<W: Write + Drop> Sink for StdSink<W> {
     fn write(&mut self, piece: &[u8]) -> Result<usize, SinkStop>
         ensures bound { WritesAtMost result piece.now }
         ensures takes { IfOk result (λ n. 0 < length piece.now → 0 < n) }
-        ensures bytes { WriteAppends (W.contents self.old.writer) (W.contents self.new.writer) result piece.now }
+        ensures bytes { WriteAppends (W.contents self.old.writer)
+            (W.contents self.new.writer) result piece.now }
         ensures later { self.old.faults ≤ self.new.faults }
         ensures cause { IsErrOf result SinkStop.Fault → Rose self.old.faults self.new.faults }
         ensures quiet { result ≢ Err SinkStop.Fault → self.new.faults ≡ self.old.faults }

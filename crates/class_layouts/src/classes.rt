@@ -51,7 +51,12 @@ fn push_class(
     spec: ClassSpec,
     line: ListOf<ClassId>,
 ) -> Result<(), Refusal>
-    ensures ok { OnOk result (classes.new ≡ record { specs = classes.old.specs ++ spec ∷ []; lines = classes.old.lines ++ line ∷ [] }) }
+    ensures ok { OnOk result (classes.new
+        ≡ record {
+          specs = classes.old.specs ++ spec ∷ [];
+          lines = classes.old.lines
+              ++ line ∷ [];
+        }) }
     ensures err { OnErr result (classes.new ≡ classes.old) }
     ensures cause { IfErr result (λ e. e ≡ Memory) }
 {
@@ -68,7 +73,10 @@ fn push_class(
 
 /// The last class is taken back.
 fn pop_class(alloc: Global, classes: &mut Classes, count: usize)
-    ensures { classes.new ≡ record { specs = take count classes.old.specs; lines = take count classes.old.lines } }
+    ensures { classes.new ≡ record {
+      specs = take count classes.old.specs;
+      lines = take count classes.old.lines;
+    } }
 {
     keep_first(alloc, &mut classes.specs, count);
     keep_first(alloc, &mut classes.lines, count);
@@ -86,7 +94,8 @@ pub fn declare(
     spec: ClassSpec,
 ) -> Result<(), Refusal>
     requires { length classes.old.lines ≡ length classes.old.specs }
-    ensures { Takes (λ _. tt) (declare (rules_of hooks.now) schema.now.tables classes.old spec) classes.old result classes.new }
+    ensures { Takes (λ _. tt) (declare
+        (rules_of hooks.now) schema.now.tables classes.old spec) classes.old result classes.new }
 {
     let count = classes.specs.len();
     let line = new_line(alloc, classes, &spec)?;

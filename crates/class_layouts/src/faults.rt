@@ -28,7 +28,8 @@ use std::alloc::Global;
 
 /// The names of relationships go behind others.
 fn push_relation_names(names: &mut ListOf<Name>, relations: &[RelationSpec]) -> Result<(), Refusal>
-    ensures ok { OnOk result (names.new ≡ names.old ++ map (λ relation. relation.name) relations.now) }
+    ensures ok { OnOk result (names.new
+        ≡ names.old ++ map (λ relation. relation.name) relations.now) }
     ensures err { IfErr result (λ e. e ≡ Memory) }
 {
     for relation in relations {
@@ -39,7 +40,8 @@ fn push_relation_names(names: &mut ListOf<Name>, relations: &[RelationSpec]) -> 
 
 /// The names of attributes go behind others.
 fn push_attribute_names(names: &mut ListOf<Name>, attributes: &[Attribute]) -> Result<(), Refusal>
-    ensures ok { OnOk result (names.new ≡ names.old ++ map (λ attribute. attribute.name) attributes.now) }
+    ensures ok { OnOk result (names.new
+        ≡ names.old ++ map (λ attribute. attribute.name) attributes.now) }
     ensures err { IfErr result (λ e. e ≡ Memory) }
 {
     for attribute in attributes {
@@ -55,7 +57,9 @@ fn relation_names(
     classes: &Classes,
     line: &[ClassId],
 ) -> Result<ListOf<Name>, Refusal>
-    ensures ok { IfOk result (λ names. names ≡ flat_map (λ class. map (λ relation. relation.name) (relations_at classes.now class.0)) line.now) }
+    ensures ok { IfOk result (λ names. names
+        ≡ flat_map (λ class. map
+        (λ relation. relation.name) (relations_at classes.now class.0)) line.now) }
     ensures err { IfErr result (λ e. e ≡ Memory) }
 {
     let mut names = ListOf::new(alloc);
@@ -242,7 +246,9 @@ fn fails_in(
     identity: &Option<Value>,
     line: &[ClassId],
 ) -> bool
-    ensures { result ≡ fails_discriminator schema.now.tables (root_table_on schema.now.tables classes.now root) (discriminator_on classes.now root) identity.now line.now }
+    ensures { result ≡ fails_discriminator schema.now.tables
+        (root_table_on schema.now.tables classes.now root)
+        (discriminator_on classes.now root) identity.now line.now }
 {
     let Some(root) = root else {
         return fails_discriminator(schema, None, &None, identity, line);
@@ -330,7 +336,8 @@ fn is_bad_cascade(relation: &RelationSpec) -> bool
 
 /// The attribute of a name.
 fn attribute_of<'a>(attributes: &'a [Attribute], name: &Name) -> Option<&'a Attribute>
-    ensures { option_copied result ≡ find (λ attribute. same_name attribute.name name.now) attributes.now }
+    ensures { option_copied result
+        ≡ find (λ attribute. same_name attribute.name name.now) attributes.now }
 {
     attributes.iter().find(|attribute| attribute.name == *name)
 }
@@ -368,7 +375,9 @@ fn has_bad_hook(
     spec: &ClassSpec,
 ) -> bool
     requires { attributes.now ≡ attributes_on schema.now.tables classes.now line.now }
-    ensures { result ≡ list_any (is_bad_hook (rules_of hooks.now) (attributes_on schema.now.tables classes.now line.now)) spec.now.validators }
+    ensures { result ≡ list_any
+        (is_bad_hook (rules_of hooks.now)
+        (attributes_on schema.now.tables classes.now line.now)) spec.now.validators }
 {
     some_bad_hook(hooks, attributes, spec.validators.as_slice())
 }
@@ -393,7 +402,8 @@ fn fault_of_lines(
     attributes: &[Attribute],
 ) -> Option<ArgumentKind>
     requires { attributes.now ≡ attributes_on schema.now.tables classes.now line.now }
-    ensures { result ≡ fault_of_lines (rules_of hooks.now) schema.now.tables classes.now spec.now line.now }
+    ensures { result ≡ fault_of_lines
+        (rules_of hooks.now) schema.now.tables classes.now spec.now line.now }
 {
     if some_bad_cascade(spec.relations.as_slice()) {
         return Some(ArgumentKind::BadCascade);
@@ -415,7 +425,8 @@ fn first_fault(
     spec: &ClassSpec,
     line: &[ClassId],
 ) -> Result<Option<ArgumentKind>, Refusal>
-    ensures ok { IfOk result (λ fault. fault ≡ first_fault (rules_of hooks.now) schema.now.tables others.now classes.now spec.now line.now) }
+    ensures ok { IfOk result (λ fault. fault
+        ≡ first_fault (rules_of hooks.now) schema.now.tables others.now classes.now spec.now line.now) }
     ensures err { IfErr result (λ e. e ≡ Memory) }
 {
     let tables = tables_on(alloc, schema, classes, line)?;
@@ -445,7 +456,8 @@ pub(crate) fn last_fault(
     class: usize,
 ) -> Result<Option<ArgumentKind>, Refusal>
     requires { class < length classes.now.specs }
-    ensures ok { IfOk result (λ fault. fault ≡ fault_at (rules_of hooks.now) schema.now.tables classes.now class) }
+    ensures ok { IfOk result (λ fault. fault
+        ≡ fault_at (rules_of hooks.now) schema.now.tables classes.now class) }
     ensures err { IfErr result (λ e. e ≡ Memory) }
 {
     let specs = classes.specs.as_slice();

@@ -69,7 +69,8 @@ fn push_attributes(
     rank: usize,
     table: TableId,
 ) -> Result<(), Refusal>
-    ensures ok { OnOk result (all.new ≡ all.old ++ table_attributes schema.now.tables classes.now line.now (rank, table)) }
+    ensures ok { OnOk result (all.new
+        ≡ all.old ++ table_attributes schema.now.tables classes.now line.now (rank, table)) }
     ensures err { IfErr result (λ e. e ≡ Memory) }
 {
     let columns = columns_of(schema, table);
@@ -90,7 +91,9 @@ pub(crate) fn attributes_on(
     line: &[ClassId],
     tables: &[TableId],
 ) -> Result<ListOf<Attribute>, Refusal>
-    ensures ok { IfOk result (λ all. all ≡ flat_map (table_attributes schema.now.tables classes.now line.now) (enumerate_from 0 tables.now)) }
+    ensures ok { IfOk result (λ all. all
+        ≡ flat_map (table_attributes schema.now.tables classes.now line.now)
+        (enumerate_from 0 tables.now)) }
     ensures err { IfErr result (λ e. e ≡ Memory) }
 {
     let mut all = ListOf::new(alloc);

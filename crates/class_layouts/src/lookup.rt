@@ -111,7 +111,8 @@ fn is_owner(
     class: usize,
     spec: &ClassSpec,
 ) -> bool
-    ensures { result ≡ is_owner schema.now.tables classes.now root table name.now (class, spec.now) }
+    ensures { result ≡ is_owner schema.now.tables classes.now root table name.now
+        (class, spec.now) }
 {
     let line = line_of(classes, class);
     has_name(spec.owned.as_slice(), name)

@@ -79,7 +79,9 @@ fn comparison(
     b: &Boxed<Expr>,
     scope: &Scope<'_>,
 ) -> Result<Value, Refusal>
-    ensures { Gives (λ x. x) result (spec.two (evaluated a.now) (evaluated b.now) (λ x y. spec.truth (spec.compared op x y)) (place_of scope.now)) }
+    ensures { Gives (λ x. x) result
+        (spec.two (evaluated a.now) (evaluated b.now)
+        (λ x y. spec.truth (spec.compared op x y)) (place_of scope.now)) }
 {
     let (x, y) = both(alloc, a, b, scope)?;
     Ok(value_of(compared(op, &x, &y)))
@@ -92,7 +94,9 @@ fn null_test(
     a: &Boxed<Expr>,
     scope: &Scope<'_>,
 ) -> Result<Value, Refusal>
-    ensures { Gives (λ x. x) result (spec.one (evaluated a.now) (λ x. spec.truth (truth.signed negated (Some (spec.is_null x)))) (place_of scope.now)) }
+    ensures { Gives (λ x. x) result
+        (spec.one (evaluated a.now)
+        (λ x. spec.truth (truth.signed negated (Some (spec.is_null x)))) (place_of scope.now)) }
 {
     let x = value_in(alloc, a.get(), scope)?;
     Ok(value_of(signed(negated, Some(is_null(&x)))))
@@ -100,7 +104,9 @@ fn null_test(
 
 #[cycle(eval)]
 fn conjunction(alloc: Global, parts: &Items<Expr>, scope: &Scope<'_>) -> Result<Value, Refusal>
-    ensures { Gives (λ x. x) result (spec.several (map evaluated parts.now) (λ vs. spec.truth (truth.all3 (map truth.truth_of vs))) (place_of scope.now)) }
+    ensures { Gives (λ x. x) result
+        (spec.several (map evaluated parts.now)
+        (λ vs. spec.truth (truth.all3 (map truth.truth_of vs))) (place_of scope.now)) }
 {
     let values = several(alloc, parts, scope)?;
     Ok(value_of(all3(&values)))
@@ -108,7 +114,9 @@ fn conjunction(alloc: Global, parts: &Items<Expr>, scope: &Scope<'_>) -> Result<
 
 #[cycle(eval)]
 fn disjunction(alloc: Global, parts: &Items<Expr>, scope: &Scope<'_>) -> Result<Value, Refusal>
-    ensures { Gives (λ x. x) result (spec.several (map evaluated parts.now) (λ vs. spec.truth (truth.any3 (map truth.truth_of vs))) (place_of scope.now)) }
+    ensures { Gives (λ x. x) result
+        (spec.several (map evaluated parts.now)
+        (λ vs. spec.truth (truth.any3 (map truth.truth_of vs))) (place_of scope.now)) }
 {
     let values = several(alloc, parts, scope)?;
     Ok(value_of(any3(&values)))
@@ -116,7 +124,9 @@ fn disjunction(alloc: Global, parts: &Items<Expr>, scope: &Scope<'_>) -> Result<
 
 #[cycle(eval)]
 fn opposite(alloc: Global, a: &Boxed<Expr>, scope: &Scope<'_>) -> Result<Value, Refusal>
-    ensures { Gives (λ x. x) result (spec.one (evaluated a.now) (λ x. spec.truth (truth.not3 (truth.truth_of x))) (place_of scope.now)) }
+    ensures { Gives (λ x. x) result
+        (spec.one (evaluated a.now)
+        (λ x. spec.truth (truth.not3 (truth.truth_of x))) (place_of scope.now)) }
 {
     let x = value_in(alloc, a.get(), scope)?;
     Ok(value_of(not3(truth_of(&x))))
@@ -130,7 +140,8 @@ fn calculation(
     b: &Boxed<Expr>,
     scope: &Scope<'_>,
 ) -> Result<Value, Refusal>
-    ensures { Gives (λ x. x) result (spec.two (evaluated a.now) (evaluated b.now) (spec.arithmetic op) (place_of scope.now)) }
+    ensures { Gives (λ x. x) result
+        (spec.two (evaluated a.now) (evaluated b.now) (spec.arithmetic op) (place_of scope.now)) }
 {
     let (x, y) = both(alloc, a, b, scope)?;
     arithmetic(op, &x, &y)
@@ -151,7 +162,9 @@ fn concatenation(
     b: &Boxed<Expr>,
     scope: &Scope<'_>,
 ) -> Result<Value, Refusal>
-    ensures { Gives (λ x. x) result (spec.two (evaluated a.now) (evaluated b.now) (λ x y. Ok (spec.concatenated x y)) (place_of scope.now)) }
+    ensures { Gives (λ x. x) result
+        (spec.two (evaluated a.now) (evaluated b.now)
+        (λ x y. Ok (spec.concatenated x y)) (place_of scope.now)) }
 {
     let (x, y) = both(alloc, a, b, scope)?;
     Ok(concatenated(alloc, &x, &y)?)
@@ -165,7 +178,9 @@ fn likeness(
     b: &Boxed<Expr>,
     scope: &Scope<'_>,
 ) -> Result<Value, Refusal>
-    ensures { Gives (λ x. x) result (spec.two (evaluated a.now) (evaluated b.now) (λ x y. spec.truth (truth.signed negated (spec.is_like x y))) (place_of scope.now)) }
+    ensures { Gives (λ x. x) result
+        (spec.two (evaluated a.now) (evaluated b.now)
+        (λ x y. spec.truth (truth.signed negated (spec.is_like x y))) (place_of scope.now)) }
 {
     let (x, y) = both(alloc, a, b, scope)?;
     Ok(value_of(signed(negated, is_like(alloc, &x, &y)?)))
@@ -179,7 +194,9 @@ fn membership(
     list: &RowValues,
     scope: &Scope<'_>,
 ) -> Result<Value, Refusal>
-    ensures { Gives (λ x. x) result (spec.one (evaluated a.now) (λ x. spec.truth (truth.signed negated (spec.among x list.now))) (place_of scope.now)) }
+    ensures { Gives (λ x. x) result
+        (spec.one (evaluated a.now)
+        (λ x. spec.truth (truth.signed negated (spec.among x list.now))) (place_of scope.now)) }
 {
     let x = value_in(alloc, a.get(), scope)?;
     Ok(value_of(signed(negated, among(&x, list.as_slice()))))
@@ -194,7 +211,9 @@ fn range_test(
     high: &Boxed<Expr>,
     scope: &Scope<'_>,
 ) -> Result<Value, Refusal>
-    ensures { Gives (λ x. x) result (spec.three (evaluated a.now) (evaluated low.now) (evaluated high.now) (λ x y z. spec.truth (truth.signed negated (spec.between x y z))) (place_of scope.now)) }
+    ensures { Gives (λ x. x) result
+        (spec.three (evaluated a.now) (evaluated low.now) (evaluated high.now)
+        (λ x y z. spec.truth (truth.signed negated (spec.between x y z))) (place_of scope.now)) }
 {
     let x = value_in(alloc, a.get(), scope)?;
     let (y, z) = both(alloc, low, high, scope)?;
@@ -209,7 +228,10 @@ fn difference(
     b: &Boxed<Expr>,
     scope: &Scope<'_>,
 ) -> Result<Value, Refusal>
-    ensures { Gives (λ x. x) result (spec.two (evaluated a.now) (evaluated b.now) (λ x y. spec.truth (truth.signed negated (Some (not (same_value x y))))) (place_of scope.now)) }
+    ensures { Gives (λ x. x) result
+        (spec.two (evaluated a.now) (evaluated b.now)
+        (λ x y. spec.truth (truth.signed negated (Some (not (same_value x y)))))
+        (place_of scope.now)) }
 {
     let (x, y) = both(alloc, a, b, scope)?;
     Ok(value_of(signed(negated, Some(!same(&x, &y)))))
@@ -223,7 +245,8 @@ fn existence(
     condition: &Boxed<Expr>,
     scope: &Scope<'_>,
 ) -> Result<Value, Refusal>
-    ensures { Gives (λ x. x) result (spec.existence negated origin.now (evaluated condition.now) (place_of scope.now)) }
+    ensures { Gives (λ x. x) result
+        (spec.existence negated origin.now (evaluated condition.now) (place_of scope.now)) }
 {
     let rows = rows_in(scope.tables, origin.table);
     let found = some_row(alloc, condition, rows, scope)?;
@@ -237,7 +260,8 @@ fn both(
     b: &Boxed<Expr>,
     scope: &Scope<'_>,
 ) -> Result<(Value, Value), Refusal>
-    ensures { Gives (λ x. x) result (spec.pair (evaluated a.now) (evaluated b.now) (place_of scope.now)) }
+    ensures { Gives (λ x. x) result
+        (spec.pair (evaluated a.now) (evaluated b.now) (place_of scope.now)) }
 {
     let x = value_in(alloc, a.get(), scope)?;
     let y = value_in(alloc, b.get(), scope)?;
@@ -246,7 +270,8 @@ fn both(
 
 #[cycle(eval)]
 fn several(alloc: Global, parts: &Items<Expr>, scope: &Scope<'_>) -> Result<Vec<Value>, Refusal>
-    ensures { Gives (λ v. v.items) result (spec.all_from (place_of scope.now) [] (map evaluated parts.now)) }
+    ensures { Gives (λ v. v.items) result
+        (spec.all_from (place_of scope.now) [] (map evaluated parts.now)) }
 {
     let mut values = Vec::new(alloc);
     for part in parts.as_slice() {
@@ -262,7 +287,8 @@ fn called(
     operands: &Items<Expr>,
     scope: &Scope<'_>,
 ) -> Result<Value, Refusal>
-    ensures { Gives (λ x. x) result (spec.called function (map evaluated operands.now) (place_of scope.now)) }
+    ensures { Gives (λ x. x) result
+        (spec.called function (map evaluated operands.now) (place_of scope.now)) }
 {
     if function.is_aggregate() {
         let values = gathered(alloc, operands, scope)?;
@@ -281,7 +307,8 @@ fn gathered(
     operands: &Items<Expr>,
     scope: &Scope<'_>,
 ) -> Result<Option<Vec<Value>>, Refusal>
-    ensures { Gives (option_map (λ v. v.items)) result (spec.gathered (map evaluated operands.now) (place_of scope.now)) }
+    ensures { Gives (option_map (λ v. v.items)) result
+        (spec.gathered (map evaluated operands.now) (place_of scope.now)) }
 {
     match operands.get(0) {
         Some(operand) => over(alloc, operand, scope),
@@ -291,7 +318,8 @@ fn gathered(
 
 #[cycle(eval)]
 fn over(alloc: Global, operand: &Expr, scope: &Scope<'_>) -> Result<Option<Vec<Value>>, Refusal>
-    ensures { Gives (option_map (λ v. v.items)) result (spec.over (option_copied scope.now.group) (place_of scope.now) (evaluated operand.now)) }
+    ensures { Gives (option_map (λ v. v.items)) result
+        (spec.over (option_copied scope.now.group) (place_of scope.now) (evaluated operand.now)) }
 {
     let Some(rows) = scope.group else {
         return Ok(None);
@@ -307,7 +335,9 @@ fn along<'x>(
     rows: &'x [RowValues],
     scope: &Scope<'x>,
 ) -> Result<Vec<Value>, Refusal>
-    ensures { Gives (λ v. v.items) result (spec.along_from (spec.ungrouped (place_of scope.now)) (evaluated operand.now) [] rows.now) }
+    ensures { Gives (λ v. v.items) result
+        (spec.along_from (spec.ungrouped (place_of scope.now))
+        (evaluated operand.now) [] rows.now) }
 {
     let mut values = Vec::new(alloc);
     for row in rows {
@@ -330,7 +360,8 @@ fn some_row(
     rows: &[RowValues],
     scope: &Scope<'_>,
 ) -> Result<bool, Refusal>
-    ensures { Gives (λ x. x) result (spec.some_from (place_of scope.now) (evaluated condition.now) false rows.now) }
+    ensures { Gives (λ x. x) result
+        (spec.some_from (place_of scope.now) (evaluated condition.now) false rows.now) }
 {
     let starts = more_starts(alloc, scope.starts, scope.row.len())?;
     let mut found = false;

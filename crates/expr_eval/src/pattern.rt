@@ -52,7 +52,8 @@ fn at_end(alloc: Global, text: &[u32]) -> Result<Vec<bool>, AllocError>
 #[tactic(auto, using(crate::proofs::Ends::ends_first, crate::proofs::Ends::ends_more))]
 fn before(alloc: Global, wanted: u32, text: &[u32], ends: &[bool]) -> Result<Vec<bool>, AllocError>
     requires { length ends.now ≡ length text.now + 1 }
-    ensures { IfOk result (λ v. (later : List ℕ) → AreEnds later text.now ends.now → AreEnds (wanted ∷ later) text.now v.items) }
+    ensures { IfOk result (λ v. (later : List ℕ) → AreEnds later text.now ends.now
+        → AreEnds (wanted ∷ later) text.now v.items) }
 {
     let mut more = Vec::with_capacity(alloc, ends.len())?;
     more.push(wanted == '%' as u32 && ends[0])?;

@@ -93,7 +93,9 @@ fn two(
     a: &Boxed<Expr>,
     b: &Boxed<Expr>,
 ) -> Result<Kind, Refusal>
-    ensures { Gives (λ kind. kind) result (all_of wanted (judged schema.now a.now scope.now ∷ judged schema.now b.now scope.now ∷ [])) }
+    ensures { Gives (λ kind. kind) result
+        (all_of wanted (judged schema.now a.now scope.now
+        ∷ judged schema.now b.now scope.now ∷ [])) }
 {
     one(alloc, schema, scope, wanted, a)?;
     one(alloc, schema, scope, wanted, b)
@@ -108,7 +110,8 @@ fn alike(
     a: &Boxed<Expr>,
     b: &Boxed<Expr>,
 ) -> Result<Kind, Refusal>
-    ensures { Gives (λ kind. kind) result (all_alike (judged schema.now a.now scope.now ∷ judged schema.now b.now scope.now ∷ [])) }
+    ensures { Gives (λ kind. kind) result
+        (all_alike (judged schema.now a.now scope.now ∷ judged schema.now b.now scope.now ∷ [])) }
 {
     let kind = judge(alloc, schema, scope, a.get())?;
     one(alloc, schema, scope, kind, b)
@@ -123,7 +126,8 @@ fn all(
     wanted: Kind,
     operands: &[Expr],
 ) -> Result<Kind, Refusal>
-    ensures { Gives (λ kind. kind) result (all_of wanted (in_scope scope.now (map (judged schema.now) operands.now))) }
+    ensures { Gives (λ kind. kind) result
+        (all_of wanted (in_scope scope.now (map (judged schema.now) operands.now))) }
 {
     for operand in operands {
         let found = judge(alloc, schema, scope, operand)?;
@@ -140,7 +144,8 @@ fn first_kind(
     scope: &[TableId],
     operands: &[Expr],
 ) -> Result<Kind, Refusal>
-    ensures { Gives (λ kind. kind) result (all_alike (in_scope scope.now (map (judged schema.now) operands.now))) }
+    ensures { Gives (λ kind. kind) result
+        (all_alike (in_scope scope.now (map (judged schema.now) operands.now))) }
 {
     let Some((first, others)) = operands.split_first() else {
         return Ok(Kind::Integer);
@@ -158,7 +163,8 @@ fn called(
     function: Func,
     operands: &[Expr],
 ) -> Result<Kind, Refusal>
-    ensures { Gives (λ kind. kind) result (spec.called function (in_scope scope.now (map (judged schema.now) operands.now))) }
+    ensures { Gives (λ kind. kind) result
+        (spec.called function (in_scope scope.now (map (judged schema.now) operands.now))) }
 {
     match function {
         Func::Count => {

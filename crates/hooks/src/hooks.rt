@@ -35,7 +35,9 @@ impl Hooks {
     /// Adds a validator under a name; it takes the place of an earlier one of this name.
     /// The only refusal is want of memory, and it leaves the validators as they were.
     pub fn put(&mut self, name: Name, validator: Validator) -> Result<(), Refusal>
-        ensures ok { OnOk result (rules_of self.new ≡ with_rule (rules_of self.old) name (asked validator.kind validator.rule)) }
+        ensures ok { OnOk result
+            (rules_of self.new
+            ≡ with_rule (rules_of self.old) name (asked validator.kind validator.rule)) }
         ensures err { OnErr result (rules_of self.new ≡ rules_of self.old) }
         ensures cause { IfErr result (λ e. e ≡ Memory) }
     {

@@ -23,7 +23,8 @@ impl Validator {
     /// A validator that asks the closure. On each value of the kind the closure answers the rule.
     pub fn new(kind: Kind, rule: Rule, test: Test) -> Validator
         requires callable { Test.IsAlwaysCallable test }
-        requires answers { (value : _) (answer : Bool) → Test.post test value answer → kind_of_value value.now ≡ Some kind → answer ≡ obeys rule value.now }
+        requires answers { (value : _) (answer : Bool) → Test.post test value answer
+            → kind_of_value value.now ≡ Some kind → answer ≡ obeys rule value.now }
         ensures kind { result.kind ≡ kind }
         ensures rule { result.rule ≡ rule }
     {

@@ -71,7 +71,8 @@ impl IdentityMap {
 
     /// Puts another object in the place of the one under an identity, and answers whether there is one. Takes no memory.
     pub fn move_to(&mut self, root: ClassId, key: &Key, object: ObjId) -> bool
-        ensures moved { result ≡ true → IsPut self.old.maps.items self.new.maps.items root key.now object }
+        ensures moved { result ≡ true
+            → IsPut self.old.maps.items self.new.maps.items root key.now object }
         ensures kept { result ≡ false → IsSame self.old.maps.items self.new.maps.items }
     {
         if root.0 as usize >= self.maps.len() {

@@ -165,7 +165,9 @@ impl MemKeeper {
 
     /// The rows of a table, ascending by key, or none where it is not created.
     pub(crate) fn rows(&self, alloc: Global, table: TableId) -> Result<Option<RowList>, AllocError>
-        ensures { IfOk result (λ rows. rows ≡ option_map (λ rows. map (λ entry. entry.1) rows) (rows_in self.now.store.tables table)) }
+        ensures { IfOk result (λ rows. rows
+            ≡ option_map (λ rows. map (λ entry. entry.1) rows)
+            (rows_in self.now.store.tables table)) }
     {
         self.store.rows(alloc, table)
     }
@@ -173,7 +175,12 @@ impl MemKeeper {
     /// Starts a scope, if there is memory for it and for a statement that ends it.
     pub(crate) fn start_scope(&mut self) -> Result<(), AllocError>
         ensures ok { OnOk result (self.new ≡ sent_by
-            self.old (start_of (length self.old.store.scopes)) (record { tables = self.old.store.tables; scopes = self.old.store.tables ∷ self.old.store.scopes })) }
+            self.old (start_of (length self.old.store.scopes))
+            (record {
+              tables = self.old.store.tables;
+              scopes = self.old.store.tables
+                  ∷ self.old.store.scopes;
+            })) }
         ensures err { IfErr result (λ _. self.new ≡ self.old) }
     {
         self.store.start()?;
@@ -187,7 +194,11 @@ impl MemKeeper {
     /// Makes a table, if there is memory for it.
     pub(crate) fn create_table(&mut self, alloc: Global, table: TableId) -> Result<(), AllocError>
         ensures ok { OnOk result (self.new ≡ sent_by
-            self.old (sent.Create table) (record { tables = created self.old.store.tables table; scopes = self.old.store.scopes })) }
+            self.old (sent.Create table)
+            (record {
+              tables = created self.old.store.tables table;
+              scopes = self.old.store.scopes;
+            })) }
         ensures err { IfErr result (λ _. self.new ≡ self.old) }
     {
         self.log.prepare()?;
@@ -199,7 +210,11 @@ impl MemKeeper {
     /// Drops a table, if there is memory for the statement.
     pub(crate) fn remove_table(&mut self, table: TableId) -> Result<(), AllocError>
         ensures ok { OnOk result (self.new ≡ sent_by
-            self.old (sent.Drop table) (record { tables = dropped self.old.store.tables table; scopes = self.old.store.scopes })) }
+            self.old (sent.Drop table)
+            (record {
+              tables = dropped self.old.store.tables table;
+              scopes = self.old.store.scopes;
+            })) }
         ensures err { IfErr result (λ _. self.new ≡ self.old) }
     {
         self.log.prepare()?;
@@ -212,7 +227,8 @@ impl MemKeeper {
     pub(crate) fn end_scope(&mut self)
         requires { 0 < length self.old.store.scopes }
         ensures { self.new ≡ sent_by
-            self.old (sent.Release (length self.old.store.scopes - 1)) (record { tables = self.old.store.tables; scopes = drop 1 self.old.store.scopes }) }
+            self.old (sent.Release (length self.old.store.scopes - 1))
+            (record { tables = self.old.store.tables; scopes = drop 1 self.old.store.scopes }) }
     {
         self.store.end();
         self.log.end();
@@ -222,7 +238,12 @@ impl MemKeeper {
     pub(crate) fn undo_scope(&mut self, number: u32)
         requires { number < length self.old.store.scopes }
         ensures { self.new ≡ sent_by
-            self.old (sent.RollbackTo number) (record { tables = slice_index_or self.old.store.scopes (length self.old.store.scopes - number - 1) self.old.store.tables; scopes = drop (length self.old.store.scopes - number) self.old.store.scopes }) }
+            self.old (sent.RollbackTo number)
+            (record {
+              tables = slice_index_or self.old.store.scopes
+                  (length self.old.store.scopes - number - 1) self.old.store.tables;
+              scopes = drop (length self.old.store.scopes - number) self.old.store.scopes;
+            }) }
     {
         self.store.go_back_to(number as usize);
         self.log.end_to(number);
@@ -261,7 +282,8 @@ impl MemKeeper {
             self.old (as_refusal (write_refusal (table_of statement.now)) result) self.new }
         ensures keys { IfOk result (λ keys. AreKeysFor schema.now statement.now keys) }
         ensures refuses { IfErr
-            (as_refusal (write_refusal (table_of statement.now)) result) (RefusesRow statement.now) }
+            (as_refusal (write_refusal (table_of statement.now)) result)
+            (RefusesRow statement.now) }
     {
         match store_write(&mut self.store, alloc, schema, statement) {
             Ok(keys) => {
@@ -298,7 +320,8 @@ impl MemKeeper {
         ensures step { Does (call.bulk schema.now statement.now) (sent.Bulk statement.now) self.old
             (as_refusal (write_refusal (bulk.table_of statement.now)) result) self.new }
         ensures refuses { IfErr
-            (as_refusal (write_refusal (bulk.table_of statement.now)) result) (RefusesBulk schema.now statement.now) }
+            (as_refusal (write_refusal (bulk.table_of statement.now)) result)
+            (RefusesBulk schema.now statement.now) }
     {
         match store_bulk(&mut self.store, alloc, schema, statement) {
             Ok(count) => {
@@ -409,7 +432,8 @@ fn store_bulk(
     ensures step { Stores (call.bulk schema.now statement.now) (sent.Bulk statement.now) store.old
         (as_refusal (write_refusal (bulk.table_of statement.now)) result) store.new }
     ensures refuses { IfErr
-        (as_refusal (write_refusal (bulk.table_of statement.now)) result) (RefusesBulk schema.now statement.now) }
+        (as_refusal (write_refusal (bulk.table_of statement.now)) result)
+        (RefusesBulk schema.now statement.now) }
 {
     match store.bulk(alloc, schema, statement) {
         Ok(count) => Ok(count),

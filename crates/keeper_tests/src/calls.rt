@@ -90,7 +90,8 @@ fn one_row(alloc: Global, id: Option<i64>, n: Option<i64>) -> Result<RowList, Al
 /// The statement of a call that writes a row.
 #[tactic(auto, using(crate::proofs::Fitting::row_shapes))]
 pub(crate) fn statement_of(alloc: Global, call: &Call) -> Result<Option<RowStmt>, AllocError>
-    ensures { IfOk result (λ o. IfSome o (λ s. (schema : Catalog) → IsPair schema (row.table_of s) → IsWellFormed schema s)) }
+    ensures { IfOk result (λ o. IfSome o
+        (λ s. (schema : Catalog) → IsPair schema (row.table_of s) → IsWellFormed schema s)) }
 {
     match call {
         Call::Insert(table, id, n) => Ok(Some(RowStmt::Insert {
@@ -259,7 +260,8 @@ pub(crate) fn bulk_of(
     other: TableId,
     many: &Many,
 ) -> Result<Bulk, AllocError>
-    ensures { IfOk result (λ s. (schema : Catalog) → IsPair schema table → IsPair schema other → AreApart schema table other → IsPlainBulk schema s) }
+    ensures { IfOk result (λ s. (schema : Catalog) → IsPair schema table → IsPair schema other
+        → AreApart schema table other → IsPlainBulk schema s) }
 {
     match many {
         Many::Put(id, n) => put(alloc, table, *id, *n),

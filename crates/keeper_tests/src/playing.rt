@@ -147,7 +147,8 @@ fn scope_call(alloc: Global, keeper: &mut MemKeeper, call: &Call) -> u8 {
 
 /// What a statement on one row answers; `?` where it may not be sent.
 fn write_call(alloc: Global, schema: &Schema, keeper: &mut MemKeeper, statement: &RowStmt) -> u8
-    requires shaped { (schema : Catalog) → IsPair schema (row.table_of statement.now) → IsWellFormed schema statement.now }
+    requires shaped { (schema : Catalog) → IsPair schema (row.table_of statement.now)
+        → IsWellFormed schema statement.now }
 {
     if !keeper.is_attached() || keeper.depth() < 1 {
         return b'?';

@@ -1,10 +1,12 @@
 //! A mapping: tables and the classes over them.
 
-ghost use Rattle.std.specs.Prelude.{◌≡◌, ◌<◌, ◌≤◌, [], ◌∷◌, length, slice_index_or, true, false, IfSome, OnOk};
+ghost use Rattle.std.specs.Prelude.{◌≡◌, ◌<◌, ◌≤◌, [], ◌∷◌, length, slice_index_or, true, false, None, Err, IfSome, OnOk};
 ghost use Rattle.std.specs.List.{All, list_any, position};
 ghost use Rattle.base_core.specs.declared.ids.AttrNo.{AttrNo};
 ghost use Rattle.base_core.specs.Answers.{Takes};
+ghost use Rattle.base_core.specs.declared.refusal.Refusal.TheVariants.{Memory};
 ghost use Rattle.schema_core.specs.Catalog.{IsTable, key_columns, same_name};
+ghost use Rattle.schema_core.specs.Declaration.{declaration_fault, has_targets};
 ghost use Rattle.mapper_core.specs.Mapped.{IsAttribute, IsClass, attribute_at, attribute_of, attributes_of, class_spec, find_class, key_attributes, no_column, parent_of, relations_of, root_of, root_spec, root_table, tables_of};
 ghost use Rattle.mapper_core.specs.Layouts.{layout_of};
 ghost use Rattle.mapper_core.specs.Declaring.{class_fault, closed, configure, declare_class, declare_table, is_named, is_plain_root, maps_name, with_class, with_table};
@@ -43,7 +45,11 @@ impl Model for Mapping {
 impl Mapping {
     /// No tables and no classes.
     pub fn new(alloc: Global) -> Mapping
-        ensures { result ≡ record { schema = record { tables = []; resolved = false }; classes = []; configured = false } }
+        ensures { result ≡ record {
+          schema = record { tables = []; resolved = false };
+          classes = [];
+          configured = false;
+        } }
     {
         Mapping {
             alloc,
@@ -145,7 +151,10 @@ impl Mapping {
         requires configured { self.now.configured ≡ true }
         ensures attributes { result.now ≡ attributes_of self.now class }
         ensures count { length result.now ≡ length (root_spec self.now class).columns }
-        ensures columns { (attr : AttrNo) → IsAttribute self.now class attr → attribute_of self.now class attr ≡ attribute_at (root_table self.now class) (attr.0, slice_index_or (root_spec self.now class).columns attr.0 no_column) }
+        ensures columns { (attr : AttrNo) → IsAttribute self.now class attr
+            → attribute_of self.now class attr
+            ≡ attribute_at (root_table self.now class)
+            (attr.0, slice_index_or (root_spec self.now class).columns attr.0 no_column) }
     {
         self.layout(class).attributes.as_slice()
     }
@@ -174,11 +183,14 @@ impl Mapping {
     /// Declares a table, by the next number. The mapping is then to be configured again.
     ///
     /// # Errors
-    /// `ArgumentError` as [`Schema::declare_table`] has it. A refusal changes nothing.
+    /// `ArgumentError` as [`Schema::declare_table`] has it; `Memory` where none of its conditions holds. A refusal
+    /// changes nothing.
     pub fn declare_table(&mut self, spec: TableSpec) -> Result<TableId, Refusal>
         requires { length self.old.schema.tables < 4294967295 }
-        ensures step { Takes (λ table. table) (declare_table self.old spec) self.old result self.new }
+        ensures step { Takes (λ table. table)
+            (declare_table self.old spec) self.old result self.new }
         ensures taken { OnOk result (self.new ≡ with_table self.old spec) }
+        ensures sound { result ≡ Err Memory → declaration_fault self.old.schema.tables spec ≡ None }
     {
         let table = self.schema.declare_table(spec)?;
         self.configured = false;
@@ -194,7 +206,8 @@ impl Mapping {
     /// already). A refusal changes nothing.
     pub fn declare_class(&mut self, spec: ClassSpec) -> Result<ClassId, Refusal>
         requires { length self.old.classes < 4294967295 }
-        ensures step { Takes (λ class. class) (declare_class self.old spec) self.old result self.new }
+        ensures step { Takes (λ class. class)
+            (declare_class self.old spec) self.old result self.new }
         ensures taken { OnOk result (self.new ≡ with_class self.old spec) }
     {
         match class_fault(&self.schema, self.classes.as_slice(), &spec) {
@@ -212,11 +225,16 @@ impl Mapping {
     /// Checks all declarations and closes the mapping.
     ///
     /// # Errors
-    /// `ArgumentError(BadTarget)` where a foreign key lacks its target. A refusal changes nothing.
+    /// `ArgumentError(BadTarget)` where a foreign key lacks its target; `Memory` where none does. A refusal changes
+    /// nothing.
     pub fn configure(&mut self) -> Result<(), Refusal>
         ensures step { Takes (λ _. tt) (configure self.old) self.old result self.new }
         ensures closed { OnOk result (self.new ≡ closed self.old) }
+        ensures sound { result ≡ Err Memory → has_targets self.old.schema.tables ≡ true }
     {
+        if !self.schema.has_targets() {
+            return Err(Refusal::ArgumentError(ArgumentKind::BadTarget));
+        }
         let layouts = layouts_of(self.alloc, &self.schema, self.classes.as_slice())?;
         self.schema.resolve()?;
         self.layouts = layouts;

@@ -79,9 +79,12 @@ impl Arena {
         ensures is { result.now ≡ object_at self.now object }
         ensures identified { is_identified result.now ≡ true }
         ensures fits { (mapped : Mapped) → IsFit mapped self.now → ObjectFits mapped result.now }
-        ensures links { (mapped : Mapped) → IsFit mapped self.now → links_fit mapped self.now.roots result.now ≡ true }
-        ensures cells { (mapped : Mapped) → IsFit mapped self.now → length result.now.cells ≡ length (attributes_of mapped result.now.class) }
-        ensures row { (mapped : Mapped) → IsFit mapped self.now → is_row (root_spec mapped result.now.class) (row_of result.now) ≡ true }
+        ensures links { (mapped : Mapped) → IsFit mapped self.now
+            → links_fit mapped self.now.roots result.now ≡ true }
+        ensures cells { (mapped : Mapped) → IsFit mapped self.now
+            → length result.now.cells ≡ length (attributes_of mapped result.now.class) }
+        ensures row { (mapped : Mapped) → IsFit mapped self.now
+            → is_row (root_spec mapped result.now.class) (row_of result.now) ≡ true }
     {
         &self.objects[object.0 as usize - 1]
     }
@@ -90,8 +93,10 @@ impl Arena {
     pub fn class_of(&self, object: ObjId) -> ClassId
         requires { IsObject self.now object }
         ensures class { result ≡ (object_at self.now object).class }
-        ensures root { (mapped : Mapped) → IsFit mapped self.now → root_at self.now object ≡ root_of mapped result }
-        ensures keys { (mapped : Mapped) (key : List Value) → key_fits mapped result key ≡ is_key (root_spec mapped result) key }
+        ensures root { (mapped : Mapped) → IsFit mapped self.now
+            → root_at self.now object ≡ root_of mapped result }
+        ensures keys { (mapped : Mapped) (key : List Value)
+            → key_fits mapped result key ≡ is_key (root_spec mapped result) key }
     {
         self.objects[object.0 as usize - 1].class
     }
@@ -121,8 +126,11 @@ impl Arena {
     pub fn find_identity(&self, root: ClassId, key: &Key) -> Option<ObjId>
         ensures found { result ≡ find_identity self.now root key.now }
         ensures made { IfSome result (λ object. IsObject self.now object) }
-        ensures holds { IfSome result (λ object. holds root key.now (object_at self.now object, root_at self.now object) ≡ true) }
-        ensures identified { IfSome result (λ object. is_some (object_at self.now object).identity ≡ true) }
+        ensures holds { IfSome result
+            (λ object. holds root key.now (object_at self.now object, root_at self.now object)
+            ≡ true) }
+        ensures identified { IfSome result
+            (λ object. is_some (object_at self.now object).identity ≡ true) }
     {
         match place_of(self.objects.as_slice(), self.roots.as_slice(), root, key) {
             Some(place) => Some(ObjId(place as u32 + 1)),
@@ -154,11 +162,13 @@ impl Arena {
     pub fn make(&mut self, mapping: &Mapping, class: ClassId) -> Result<ObjId, Refusal>
         requires declared { IsClass mapping.now class }
         requires configured { mapping.now.configured ≡ true }
-        ensures step { Takes (λ object. object) (make self.old mapping.now class) self.old result self.new }
+        ensures step { Takes (λ object. object)
+            (make self.old mapping.now class) self.old result self.new }
         ensures made { OnOk result (self.new ≡ with_fresh self.old mapping.now class) }
         ensures room { OnOk result (length self.old.objects < object_limit) }
         ensures exists { IfOk result (λ object. IsObject self.new object) }
-        ensures fresh { IfOk result (λ object. object_at self.new object ≡ fresh_object mapping.now class) }
+        ensures fresh { IfOk result
+            (λ object. object_at self.new object ≡ fresh_object mapping.now class) }
         ensures fits { IsFit mapping.now self.old → IsFit mapping.now self.new }
     {
         if self.objects.len() >= OBJECT_LIMIT {
@@ -201,7 +211,8 @@ impl Arena {
         requires fit { IsFit mapping.now self.old }
         requires object { IsObject self.old object }
         requires attr { IsAttribute mapping.now (object_at self.old object).class attr }
-        ensures step { Takes (λ _. tt) (set_cell self.old mapping.now object attr value) self.old result self.new }
+        ensures step { Takes (λ _. tt)
+            (set_cell self.old mapping.now object attr value) self.old result self.new }
         ensures set { OnOk result (self.new ≡ with_value self.old object attr value) }
         ensures fits { IsFit mapping.now self.new }
         ensures classes { classes_of self.new ≡ classes_of self.old }
@@ -236,7 +247,8 @@ impl Arena {
         ensures step { Takes (λ _. tt) (register self.old object key) self.old result self.new }
         ensures registered { OnOk result (self.new ≡ registered self.old object key) }
         ensures taken { OnErr result (is_taken self.old object key ≡ true) }
-        ensures keeps { KeepsWith (λ mapped. key_fits mapped (object_at self.old object).class key ≡ true)
+        ensures keeps { KeepsWith
+            (λ mapped. key_fits mapped (object_at self.old object).class key ≡ true)
             self.old self.new }
     {
         if self.is_taken(object, &key) {
@@ -261,7 +273,8 @@ impl Arena {
     pub fn expire(&mut self, object: ObjId)
         requires object { IsObject self.old object }
         requires persistent { (object_at self.old object).state ≡ Persistent }
-        ensures expired { self.new ≡ with_object self.old object (expired (object_at self.old object)) }
+        ensures expired { self.new
+            ≡ with_object self.old object (expired (object_at self.old object)) }
         ensures keeps { Keeps self.old self.new }
     {
         self.write_expired(object);
@@ -283,7 +296,8 @@ impl Arena {
         ensures ok { OnOk result (self.new ≡ with_cell self.old object attr cell) }
         ensures done { IsOk result }
         ensures keeps { KeepsWith
-            (λ mapped. cell_fits (attribute_of mapped (object_at self.old object).class attr) cell ≡ true)
+            (λ mapped. cell_fits
+            (attribute_of mapped (object_at self.old object).class attr) cell ≡ true)
             self.old self.new }
     {
         self.write_cell(object, attr, cell);
@@ -309,7 +323,8 @@ impl Arena {
         ensures err { OnErr result (self.new ≡ self.old) }
         ensures cause { IfErr result (λ e. e ≡ Memory) }
         ensures keeps { KeepsWith
-            (λ mapped. link_fits mapped self.old.roots (relation_of mapped (object_at self.old object).class relation) link ≡ true)
+            (λ mapped. link_fits mapped self.old.roots
+            (relation_of mapped (object_at self.old object).class relation) link ≡ true)
             self.old self.new }
     {
         self.write_link(object, relation, link);
@@ -362,9 +377,12 @@ impl Arena {
     pub fn put_state(&mut self, object: ObjId, state: State) -> Result<(), Refusal>
         requires object { IsObject self.old object }
         requires state { is_persistent state ≡ false }
-        requires identity { has_identity state ≡ true → is_some (object_at self.old object).identity ≡ true }
+        requires identity { has_identity state ≡ true
+            → is_some (object_at self.old object).identity ≡ true }
         ensures ok { OnOk result (self.new ≡ with_state self.old object state) }
-        ensures frees { OnOk result ((root : ClassId) (key : List Value) → find_identity self.old root key ≡ Some object → find_identity self.new root key ≡ None) }
+        ensures frees { OnOk result
+            ((root : ClassId) (key : List Value) → find_identity self.old root key ≡ Some object
+            → find_identity self.new root key ≡ None) }
         ensures err { OnErr result (self.new ≡ self.old) }
         ensures cause { IfErr result (λ e. e ≡ Memory) }
         ensures keeps { Keeps self.old self.new }
@@ -378,9 +396,12 @@ impl Arena {
     fn write_state(&mut self, object: ObjId, state: State)
         requires object { IsObject self.old object }
         requires state { is_persistent state ≡ false }
-        requires identity { has_identity state ≡ true → is_some (object_at self.old object).identity ≡ true }
+        requires identity { has_identity state ≡ true
+            → is_some (object_at self.old object).identity ≡ true }
         ensures state { self.new ≡ with_state self.old object state }
-        ensures frees { (root : ClassId) (key : List Value) → find_identity self.old root key ≡ Some object → find_identity self.new root key ≡ None }
+        ensures frees { (root : ClassId) (key : List Value)
+            → find_identity self.old root key ≡ Some object
+            → find_identity self.new root key ≡ None }
     {
         parts::put_state(&mut self.objects[object.0 as usize - 1], state);
     }
@@ -392,8 +413,11 @@ impl Arena {
         requires object { IsObject self.old object }
         requires identity { has_identity state ≡ is_some identity }
         requires one { is_persistent state ≡ true → IsFree self.old object identity }
-        ensures back { self.new ≡ with_object self.old object (put_back_object (object_at self.old object) state identity) }
-        ensures keeps { KeepsWith (λ mapped. identity_fits mapped (object_at self.old object).class identity ≡ true)
+        ensures back { self.new
+            ≡ with_object self.old object
+            (put_back_object (object_at self.old object) state identity) }
+        ensures keeps { KeepsWith
+            (λ mapped. identity_fits mapped (object_at self.old object).class identity ≡ true)
             self.old self.new }
     {
         self.write_back(object, state, identity);
@@ -404,7 +428,8 @@ impl Arena {
         requires object { IsObject self.old object }
         requires identity { has_identity state ≡ is_some identity }
         requires one { is_persistent state ≡ true → IsFree self.old object identity }
-        ensures { self.new ≡ with_object self.old object (put_back_object (object_at self.old object) state identity) }
+        ensures { self.new ≡ with_object self.old object
+            (put_back_object (object_at self.old object) state identity) }
     {
         parts::put_back(
             self.alloc,
@@ -418,9 +443,11 @@ impl Arena {
     pub fn stand(&mut self, object: ObjId, state: State)
         requires object { IsObject self.old object }
         requires identity { has_identity state ≡ is_some (object_at self.old object).identity }
-        requires one { is_persistent state ≡ true → IsFree self.old object (object_at self.old object).identity }
+        requires one { is_persistent state ≡ true
+            → IsFree self.old object (object_at self.old object).identity }
         ensures stands { self.new ≡ with_object self.old object
-            (put_back_object (object_at self.old object) state (object_at self.old object).identity) }
+            (put_back_object (object_at self.old object) state
+            (object_at self.old object).identity) }
         ensures keeps { Keeps self.old self.new }
     {
         self.write_standing(object, state);
@@ -430,9 +457,11 @@ impl Arena {
     fn write_standing(&mut self, object: ObjId, state: State)
         requires object { IsObject self.old object }
         requires identity { has_identity state ≡ is_some (object_at self.old object).identity }
-        requires one { is_persistent state ≡ true → IsFree self.old object (object_at self.old object).identity }
+        requires one { is_persistent state ≡ true
+            → IsFree self.old object (object_at self.old object).identity }
         ensures { self.new ≡ with_object self.old object
-            (put_back_object (object_at self.old object) state (object_at self.old object).identity) }
+            (put_back_object (object_at self.old object) state
+            (object_at self.old object).identity) }
     {
         parts::stand(self.alloc, &mut self.objects[object.0 as usize - 1], state);
     }
@@ -503,8 +532,10 @@ fn push_both(
     object: Object,
     root: ClassId,
 ) -> Result<(), Refusal>
-    ensures ok { OnOk result ((objects.new.items ≡ objects.old.items ++ object ∷ []) × (roots.new.items ≡ roots.old.items ++ root ∷ [])) }
-    ensures err { OnErr result ((objects.new.items ≡ objects.old.items) × (roots.new.items ≡ roots.old.items)) }
+    ensures ok { OnOk result ((objects.new.items ≡ objects.old.items ++ object ∷ [])
+        × (roots.new.items ≡ roots.old.items ++ root ∷ [])) }
+    ensures err { OnErr result
+        ((objects.new.items ≡ objects.old.items) × (roots.new.items ≡ roots.old.items)) }
     ensures cause { IfErr result (λ e. e ≡ Memory) }
 {
     roots.reserve(1)?;
@@ -564,7 +595,8 @@ fn cell_fault(mapping: &Mapping, object: &Object, attr: AttrNo, value: &Value) -
     requires declared { IsClass mapping.now object.now.class }
     requires configured { mapping.now.configured ≡ true }
     requires attr { IsAttribute mapping.now object.now.class attr }
-    ensures { result ≡ either_fault (value_fault mapping.now object.now attr value.now) (key_fault mapping.now object.now attr) }
+    ensures { result ≡ either_fault (value_fault mapping.now object.now attr value.now)
+        (key_fault mapping.now object.now attr) }
 {
     let wanted = mapping.attributes(object.class)[attr.0 as usize].kind;
     match kind_fault(wanted, kind_of_value(value)) {

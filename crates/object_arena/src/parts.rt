@@ -197,7 +197,10 @@ pub fn stand(alloc: Global, object: &mut Object, state: State)
 
 /// The object goes to a state; a transient or pending object has no identity.
 pub fn put_state(object: &mut Object, state: State)
-    ensures { object.new ≡ record object.old { state = state; identity = kept_identity state object.old.identity } }
+    ensures { object.new ≡ record object.old {
+      state = state;
+      identity = kept_identity state object.old.identity;
+    } }
 {
     object.state = state;
     match state {
@@ -209,7 +212,8 @@ pub fn put_state(object: &mut Object, state: State)
 /// The cell holds the value; its base stays.
 pub fn put_value(object: &mut Object, attr: AttrNo, value: Value)
     requires { attr.0 < length object.old.cells }
-    ensures { object.new ≡ cell_put object.old attr (record (cell_in object.old attr) { value = Some value }) }
+    ensures { object.new ≡ cell_put object.old attr
+        (record (cell_in object.old attr) { value = Some value }) }
 {
     let place = attr.0 as usize;
     let old = object.cells.replace(

@@ -214,7 +214,8 @@ impl<'a> Target<'a> {
     /// Whether the key of a new row is to be generated.
     fn wants_key(&self, alloc: Global, row: &RowValues) -> Result<bool, AllocError>
         requires { IsTable self.now.schema.now self.now.table }
-        ensures { IfOk result (λ yes. yes ≡ wants_key (spec_of self.now.schema.now self.now.table) row.now) }
+        ensures { IfOk result (λ yes. yes
+            ≡ wants_key (spec_of self.now.schema.now self.now.table) row.now) }
     {
         if !self.schema.generated(self.table) {
             return Ok(false);
@@ -232,7 +233,8 @@ impl<'a> Target<'a> {
         row: &RowValues,
     ) -> Result<Option<RowValues>, AllocError>
         requires { IsTable self.now.schema.now self.now.table }
-        ensures { IfOk result (λ keyed. keyed ≡ with_own_key (spec_of self.now.schema.now self.now.table) rows.now row.now) }
+        ensures { IfOk result (λ keyed. keyed
+            ≡ with_own_key (spec_of self.now.schema.now self.now.table) rows.now row.now) }
     {
         if !self.wants_key(alloc, row)? {
             return Ok(Some(row.copied()?));
@@ -273,7 +275,8 @@ impl<'a> Target<'a> {
         new: &[RowValues],
     ) -> Result<PlainRows, Unwritten>
         requires { IsTable self.now.schema.now self.now.table }
-        ensures { Told (entries_of (spec_of self.now.schema.now self.now.table) rows.now new.now) result }
+        ensures { Told (entries_of
+            (spec_of self.now.schema.now self.now.table) rows.now new.now) result }
     {
         let Some((row, more)) = new.split_first() else {
             return Ok(ListOf::new(alloc));
@@ -289,7 +292,9 @@ impl<'a> Target<'a> {
     /// Whether a new row has a NULL in a column that takes none; a key that is generated may be left open.
     fn some_lacks_demanded(&self, new: &[RowValues]) -> bool
         requires { IsTable self.now.schema.now self.now.table }
-        ensures { result ≡ list_any (lacks_value (is_demanded (spec_of self.now.schema.now self.now.table)) (spec_of self.now.schema.now self.now.table).columns) new.now }
+        ensures { result ≡ list_any
+            (lacks_value (is_demanded (spec_of self.now.schema.now self.now.table))
+            (spec_of self.now.schema.now self.now.table).columns) new.now }
     {
         let generated = self.schema.generated(self.table);
         let columns = self.columns();

@@ -30,7 +30,8 @@ pub fn has_null(values: &[Value]) -> bool
 
 /// Whether two cells are the same; one that is not there is NULL.
 fn are_same(one: Option<&Value>, other: Option<&Value>) -> bool
-    ensures { result ≡ is_eq (value_cmp (held (option_copied one.entry)) (held (option_copied other.entry))) }
+    ensures { result ≡ is_eq (value_cmp (held (option_copied one.entry))
+        (held (option_copied other.entry))) }
 {
     match (one, other) {
         (Some(one), Some(other)) => compare(one, other).is_eq(),
@@ -84,7 +85,8 @@ pub fn are_cells(columns: &[ColumnSpec], row: &[Value], names: &[Name], key: &[V
 
 /// Whether two rows have the same cell in the column of a name.
 fn same_cell(columns: &[ColumnSpec], one: &[Value], other: &[Value], name: &Name) -> bool
-    ensures { result ≡ is_eq (value_cmp (cell_of columns.now one.now name.now) (cell_of columns.now other.now name.now)) }
+    ensures { result ≡ is_eq (value_cmp (cell_of columns.now one.now name.now)
+        (cell_of columns.now other.now name.now)) }
 {
     are_same(cell_of(columns, one, name), cell_of(columns, other, name))
 }
@@ -92,7 +94,8 @@ fn same_cell(columns: &[ColumnSpec], one: &[Value], other: &[Value], name: &Name
 #[tactic(auto, using(crate::proofs::CellLemmas::then_equal))]
 /// Whether two rows have the same cells in the columns of a list.
 pub fn same_cells(columns: &[ColumnSpec], one: &[Value], other: &[Value], names: &[Name]) -> bool
-    ensures { result ≡ same_values (map (cell_of columns.now one.now) names.now) (map (cell_of columns.now other.now) names.now) }
+    ensures { result ≡ same_values (map (cell_of columns.now one.now) names.now)
+        (map (cell_of columns.now other.now) names.now) }
 {
     let Some((name, names)) = names.split_first() else {
         return true;
@@ -102,7 +105,8 @@ pub fn same_cells(columns: &[ColumnSpec], one: &[Value], other: &[Value], names:
 
 /// Whether a NULL stands in a column that takes none; where the key is generated, its column takes it.
 pub fn lacks_value(columns: &[ColumnSpec], row: &[Value], generated: bool) -> bool
-    ensures { result ≡ lacks_value (λ column. is_required column && not (column.key && generated)) columns.now row.now }
+    ensures { result ≡ lacks_value
+        (λ column. is_required column && not (column.key && generated)) columns.now row.now }
 {
     match (columns.split_first(), row.split_first()) {
         (Some((column, columns)), Some((cell, row))) => {
@@ -177,7 +181,8 @@ fn push_keyed(
     key: i64,
     row: &[Value],
 ) -> Result<(), AllocError>
-    ensures { OnOk result (cells.new.items ≡ cells.old.items ++ with_key columns.now (Value.Int key) row.now) }
+    ensures { OnOk result (cells.new.items
+        ≡ cells.old.items ++ with_key columns.now (Value.Int key) row.now) }
 {
     if let (Some((column, columns)), Some((cell, row))) = (
         columns.split_first(),

@@ -41,7 +41,8 @@ fn push_with<K: Ord + Copied + Drop, V: Copied + Drop>(
     key: K,
     value: V,
 ) -> Result<(), AllocError>
-    ensures { OnOk result (changed.new.items ≡ changed.old.items ++ insert_entry K.cmp entries.now key value) }
+    ensures { OnOk result (changed.new.items
+        ≡ changed.old.items ++ insert_entry K.cmp entries.now key value) }
 {
     let Some((entry, rest)) = entries.split_first() else {
         changed.push((key, value))?;
@@ -82,7 +83,8 @@ fn push_without<K: Ord + Copied + Drop, V: Copied + Drop>(
     entries: &[(K, V)],
     key: &K,
 ) -> Result<(), AllocError>
-    ensures { OnOk result (changed.new.items ≡ changed.old.items ++ remove_entry (is_at (K.cmp key.now)) entries.now) }
+    ensures { OnOk result (changed.new.items
+        ≡ changed.old.items ++ remove_entry (is_at (K.cmp key.now)) entries.now) }
 {
     let Some((entry, rest)) = entries.split_first() else {
         return Ok(());

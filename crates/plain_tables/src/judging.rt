@@ -28,7 +28,8 @@ fn some_collides(
     key: &Key,
     row: &RowValues,
 ) -> bool
-    ensures { result ≡ list_any (λ other. not (same_values key.now other.0) && collide spec.now unique.now row.now other.1) rows.now }
+    ensures { result ≡ list_any
+        (λ other. not (same_values key.now other.0) && collide spec.now unique.now row.now other.1) rows.now }
 {
     rows.iter().any(|other| !key.cmp(&other.0).is_eq() && collide(spec, unique, row, &other.1))
 }
@@ -70,7 +71,8 @@ fn names_row(
     row: &RowValues,
     foreign: &ForeignSpec,
 ) -> bool
-    ensures { result ≡ names_row schema.now tables.now foreign.now (cells_of spec.now row.now foreign.now.columns) }
+    ensures { result ≡ names_row schema.now tables.now foreign.now
+        (cells_of spec.now row.now foreign.now.columns) }
 {
     let Some(target) = schema.find(&foreign.target) else {
         return false;
@@ -166,7 +168,8 @@ fn row_loses(
     spec: &TableSpec,
     row: &RowValues,
 ) -> bool
-    ensures { result ≡ list_any (loses_row schema.now before.now left.now spec.now row.now) spec.now.foreigns }
+    ensures { result ≡ list_any
+        (loses_row schema.now before.now left.now spec.now row.now) spec.now.foreigns }
 {
     let foreigns = spec.foreigns.as_slice();
     foreigns.iter().any(|foreign| loses_row(schema, before, left, spec, row, foreign))
@@ -180,7 +183,9 @@ fn table_loses(
     table: TableId,
     rows: &[(Key, RowValues)],
 ) -> bool
-    ensures { result ≡ list_any (λ row. list_any (loses_row schema.now before.now left.now (spec_of schema.now table) row.1) (spec_of schema.now table).foreigns) rows.now }
+    ensures { result ≡ list_any
+        (λ row. list_any (loses_row schema.now before.now left.now (spec_of schema.now table) row.1)
+        (spec_of schema.now table).foreigns) rows.now }
 {
     if schema.count() <= table.0 {
         return false;

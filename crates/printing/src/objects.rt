@@ -31,7 +31,8 @@ fn write_led<W: fmt::Write, N: Naming>(
     names: &N,
     objects: &[ObjId],
 ) -> fmt::Result
-    ensures { DisplaysOnOk W.write_str_gives f.old result (Some (led (codes ", ") (object_text (N.names names.now)) objects.now)) f.new }
+    ensures { DisplaysOnOk W.write_str_gives f.old result
+        (Some (led (codes ", ") (object_text (N.names names.now)) objects.now)) f.new }
 {
     for object in objects {
         let shown = ObjectText {
@@ -49,7 +50,8 @@ fn write_objects<W: fmt::Write, N: Naming>(
     names: &N,
     objects: &[ObjId],
 ) -> fmt::Result
-    ensures { DisplaysOnOk W.write_str_gives f.old result (Some (joined (codes ", ") (object_text (N.names names.now)) objects.now)) f.new }
+    ensures { DisplaysOnOk W.write_str_gives f.old result
+        (Some (joined (codes ", ") (object_text (N.names names.now)) objects.now)) f.new }
 {
     match objects.split_first() {
         Some((first, rest)) => {
@@ -104,7 +106,8 @@ fn write_led_rows<W: fmt::Write, N: Naming>(
     names: &N,
     rows: &[RowName],
 ) -> fmt::Result
-    ensures { DisplaysOnOk W.write_str_gives f.old result (Some (led (codes " -> ") (row_name_text (N.names names.now)) rows.now)) f.new }
+    ensures { DisplaysOnOk W.write_str_gives f.old result
+        (Some (led (codes " -> ") (row_name_text (N.names names.now)) rows.now)) f.new }
 {
     for row in rows {
         let shown = RowNameText { names, row: *row };
@@ -119,7 +122,8 @@ pub fn write_cycle<W: fmt::Write, N: Naming>(
     names: &N,
     rows: &[RowName],
 ) -> fmt::Result
-    ensures { DisplaysOnOk W.write_str_gives f.old result (Some (joined (codes " -> ") (row_name_text (N.names names.now)) rows.now)) f.new }
+    ensures { DisplaysOnOk W.write_str_gives f.old result
+        (Some (joined (codes " -> ") (row_name_text (N.names names.now)) rows.now)) f.new }
 {
     match rows.split_first() {
         Some((first, rest)) => {

@@ -36,7 +36,8 @@ fn write_mismatch<W: fmt::Write>(
     wanted: Kind,
     found: Kind,
 ) -> fmt::Result
-    ensures { DisplaysOnOk W.write_str_gives f.old result (Some (mismatch_text wanted found)) f.new }
+    ensures { DisplaysOnOk W.write_str_gives f.old result
+        (Some (mismatch_text wanted found)) f.new }
 {
     let wanted = kind_word(wanted);
     let found = kind_word(found);
@@ -62,7 +63,8 @@ fn write_spent<W: fmt::Write, N: Naming>(
     names: &N,
     table: TableId,
 ) -> fmt::Result
-    ensures { DisplaysOnOk W.write_str_gives f.old result (Some (spent_text (N.names names.now) table)) f.new }
+    ensures { DisplaysOnOk W.write_str_gives f.old result
+        (Some (spent_text (N.names names.now) table)) f.new }
 {
     let table = names.table_name(table);
     write!(f, "DataError(keys of {table})")
@@ -75,7 +77,8 @@ fn write_table<W: fmt::Write, N: Naming>(
     name: &str,
     table: TableId,
 ) -> fmt::Result
-    ensures { DisplaysOnOk W.write_str_gives f.old result (Some (told name.now ((N.names names.now).table table))) f.new }
+    ensures { DisplaysOnOk W.write_str_gives f.old result
+        (Some (told name.now ((N.names names.now).table table))) f.new }
 {
     write_told(f, name, names.table_name(table))
 }
@@ -87,7 +90,8 @@ fn write_compile<W: fmt::Write, N: Naming>(
     table: TableId,
     column: ColumnNo,
 ) -> fmt::Result
-    ensures { DisplaysOnOk W.write_str_gives f.old result (Some (compile_text (N.names names.now) table column)) f.new }
+    ensures { DisplaysOnOk W.write_str_gives f.old result
+        (Some (compile_text (N.names names.now) table column)) f.new }
 {
     let column = names.column_name(table, column);
     let table = names.table_name(table);
@@ -102,7 +106,8 @@ fn write_validation<W: fmt::Write, N: Naming>(
     attribute: AttrNo,
     hook: &Name,
 ) -> fmt::Result
-    ensures { DisplaysOnOk W.write_str_gives f.old result (Some (validation_text (N.names names.now) class attribute hook.now)) f.new }
+    ensures { DisplaysOnOk W.write_str_gives f.old result
+        (Some (validation_text (N.names names.now) class attribute hook.now)) f.new }
 {
     let attribute = names.attribute_name(class, attribute);
     let class = names.class_name(class);
@@ -126,7 +131,8 @@ fn write_object<W: fmt::Write, N: Naming>(
     name: &str,
     object: ObjId,
 ) -> fmt::Result
-    ensures { DisplaysOnOk W.write_str_gives f.old result (Some (told name.now (object_text (N.names names.now) object))) f.new }
+    ensures { DisplaysOnOk W.write_str_gives f.old result
+        (Some (told name.now (object_text (N.names names.now) object))) f.new }
 {
     let object = ObjectText { names, object };
     write!(f, "{name}({object})")
@@ -138,7 +144,8 @@ fn write_circular<W: fmt::Write, N: Naming>(
     names: &N,
     rows: &[RowName],
 ) -> fmt::Result
-    ensures { DisplaysOnOk W.write_str_gives f.old result (Some (circular_text (N.names names.now) rows.now)) f.new }
+    ensures { DisplaysOnOk W.write_str_gives f.old result
+        (Some (circular_text (N.names names.now) rows.now)) f.new }
 {
     f.write_str("CircularDependencyError(")?;
     write_cycle(f, names, rows)?;
@@ -152,7 +159,8 @@ fn write_integrity<W: fmt::Write, N: Naming>(
     kind: IntegrityKind,
     table: TableId,
 ) -> fmt::Result
-    ensures { DisplaysOnOk W.write_str_gives f.old result (Some (breach_text (N.names names.now) kind table)) f.new }
+    ensures { DisplaysOnOk W.write_str_gives f.old result
+        (Some (breach_text (N.names names.now) kind table)) f.new }
 {
     let table = names.table_name(table);
     let kind = integrity_word(kind);
@@ -208,7 +216,8 @@ fn write_skipped<W: fmt::Write>(
     class: &str,
     relation: &str,
 ) -> fmt::Result
-    ensures { DisplaysOnOk W.write_str_gives f.old result (Some (skipped_text class.now relation.now)) f.new }
+    ensures { DisplaysOnOk W.write_str_gives f.old result
+        (Some (skipped_text class.now relation.now)) f.new }
 {
     write!(f, " is not in the session, {class}.{relation} skipped")
 }

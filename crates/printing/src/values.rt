@@ -27,7 +27,8 @@ fn write_doubled<W: fmt::Write>(f: &mut fmt::Formatter<W>, text: &str) -> fmt::R
 
 /// Writes two hexadecimal digits a byte.
 fn write_hex<W: fmt::Write>(f: &mut fmt::Formatter<W>, bytes: &[u8]) -> fmt::Result
-    ensures { DisplaysOnOk W.write_str_gives f.old result (Some (flat_map hex_byte bytes.now)) f.new }
+    ensures { DisplaysOnOk W.write_str_gives f.old result
+        (Some (flat_map hex_byte bytes.now)) f.new }
 {
     for byte in bytes {
         let high = *byte / 16;
@@ -82,7 +83,8 @@ impl<'a> fmt::Display for ValueText<'a> {
 
 /// Writes each value with a comma before it.
 fn write_led<W: fmt::Write>(f: &mut fmt::Formatter<W>, values: &[Value]) -> fmt::Result
-    ensures { DisplaysOnOk W.write_str_gives f.old result (Some (led (codes ", ") value_text values.now)) f.new }
+    ensures { DisplaysOnOk W.write_str_gives f.old result
+        (Some (led (codes ", ") value_text values.now)) f.new }
 {
     for value in values {
         let shown = ValueText(value);
@@ -93,7 +95,8 @@ fn write_led<W: fmt::Write>(f: &mut fmt::Formatter<W>, values: &[Value]) -> fmt:
 
 /// Writes the values with a comma between each two.
 fn write_values<W: fmt::Write>(f: &mut fmt::Formatter<W>, values: &[Value]) -> fmt::Result
-    ensures { DisplaysOnOk W.write_str_gives f.old result (Some (joined (codes ", ") value_text values.now)) f.new }
+    ensures { DisplaysOnOk W.write_str_gives f.old result
+        (Some (joined (codes ", ") value_text values.now)) f.new }
 {
     match values.split_first() {
         Some((first, rest)) => {

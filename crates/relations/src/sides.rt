@@ -35,7 +35,9 @@ fn left_unloaded(
     removed: &ObjList,
     member: ObjId,
 ) -> Result<Link, Refusal>
-    ensures left { IfOk result (λ new. new ≡ spec.left_unloaded (spec.is_among added.now member) added.now removed.now member) }
+    ensures left { IfOk result
+        (λ new. new ≡ spec.left_unloaded
+        (spec.is_among added.now member) added.now removed.now member) }
     ensures cause { IfErr result (λ e. e ≡ Memory) }
 {
     if is_among(added.as_slice(), member) {
@@ -88,7 +90,9 @@ fn joined_unloaded(
     removed: &ObjList,
     member: ObjId,
 ) -> Result<Link, Refusal>
-    ensures joined { IfOk result (λ new. new ≡ spec.joined_unloaded (spec.is_among removed.now member) added.now removed.now member) }
+    ensures joined { IfOk result
+        (λ new. new ≡ spec.joined_unloaded
+        (spec.is_among removed.now member) added.now removed.now member) }
     ensures cause { IfErr result (λ e. e ≡ Memory) }
 {
     if is_among(removed.as_slice(), member) {
@@ -124,7 +128,8 @@ fn without(alloc: Global, objects: &[ObjId], object: ObjId) -> Result<ObjList, R
 
 /// The objects with one behind them, unless it is among them.
 fn added_to(objects: &ObjList, object: ObjId) -> Result<ObjList, Refusal>
-    ensures all { IfOk result (λ all. all ≡ spec.added_unless (spec.is_among objects.now object) objects.now object) }
+    ensures all { IfOk result (λ all. all
+        ≡ spec.added_unless (spec.is_among objects.now object) objects.now object) }
     ensures cause { IfErr result (λ e. e ≡ Memory) }
 {
     let mut all = objects.copied()?;

@@ -66,9 +66,11 @@ impl Frames {
     #[tactic(auto, unfolding(crate::specs::Scopes::push))]
     pub fn push(&mut self, arena: &Arena) -> Result<(), Refusal>
         ensures step { Takes (λ _. tt) (spec.push arena.now self.old) self.old result self.new }
-        ensures pushed { OnOk result (self.new ≡ record self.old { scopes = spec.begun_at arena.now ∷ self.old.scopes }) }
+        ensures pushed { OnOk result
+            (self.new ≡ record self.old { scopes = spec.begun_at arena.now ∷ self.old.scopes }) }
         ensures cause { length self.old.scopes < spec.scope_limit → IfErr result (λ e. e ≡ Memory) }
-        ensures keys { (mapped : Mapped) → IsFit mapped arena.now → All (spec.HasKeys mapped arena.now) self.old.scopes
+        ensures keys { (mapped : Mapped) → IsFit mapped arena.now
+            → All (spec.HasKeys mapped arena.now) self.old.scopes
             → All (spec.HasKeys mapped arena.now) self.new.scopes }
     {
         if self.scopes.len() >= SCOPE_LIMIT {
@@ -150,7 +152,8 @@ impl Frames {
         requires depth { (1 ≤ depth) × (depth ≤ length self.old.scopes) }
         ensures restored { arena.new ≡ spec.restored depth self.old arena.old }
         ensures scopes { self.new ≡ spec.around depth self.old }
-        ensures keeps { KeepsWith (λ mapped. spec.HasKeys mapped arena.old (spec.scope_at depth self.old.scopes))
+        ensures keeps { KeepsWith
+            (λ mapped. spec.HasKeys mapped arena.old (spec.scope_at depth self.old.scopes))
             arena.old arena.new }
     {
         let scope = self.end(depth);
@@ -165,7 +168,11 @@ impl Frames {
         requires depth { (1 ≤ depth) × (depth ≤ length self.old.scopes) }
         ensures scope { result ≡ spec.scope_at depth self.old.scopes }
         ensures sound { All spec.IsStanding result.standings }
-        ensures scopes { self.new ≡ record self.old { scopes = drop (length self.old.scopes - (depth - 1)) self.old.scopes } }
+        ensures scopes { self.new
+            ≡ record self.old {
+              scopes = drop
+                  (length self.old.scopes - (depth - 1)) self.old.scopes;
+            } }
     {
         let inside = self.scopes.len() - depth as usize;
         for _ended in 0..inside {

@@ -38,7 +38,8 @@ fn set_all_free(arena: &mut Arena)
 /// An object is not persistent, and keeps its identity.
 fn set_free(arena: &mut Arena, object: ObjId)
     requires { IsObject arena.old object }
-    ensures free { arena.new ≡ with_object arena.old object (way.set_free (object_at arena.old object)) }
+    ensures free { arena.new ≡ with_object arena.old object
+        (way.set_free (object_at arena.old object)) }
     ensures keeps { Keeps arena.old arena.new }
 {
     if arena.object(object).identity.is_some() {
@@ -68,10 +69,12 @@ fn put_one_back(arena: &mut Arena, scope: &mut Scope, traces: &[Trace], object: 
     ensures back { arena.new ≡ way.with_back arena.old object
         (spec.wanted scope.old traces.now (object.0 - 1) (object_at arena.old object)) }
     ensures sound { All spec.IsStanding scope.new.standings }
-    ensures others { (other : ℕ) → other ≢ object.0 - 1 → spec.standing_at scope.new other ≡ spec.standing_at scope.old other }
+    ensures others { (other : ℕ) → other ≢ object.0 - 1
+        → spec.standing_at scope.new other ≡ spec.standing_at scope.old other }
     ensures long { length scope.new.standings ≡ length scope.old.standings }
     ensures keeps { KeepsWith
-        (λ mapped. identity_fits mapped (object_at arena.old object).class (spec.standing_at scope.old (object.0 - 1)).identity ≡ true)
+        (λ mapped. identity_fits mapped (object_at arena.old object).class
+        (spec.standing_at scope.old (object.0 - 1)).identity ≡ true)
         arena.old arena.new }
 {
     let place = object.0 as usize - 1;
@@ -89,7 +92,8 @@ fn put_back(arena: &mut Arena, object: ObjId, standing: Standing)
     requires object { IsObject arena.old object }
     requires sound { spec.IsStanding standing }
     ensures back { arena.new ≡ way.with_back arena.old object standing }
-    ensures keeps { KeepsWith (λ mapped. identity_fits mapped (object_at arena.old object).class standing.identity ≡ true)
+    ensures keeps { KeepsWith (λ mapped. identity_fits mapped
+        (object_at arena.old object).class standing.identity ≡ true)
         arena.old arena.new }
 {
     let taken = is_taken(arena, object, &standing.identity);
@@ -99,7 +103,8 @@ fn put_back(arena: &mut Arena, object: ObjId, standing: Standing)
 /// An object that a load made is persistent under its identity, or detached where another one is.
 fn stand_again(arena: &mut Arena, object: ObjId)
     requires { IsObject arena.old object }
-    ensures back { arena.new ≡ way.with_back arena.old object (spec.loaded_standing (object_at arena.old object).identity) }
+    ensures back { arena.new ≡ way.with_back arena.old object
+        (spec.loaded_standing (object_at arena.old object).identity) }
     ensures keeps { Keeps arena.old arena.new }
 {
     if arena.object(object).identity.is_none() {
@@ -156,7 +161,8 @@ fn is_read_again(traces: &[Trace], depth: u32, place: usize) -> bool
 /// An object is to be read again, where it was touched and is persistent.
 fn expire_where(arena: &mut Arena, object: ObjId, touched: bool)
     requires { IsObject arena.old object }
-    ensures expired { arena.new ≡ with_object arena.old object (spec.expired_where touched (object_at arena.old object)) }
+    ensures expired { arena.new
+        ≡ with_object arena.old object (spec.expired_where touched (object_at arena.old object)) }
     ensures keeps { Keeps arena.old arena.new }
 {
     if !touched {

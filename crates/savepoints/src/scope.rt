@@ -48,7 +48,9 @@ fn standing_of(object: &Object) -> Result<Standing, AllocError>
 pub(crate) fn begun_at(alloc: Global, arena: &Arena) -> Result<Scope, Refusal>
     ensures scope { IfOk result (λ scope. scope ≡ spec.begun_at arena.now) }
     ensures sound { IfOk result (λ scope. All spec.IsStanding scope.standings) }
-    ensures keys { IfOk result (λ scope. (mapped : Mapped) → IsFit mapped arena.now → spec.HasKeys mapped arena.now scope) }
+    ensures keys { IfOk result
+        (λ scope. (mapped : Mapped) → IsFit mapped arena.now
+        → spec.HasKeys mapped arena.now scope) }
     ensures cause { IfErr result (λ e. e ≡ Memory) }
 {
     let mut standings = ListOf::new(alloc);
@@ -64,7 +66,8 @@ pub(crate) fn take_standing(scope: &mut Scope, place: usize) -> Standing
     ensures standing { result ≡ spec.standing_at scope.old place }
     ensures taken { scope.new.standings ≡ slice_set scope.old.standings place spec.made_since }
     ensures long { length scope.new.standings ≡ length scope.old.standings }
-    ensures others { (other : ℕ) → other ≢ place → spec.standing_at scope.new other ≡ spec.standing_at scope.old other }
+    ensures others { (other : ℕ) → other ≢ place
+        → spec.standing_at scope.new other ≡ spec.standing_at scope.old other }
 {
     scope.standings.replace(place, made_since())
 }

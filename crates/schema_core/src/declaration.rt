@@ -144,7 +144,8 @@ fn some_unique_misses(columns: &[ColumnSpec], uniques: &[ListOf<Name>]) -> bool
 
 /// Whether a foreign key lists what is no column.
 fn some_foreign_misses(columns: &[ColumnSpec], foreigns: &[ForeignSpec]) -> bool
-    ensures { result ≡ list_any (λ foreign. names_unknown columns.now foreign.columns) foreigns.now }
+    ensures { result ≡ list_any
+        (λ foreign. names_unknown columns.now foreign.columns) foreigns.now }
 {
     foreigns.iter().any(|foreign| misses_column(columns, foreign.columns.as_slice()))
 }

@@ -34,7 +34,8 @@ fn count_keys(columns: &[ColumnSpec]) -> usize
 
 /// Whether a column of the key is an integer in no foreign key.
 fn some_free_key(foreigns: &[ForeignSpec], columns: &[ColumnSpec]) -> bool
-    ensures { result ≡ list_any (λ column. column.key && is_free_integer foreigns.now column) columns.now }
+    ensures { result ≡ list_any
+        (λ column. column.key && is_free_integer foreigns.now column) columns.now }
 {
     columns
         .iter()

@@ -172,7 +172,8 @@ impl<F: Fn(Global, &mut Tokens<'_>, usize, Level) -> Result<Syn, Fault>> Grammar
     #[tactic(auto, unfolding(crate::specs::Expr::deeper))]
     fn deeper(&self, tokens: &mut Tokens<'_>, kind: Kind) -> Result<(), Fault>
         requires { Nests self.now.depth (F.pre self.now.expr) (F.post self.now.expr) }
-        ensures { Reads (spec.deeper self.now.depth (spec.expr self.now.depth) kind tokens.old) result tokens.new }
+        ensures { Reads (spec.deeper self.now.depth
+            (spec.expr self.now.depth) kind tokens.old) result tokens.new }
     {
         if self.depth == 0 {
             return Err(tokens.refuse());
@@ -183,7 +184,8 @@ impl<F: Fn(Global, &mut Tokens<'_>, usize, Level) -> Result<Syn, Fault>> Grammar
     #[tactic(auto, unfolding(crate::specs::Expr::parenthesized))]
     fn parenthesized(&self, tokens: &mut Tokens<'_>) -> Result<Syn, Fault>
         requires { Nests self.now.depth (F.pre self.now.expr) (F.post self.now.expr) }
-        ensures { Reads (spec.parenthesized self.now.depth (spec.expr self.now.depth) tokens.old) result tokens.new }
+        ensures { Reads (spec.parenthesized self.now.depth
+            (spec.expr self.now.depth) tokens.old) result tokens.new }
     {
         self.deeper(tokens, Kind::LParen)?;
         let inner = self.inner(tokens, Level::Whole)?;
@@ -193,7 +195,8 @@ impl<F: Fn(Global, &mut Tokens<'_>, usize, Level) -> Result<Syn, Fault>> Grammar
     #[tactic(auto, unfolding(crate::specs::Expr::exists))]
     fn exists(&self, tokens: &mut Tokens<'_>) -> Result<Syn, Fault>
         requires { Nests self.now.depth (F.pre self.now.expr) (F.post self.now.expr) }
-        ensures { Reads (spec.exists self.now.depth (spec.expr self.now.depth) tokens.old) result tokens.new }
+        ensures { Reads (spec.exists self.now.depth
+            (spec.expr self.now.depth) tokens.old) result tokens.new }
     {
         self.deeper(tokens, Kind::LParen)?;
         let from = source(tokens)?;
@@ -206,7 +209,8 @@ impl<F: Fn(Global, &mut Tokens<'_>, usize, Level) -> Result<Syn, Fault>> Grammar
 
     fn arguments(&self, tokens: &mut Tokens<'_>) -> Result<Items<Syn>, Fault>
         requires { Nests self.now.depth (F.pre self.now.expr) (F.post self.now.expr) }
-        ensures { Reads (spec.arguments self.now.depth (spec.expr self.now.depth) tokens.old) result tokens.new }
+        ensures { Reads (spec.arguments self.now.depth
+            (spec.expr self.now.depth) tokens.old) result tokens.new }
     {
         let mut found = Items::new(self.alloc);
         for _turn in 0..tokens.left() {
@@ -222,7 +226,8 @@ impl<F: Fn(Global, &mut Tokens<'_>, usize, Level) -> Result<Syn, Fault>> Grammar
     #[tactic(auto, unfolding(crate::specs::Expr::call))]
     fn call(&self, tokens: &mut Tokens<'_>, f: Func) -> Result<Syn, Fault>
         requires { Nests self.now.depth (F.pre self.now.expr) (F.post self.now.expr) }
-        ensures { Reads (spec.call self.now.depth (spec.expr self.now.depth) f tokens.old) result tokens.new }
+        ensures { Reads (spec.call self.now.depth
+            (spec.expr self.now.depth) f tokens.old) result tokens.new }
     {
         self.deeper(tokens, Kind::LParen)?;
         if takes_all(tokens, f) {
@@ -237,7 +242,8 @@ impl<F: Fn(Global, &mut Tokens<'_>, usize, Level) -> Result<Syn, Fault>> Grammar
     #[tactic(auto, unfolding(crate::specs::Expr::called))]
     fn called(&self, tokens: &mut Tokens<'_>, f: Func, first: Name) -> Result<Syn, Fault>
         requires { Nests self.now.depth (F.pre self.now.expr) (F.post self.now.expr) }
-        ensures { Reads (spec.called self.now.depth (spec.expr self.now.depth) f first tokens.old) result tokens.new }
+        ensures { Reads (spec.called self.now.depth
+            (spec.expr self.now.depth) f first tokens.old) result tokens.new }
     {
         if tokens.sees(Kind::LParen) {
             self.call(tokens, f)
@@ -249,7 +255,8 @@ impl<F: Fn(Global, &mut Tokens<'_>, usize, Level) -> Result<Syn, Fault>> Grammar
     #[tactic(auto, unfolding(crate::specs::Expr::named))]
     fn named(&self, tokens: &mut Tokens<'_>) -> Result<Syn, Fault>
         requires { Nests self.now.depth (F.pre self.now.expr) (F.post self.now.expr) }
-        ensures { Reads (spec.named self.now.depth (spec.expr self.now.depth) tokens.old) result tokens.new }
+        ensures { Reads (spec.named self.now.depth
+            (spec.expr self.now.depth) tokens.old) result tokens.new }
     {
         let kind = tokens.kind();
         let first = name(tokens)?;
@@ -262,7 +269,8 @@ impl<F: Fn(Global, &mut Tokens<'_>, usize, Level) -> Result<Syn, Fault>> Grammar
     #[tactic(auto, unfolding(crate::specs::Expr::atom))]
     fn atom(&self, tokens: &mut Tokens<'_>) -> Result<Syn, Fault>
         requires { Nests self.now.depth (F.pre self.now.expr) (F.post self.now.expr) }
-        ensures { Reads (spec.atom self.now.depth (spec.expr self.now.depth) tokens.old) result tokens.new }
+        ensures { Reads (spec.atom self.now.depth
+            (spec.expr self.now.depth) tokens.old) result tokens.new }
     {
         match tokens.kind() {
             Kind::LParen => self.parenthesized(tokens),
@@ -278,7 +286,8 @@ impl<F: Fn(Global, &mut Tokens<'_>, usize, Level) -> Result<Syn, Fault>> Grammar
     #[tactic(auto, unfolding(crate::specs::Expr::unary))]
     fn unary(&self, tokens: &mut Tokens<'_>) -> Result<Syn, Fault>
         requires { Nests self.now.depth (F.pre self.now.expr) (F.post self.now.expr) }
-        ensures { Reads (spec.unary self.now.depth (spec.expr self.now.depth) tokens.old) result tokens.new }
+        ensures { Reads (spec.unary self.now.depth
+            (spec.expr self.now.depth) tokens.old) result tokens.new }
     {
         match tokens.kind() {
             Kind::Minus => {
@@ -291,7 +300,8 @@ impl<F: Fn(Global, &mut Tokens<'_>, usize, Level) -> Result<Syn, Fault>> Grammar
 
     fn factors(&self, tokens: &mut Tokens<'_>, mut left: Syn) -> Result<Syn, Fault>
         requires { Nests self.now.depth (F.pre self.now.expr) (F.post self.now.expr) }
-        ensures { Reads (spec.factors self.now.depth (spec.expr self.now.depth) left tokens.old) result tokens.new }
+        ensures { Reads (spec.factors self.now.depth
+            (spec.expr self.now.depth) left tokens.old) result tokens.new }
     {
         for _turn in 0..tokens.left() {
             let Some(joint) = product_joint(tokens.kind()) else {
@@ -308,7 +318,8 @@ impl<F: Fn(Global, &mut Tokens<'_>, usize, Level) -> Result<Syn, Fault>> Grammar
     #[tactic(auto, unfolding(crate::specs::Expr::product))]
     fn product(&self, tokens: &mut Tokens<'_>) -> Result<Syn, Fault>
         requires { Nests self.now.depth (F.pre self.now.expr) (F.post self.now.expr) }
-        ensures { Reads (spec.product self.now.depth (spec.expr self.now.depth) tokens.old) result tokens.new }
+        ensures { Reads (spec.product self.now.depth
+            (spec.expr self.now.depth) tokens.old) result tokens.new }
     {
         let first = self.unary(tokens)?;
         self.factors(tokens, first)
@@ -316,7 +327,8 @@ impl<F: Fn(Global, &mut Tokens<'_>, usize, Level) -> Result<Syn, Fault>> Grammar
 
     fn summands(&self, tokens: &mut Tokens<'_>, mut left: Syn) -> Result<Syn, Fault>
         requires { Nests self.now.depth (F.pre self.now.expr) (F.post self.now.expr) }
-        ensures { Reads (spec.summands self.now.depth (spec.expr self.now.depth) left tokens.old) result tokens.new }
+        ensures { Reads (spec.summands self.now.depth
+            (spec.expr self.now.depth) left tokens.old) result tokens.new }
     {
         for _turn in 0..tokens.left() {
             let Some(joint) = sum_joint(tokens.kind()) else {
@@ -333,7 +345,8 @@ impl<F: Fn(Global, &mut Tokens<'_>, usize, Level) -> Result<Syn, Fault>> Grammar
     #[tactic(auto, unfolding(crate::specs::Expr::sum))]
     fn sum(&self, tokens: &mut Tokens<'_>) -> Result<Syn, Fault>
         requires { Nests self.now.depth (F.pre self.now.expr) (F.post self.now.expr) }
-        ensures { Reads (spec.sum self.now.depth (spec.expr self.now.depth) tokens.old) result tokens.new }
+        ensures { Reads (spec.sum self.now.depth
+            (spec.expr self.now.depth) tokens.old) result tokens.new }
     {
         let first = self.product(tokens)?;
         self.summands(tokens, first)
@@ -342,7 +355,8 @@ impl<F: Fn(Global, &mut Tokens<'_>, usize, Level) -> Result<Syn, Fault>> Grammar
     /// A sum, boxed.
     fn boxed_sum(&self, tokens: &mut Tokens<'_>) -> Result<Boxed<Syn>, Fault>
         requires { Nests self.now.depth (F.pre self.now.expr) (F.post self.now.expr) }
-        ensures { Reads (spec.sum self.now.depth (spec.expr self.now.depth) tokens.old) result tokens.new }
+        ensures { Reads (spec.sum self.now.depth
+            (spec.expr self.now.depth) tokens.old) result tokens.new }
     {
         let operand = self.sum(tokens)?;
         Ok(Boxed::new(self.alloc, operand)?)
@@ -356,7 +370,8 @@ impl<F: Fn(Global, &mut Tokens<'_>, usize, Level) -> Result<Syn, Fault>> Grammar
         left: Boxed<Syn>,
     ) -> Result<Syn, Fault>
         requires { Nests self.now.depth (F.pre self.now.expr) (F.post self.now.expr) }
-        ensures { Reads (spec.compared self.now.depth (spec.expr self.now.depth) op left tokens.old) result tokens.new }
+        ensures { Reads (spec.compared self.now.depth
+            (spec.expr self.now.depth) op left tokens.old) result tokens.new }
     {
         if null_after(tokens, op) {
             return Ok(Syn::IsNull(is_unlike(op), left));
@@ -367,7 +382,8 @@ impl<F: Fn(Global, &mut Tokens<'_>, usize, Level) -> Result<Syn, Fault>> Grammar
     #[tactic(auto, unfolding(crate::specs::Expr::distinct))]
     fn distinct(&self, tokens: &mut Tokens<'_>, left: Boxed<Syn>) -> Result<Syn, Fault>
         requires { Nests self.now.depth (F.pre self.now.expr) (F.post self.now.expr) }
-        ensures { Reads (spec.distinct self.now.depth (spec.expr self.now.depth) left tokens.old) result tokens.new }
+        ensures { Reads (spec.distinct self.now.depth
+            (spec.expr self.now.depth) left tokens.old) result tokens.new }
     {
         let negated = tokens.eat(Kind::Not);
         tokens.expect(Kind::Distinct)?;
@@ -378,7 +394,8 @@ impl<F: Fn(Global, &mut Tokens<'_>, usize, Level) -> Result<Syn, Fault>> Grammar
     #[tactic(auto, unfolding(crate::specs::Expr::members))]
     fn members(&self, tokens: &mut Tokens<'_>) -> Result<RowValues, Fault>
         requires { Nests self.now.depth (F.pre self.now.expr) (F.post self.now.expr) }
-        ensures { Reads (spec.members self.now.depth (spec.expr self.now.depth) tokens.old) result tokens.new }
+        ensures { Reads (spec.members self.now.depth
+            (spec.expr self.now.depth) tokens.old) result tokens.new }
     {
         self.deeper(tokens, Kind::LParen)?;
         if tokens.eat(Kind::RParen) {
@@ -396,7 +413,8 @@ impl<F: Fn(Global, &mut Tokens<'_>, usize, Level) -> Result<Syn, Fault>> Grammar
         left: Boxed<Syn>,
     ) -> Result<Syn, Fault>
         requires { Nests self.now.depth (F.pre self.now.expr) (F.post self.now.expr) }
-        ensures { Reads (spec.between self.now.depth (spec.expr self.now.depth) negated left tokens.old) result tokens.new }
+        ensures { Reads (spec.between self.now.depth
+            (spec.expr self.now.depth) negated left tokens.old) result tokens.new }
     {
         let low = self.boxed_sum(tokens)?;
         tokens.expect(Kind::And)?;
@@ -406,7 +424,8 @@ impl<F: Fn(Global, &mut Tokens<'_>, usize, Level) -> Result<Syn, Fault>> Grammar
     #[tactic(auto, unfolding(crate::specs::Expr::liked))]
     fn liked(&self, tokens: &mut Tokens<'_>, negated: bool, left: Boxed<Syn>) -> Result<Syn, Fault>
         requires { Nests self.now.depth (F.pre self.now.expr) (F.post self.now.expr) }
-        ensures { Reads (spec.liked self.now.depth (spec.expr self.now.depth) negated left tokens.old) result tokens.new }
+        ensures { Reads (spec.liked self.now.depth
+            (spec.expr self.now.depth) negated left tokens.old) result tokens.new }
     {
         Ok(Syn::Like(negated, left, self.boxed_sum(tokens)?))
     }
@@ -414,7 +433,8 @@ impl<F: Fn(Global, &mut Tokens<'_>, usize, Level) -> Result<Syn, Fault>> Grammar
     #[tactic(auto, unfolding(crate::specs::Expr::iliked))]
     fn iliked(&self, tokens: &mut Tokens<'_>, negated: bool, left: Boxed<Syn>) -> Result<Syn, Fault>
         requires { Nests self.now.depth (F.pre self.now.expr) (F.post self.now.expr) }
-        ensures { Reads (spec.iliked self.now.depth (spec.expr self.now.depth) negated left tokens.old) result tokens.new }
+        ensures { Reads (spec.iliked self.now.depth
+            (spec.expr self.now.depth) negated left tokens.old) result tokens.new }
     {
         Ok(Syn::Ilike(negated, left, self.boxed_sum(tokens)?))
     }
@@ -422,7 +442,8 @@ impl<F: Fn(Global, &mut Tokens<'_>, usize, Level) -> Result<Syn, Fault>> Grammar
     #[tactic(auto, unfolding(crate::specs::Expr::among))]
     fn among(&self, tokens: &mut Tokens<'_>, negated: bool, left: Boxed<Syn>) -> Result<Syn, Fault>
         requires { Nests self.now.depth (F.pre self.now.expr) (F.post self.now.expr) }
-        ensures { Reads (spec.among self.now.depth (spec.expr self.now.depth) negated left tokens.old) result tokens.new }
+        ensures { Reads (spec.among self.now.depth
+            (spec.expr self.now.depth) negated left tokens.old) result tokens.new }
     {
         Ok(Syn::InList(negated, left, self.members(tokens)?))
     }
@@ -430,7 +451,8 @@ impl<F: Fn(Global, &mut Tokens<'_>, usize, Level) -> Result<Syn, Fault>> Grammar
     #[tactic(auto, unfolding(crate::specs::Expr::tested))]
     fn tested(&self, tokens: &mut Tokens<'_>, negated: bool, left: Boxed<Syn>) -> Result<Syn, Fault>
         requires { Nests self.now.depth (F.pre self.now.expr) (F.post self.now.expr) }
-        ensures { Reads (spec.tested self.now.depth (spec.expr self.now.depth) negated left tokens.old) result tokens.new }
+        ensures { Reads (spec.tested self.now.depth
+            (spec.expr self.now.depth) negated left tokens.old) result tokens.new }
     {
         match tokens.kind() {
             Kind::Like => {
@@ -456,7 +478,8 @@ impl<F: Fn(Global, &mut Tokens<'_>, usize, Level) -> Result<Syn, Fault>> Grammar
     /// What follows the first sum of a comparison, where this test begins.
     fn follow(&self, tokens: &mut Tokens<'_>, test: Test, left: Boxed<Syn>) -> Result<Syn, Fault>
         requires { Nests self.now.depth (F.pre self.now.expr) (F.post self.now.expr) }
-        ensures { Reads (spec.follow_by self.now.depth (spec.expr self.now.depth) left test tokens.old) result tokens.new }
+        ensures { Reads (spec.follow_by self.now.depth
+            (spec.expr self.now.depth) left test tokens.old) result tokens.new }
     {
         match test {
             Test::Compare(op) => {
@@ -479,7 +502,8 @@ impl<F: Fn(Global, &mut Tokens<'_>, usize, Level) -> Result<Syn, Fault>> Grammar
     #[tactic(auto, unfolding(crate::specs::Expr::comparison, crate::specs::Expr::follow))]
     fn comparison(&self, tokens: &mut Tokens<'_>) -> Result<Syn, Fault>
         requires { Nests self.now.depth (F.pre self.now.expr) (F.post self.now.expr) }
-        ensures { Reads (spec.comparison self.now.depth (spec.expr self.now.depth) tokens.old) result tokens.new }
+        ensures { Reads (spec.comparison self.now.depth
+            (spec.expr self.now.depth) tokens.old) result tokens.new }
     {
         let left = self.sum(tokens)?;
         match test_kind(tokens.kind()) {
@@ -491,7 +515,8 @@ impl<F: Fn(Global, &mut Tokens<'_>, usize, Level) -> Result<Syn, Fault>> Grammar
     #[tactic(auto, unfolding(crate::specs::Expr::negation))]
     fn negation(&self, tokens: &mut Tokens<'_>) -> Result<Syn, Fault>
         requires { Nests self.now.depth (F.pre self.now.expr) (F.post self.now.expr) }
-        ensures { Reads (spec.negation self.now.depth (spec.expr self.now.depth) tokens.old) result tokens.new }
+        ensures { Reads (spec.negation self.now.depth
+            (spec.expr self.now.depth) tokens.old) result tokens.new }
     {
         match tokens.kind() {
             Kind::Not => {
@@ -504,7 +529,8 @@ impl<F: Fn(Global, &mut Tokens<'_>, usize, Level) -> Result<Syn, Fault>> Grammar
 
     fn conjuncts(&self, tokens: &mut Tokens<'_>, first: Syn) -> Result<Items<Syn>, Fault>
         requires { Nests self.now.depth (F.pre self.now.expr) (F.post self.now.expr) }
-        ensures { Reads (spec.conjuncts self.now.depth (spec.expr self.now.depth) first tokens.old) result tokens.new }
+        ensures { Reads (spec.conjuncts self.now.depth
+            (spec.expr self.now.depth) first tokens.old) result tokens.new }
     {
         let mut found = only(self.alloc, first)?;
         for _turn in 0..tokens.left() {
@@ -520,7 +546,8 @@ impl<F: Fn(Global, &mut Tokens<'_>, usize, Level) -> Result<Syn, Fault>> Grammar
     #[tactic(auto, unfolding(crate::specs::Expr::conjunction))]
     fn conjunction(&self, tokens: &mut Tokens<'_>) -> Result<Syn, Fault>
         requires { Nests self.now.depth (F.pre self.now.expr) (F.post self.now.expr) }
-        ensures { Reads (spec.conjunction self.now.depth (spec.expr self.now.depth) tokens.old) result tokens.new }
+        ensures { Reads (spec.conjunction self.now.depth
+            (spec.expr self.now.depth) tokens.old) result tokens.new }
     {
         let first = self.negation(tokens)?;
         if tokens.eat(Kind::And) {
@@ -532,7 +559,8 @@ impl<F: Fn(Global, &mut Tokens<'_>, usize, Level) -> Result<Syn, Fault>> Grammar
 
     fn disjuncts(&self, tokens: &mut Tokens<'_>, first: Syn) -> Result<Items<Syn>, Fault>
         requires { Nests self.now.depth (F.pre self.now.expr) (F.post self.now.expr) }
-        ensures { Reads (spec.disjuncts self.now.depth (spec.expr self.now.depth) first tokens.old) result tokens.new }
+        ensures { Reads (spec.disjuncts self.now.depth
+            (spec.expr self.now.depth) first tokens.old) result tokens.new }
     {
         let mut found = only(self.alloc, first)?;
         for _turn in 0..tokens.left() {
@@ -548,7 +576,8 @@ impl<F: Fn(Global, &mut Tokens<'_>, usize, Level) -> Result<Syn, Fault>> Grammar
     #[tactic(auto, unfolding(crate::specs::Expr::disjunction))]
     fn disjunction(&self, tokens: &mut Tokens<'_>) -> Result<Syn, Fault>
         requires { Nests self.now.depth (F.pre self.now.expr) (F.post self.now.expr) }
-        ensures { Reads (spec.disjunction self.now.depth (spec.expr self.now.depth) tokens.old) result tokens.new }
+        ensures { Reads (spec.disjunction self.now.depth
+            (spec.expr self.now.depth) tokens.old) result tokens.new }
     {
         let first = self.conjunction(tokens)?;
         if tokens.eat(Kind::Or) {
@@ -560,7 +589,8 @@ impl<F: Fn(Global, &mut Tokens<'_>, usize, Level) -> Result<Syn, Fault>> Grammar
 
     pub fn at_level(&self, tokens: &mut Tokens<'_>, level: Level) -> Result<Syn, Fault>
         requires { Nests self.now.depth (F.pre self.now.expr) (F.post self.now.expr) }
-        ensures { Reads (spec.at_level self.now.depth (spec.expr self.now.depth) level tokens.old) result tokens.new }
+        ensures { Reads (spec.at_level self.now.depth
+            (spec.expr self.now.depth) level tokens.old) result tokens.new }
     {
         match level {
             Level::Whole => self.disjunction(tokens),

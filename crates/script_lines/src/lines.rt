@@ -94,15 +94,22 @@ impl LineBuffer {
     /// out. Both leave what was read pending.
     pub fn next_line<S: Source>(&mut self, source: &mut S) -> Result<NextLine, ReadStop>
         requires { FitsSource self.old (S.left source.old) }
-        ensures next { IfOk result (λ answer. IsNextTold self.old (S.left source.old) answer self.new (S.left source.new)) }
+        ensures next { IfOk result
+            (λ answer. IsNextTold self.old (S.left source.old) answer self.new
+            (S.left source.new)) }
         ensures limits { IfOk result (λ answer. KeepsLimits answer self.old.taken self.new.taken) }
-        ensures whole { IfOk result (λ answer. IsWhole answer self.new.ended (to_come self.old (S.left source.old))) }
+        ensures whole { IfOk result
+            (λ answer. IsWhole answer self.new.ended (to_come self.old (S.left source.old))) }
         ensures ended { self.old.ended ≡ true → self.new.ended ≡ true }
         ensures fits { FitsSource self.new (S.left source.new) }
-        ensures kept { OnErr result (IsKept self.old (S.left source.old) self.new (S.left source.new)) }
-        ensures bare { IfErr result (λ stop. stop ≡ ReadStop.Fault → (self.new.ended ≡ false) × (has_newline self.new.bytes ≡ false)) }
+        ensures kept { OnErr result
+            (IsKept self.old (S.left source.old) self.new (S.left source.new)) }
+        ensures bare { IfErr result
+            (λ stop. stop ≡ ReadStop.Fault
+            → (self.new.ended ≡ false) × (has_newline self.new.bytes ≡ false)) }
         ensures faults { S.faults source.old ≤ S.faults source.new }
-        ensures cause { IfErr result (λ stop. stop ≡ ReadStop.Fault → Rose (S.faults source.old) (S.faults source.new)) }
+        ensures cause { IfErr result
+            (λ stop. stop ≡ ReadStop.Fault → Rose (S.faults source.old) (S.faults source.new)) }
         ensures quiet { result ≢ Err ReadStop.Fault → S.faults source.new ≡ S.faults source.old }
     {
         loop {
@@ -135,10 +142,13 @@ impl LineBuffer {
     /// Reads more bytes behind those that are pending, or finds that the source has ended.
     fn fill<S: Source>(&mut self, source: &mut S) -> Result<(), ReadStop>
         requires { length self.old.bytes ≤ most_in_line }
-        ensures read { OnOk result (IsFilled self.old (S.left source.old) self.new (S.left source.new)) }
-        ensures stop { OnErr result ((self.new ≡ self.old) × Keeps (S.left source.old) (S.left source.new)) }
+        ensures read { OnOk result
+            (IsFilled self.old (S.left source.old) self.new (S.left source.new)) }
+        ensures stop { OnErr result
+            ((self.new ≡ self.old) × Keeps (S.left source.old) (S.left source.new)) }
         ensures faults { S.faults source.old ≤ S.faults source.new }
-        ensures cause { IfErr result (λ stop. stop ≡ ReadStop.Fault → Rose (S.faults source.old) (S.faults source.new)) }
+        ensures cause { IfErr result
+            (λ stop. stop ≡ ReadStop.Fault → Rose (S.faults source.old) (S.faults source.new)) }
         ensures quiet { result ≢ Err ReadStop.Fault → S.faults source.new ≡ S.faults source.old }
     {
         let mut bytes = Vec::from_slice(*self.bytes.allocator(), &self.bytes[self.start..])?;

@@ -21,7 +21,8 @@ pub fn separated<T: Drop, F: Fn(Global, &mut Tokens<'_>) -> Result<T, Fault>>(
 ) -> Result<ListOf<T>, Fault>
     ghost reader: { Reader T }
     requires { IsReadBy reader (F.pre item) (F.post item) }
-    ensures { Reads (spec.separated_from mark reader (spec.turns tokens.old) found.items tokens.old) result tokens.new }
+    ensures { Reads (spec.separated_from mark reader
+        (spec.turns tokens.old) found.items tokens.old) result tokens.new }
 {
     for _turn in 0..tokens.left() {
         let next = item(alloc, tokens)?;

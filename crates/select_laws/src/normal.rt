@@ -18,7 +18,8 @@ use schema_core::Schema;
 pub fn same_in_every_row(schema: &Schema, scope: &[TableId], e: &Expr)
     requires fitting { IsTrue (fits schema.now e.now scope.now) }
     requires typed { IsTrue (is_ok (judged schema.now e.now scope.now)) }
-    ensures { (p : Place) → FitsPlace schema.now scope.now p → evaluated (normal e.now) p ≡ evaluated e.now p }
+    ensures { (p : Place) → FitsPlace schema.now scope.now p
+        → evaluated (normal e.now) p ≡ evaluated e.now p }
 {}
 
 /// The same of a group, for an expression in which, but in the operands of aggregates, no aggregate stands inside an `exists`. It does
@@ -28,7 +29,8 @@ pub fn same_in_every_group(schema: &Schema, scope: &[TableId], e: &Expr)
     requires fitting { IsTrue (fits schema.now e.now scope.now) }
     requires typed { IsTrue (is_ok (judged schema.now e.now scope.now)) }
     requires apart { IsTrue (aggregates_apart e.now) }
-    ensures { (p : Place) (members : List Row) → FitsGroup schema.now scope.now p members → evaluated (normal e.now) p ≡ evaluated e.now p }
+    ensures { (p : Place) (members : List Row) → FitsGroup schema.now scope.now p members
+        → evaluated (normal e.now) p ≡ evaluated e.now p }
 {}
 
 /// The same of a group without rows, for an expression in which, but in the operands of aggregates, no aggregate and no column of the
@@ -38,7 +40,8 @@ pub fn same_without_rows(schema: &Schema, scope: &[TableId], e: &Expr)
     requires fitting { IsTrue (fits schema.now e.now scope.now) }
     requires typed { IsTrue (is_ok (judged schema.now e.now scope.now)) }
     requires apart { IsTrue (group_apart (length scope.now) e.now) }
-    ensures { (p : Place) → FitsNoRows schema.now scope.now p → evaluated (normal e.now) p ≡ evaluated e.now p }
+    ensures { (p : Place) → FitsNoRows schema.now scope.now p
+        → evaluated (normal e.now) p ≡ evaluated e.now p }
 {}
 
 /// The same where all rows are one group, with rows and without, for an expression of a plain select: it asks only for what such a
@@ -48,6 +51,8 @@ pub fn same_in_one_group(schema: &Schema, scope: &[TableId], e: &Expr)
     requires fitting { IsTrue (fits schema.now e.now scope.now) }
     requires typed { IsTrue (is_ok (judged schema.now e.now scope.now)) }
     requires settled { IsTrue (settled true [] (length scope.now) (normal e.now)) }
-    ensures rows { (p : Place) (members : List Row) → FitsGroup schema.now scope.now p members → evaluated (normal e.now) p ≡ evaluated e.now p }
-    ensures no_rows { (p : Place) → FitsNoRows schema.now scope.now p → evaluated (normal e.now) p ≡ evaluated e.now p }
+    ensures rows { (p : Place) (members : List Row) → FitsGroup schema.now scope.now p members
+        → evaluated (normal e.now) p ≡ evaluated e.now p }
+    ensures no_rows { (p : Place) → FitsNoRows schema.now scope.now p
+        → evaluated (normal e.now) p ≡ evaluated e.now p }
 {}

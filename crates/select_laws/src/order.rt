@@ -8,6 +8,9 @@ ghost use Rattle.select_laws.specs.Sorted.{IsSortedStably, KeyedRow};
 /// the order in which they come; and no other list is. So SQL's ORDER BY is met, and what it leaves open is settled.
 #[tactic(auto, using(crate::proofs::Ranks::order_laws))]
 pub fn one_order()
-    ensures holds { (rows : List KeyedRow) → (sorted : List KeyedRow) × IsSortedStably rows sorted × (in_order rows ≡ map (λ r. r.1) sorted) }
-    ensures only { (rows sorted : List KeyedRow) → IsSortedStably rows sorted → in_order rows ≡ map (λ r. r.1) sorted }
+    ensures holds { (rows : List KeyedRow)
+        → (sorted : List KeyedRow) × IsSortedStably rows sorted
+        × (in_order rows ≡ map (λ r. r.1) sorted) }
+    ensures only { (rows sorted : List KeyedRow) → IsSortedStably rows sorted
+        → in_order rows ≡ map (λ r. r.1) sorted }
 {}

@@ -15,7 +15,8 @@ pub(crate) fn distinct_and_cut(
     select: &Select,
     rows: Vec<RowValues>,
 ) -> Result<RowList, AllocError>
-    ensures { IfOk result (λ left. left ≡ spec.cut select.now (spec.distinct select.now.distinct rows.items)) }
+    ensures { IfOk result (λ left. left
+        ≡ spec.cut select.now (spec.distinct select.now.distinct rows.items)) }
 {
     let rows = distinct(alloc, select.distinct, rows)?;
     Ok(ListOf::from_vec(cut(rows, select.offset, select.limit)))

@@ -21,7 +21,8 @@ pub(crate) fn scope_at<'x>(
     tables: &'x [(TableId, RowList)],
     row: &'x [Value],
 ) -> Scope<'x>
-    ensures { place_of result ≡ spec.at (record { starts = starts.now; tables = tables.now }) row.now }
+    ensures { place_of result ≡ spec.at
+        (record { starts = starts.now; tables = tables.now }) row.now }
 {
     Scope {
         row,
@@ -37,7 +38,8 @@ pub(crate) fn scope_of<'x>(
     tables: &'x [(TableId, RowList)],
     basis: &'x Basis,
 ) -> Scope<'x>
-    ensures { place_of result ≡ spec.at_basis (record { starts = starts.now; tables = tables.now }) basis.now }
+    ensures { place_of result ≡ spec.at_basis
+        (record { starts = starts.now; tables = tables.now }) basis.now }
 {
     match basis {
         Basis::Row(row) => scope_at(starts, tables, row.as_slice()),

@@ -90,7 +90,8 @@ fn grouped(
     expressions: &ExprList,
     rows: Vec<RowValues>,
 ) -> Result<Vec<Basis>, Refusal>
-    ensures { Gives (λ v. v.items) result (spec.grouped (frame_of frame.now) expressions.now rows.items) }
+    ensures { Gives (λ v. v.items) result
+        (spec.grouped (frame_of frame.now) expressions.now rows.items) }
 {
     if expressions.is_empty() {
         return Ok(one_group(alloc, rows)?);
@@ -113,7 +114,8 @@ fn keyed(
     expressions: &ExprList,
     rows: Vec<RowValues>,
 ) -> Result<Vec<Keyed>, Refusal>
-    ensures { Gives (λ v. v.items) result (spec.mapped_from (spec.keyed (frame_of frame.now) expressions.now) [] rows.items) }
+    ensures { Gives (λ v. v.items) result
+        (spec.mapped_from (spec.keyed (frame_of frame.now) expressions.now) [] rows.items) }
 {
     let mut all = Vec::with_capacity(alloc, rows.len())?;
     for row in rows {
@@ -125,7 +127,8 @@ fn keyed(
 }
 
 fn values(alloc: Global, expressions: &ExprList, scope: &Scope<'_>) -> Result<RowValues, Refusal>
-    ensures { Gives (λ v. v) result (eval.all_from (place_of scope.now) [] (map eval.evaluated expressions.now)) }
+    ensures { Gives (λ v. v) result
+        (eval.all_from (place_of scope.now) [] (map eval.evaluated expressions.now)) }
 {
     let mut values = Vec::with_capacity(alloc, expressions.len())?;
     for e in expressions.as_slice() {

@@ -23,7 +23,8 @@ pub(crate) fn outputs(
     select: &Select,
     bases: &[Basis],
 ) -> Result<Vec<Output>, Refusal>
-    ensures { Gives (λ v. v.items) result (spec.mapped_from (spec.output (frame_of frame.now) select.now) [] bases.now) }
+    ensures { Gives (λ v. v.items) result
+        (spec.mapped_from (spec.output (frame_of frame.now) select.now) [] bases.now) }
 {
     let mut outputs = Vec::with_capacity(alloc, bases.len())?;
     for basis in bases {
@@ -46,7 +47,8 @@ fn values(
     items: &ListOf<(Expr, Option<Name>)>,
     scope: &Scope<'_>,
 ) -> Result<RowValues, Refusal>
-    ensures { Gives (λ x. x) result (eval.all_from (place_of scope.now) [] (map (λ i. eval.evaluated i.0) items.now)) }
+    ensures { Gives (λ x. x) result
+        (eval.all_from (place_of scope.now) [] (map (λ i. eval.evaluated i.0) items.now)) }
 {
     let mut values = Vec::with_capacity(alloc, items.len())?;
     for item in items.as_slice() {

@@ -42,7 +42,8 @@ pub fn named(e: &Expr, found: &mut Vec<u32>) -> Result<(), AllocError>
 
 #[cycle(named)]
 pub(crate) fn named_all(parts: &Items<Expr>, found: &mut Vec<u32>) -> Result<(), AllocError>
-    ensures { OnOk result (found.new.items ≡ found.old.items ++ spec.flat (map spec.named parts.now)) }
+    ensures { OnOk result (found.new.items
+        ≡ found.old.items ++ spec.flat (map spec.named parts.now)) }
 {
     for part in parts.as_slice() {
         named(part, found)?;

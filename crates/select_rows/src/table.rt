@@ -64,7 +64,8 @@ fn tables_of(alloc: Global, select: &Select) -> Result<Vec<u32>, AllocError>
 
 #[tactic(auto, using(crate::proofs::Surveys::all_named))]
 fn of_items(items: &ListOf<(Expr, Option<Name>)>, found: &mut Vec<u32>) -> Result<(), AllocError>
-    ensures { OnOk result (found.new.items ≡ found.old.items ++ spec.flat (map (λ i. spec.named i.0) items.now)) }
+    ensures { OnOk result (found.new.items
+        ≡ found.old.items ++ spec.flat (map (λ i. spec.named i.0) items.now)) }
 {
     for item in items.as_slice() {
         named(&item.0, found)?;
@@ -74,7 +75,8 @@ fn of_items(items: &ListOf<(Expr, Option<Name>)>, found: &mut Vec<u32>) -> Resul
 
 #[tactic(auto, using(crate::proofs::Surveys::all_named))]
 fn of_order(keys: &ListOf<(Expr, bool)>, found: &mut Vec<u32>) -> Result<(), AllocError>
-    ensures { OnOk result (found.new.items ≡ found.old.items ++ spec.flat (map (λ k. spec.named k.0) keys.now)) }
+    ensures { OnOk result (found.new.items
+        ≡ found.old.items ++ spec.flat (map (λ k. spec.named k.0) keys.now)) }
 {
     for key in keys.as_slice() {
         named(&key.0, found)?;
@@ -84,7 +86,8 @@ fn of_order(keys: &ListOf<(Expr, bool)>, found: &mut Vec<u32>) -> Result<(), All
 
 #[tactic(auto, using(crate::proofs::Surveys::all_named))]
 fn of_joins(joins: &ListOf<Joined>, found: &mut Vec<u32>) -> Result<(), AllocError>
-    ensures { OnOk result (found.new.items ≡ found.old.items ++ spec.flat (map (λ j. j.origin.table.0 ∷ spec.named j.on) joins.now)) }
+    ensures { OnOk result (found.new.items
+        ≡ found.old.items ++ spec.flat (map (λ j. j.origin.table.0 ∷ spec.named j.on) joins.now)) }
 {
     for join in joins.as_slice() {
         found.push(join.origin.table.0)?;

@@ -38,7 +38,8 @@ impl Session {
     pub(crate) fn flush<K: Keeper>(&mut self, keeper: &mut K) -> Result<(), Refusal>
         requires in_step { IsInStep self.old (K.moment keeper.old) }
         requires inside { length self.old.scopes ≡ 1 }
-        ensures step { Runs (moment_beside K.moment) (λ u. u) steps.flush (self.old, keeper.old) result (self.new, keeper.new) }
+        ensures step { Runs (moment_beside K.moment)
+            (λ u. u) steps.flush (self.old, keeper.old) result (self.new, keeper.new) }
         ensures in_step { StaysInStep result self.new (K.moment keeper.new) }
         ensures inside { OnOk result (length self.new.scopes ≡ 1) }
         ensures same { SameObjects self.old self.new }
@@ -60,7 +61,9 @@ impl Session {
 
     /// The pending objects by their rank.
     fn queue(&self) -> Result<Queue, Refusal>
-        ensures queue { IfOk result (λ queue. queue.entries ≡ fold spec.with_queued [] (enumerate_from 1 self.now.graph.objects)) }
+        ensures queue { IfOk result
+            (λ queue. queue.entries
+            ≡ fold spec.with_queued [] (enumerate_from 1 self.now.graph.objects)) }
         ensures cause { IfErr result (λ e. e ≡ Refusal.Memory) }
     {
         let mut queue = BTreeMap::new(self.alloc);
@@ -73,7 +76,9 @@ impl Session {
     /// An object goes to its place in the queue, where it is pending. The only refusal is want of memory.
     fn put_in_queue(&self, queue: &mut Queue, object: ObjId) -> Result<(), Refusal>
         requires { IsObject self.now.graph object }
-        ensures put { OnOk result (queue.new.entries ≡ spec.with_queued queue.old.entries (object.0, object_at self.now.graph object)) }
+        ensures put { OnOk result
+            (queue.new.entries
+            ≡ spec.with_queued queue.old.entries (object.0, object_at self.now.graph object)) }
         ensures cause { IfErr result (λ e. e ≡ Refusal.Memory) }
     {
         let record = self.arena.object(object);
@@ -96,7 +101,9 @@ impl Session {
         requires in_step { IsInStep self.old (K.moment keeper.old) }
         requires inside { length self.old.scopes ≡ 1 }
         requires objects { All (IsObject self.old.graph) objects.now }
-        ensures step { Runs (moment_beside K.moment) (λ written. written) (steps.write_pending objects.now) (self.old, keeper.old) result (self.new, keeper.new) }
+        ensures step { Runs (moment_beside K.moment)
+            (λ written. written) (steps.write_pending objects.now) (self.old, keeper.old) result
+            (self.new, keeper.new) }
         ensures keys { IfOk result (All (spec.IsUnderKey self.new.mapping self.new.graph)) }
         ensures in_step { StaysInStep result self.new (K.moment keeper.new) }
         ensures inside { OnOk result (length self.new.scopes ≡ 1) }
@@ -119,7 +126,8 @@ impl Session {
     fn give_up<K: Keeper>(&mut self, keeper: &mut K) -> Result<(), Refusal>
         requires in_step { IsInStep self.old (K.moment keeper.old) }
         requires inside { length self.old.scopes ≡ 1 }
-        ensures step { Runs (moment_beside K.moment) (λ u. u) steps.give_up (self.old, keeper.old) result (self.new, keeper.new) }
+        ensures step { Runs (moment_beside K.moment)
+            (λ u. u) steps.give_up (self.old, keeper.old) result (self.new, keeper.new) }
         ensures in_step { StaysInStep result self.new (K.moment keeper.new) }
         ensures same { SameObjects self.old self.new }
         ensures stops { IfErr result (λ e. ends_early e ≡ true) }
@@ -134,7 +142,9 @@ impl Session {
     pub(crate) fn roll_back<K: Keeper>(&self, keeper: &mut K) -> Result<(), Refusal>
         requires in_step { IsInStep self.now (K.moment keeper.old) }
         requires inside { length self.now.scopes ≡ 1 }
-        ensures step { Runs (moment_beside K.moment) (λ u. u) (on_store unnoted call.rollback) (self.now, keeper.old) result (self.now, keeper.new) }
+        ensures step { Runs (moment_beside K.moment)
+            (λ u. u) (on_store unnoted call.rollback) (self.now, keeper.old) result
+            (self.now, keeper.new) }
         ensures ended { (K.moment keeper.new).depth ≡ 0 }
         ensures attached { (K.moment keeper.new).attached ≡ true }
         ensures stops { IfErr result (λ e. ends_early e ≡ true) }
@@ -165,7 +175,10 @@ impl Session {
         requires in_step { IsInStep self.now (K.moment keeper.old) }
         requires inside { length self.now.scopes ≡ 1 }
         requires objects { All (IsObject self.now.graph) objects.now }
-        ensures step { Runs (moment_beside K.moment) (λ written. written) (by_own (λ session. on_store unnoted (steps.insert_all session objects.now))) (self.now, keeper.old) result (self.now, keeper.new) }
+        ensures step { Runs (moment_beside K.moment)
+            (λ written. written)
+            (by_own (λ session. on_store unnoted (steps.insert_all session objects.now)))
+            (self.now, keeper.old) result (self.now, keeper.new) }
         ensures in_step { StaysInStep result self.now (K.moment keeper.new) }
         ensures keys { IfOk result (All (spec.IsUnderKey self.now.mapping self.now.graph)) }
     {
@@ -182,7 +195,9 @@ impl Session {
         requires in_step { IsInStep self.now (K.moment keeper.old) }
         requires inside { length self.now.scopes ≡ 1 }
         requires objects { All (IsObject self.now.graph) objects.now }
-        ensures step { Runs K.moment (λ written. written) (steps.insert_all self.now objects.now) keeper.old result keeper.new }
+        ensures step { Runs K.moment
+            (λ written. written)
+            (steps.insert_all self.now objects.now) keeper.old result keeper.new }
         ensures in_step { StaysInStep result self.now (K.moment keeper.new) }
         ensures keys { IfOk result (All (spec.IsUnderKey self.now.mapping self.now.graph)) }
     {
@@ -205,9 +220,12 @@ impl Session {
         requires inside { length self.now.scopes ≡ 1 }
         requires object { IsObject self.now.graph object }
         requires keys { All (spec.IsUnderKey self.now.mapping self.now.graph) written.old }
-        ensures step { Runs K.moment (λ _. written.new) (steps.insert_one self.now object written.old) keeper.old result keeper.new }
+        ensures step { Runs K.moment
+            (λ _. written.new)
+            (steps.insert_one self.now object written.old) keeper.old result keeper.new }
         ensures in_step { StaysInStep result self.now (K.moment keeper.new) }
-        ensures keys { OnOk result (All (spec.IsUnderKey self.now.mapping self.now.graph) written.new) }
+        ensures keys { OnOk result
+            (All (spec.IsUnderKey self.now.mapping self.now.graph) written.new) }
     {
         let keys = self.write(keeper, object)?;
         written.push((object, key_alone(self.alloc, keys)))
@@ -219,9 +237,14 @@ impl Session {
         requires in_step { IsInStep self.now (K.moment keeper.old) }
         requires inside { length self.now.scopes ≡ 1 }
         requires object { IsObject self.now.graph object }
-        ensures step { Runs K.moment (λ keys. keys) (call.write self.now.mapping.schema (spec.insert_of self.now.mapping (object_at self.now.graph object))) keeper.old result keeper.new }
+        ensures step { Runs K.moment
+            (λ keys. keys) (call.write self.now.mapping.schema
+            (spec.insert_of self.now.mapping
+            (object_at self.now.graph object))) keeper.old result keeper.new }
         ensures in_step { StaysInStep result self.now (K.moment keeper.new) }
-        ensures key { IfOk result (λ keys. key_fits self.now.mapping (object_at self.now.graph object).class (spec.key_alone keys) ≡ true) }
+        ensures key { IfOk result
+            (λ keys. key_fits self.now.mapping (object_at self.now.graph object).class
+            (spec.key_alone keys) ≡ true) }
     {
         let statement = self.insert_of(object)?;
         calls::write(self.alloc, keeper, self.mapping.schema(), &statement)
@@ -231,10 +254,14 @@ impl Session {
     /// The INSERT of an object's row alone. The only refusal is want of memory.
     fn insert_of(&self, object: ObjId) -> Result<RowStmt, Refusal>
         requires object { IsObject self.now.graph object }
-        ensures statement { IfOk result (λ statement. statement ≡ spec.insert_of self.now.mapping (object_at self.now.graph object)) }
+        ensures statement { IfOk result
+            (λ statement. statement
+            ≡ spec.insert_of self.now.mapping (object_at self.now.graph object)) }
         ensures fits { IfOk result (IsWellFormed self.now.mapping.schema) }
         ensures cause { IfErr result (λ e. e ≡ Refusal.Memory) }
-        ensures keys { (key : List Value) → key_fits self.now.mapping (object_at self.now.graph object).class key ≡ is_key (root_spec self.now.mapping (object_at self.now.graph object).class) key }
+        ensures keys { (key : List Value)
+            → key_fits self.now.mapping (object_at self.now.graph object).class key
+            ≡ is_key (root_spec self.now.mapping (object_at self.now.graph object).class) key }
     {
         let record = self.arena.object(object);
         let table = self.mapping.root_table(self.arena.class_of(object));

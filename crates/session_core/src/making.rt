@@ -58,7 +58,8 @@ pub(crate) fn put_values(arena: &mut Arena, object: ObjId, values: Values)
     ensures made { arena.new ≡ spec.with_values arena.old object values.items }
     ensures same { length arena.new.objects ≡ length arena.old.objects }
     ensures fits { (mapped : Mapped) → IsFit mapped arena.old
-        → spec.mismatch (attributes_of mapped (object_at arena.old object).class) values.items ≡ None → IsFit mapped arena.new }
+        → spec.mismatch (attributes_of mapped (object_at arena.old object).class) values.items
+        ≡ None → IsFit mapped arena.new }
     ensures classes { classes_of arena.new ≡ classes_of arena.old }
 {
     for (attr, value) in values {
@@ -69,9 +70,12 @@ pub(crate) fn put_values(arena: &mut Arena, object: ObjId, values: Values)
 /// A value goes into a cell of an object, where the object has it.
 fn put_value(arena: &mut Arena, object: ObjId, attr: AttrNo, value: Value)
     requires object { IsObject arena.old object }
-    ensures put { arena.new ≡ with_cell arena.old object attr (record { value = Some value; base = None }) }
+    ensures put { arena.new ≡ with_cell arena.old object attr
+        (record { value = Some value; base = None }) }
     ensures fits { (mapped : Mapped) → IsFit mapped arena.old
-        → spec.mismatch_at (slice_get (attributes_of mapped (object_at arena.old object).class) attr.0) value ≡ None → IsFit mapped arena.new }
+        → spec.mismatch_at (slice_get
+        (attributes_of mapped (object_at arena.old object).class) attr.0) value ≡ None
+        → IsFit mapped arena.new }
     ensures same { length arena.new.objects ≡ length arena.old.objects }
     ensures class { (object_at arena.new object).class ≡ (object_at arena.old object).class }
     ensures classes { classes_of arena.new ≡ classes_of arena.old }

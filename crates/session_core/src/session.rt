@@ -108,7 +108,8 @@ impl Session {
     #[tactic(auto, unfolding(crate::specs::Making::object_made, object_arena::specs::Graph::make))]
     pub fn make(&mut self, class: ClassId, cells: &[(AttrNo, Value)]) -> Result<ObjId, Refusal>
         requires class { IsClass self.old.mapping class }
-        ensures step { IsQuiet (λ object. object) (making.object_made class cells.now self.old) result self.new }
+        ensures step { IsQuiet
+            (λ object. object) (making.object_made class cells.now self.old) result self.new }
         ensures exists { IfOk result (λ object. IsObject self.new.graph object) }
         ensures err { OnErr result (self.new ≡ self.old) }
         ensures scopes { self.new.scopes ≡ self.old.scopes }
@@ -134,7 +135,8 @@ impl Session {
     pub fn add<K: Keeper>(&mut self, keeper: &mut K, object: ObjId) -> Result<(), Refusal>
         requires object { IsObject self.old.graph object }
         requires in_step { IsInStep self.old (K.moment keeper.old) }
-        ensures step { Runs (moment_beside K.moment) (λ u. u) (steps.add object) (self.old, keeper.old) result (self.new, keeper.new) }
+        ensures step { Runs (moment_beside K.moment)
+            (λ u. u) (steps.add object) (self.old, keeper.old) result (self.new, keeper.new) }
         ensures in_step { StaysInStep result self.new (K.moment keeper.new) }
         ensures same { SameObjects self.old self.new }
     {
@@ -150,7 +152,8 @@ impl Session {
     #[tactic(auto, using(programs::proofs::Sequence::sequence, programs::proofs::Lifting::lifting), unfolding(crate::specs::Steps::commit))]
     pub fn commit<K: Keeper>(&mut self, keeper: &mut K) -> Result<(), Refusal>
         requires in_step { IsInStep self.old (K.moment keeper.old) }
-        ensures step { Runs (moment_beside K.moment) (λ u. u) steps.commit (self.old, keeper.old) result (self.new, keeper.new) }
+        ensures step { Runs (moment_beside K.moment)
+            (λ u. u) steps.commit (self.old, keeper.old) result (self.new, keeper.new) }
         ensures in_step { StaysInStep result self.new (K.moment keeper.new) }
         ensures same { SameObjects self.old self.new }
     {
@@ -167,7 +170,8 @@ impl Session {
     #[tactic(auto, using(programs::proofs::Sequence::sequence, programs::proofs::Lifting::lifting), unfolding(crate::specs::Steps::close))]
     pub fn close<K: Keeper>(&mut self, keeper: &mut K) -> Result<(), Refusal>
         requires in_step { IsInStep self.old (K.moment keeper.old) }
-        ensures step { Runs (moment_beside K.moment) (λ u. u) steps.close (self.old, keeper.old) result (self.new, keeper.new) }
+        ensures step { Runs (moment_beside K.moment)
+            (λ u. u) steps.close (self.old, keeper.old) result (self.new, keeper.new) }
         ensures in_step { StaysInStep result self.new (K.moment keeper.new) }
         ensures same { SameObjects self.old self.new }
         ensures outside { OnOk result (self.new.scopes ≡ []) }
@@ -181,7 +185,8 @@ impl Session {
     #[tactic(auto, using(programs::proofs::Sequence::sequence, programs::proofs::Lifting::lifting, crate::proofs::SessionLemmas::scopes), unfolding(crate::specs::Steps::enter))]
     fn enter<K: Keeper>(&mut self, keeper: &mut K) -> Result<(), Refusal>
         requires in_step { IsInStep self.old (K.moment keeper.old) }
-        ensures step { Runs (moment_beside K.moment) (λ u. u) steps.enter (self.old, keeper.old) result (self.new, keeper.new) }
+        ensures step { Runs (moment_beside K.moment)
+            (λ u. u) steps.enter (self.old, keeper.old) result (self.new, keeper.new) }
         ensures in_step { StaysInStep result self.new (K.moment keeper.new) }
         ensures entered { OnOk result (length self.new.scopes ≡ 1) }
         ensures same { SameObjects self.old self.new }
@@ -211,7 +216,9 @@ impl Session {
     fn begin<K: Keeper>(&self, keeper: &mut K) -> Result<(), Refusal>
         requires in_step { IsInStep self.now (K.moment keeper.old) }
         requires outside { self.now.scopes ≡ [] }
-        ensures step { Runs (moment_beside K.moment) (λ u. u) (on_store unnoted call.begin) (self.now, keeper.old) result (self.now, keeper.new) }
+        ensures step { Runs (moment_beside K.moment)
+            (λ u. u) (on_store unnoted call.begin) (self.now, keeper.old) result
+            (self.now, keeper.new) }
         ensures depth { OnOk result ((K.moment keeper.new).depth ≡ 1) }
         ensures attached { (K.moment keeper.new).attached ≡ true }
         ensures stops { IfErr result (λ e. ends_early e ≡ true) }
@@ -224,7 +231,9 @@ impl Session {
     fn commit_store<K: Keeper>(&self, keeper: &mut K) -> Result<(), Refusal>
         requires in_step { IsInStep self.now (K.moment keeper.old) }
         requires inside { length self.now.scopes ≡ 1 }
-        ensures step { Runs (moment_beside K.moment) (λ u. u) (on_store unnoted call.commit) (self.now, keeper.old) result (self.now, keeper.new) }
+        ensures step { Runs (moment_beside K.moment)
+            (λ u. u) (on_store unnoted call.commit) (self.now, keeper.old) result
+            (self.now, keeper.new) }
         ensures ended { (K.moment keeper.new).depth ≡ 0 }
         ensures attached { (K.moment keeper.new).attached ≡ true }
         ensures stops { IfErr result (λ e. ends_early e ≡ true) }
@@ -236,7 +245,9 @@ impl Session {
     #[tactic(auto, using(programs::proofs::Sequence::sequence, programs::proofs::Lifting::lifting, crate::proofs::SessionLemmas::scopes))]
     fn leave<K: Keeper>(&self, keeper: &mut K) -> Result<(), Refusal>
         requires in_step { IsInStep self.now (K.moment keeper.old) }
-        ensures step { Runs (moment_beside K.moment) (λ u. u) (steps.leaving (in_transaction self.now)) (self.now, keeper.old) result (self.now, keeper.new) }
+        ensures step { Runs (moment_beside K.moment)
+            (λ u. u) (steps.leaving (in_transaction self.now)) (self.now, keeper.old) result
+            (self.now, keeper.new) }
         ensures ended { (K.moment keeper.new).depth ≡ 0 }
         ensures attached { (K.moment keeper.new).attached ≡ true }
         ensures stops { IfErr result (λ e. ends_early e ≡ true) }

@@ -64,7 +64,9 @@ fn put_under_key(
 fn free(arena: &mut Arena, mapping: &Mapping, object: ObjId, key: &Key) -> Result<(), Refusal>
     requires fit { IsFit mapping.now arena.old }
     requires object { IsObject arena.old object }
-    ensures ok { OnOk result (arena.new ≡ spec.holder_freed arena.old (find_identity arena.old (root_at arena.old object) key.now)) }
+    ensures ok { OnOk result (arena.new
+        ≡ spec.holder_freed arena.old
+        (find_identity arena.old (root_at arena.old object) key.now)) }
     ensures free { OnOk result (is_taken arena.new object key.now ≡ false) }
     ensures cause { IfErr result (λ e. e ≡ Refusal.Memory) }
     ensures fit { IsFit mapping.now arena.new }
@@ -90,7 +92,8 @@ fn write_cells(
     requires fit { IsFit mapping.now arena.old }
     requires object { IsObject arena.old object }
     requires key { key_fits mapping.now (object_at arena.old object).class key.now ≡ true }
-    ensures ok { OnOk result (arena.new ≡ spec.with_written mapping.now arena.old (object, key.now)) }
+    ensures ok { OnOk result (arena.new
+        ≡ spec.with_written mapping.now arena.old (object, key.now)) }
     ensures cause { IfErr result (λ e. e ≡ Refusal.Memory) }
     ensures fit { IsFit mapping.now arena.new }
     ensures same { length arena.new.objects ≡ length arena.old.objects }
@@ -118,12 +121,17 @@ fn write_cell(
     requires object { IsObject arena.old object }
     requires attr { IsCell arena.old object attr }
     requires key { key_fits mapping.now (object_at arena.old object).class key.now ≡ true }
-    ensures ok { OnOk result (arena.new ≡ with_cell arena.old object attr (spec.held_cell (spec.written_value (key_attributes mapping.now (object_at arena.old object).class) key.now (attr.0, cell_at arena.old object attr)))) }
+    ensures ok { OnOk result (arena.new
+        ≡ with_cell arena.old object attr
+        (spec.held_cell (spec.written_value
+        (key_attributes mapping.now (object_at arena.old object).class) key.now
+        (attr.0, cell_at arena.old object attr)))) }
     ensures cause { IfErr result (λ e. e ≡ Refusal.Memory) }
     ensures fit { IsFit mapping.now arena.new }
     ensures same { length arena.new.objects ≡ length arena.old.objects }
     ensures class { (object_at arena.new object).class ≡ (object_at arena.old object).class }
-    ensures width { length (object_at arena.new object).cells ≡ length (object_at arena.old object).cells }
+    ensures width { length (object_at arena.new object).cells
+        ≡ length (object_at arena.old object).cells }
     ensures classes { classes_of arena.new ≡ classes_of arena.old }
 {
     let record = arena.object(object);
@@ -146,7 +154,8 @@ fn write_cell(
 
 /// What was written of a cell: the key's value where it is a cell of the key, else its own.
 fn written_value(keys: &[AttrNo], key: &Key, attr: AttrNo, cell: &Cell) -> Result<Value, AllocError>
-    ensures { IfOk result (λ value. value ≡ spec.written_value keys.now key.now (attr.0, cell.now)) }
+    ensures { IfOk result (λ value. value
+        ≡ spec.written_value keys.now key.now (attr.0, cell.now)) }
 {
     value_under(key, place_in(keys, attr), cell)
 }
@@ -160,7 +169,8 @@ fn place_in(keys: &[AttrNo], attr: AttrNo) -> Option<usize>
 
 /// The key's value at a place, or where there is none the cell's own.
 fn value_under(key: &Key, found: Option<usize>, cell: &Cell) -> Result<Value, AllocError>
-    ensures { IfOk result (λ value. value ≡ spec.value_under key.now found (value_or_null cell.now.value)) }
+    ensures { IfOk result (λ value. value
+        ≡ spec.value_under key.now found (value_or_null cell.now.value)) }
 {
     match found {
         None => value_or_null(cell),
@@ -174,7 +184,8 @@ fn value_under(key: &Key, found: Option<usize>, cell: &Cell) -> Result<Value, Al
 /// A delete mark is taken away. The only refusal is want of memory.
 pub(crate) fn unmark(arena: &mut Arena, object: ObjId) -> Result<(), Refusal>
     requires { IsObject arena.old object }
-    ensures ok { OnOk result (arena.new ≡ with_object arena.old object (spec.object_unmarked (object_at arena.old object))) }
+    ensures ok { OnOk result (arena.new
+        ≡ with_object arena.old object (spec.object_unmarked (object_at arena.old object))) }
     ensures cause { IfErr result (λ e. e ≡ Refusal.Memory) }
     ensures fits { (mapped : Mapped) → IsFit mapped arena.old → IsFit mapped arena.new }
     ensures same { length arena.new.objects ≡ length arena.old.objects }
@@ -204,7 +215,8 @@ pub(crate) fn commit_all(arena: &mut Arena) -> Result<(), Refusal>
 /// A persistent object is expired, and a deleted one detached.
 fn commit_one(arena: &mut Arena, object: ObjId) -> Result<(), Refusal>
     requires { IsObject arena.old object }
-    ensures ok { OnOk result (arena.new ≡ with_object arena.old object (spec.object_committed (object_at arena.old object))) }
+    ensures ok { OnOk result (arena.new
+        ≡ with_object arena.old object (spec.object_committed (object_at arena.old object))) }
     ensures cause { IfErr result (λ e. e ≡ Refusal.Memory) }
     ensures fits { (mapped : Mapped) → IsFit mapped arena.old → IsFit mapped arena.new }
     ensures same { length arena.new.objects ≡ length arena.old.objects }
@@ -236,7 +248,8 @@ pub(crate) fn let_go_all(arena: &mut Arena) -> Result<(), Refusal>
 /// A pending object is transient, a persistent or deleted one detached, and no delete mark stays.
 fn let_go(arena: &mut Arena, object: ObjId) -> Result<(), Refusal>
     requires { IsObject arena.old object }
-    ensures ok { OnOk result (arena.new ≡ with_object arena.old object (spec.object_left (object_at arena.old object))) }
+    ensures ok { OnOk result (arena.new
+        ≡ with_object arena.old object (spec.object_left (object_at arena.old object))) }
     ensures cause { IfErr result (λ e. e ≡ Refusal.Memory) }
     ensures fits { (mapped : Mapped) → IsFit mapped arena.old → IsFit mapped arena.new }
     ensures same { length arena.new.objects ≡ length arena.old.objects }
@@ -258,7 +271,9 @@ fn left_state(state: State) -> State
 /// A transient object becomes pending under an add number. The only refusal is want of memory.
 pub(crate) fn put_pending(arena: &mut Arena, object: ObjId, added: u64) -> Result<(), Refusal>
     requires { IsObject arena.old object }
-    ensures ok { OnOk result (arena.new ≡ with_state (with_marks arena.old object added false (object_at arena.old object).orphan) object Pending) }
+    ensures ok { OnOk result (arena.new
+        ≡ with_state (with_marks arena.old object added false
+        (object_at arena.old object).orphan) object Pending) }
     ensures cause { IfErr result (λ e. e ≡ Refusal.Memory) }
     ensures fits { (mapped : Mapped) → IsFit mapped arena.old → IsFit mapped arena.new }
     ensures same { length arena.new.objects ≡ length arena.old.objects }

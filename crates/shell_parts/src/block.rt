@@ -108,7 +108,8 @@ impl Block {
 
     /// Takes a line of the block. The only refusal is want of memory, and it leaves the block as it was.
     pub fn take(&mut self, line: Command) -> Result<(), Refusal>
-        ensures ok { OnOk result (self.new ≡ record self.old { declared = with_line self.old.declared line }) }
+        ensures ok { OnOk result
+            (self.new ≡ record self.old { declared = with_line self.old.declared line }) }
         ensures err { OnErr result (self.new ≡ self.old) }
         ensures cause { IfErr result (λ e. e ≡ Refusal.Memory) }
     {
@@ -137,7 +138,8 @@ impl Block {
     /// # Errors
     /// The declaration's own refusals. A refused block declares nothing.
     pub fn declare(self, mapping: &mut Mapping) -> Result<(), Refusal>
-        ensures step { Takes (λ _. tt) (declare self.declared mapping.old) mapping.old result mapping.new }
+        ensures step { Takes (λ _. tt)
+            (declare self.declared mapping.old) mapping.old result mapping.new }
         ensures cause { IfErr result IsOfDeclaring }
     {
         match self.declared {
@@ -189,7 +191,8 @@ fn has_room(count: u32) -> bool
 
 /// Declares a table in a mapping.
 fn declare_table(spec: TableSpec, mapping: &mut Mapping) -> Result<(), Refusal>
-    ensures step { Takes (λ _. tt) (without_number (tables_then mapping.old spec)) mapping.old result mapping.new }
+    ensures step { Takes (λ _. tt)
+        (without_number (tables_then mapping.old spec)) mapping.old result mapping.new }
     ensures cause { IfErr result IsOfDeclaring }
 {
     if !has_room(mapping.schema().count()) {
@@ -203,7 +206,8 @@ fn declare_table(spec: TableSpec, mapping: &mut Mapping) -> Result<(), Refusal>
 
 /// Declares a class in a mapping.
 fn declare_class(spec: ClassSpec, mapping: &mut Mapping) -> Result<(), Refusal>
-    ensures step { Takes (λ _. tt) (without_number (classes_then mapping.old spec)) mapping.old result mapping.new }
+    ensures step { Takes (λ _. tt)
+        (without_number (classes_then mapping.old spec)) mapping.old result mapping.new }
     ensures cause { IfErr result IsOfDeclaring }
 {
     if !has_room(mapping.count()) {

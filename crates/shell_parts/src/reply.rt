@@ -92,7 +92,8 @@ impl Reply {
 
     /// The names of columns, each behind a comma.
     fn put_led(&mut self, columns: &[ColumnSpec]) -> Result<(), Refusal>
-        ensures ok { OnOk result (self.new ≡ self.old ++ led (codes ", ") (λ column. column.name) columns.now) }
+        ensures ok { OnOk result
+            (self.new ≡ self.old ++ led (codes ", ") (λ column. column.name) columns.now) }
         ensures cause { IfErr result (λ e. e ≡ Refusal.Memory) }
     {
         for column in columns {
@@ -139,7 +140,8 @@ impl Reply {
         refusal: &Refusal,
         mapping: &Mapping,
     ) -> Result<(), Refusal>
-        ensures ok { OnOk result (self.new ≡ error_line (table_names mapping.now.schema) line refusal.now) }
+        ensures ok { OnOk result
+            (self.new ≡ error_line (table_names mapping.now.schema) line refusal.now) }
         ensures cause { IfErr result (λ e. e ≡ Refusal.Memory) }
     {
         self.text.clear();

@@ -57,7 +57,8 @@ impl Shell {
     #[tactic(auto, using(crate::proofs::Shells::tables), unfolding(crate::specs::Step::create_all))]
     pub(crate) fn create_all<K: Keeper>(&mut self, keeper: &mut K) -> Result<Reply, Refusal>
         requires { IsReady self.old.stage (K.moment keeper.old) }
-        ensures step { Runs (moment_beside K.moment) (λ reply. reply) step.create_all (self.old, keeper.old) result (self.new, keeper.new) }
+        ensures step { Runs (moment_beside K.moment)
+            (λ reply. reply) step.create_all (self.old, keeper.old) result (self.new, keeper.new) }
         ensures ready { StaysReady result self.new.stage (K.moment keeper.new) }
     {
         let Stage::Configured(session) = &self.stage else {
@@ -73,7 +74,8 @@ impl Shell {
     #[tactic(auto, using(crate::proofs::Shells::tables), unfolding(crate::specs::Step::dump))]
     pub(crate) fn dump<K: Keeper>(&mut self, keeper: &mut K) -> Result<Reply, Refusal>
         requires { IsReady self.old.stage (K.moment keeper.old) }
-        ensures step { Runs (moment_beside K.moment) (λ reply. reply) step.dump (self.old, keeper.old) result (self.new, keeper.new) }
+        ensures step { Runs (moment_beside K.moment)
+            (λ reply. reply) step.dump (self.old, keeper.old) result (self.new, keeper.new) }
         ensures ready { StaysReady result self.new.stage (K.moment keeper.new) }
     {
         let Stage::Configured(session) = &self.stage else {
@@ -94,7 +96,8 @@ impl Shell {
         class: &Name,
         given: &ListOf<(Name, Value)>,
     ) -> Result<Reply, Refusal>
-        ensures step { Runs alone (λ reply. reply) (step.make name.now class.now given.now) self.old result self.new }
+        ensures step { Runs alone
+            (λ reply. reply) (step.make name.now class.now given.now) self.old result self.new }
         ensures kept { IsKept self.old.stage self.new.stage }
     {
         let class = self.class_named(class)?;
@@ -108,7 +111,9 @@ impl Shell {
     #[tactic(auto, using(crate::proofs::Shells::acting))]
     fn make_object(&mut self, class: ClassId, cells: &[(AttrNo, Value)]) -> Result<ObjId, Refusal>
         requires { HasClass self.old.stage class }
-        ensures step { Runs alone (λ object. object) (step.in_session_alone (object_made class cells.now)) self.old result self.new }
+        ensures step { Runs alone
+            (λ object. object)
+            (step.in_session_alone (object_made class cells.now)) self.old result self.new }
         ensures kept { IsKept self.old.stage self.new.stage }
     {
         match &mut self.stage {
@@ -120,7 +125,8 @@ impl Shell {
     /// The name stands for the object.
     #[tactic(auto, using(crate::proofs::Shells::acting))]
     fn bind(&mut self, name: &Name, class: ClassId, object: ObjId) -> Result<(), Refusal>
-        ensures step { Runs alone (λ u. u) (change (step.with_bound name.now class object)) self.old result self.new }
+        ensures step { Runs alone
+            (λ u. u) (change (step.with_bound name.now class object)) self.old result self.new }
         ensures stage { self.new.stage ≡ self.old.stage }
     {
         self.names.bind(name, Bound::Object(object, class))?;
@@ -134,7 +140,9 @@ impl Shell {
     #[tactic(auto, using(crate::proofs::Shells::acting), unfolding(crate::specs::Step::add))]
     pub(crate) fn add<K: Keeper>(&mut self, keeper: &mut K, name: &Name) -> Result<Reply, Refusal>
         requires { IsReady self.old.stage (K.moment keeper.old) }
-        ensures step { Runs (moment_beside K.moment) (λ reply. reply) (step.add name.now) (self.old, keeper.old) result (self.new, keeper.new) }
+        ensures step { Runs (moment_beside K.moment)
+            (λ reply. reply) (step.add name.now) (self.old, keeper.old) result
+            (self.new, keeper.new) }
         ensures ready { StaysReady result self.new.stage (K.moment keeper.new) }
     {
         let object = self.object_named(name)?;
@@ -147,7 +155,9 @@ impl Shell {
     fn add_object<K: Keeper>(&mut self, keeper: &mut K, object: ObjId) -> Result<(), Refusal>
         requires object { HasObject self.old.stage object }
         requires ready { IsReady self.old.stage (K.moment keeper.old) }
-        ensures step { Runs (moment_beside K.moment) (λ u. u) (step.in_session (session.add object)) (self.old, keeper.old) result (self.new, keeper.new) }
+        ensures step { Runs (moment_beside K.moment)
+            (λ u. u) (step.in_session (session.add object)) (self.old, keeper.old) result
+            (self.new, keeper.new) }
         ensures ready { StaysReady result self.new.stage (K.moment keeper.new) }
     {
         match &mut self.stage {
@@ -163,7 +173,8 @@ impl Shell {
     #[tactic(auto, using(crate::proofs::Shells::acting), unfolding(crate::specs::Step::commit))]
     pub(crate) fn commit<K: Keeper>(&mut self, keeper: &mut K) -> Result<Reply, Refusal>
         requires { IsReady self.old.stage (K.moment keeper.old) }
-        ensures step { Runs (moment_beside K.moment) (λ reply. reply) step.commit (self.old, keeper.old) result (self.new, keeper.new) }
+        ensures step { Runs (moment_beside K.moment)
+            (λ reply. reply) step.commit (self.old, keeper.old) result (self.new, keeper.new) }
         ensures ready { StaysReady result self.new.stage (K.moment keeper.new) }
     {
         self.commit_session(keeper)?;
@@ -174,7 +185,9 @@ impl Shell {
     #[tactic(auto, using(crate::proofs::Shells::acting))]
     fn commit_session<K: Keeper>(&mut self, keeper: &mut K) -> Result<(), Refusal>
         requires { IsReady self.old.stage (K.moment keeper.old) }
-        ensures step { Runs (moment_beside K.moment) (λ u. u) (step.in_session session.commit) (self.old, keeper.old) result (self.new, keeper.new) }
+        ensures step { Runs (moment_beside K.moment)
+            (λ u. u) (step.in_session session.commit) (self.old, keeper.old) result
+            (self.new, keeper.new) }
         ensures ready { StaysReady result self.new.stage (K.moment keeper.new) }
     {
         match &mut self.stage {
@@ -216,7 +229,8 @@ fn is_open(session: &Session) -> bool
 fn create_all<K: Keeper>(alloc: Global, session: &Session, keeper: &mut K) -> Result<Reply, Refusal>
     requires resolved { session.now.mapping.schema.resolved ≡ true }
     requires in_step { IsInStep session.now (K.moment keeper.old) }
-    ensures step { Runs K.moment (λ reply. reply) (step.creating session.now) keeper.old result keeper.new }
+    ensures step { Runs K.moment
+        (λ reply. reply) (step.creating session.now) keeper.old result keeper.new }
     ensures in_step { StaysInStep result session.now (K.moment keeper.new) }
 {
     if is_open(session) {
@@ -243,7 +257,8 @@ fn create_tables<K: Keeper>(alloc: Global, keeper: &mut K, schema: &Schema) -> R
     requires attached { (K.moment keeper.old).attached ≡ true }
     requires outside { (K.moment keeper.old).depth ≡ 0 }
     requires resolved { schema.now.resolved ≡ true }
-    ensures step { Runs K.moment (λ u. u) (step.create_tables schema.now) keeper.old result keeper.new }
+    ensures step { Runs K.moment
+        (λ u. u) (step.create_tables schema.now) keeper.old result keeper.new }
     ensures attached { (K.moment keeper.new).attached ≡ true }
     ensures depth { (K.moment keeper.new).depth ≡ 0 }
 {
@@ -262,7 +277,8 @@ fn create_each<K: Keeper>(
     requires attached { (K.moment keeper.old).attached ≡ true }
     requires outside { (K.moment keeper.old).depth ≡ 0 }
     requires declared { All (IsTable schema.now) order.now }
-    ensures step { Runs K.moment (λ u. u) (each step.create_one tt order.now) keeper.old result keeper.new }
+    ensures step { Runs K.moment
+        (λ u. u) (each step.create_one tt order.now) keeper.old result keeper.new }
     ensures attached { (K.moment keeper.new).attached ≡ true }
     ensures depth { (K.moment keeper.new).depth ≡ 0 }
 {
@@ -295,7 +311,8 @@ fn create_one<K: Keeper>(
 #[tactic(auto, unfolding(crate::specs::Step::dumping))]
 fn dump_all<K: Keeper>(alloc: Global, session: &Session, keeper: &mut K) -> Result<Reply, Refusal>
     requires { IsInStep session.now (K.moment keeper.old) }
-    ensures step { Runs K.moment (λ reply. reply) (step.dumping session.now) keeper.old result keeper.new }
+    ensures step { Runs K.moment
+        (λ reply. reply) (step.dumping session.now) keeper.old result keeper.new }
     ensures in_step { StaysInStep result session.now (K.moment keeper.new) }
 {
     dump_tables(alloc, keeper, session.mapping().schema())
@@ -305,7 +322,8 @@ fn dump_all<K: Keeper>(alloc: Global, session: &Session, keeper: &mut K) -> Resu
 #[tactic(auto, using(crate::proofs::Tables::tables), unfolding(crate::specs::Step::dump_tables))]
 fn dump_tables<K: Keeper>(alloc: Global, keeper: &mut K, schema: &Schema) -> Result<Reply, Refusal>
     requires attached { (K.moment keeper.old).attached ≡ true }
-    ensures step { Runs K.moment (λ reply. reply) (step.dump_tables schema.now) keeper.old result keeper.new }
+    ensures step { Runs K.moment
+        (λ reply. reply) (step.dump_tables schema.now) keeper.old result keeper.new }
     ensures depth { DepthStays result (K.moment keeper.old) (K.moment keeper.new) }
 {
     let mut reply = Reply::new(alloc);
@@ -326,7 +344,8 @@ fn dump_one<K: Keeper>(
 ) -> Result<Reply, Refusal>
     requires attached { (K.moment keeper.old).attached ≡ true }
     requires declared { IsTable schema.now table }
-    ensures step { Runs K.moment (λ reply. reply) (step.dump_one schema.now table reply) keeper.old result keeper.new }
+    ensures step { Runs K.moment
+        (λ reply. reply) (step.dump_one schema.now table reply) keeper.old result keeper.new }
     ensures attached { (K.moment keeper.new).attached ≡ true }
     ensures depth { DepthStays result (K.moment keeper.old) (K.moment keeper.new) }
 {

@@ -25,7 +25,9 @@ impl Shell {
     #[tactic(auto, using(crate::proofs::Shells::line_counted))]
     pub(crate) fn step<K: Keeper>(&mut self, keeper: &mut K, line: &[u8]) -> Result<Reply, Refusal>
         requires { IsReady self.old.stage (K.moment keeper.old) }
-        ensures step { Runs (moment_beside K.moment) (λ reply. reply) (step.line_step line.now) (self.old, keeper.old) result (self.new, keeper.new) }
+        ensures step { Runs (moment_beside K.moment)
+            (λ reply. reply) (step.line_step line.now) (self.old, keeper.old) result
+            (self.new, keeper.new) }
         ensures ready { StaysReady result self.new.stage (K.moment keeper.new) }
     {
         self.count_line();
@@ -43,7 +45,9 @@ impl Shell {
     #[tactic(auto, using(crate::proofs::Shells::acting))]
     fn do_line<K: Keeper>(&mut self, keeper: &mut K, line: &[u8]) -> Result<Reply, Refusal>
         requires { IsReady self.old.stage (K.moment keeper.old) }
-        ensures step { Runs (moment_beside K.moment) (λ reply. reply) (step.do_line line.now) (self.old, keeper.old) result (self.new, keeper.new) }
+        ensures step { Runs (moment_beside K.moment)
+            (λ reply. reply) (step.do_line line.now) (self.old, keeper.old) result
+            (self.new, keeper.new) }
         ensures ready { StaysReady result self.new.stage (K.moment keeper.new) }
     {
         if is_skipped(&self.block) {
@@ -55,7 +59,8 @@ impl Shell {
     /// The end of a block whose lines are skipped; every other line is nothing there.
     #[tactic(auto, using(crate::proofs::Shells::acting), unfolding(crate::specs::Step::skip_line))]
     fn skip_line(&mut self, line: &[u8]) -> Result<Reply, Refusal>
-        ensures step { Runs alone (λ reply. reply) (step.skip_line line.now) self.old result self.new }
+        ensures step { Runs alone
+            (λ reply. reply) (step.skip_line line.now) self.old result self.new }
         ensures stage { self.new.stage ≡ self.old.stage }
     {
         self.end_skipped(is_end(line))?;
@@ -65,7 +70,8 @@ impl Shell {
     /// The block ends, where this is its end.
     #[tactic(auto, using(crate::proofs::Shells::acting))]
     fn end_skipped(&mut self, is_end: bool) -> Result<(), Refusal>
-        ensures step { Runs alone (λ u. u) (change (step.unless_end is_end)) self.old result self.new }
+        ensures step { Runs alone
+            (λ u. u) (change (step.unless_end is_end)) self.old result self.new }
         ensures stage { self.new.stage ≡ self.old.stage }
     {
         if !is_end {
@@ -79,7 +85,9 @@ impl Shell {
     #[tactic(auto, using(crate::proofs::Shells::acting), unfolding(crate::specs::Step::read_and_do))]
     fn read_and_do<K: Keeper>(&mut self, keeper: &mut K, line: &[u8]) -> Result<Reply, Refusal>
         requires { IsReady self.old.stage (K.moment keeper.old) }
-        ensures step { Runs (moment_beside K.moment) (λ reply. reply) (step.read_and_do line.now) (self.old, keeper.old) result (self.new, keeper.new) }
+        ensures step { Runs (moment_beside K.moment)
+            (λ reply. reply) (step.read_and_do line.now) (self.old, keeper.old) result
+            (self.new, keeper.new) }
         ensures ready { StaysReady result self.new.stage (K.moment keeper.new) }
     {
         let command = self.read(line)?;
@@ -89,7 +97,8 @@ impl Shell {
     /// What a line says. In a block the lines behind one that can not be read are skipped.
     #[tactic(auto, using(crate::proofs::Shells::acting), unfolding(crate::specs::Step::read))]
     fn read(&mut self, line: &[u8]) -> Result<Command, Refusal>
-        ensures step { Runs alone (λ command. command) (step.read line.now) self.old result self.new }
+        ensures step { Runs alone
+            (λ command. command) (step.read line.now) self.old result self.new }
         ensures stage { self.new.stage ≡ self.old.stage }
     {
         match self.say(line) {
@@ -107,7 +116,8 @@ impl Shell {
     /// What a line says in its place.
     #[tactic(auto, using(crate::proofs::Declaring::reads))]
     fn say(&self, line: &[u8]) -> Result<Command, Refusal>
-        ensures { Runs alone (λ command. command) (asked (step.said line.now)) self.now result self.now }
+        ensures { Runs alone (λ command. command)
+            (asked (step.said line.now)) self.now result self.now }
     {
         read(self.alloc, line, self.line, place_of(&self.block))
     }
@@ -132,7 +142,9 @@ impl Shell {
     #[tactic(auto, using(crate::proofs::Shells::acting))]
     fn do_command<K: Keeper>(&mut self, keeper: &mut K, command: Command) -> Result<Reply, Refusal>
         requires { IsReady self.old.stage (K.moment keeper.old) }
-        ensures step { Runs (moment_beside K.moment) (λ reply. reply) (step.do_command command) (self.old, keeper.old) result (self.new, keeper.new) }
+        ensures step { Runs (moment_beside K.moment)
+            (λ reply. reply) (step.do_command command) (self.old, keeper.old) result
+            (self.new, keeper.new) }
         ensures ready { StaysReady result self.new.stage (K.moment keeper.new) }
     {
         match self.take_block() {
@@ -153,7 +165,9 @@ impl Shell {
     #[tactic(auto, using(crate::proofs::Shells::acting))]
     fn do_built<K: Keeper>(&mut self, keeper: &mut K, command: Command) -> Result<Reply, Refusal>
         requires { IsReady self.old.stage (K.moment keeper.old) }
-        ensures step { Runs (moment_beside K.moment) (λ reply. reply) (step.done_if (is_built_line command) command) (self.old, keeper.old) result (self.new, keeper.new) }
+        ensures step { Runs (moment_beside K.moment)
+            (λ reply. reply) (step.done_if (is_built_line command) command)
+            (self.old, keeper.old) result (self.new, keeper.new) }
         ensures ready { StaysReady result self.new.stage (K.moment keeper.new) }
     {
         if !is_built(&command) {
@@ -167,7 +181,9 @@ impl Shell {
     fn do_top<K: Keeper>(&mut self, keeper: &mut K, command: Command) -> Result<Reply, Refusal>
         requires built { is_built_line command ≡ true }
         requires ready { IsReady self.old.stage (K.moment keeper.old) }
-        ensures step { Runs (moment_beside K.moment) (λ reply. reply) (step.done command) (self.old, keeper.old) result (self.new, keeper.new) }
+        ensures step { Runs (moment_beside K.moment)
+            (λ reply. reply) (step.done command) (self.old, keeper.old) result
+            (self.new, keeper.new) }
         ensures ready { StaysReady result self.new.stage (K.moment keeper.new) }
     {
         match command {
@@ -199,7 +215,8 @@ impl Shell {
     /// The block that a head opens.
     #[tactic(auto, using(crate::proofs::Declaring::opens))]
     fn opened(&self, head: Command) -> Result<Block, Refusal>
-        ensures { Runs alone (λ block. block) (asked (step.opened_here head)) self.now result self.now }
+        ensures { Runs alone (λ block. block)
+            (asked (step.opened_here head)) self.now result self.now }
     {
         Block::of_head(self.alloc, head, self.line)
     }
@@ -207,7 +224,8 @@ impl Shell {
     /// The block that is open from here on.
     #[tactic(auto, using(crate::proofs::Shells::acting))]
     fn put_block(&mut self, block: Option<Block>) -> Result<(), Refusal>
-        ensures step { Runs alone (λ u. u) (change (step.with_block block)) self.old result self.new }
+        ensures step { Runs alone
+            (λ u. u) (change (step.with_block block)) self.old result self.new }
         ensures stage { self.new.stage ≡ self.old.stage }
     {
         self.block = block;
@@ -217,7 +235,8 @@ impl Shell {
     /// The block ends, or goes on with one more line.
     #[tactic(auto, using(crate::proofs::Shells::acting))]
     fn take(&mut self, command: Command, block: Block) -> Result<Reply, Refusal>
-        ensures step { Runs alone (λ reply. reply) (step.taken command block) self.old result self.new }
+        ensures step { Runs alone
+            (λ reply. reply) (step.taken command block) self.old result self.new }
         ensures kept { IsKept self.old.stage self.new.stage }
     {
         match command {
@@ -229,7 +248,8 @@ impl Shell {
     /// The block goes on with the line.
     #[tactic(auto, using(crate::proofs::Shells::acting), unfolding(crate::specs::Step::take_line))]
     fn take_line(&mut self, command: Command, block: Block) -> Result<Reply, Refusal>
-        ensures step { Runs alone (λ reply. reply) (step.take_line command block) self.old result self.new }
+        ensures step { Runs alone
+            (λ reply. reply) (step.take_line command block) self.old result self.new }
         ensures stage { self.new.stage ≡ self.old.stage }
     {
         let mut block = block;
@@ -241,7 +261,8 @@ impl Shell {
     /// What the block says is declared.
     #[tactic(auto, using(crate::proofs::Shells::acting), unfolding(crate::specs::Step::declare_block))]
     fn declare_block(&mut self, block: Block) -> Result<Reply, Refusal>
-        ensures step { Runs alone (λ reply. reply) (step.declare_block block) self.old result self.new }
+        ensures step { Runs alone
+            (λ reply. reply) (step.declare_block block) self.old result self.new }
         ensures kept { IsKept self.old.stage self.new.stage }
     {
         self.declare(block)?;
@@ -251,7 +272,8 @@ impl Shell {
     /// The stage after a block's declaration.
     #[tactic(auto, using(crate::proofs::Shells::acting))]
     fn declare(&mut self, block: Block) -> Result<(), Refusal>
-        ensures step { Runs alone (λ u. u) (step.goes (step.declared block)) self.old result self.new }
+        ensures step { Runs alone
+            (λ u. u) (step.goes (step.declared block)) self.old result self.new }
         ensures kept { IsKept self.old.stage self.new.stage }
     {
         declare(&mut self.stage, block)

@@ -34,7 +34,8 @@ fn is_object(session: &Session, object: ObjId) -> bool
 /// The object of the session that a name is bound to.
 #[tactic(auto, using(programs::proofs::AloneLemmas::standing))]
 fn object_bound(session: &Session, name: &Name, bound: Option<&Bound>) -> Result<ObjId, Refusal>
-    ensures told { Tells (λ object. object) (naming.object_bound session.now name.now (option_copied bound.entry)) result }
+    ensures told { Tells (λ object. object)
+        (naming.object_bound session.now name.now (option_copied bound.entry)) result }
     ensures found { IfOk result (IsObject session.now.graph) }
 {
     match bound {
@@ -55,7 +56,8 @@ fn object_bound(session: &Session, name: &Name, bound: Option<&Bound>) -> Result
 /// The class of a name.
 #[tactic(auto, using(programs::proofs::AloneLemmas::standing))]
 fn class_known(mapping: &Mapping, name: &Name) -> Result<ClassId, Refusal>
-    ensures told { Tells (λ class. class) (naming.known name.now (find_class mapping.now.classes name.now)) result }
+    ensures told { Tells (λ class. class)
+        (naming.known name.now (find_class mapping.now.classes name.now)) result }
     ensures found { IfOk result (IsClass mapping.now) }
 {
     match mapping.find_class(name) {
@@ -69,7 +71,8 @@ fn class_known(mapping: &Mapping, name: &Name) -> Result<ClassId, Refusal>
 
 /// The place of the attribute of a name.
 fn place_of(attributes: &[Attribute], name: &Name) -> Option<usize>
-    ensures place { result ≡ position (λ attribute. same_name attribute.name name.now) attributes.now }
+    ensures place { result ≡ position
+        (λ attribute. same_name attribute.name name.now) attributes.now }
     ensures inside { IfSome result (λ place. place < length attributes.now) }
 {
     attributes
@@ -123,7 +126,8 @@ impl Shell {
     /// The object that a name is bound to.
     #[tactic(auto, using(crate::proofs::Named::naming))]
     pub(crate) fn object_named(&self, name: &Name) -> Result<ObjId, Refusal>
-        ensures step { Runs alone (λ object. object) (asked (naming.object_named name.now)) self.now result self.now }
+        ensures step { Runs alone
+            (λ object. object) (asked (naming.object_named name.now)) self.now result self.now }
         ensures found { IfOk result (HasObject self.now.stage) }
     {
         let Stage::Configured(session) = &self.stage else {
@@ -135,7 +139,8 @@ impl Shell {
     /// The class of a name.
     #[tactic(auto, using(crate::proofs::Named::naming))]
     pub(crate) fn class_named(&self, name: &Name) -> Result<ClassId, Refusal>
-        ensures step { Runs alone (λ class. class) (asked (naming.class_named name.now)) self.now result self.now }
+        ensures step { Runs alone
+            (λ class. class) (asked (naming.class_named name.now)) self.now result self.now }
         ensures found { IfOk result (HasClass self.now.stage) }
     {
         let Stage::Configured(session) = &self.stage else {
@@ -153,7 +158,8 @@ impl Shell {
         cells: Cells,
     ) -> Result<Cells, Refusal>
         requires { HasClass self.now.stage class }
-        ensures { Runs alone (λ cells. cells) (naming.give_value class given.now cells) self.now result self.now }
+        ensures { Runs alone (λ cells. cells)
+            (naming.give_value class given.now cells) self.now result self.now }
     {
         with_given(self.mapping().attributes(class), given, cells)
     }
@@ -166,7 +172,8 @@ impl Shell {
         given: &[(Name, Value)],
     ) -> Result<Cells, Refusal>
         requires { HasClass self.now.stage class }
-        ensures { Runs alone (λ cells. cells) (naming.cells_named class given.now) self.now result self.now }
+        ensures { Runs alone (λ cells. cells)
+            (naming.cells_named class given.now) self.now result self.now }
     {
         let mut cells: Cells = ListOf::new(self.alloc);
         for value in given {

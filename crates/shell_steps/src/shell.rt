@@ -86,7 +86,9 @@ impl Shell {
     #[tactic(auto, using(crate::proofs::Shells::answers))]
     pub fn answer<K: Keeper>(&mut self, keeper: &mut K, line: &[u8]) -> Result<Reply, Refusal>
         requires { IsReady self.old.stage (K.moment keeper.old) }
-        ensures step { Runs (moment_answering K.moment) (λ reply. reply) (step.reply_to line.now) (self.old, keeper.old) result (self.new, keeper.new) }
+        ensures step { Runs (moment_answering K.moment)
+            (λ reply. reply) (step.reply_to line.now) (self.old, keeper.old) result
+            (self.new, keeper.new) }
         ensures ready { OnOk result (IsReady self.new.stage (K.moment keeper.new)) }
         ensures stops { IfErr result (λ e. ends_early e ≡ true) }
     {
@@ -105,7 +107,8 @@ impl Shell {
     /// The reply that says why the line of this number is refused. The only refusal is that memory ran out.
     #[tactic(auto, using(crate::proofs::Shells::acting))]
     fn tell(&mut self, number: u32, refusal: &Refusal) -> Result<Reply, Refusal>
-        ensures step { Runs alone (λ reply. reply) (step.tell number refusal.now) self.old result self.new }
+        ensures step { Runs alone
+            (λ reply. reply) (step.tell number refusal.now) self.old result self.new }
         ensures stage { self.new.stage ≡ self.old.stage }
         ensures cause { IfErr result (λ e. e ≡ Refusal.Memory) }
     {
@@ -118,7 +121,8 @@ impl Shell {
     /// The script has ended: a block that is open is refused at its first line. The only refusal is that memory ran out.
     #[tactic(auto, using(programs::proofs::AloneLemmas::answering_alone), unfolding(crate::specs::Step::end_reply))]
     pub fn answer_end<K: Keeper>(&mut self, keeper: &K) -> Result<Reply, Refusal>
-        ensures step { Runs (moment_answering K.moment) (λ reply. reply) step.end_reply (self.old, keeper.now) result (self.new, keeper.now) }
+        ensures step { Runs (moment_answering K.moment)
+            (λ reply. reply) step.end_reply (self.old, keeper.now) result (self.new, keeper.now) }
         ensures stage { self.new.stage ≡ self.old.stage }
         ensures cause { IfErr result (λ e. e ≡ Refusal.Memory) }
     {
@@ -146,7 +150,8 @@ impl Shell {
     #[tactic(auto, using(crate::proofs::Shells::closes))]
     pub fn close<K: Keeper>(&mut self, keeper: &mut K) -> Result<(), Refusal>
         requires { IsReady self.old.stage (K.moment keeper.old) }
-        ensures step { Runs (moment_answering K.moment) (λ u. u) step.closing (self.old, keeper.old) result (self.new, keeper.new) }
+        ensures step { Runs (moment_answering K.moment)
+            (λ u. u) step.closing (self.old, keeper.old) result (self.new, keeper.new) }
         ensures stops { IfErr result (λ e. ends_early e ≡ true) }
         ensures outside { OnOk result ((K.moment keeper.new).depth ≡ 0) }
     {

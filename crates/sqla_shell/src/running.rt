@@ -37,14 +37,17 @@ pub fn run<S: Source, O: Sink, K: Keeper>(
 ) -> Status
     requires { (K.moment keeper.old).target ≡ None }
     // With words the usage line is written, and nothing else happens.
-    ensures usage { words.now.items ≢ [] → IsUsage (O.written sink.old) result (O.written sink.new) }
+    ensures usage { words.now.items ≢ []
+        → IsUsage (O.written sink.old) result (O.written sink.new) }
     ensures unread { words.now.items ≢ [] → source.new ≡ source.old }
     ensures unused { words.now.items ≢ [] → keeper.new ≡ keeper.old }
     // Without words the run is the reference's, and the keeper's target is memory.
     ensures reference { words.now.items ≡ [] → IsReference
-        (seen (S.left source.old) (S.faults source.old) (O.written sink.old) (O.faults sink.old) (K.moment keeper.old))
+        (seen (S.left source.old) (S.faults source.old) (O.written sink.old) (O.faults sink.old)
+        (K.moment keeper.old))
         result
-        (seen (S.left source.new) (S.faults source.new) (O.written sink.new) (O.faults sink.new) (K.moment keeper.new)) }
+        (seen (S.left source.new) (S.faults source.new) (O.written sink.new) (O.faults sink.new)
+        (K.moment keeper.new)) }
     ensures through { IsReadThrough result (S.left source.old) (S.left source.new) }
     ensures target { words.now.items ≡ [] → (K.moment keeper.new).target ≡ Some targets.Memory }
     ensures words { result ≡ Status.Usage → words.now.items ≢ [] }
@@ -85,9 +88,11 @@ fn run_script<S: Source, O: Sink, K: Keeper>(
     requires attached { (K.moment keeper.old).attached ≡ true }
     requires outside { (K.moment keeper.old).depth ≡ 0 }
     ensures reference { IsDone
-        (seen (S.left source.old) (S.faults source.old) (O.written sink.old) (O.faults sink.old) (K.moment keeper.old))
+        (seen (S.left source.old) (S.faults source.old) (O.written sink.old) (O.faults sink.old)
+        (K.moment keeper.old))
         result
-        (seen (S.left source.new) (S.faults source.new) (O.written sink.new) (O.faults sink.new) (K.moment keeper.new)) }
+        (seen (S.left source.new) (S.faults source.new) (O.written sink.new) (O.faults sink.new)
+        (K.moment keeper.new)) }
     ensures through { IsReadThrough result (S.left source.old) (S.left source.new) }
     ensures keeper { KeepsKeeper (K.moment keeper.old) (K.moment keeper.new) }
     ensures usage { result ≢ Status.Usage }
@@ -105,7 +110,8 @@ fn run_script<S: Source, O: Sink, K: Keeper>(
 fn conclude<K: Keeper>(shell: &Shell, keeper: &mut K, done: Result<Ending, Stop>) -> Status
     requires attached { (K.moment keeper.old).attached ≡ true }
     requires outside { done ≡ Ok Ending.Finished → (K.moment keeper.old).depth ≡ 0 }
-    ensures concluded { Concludes done shell.now.refused (K.moment keeper.old).told result (K.moment keeper.new).told }
+    ensures concluded { Concludes done shell.now.refused (K.moment keeper.old).told result
+        (K.moment keeper.new).told }
     ensures rests { Rests (K.moment keeper.old) (K.moment keeper.new) }
     ensures counted { IfOk done (λ ending. ending ≡ Ending.Finished
         → (K.moment keeper.new).faults ≡ (K.moment keeper.old).faults) }

@@ -21,7 +21,8 @@ use std::alloc::Global;
 /// Writes all of a piece.
 pub fn write_all<O: Sink>(sink: &mut O, piece: &[u8]) -> Result<(), Stop>
     ensures bytes { HasWritten (O.written sink.old) piece.now result (O.written sink.new) }
-    ensures faults { CountsFaults result (faults 0 (O.faults sink.old) 0) (faults 0 (O.faults sink.new) 0) }
+    ensures faults { CountsFaults result (faults 0 (O.faults sink.old) 0)
+        (faults 0 (O.faults sink.new) 0) }
 {
     let mut written = 0;
     while written < piece.len() {
@@ -40,14 +41,18 @@ pub fn do_script<S: Source, O: Sink, K: Keeper>(
 ) -> Result<Ending, Stop>
     requires ready { IsReady shell.old.stage (K.moment keeper.old) }
     ensures reference { DoesScript (S.left source.old) (moment_writing K.moment O.written)
-        (shell.old, keeper.old, sink.old) (as_refusal stop_refusal result) (shell.new, keeper.new, sink.new) }
+        (shell.old, keeper.old, sink.old) (as_refusal stop_refusal result)
+        (shell.new, keeper.new, sink.new) }
     ensures through { IfOk result (λ ending. ending ≡ Ending.Finished
         → HasNothingLeft (S.left source.old) (S.left source.new)) }
     ensures keeps { Keeps
-        (seen (S.left source.old) (S.faults source.old) (O.written sink.old) (O.faults sink.old) (K.moment keeper.old))
+        (seen (S.left source.old) (S.faults source.old) (O.written sink.old) (O.faults sink.old)
+        (K.moment keeper.old))
         result
-        (seen (S.left source.new) (S.faults source.new) (O.written sink.new) (O.faults sink.new) (K.moment keeper.new)) }
-    ensures outside { IfOk result (λ ending. ending ≡ Ending.Finished → (K.moment keeper.new).depth ≡ 0) }
+        (seen (S.left source.new) (S.faults source.new) (O.written sink.new) (O.faults sink.new)
+        (K.moment keeper.new)) }
+    ensures outside { IfOk result
+        (λ ending. ending ≡ Ending.Finished → (K.moment keeper.new).depth ≡ 0) }
 {
     let mut lines = LineBuffer::new(alloc);
     match do_lines(&mut lines, shell, source, sink, keeper)? {
@@ -67,14 +72,17 @@ fn do_lines<S: Source, O: Sink, K: Keeper>(
     requires start { lines.old ≡ record { bytes = []; taken = 0; ended = false } }
     requires ready { IsReady shell.old.stage (K.moment keeper.old) }
     ensures reference { DoesLines (S.left source.old) (moment_writing K.moment O.written)
-        (shell.old, keeper.old, sink.old) (as_refusal stop_refusal result) (shell.new, keeper.new, sink.new) }
+        (shell.old, keeper.old, sink.old) (as_refusal stop_refusal result)
+        (shell.new, keeper.new, sink.new) }
     ensures through { IfOk result (λ ending. ending ≡ Ending.Finished
         → HasNothingLeft (S.left source.old) (S.left source.new)) }
     ensures ready { OnOk result (IsReady shell.new.stage (K.moment keeper.new)) }
     ensures keeps { Keeps
-        (seen (S.left source.old) (S.faults source.old) (O.written sink.old) (O.faults sink.old) (K.moment keeper.old))
+        (seen (S.left source.old) (S.faults source.old) (O.written sink.old) (O.faults sink.old)
+        (K.moment keeper.old))
         result
-        (seen (S.left source.new) (S.faults source.new) (O.written sink.new) (O.faults sink.new) (K.moment keeper.new)) }
+        (seen (S.left source.new) (S.faults source.new) (O.written sink.new) (O.faults sink.new)
+        (K.moment keeper.new)) }
 {
     for _turn in 0..u64::MAX {
         match lines.next_line(source)? {
@@ -95,7 +103,8 @@ fn answer_line<O: Sink, K: Keeper>(
 ) -> Result<(), Stop>
     requires { IsReady shell.old.stage (K.moment keeper.old) }
     ensures step { Runs (moment_writing K.moment O.written) (λ u. u) (answered line.now tt)
-        (shell.old, keeper.old, sink.old) (as_refusal stop_refusal result) (shell.new, keeper.new, sink.new) }
+        (shell.old, keeper.old, sink.old) (as_refusal stop_refusal result)
+        (shell.new, keeper.new, sink.new) }
     ensures ready { OnOk result (IsReady shell.new.stage (K.moment keeper.new)) }
     ensures keeps { Keeps
         (seen None 0 (O.written sink.old) (O.faults sink.old) (K.moment keeper.old))
@@ -114,7 +123,8 @@ fn finish<O: Sink, K: Keeper>(
 ) -> Result<Ending, Stop>
     requires { IsReady shell.old.stage (K.moment keeper.old) }
     ensures step { Runs (moment_writing K.moment O.written) (λ e. e) finished
-        (shell.old, keeper.old, sink.old) (as_refusal stop_refusal result) (shell.new, keeper.new, sink.new) }
+        (shell.old, keeper.old, sink.old) (as_refusal stop_refusal result)
+        (shell.new, keeper.new, sink.new) }
     ensures finished { IfOk result (λ ending. ending ≡ Ending.Finished) }
     ensures outside { OnOk result ((K.moment keeper.new).depth ≡ 0) }
     ensures keeps { Keeps

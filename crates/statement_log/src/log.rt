@@ -96,7 +96,8 @@ impl StatementLog {
 
     /// A scope starts, if there is memory for its statement and for the one that ends it.
     pub fn start(&mut self) -> Result<(), AllocError>
-        ensures ok { OnOk result (self.new ≡ with_sent self.old (start_of self.old.scopes) (self.old.scopes + 1)) }
+        ensures ok { OnOk result
+            (self.new ≡ with_sent self.old (start_of self.old.scopes) (self.old.scopes + 1)) }
         ensures err { OnErr result (self.new ≡ self.old) }
     {
         if self.scopes == u32::MAX {
@@ -112,7 +113,8 @@ impl StatementLog {
     /// The innermost scope ends, and its rows stay.
     pub fn end(&mut self)
         requires { 0 < self.old.scopes }
-        ensures { self.new ≡ with_sent self.old (sent.Release (self.old.scopes - 1)) (self.old.scopes - 1) }
+        ensures { self.new ≡ with_sent self.old (sent.Release (self.old.scopes - 1))
+            (self.old.scopes - 1) }
     {
         self.sent.push_reserved(Sent::Release(self.scopes - 1));
         self.scopes -= 1;
@@ -179,7 +181,8 @@ impl StatementLog {
 
     /// A statement on one row was done, if there is memory for it.
     pub fn write(&mut self, statement: &RowStmt) -> Result<(), AllocError>
-        ensures ok { OnOk result (self.new ≡ with_sent self.old (sent.Write statement.now) self.old.scopes) }
+        ensures ok { OnOk result
+            (self.new ≡ with_sent self.old (sent.Write statement.now) self.old.scopes) }
         ensures err { OnErr result (self.new ≡ self.old) }
     {
         self.sent.reserve(self.scopes as usize + 1)?;
@@ -191,7 +194,8 @@ impl StatementLog {
 
     /// A bulk statement was done, if there is memory for it.
     pub fn bulk(&mut self, alloc: Global, statement: &Bulk) -> Result<(), AllocError>
-        ensures ok { OnOk result (self.new ≡ with_sent self.old (sent.Bulk statement.now) self.old.scopes) }
+        ensures ok { OnOk result
+            (self.new ≡ with_sent self.old (sent.Bulk statement.now) self.old.scopes) }
         ensures err { OnErr result (self.new ≡ self.old) }
     {
         self.sent.reserve(self.scopes as usize + 1)?;
@@ -203,7 +207,8 @@ impl StatementLog {
 
     /// A select was answered, if there is memory for it.
     pub fn query(&mut self, alloc: Global, select: &Select) -> Result<(), AllocError>
-        ensures ok { OnOk result (self.new ≡ with_sent self.old (sent.Query select.now) self.old.scopes) }
+        ensures ok { OnOk result
+            (self.new ≡ with_sent self.old (sent.Query select.now) self.old.scopes) }
         ensures err { OnErr result (self.new ≡ self.old) }
     {
         self.sent.reserve(self.scopes as usize + 1)?;
@@ -220,7 +225,9 @@ impl StatementLog {
         statement: &RowStmt,
         refusal: WriteRefusal,
     ) -> Result<(), AllocError>
-        ensures ok { OnOk result (self.new ≡ with_refused self.old (sent.Write statement.now) (write_refusal (table_of statement.now) refusal)) }
+        ensures ok { OnOk result
+            (self.new ≡ with_refused self.old (sent.Write statement.now)
+            (write_refusal (table_of statement.now) refusal)) }
         ensures err { OnErr result (self.new ≡ self.old) }
     {
         let rejected = rejected_write(alloc, statement, refusal)?;
@@ -236,7 +243,9 @@ impl StatementLog {
         statement: &Bulk,
         refusal: WriteRefusal,
     ) -> Result<(), AllocError>
-        ensures ok { OnOk result (self.new ≡ with_refused self.old (sent.Bulk statement.now) (write_refusal (bulk.table_of statement.now) refusal)) }
+        ensures ok { OnOk result
+            (self.new ≡ with_refused self.old (sent.Bulk statement.now)
+            (write_refusal (bulk.table_of statement.now) refusal)) }
         ensures err { OnErr result (self.new ≡ self.old) }
     {
         let rejected = rejected_bulk(alloc, statement, refusal)?;
@@ -252,7 +261,8 @@ impl StatementLog {
         select: &Select,
         refusal: QueryRefusal,
     ) -> Result<(), AllocError>
-        ensures ok { OnOk result (self.new ≡ with_refused self.old (sent.Query select.now) (query_refusal refusal)) }
+        ensures ok { OnOk result
+            (self.new ≡ with_refused self.old (sent.Query select.now) (query_refusal refusal)) }
         ensures err { OnErr result (self.new ≡ self.old) }
     {
         let rejected = rejected_query(alloc, select, refusal)?;
@@ -278,7 +288,8 @@ fn rejected_write(
     statement: &RowStmt,
     refusal: WriteRefusal,
 ) -> Result<Boxed<Rejected>, AllocError>
-    ensures { IfOk result (λ r. (r.statement ≡ sent.Write statement.now) × (r.refusal ≡ write_refusal (table_of statement.now) refusal)) }
+    ensures { IfOk result (λ r. (r.statement ≡ sent.Write statement.now)
+        × (r.refusal ≡ write_refusal (table_of statement.now) refusal)) }
 {
     let copy = statement.copied()?;
     Boxed::new(
@@ -296,7 +307,8 @@ fn rejected_bulk(
     statement: &Bulk,
     refusal: WriteRefusal,
 ) -> Result<Boxed<Rejected>, AllocError>
-    ensures { IfOk result (λ r. (r.statement ≡ sent.Bulk statement.now) × (r.refusal ≡ write_refusal (bulk.table_of statement.now) refusal)) }
+    ensures { IfOk result (λ r. (r.statement ≡ sent.Bulk statement.now)
+        × (r.refusal ≡ write_refusal (bulk.table_of statement.now) refusal)) }
 {
     let copy = statement.copied_in(alloc)?;
     Boxed::new(
@@ -314,7 +326,8 @@ fn rejected_query(
     select: &Select,
     refusal: QueryRefusal,
 ) -> Result<Boxed<Rejected>, AllocError>
-    ensures { IfOk result (λ r. (r.statement ≡ sent.Query select.now) × (r.refusal ≡ query_refusal refusal)) }
+    ensures { IfOk result (λ r. (r.statement ≡ sent.Query select.now)
+        × (r.refusal ≡ query_refusal refusal)) }
 {
     let copy = select.copied_in(alloc)?;
     Boxed::new(

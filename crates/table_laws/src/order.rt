@@ -9,5 +9,6 @@ ghost use Rattle.schema_core.specs.DependencyOrder.{IsDependencyOrder, dependenc
 /// The dependency order has every declared table, each the one that comes after those before it, and no other list does.
 pub fn one_order()
     ensures holds { (schema : Catalog) → IsDependencyOrder schema (dependency_order schema) }
-    ensures only { (schema : Catalog) (order : List TableId) → IsDependencyOrder schema order → order ≡ dependency_order schema }
+    ensures only { (schema : Catalog) (order : List TableId) → IsDependencyOrder schema order
+        → order ≡ dependency_order schema }
 {}

@@ -118,7 +118,8 @@ fn update_entries(
     entries: &[(Key, RowValues)],
 ) -> Result<(u64, TableMap), Refusal>
     requires { IsTable schema.now table }
-    ensures { Gives (λ x. x) result (spec.update_entries schema.now tables.now table rows.now entries.now) }
+    ensures { Gives (λ x. x) result
+        (spec.update_entries schema.now tables.now table rows.now entries.now) }
 {
     if entries.len() == 0 {
         return Ok((0, tables.copied()?));
@@ -139,7 +140,8 @@ fn delete_keys(
     rows: &TableRows,
     keys: &[Key],
 ) -> Result<(u64, TableMap), Refusal>
-    ensures { Gives (λ x. x) result (spec.delete_keys schema.now tables.now table rows.now keys.now) }
+    ensures { Gives (λ x. x) result
+        (spec.delete_keys schema.now tables.now table rows.now keys.now) }
 {
     if keys.len() == 0 {
         return Ok((0, tables.copied()?));
@@ -161,7 +163,9 @@ fn insert(
 ) -> Result<(u64, TableMap), Refusal>
     requires declared { IsTable schema.now table }
     requires created { is_some (rows_in tables.now table) ≡ true }
-    ensures { Gives (λ x. x) result (spec.of_row table (insert_rows schema.now tables.now table (rows_at tables.now table) (row ∷ []))) }
+    ensures { Gives (λ x. x) result
+        (spec.of_row table (insert_rows schema.now tables.now table (rows_at tables.now table)
+        (row ∷ []))) }
 {
     let mut after = tables.copied()?;
     match insert_rows(alloc, schema, &mut after, table, &[row]) {
@@ -181,7 +185,8 @@ fn update(
     filter: &Option<Expr>,
 ) -> Result<(u64, TableMap), Refusal>
     requires { IsTable schema.now table }
-    ensures { Gives (λ x. x) result (spec.update schema.now tables.now table cells.now filter.now rows.now) }
+    ensures { Gives (λ x. x) result
+        (spec.update schema.now tables.now table cells.now filter.now rows.now) }
 {
     let seen = tables.bare(alloc)?;
     bulk_rows::all_created(alloc, &seen, cells.as_slice(), filter)?;

@@ -112,7 +112,8 @@ fn is_demanded(generated: bool, column: &ColumnSpec) -> bool
 #[tactic(auto, using(crate::proofs::CellSteps::lack_steps))]
 /// Whether a new row has a NULL in a column that takes none.
 pub fn lacks_given(columns: &[ColumnSpec], row: &[Value], generated: bool) -> bool
-    ensures { result ≡ lacks_value (λ column. is_required column && not (column.key && generated)) columns.now row.now }
+    ensures { result ≡ lacks_value
+        (λ column. is_required column && not (column.key && generated)) columns.now row.now }
 {
     for (place, column) in columns.iter().enumerate() {
         let Some(cell) = row.get(place) else {

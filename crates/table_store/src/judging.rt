@@ -61,7 +61,8 @@ fn dangles(
     row: &[Value],
     foreign: &ForeignSpec,
 ) -> Result<bool, AllocError>
-    ensures { IfOk result (λ yes. yes ≡ dangles schema.now tables.now spec.now row.now foreign.now) }
+    ensures { IfOk result (λ yes. yes
+        ≡ dangles schema.now tables.now spec.now row.now foreign.now) }
 {
     let key = cells_of(
         alloc,
@@ -103,7 +104,8 @@ pub fn some_written_dangles(
     spec: &TableSpec,
     entries: &[(Key, RowValues)],
 ) -> Result<bool, AllocError>
-    ensures { IfOk result (λ yes. yes ≡ some_written_dangles schema.now left.now spec.now entries.now) }
+    ensures { IfOk result (λ yes. yes
+        ≡ some_written_dangles schema.now left.now spec.now entries.now) }
 {
     for entry in entries {
         if some_dangles(alloc, schema, left, spec, entry.1.as_slice())? {
@@ -150,7 +152,8 @@ fn is_lost(
     row: &[Value],
     foreign: &ForeignSpec,
 ) -> Result<bool, AllocError>
-    ensures { IfOk result (λ yes. yes ≡ is_lost schema.now before.now left.now spec.now row.now foreign.now) }
+    ensures { IfOk result (λ yes. yes
+        ≡ is_lost schema.now before.now left.now spec.now row.now foreign.now) }
 {
     let names = foreign.columns.as_slice();
     let cells = cells_of(alloc, spec.columns.as_slice(), row, names)?;
@@ -171,7 +174,8 @@ fn row_lost(
     spec: &TableSpec,
     row: &[Value],
 ) -> Result<bool, AllocError>
-    ensures { IfOk result (λ yes. yes ≡ list_any (is_lost schema.now before.now left.now spec.now row.now) spec.now.foreigns) }
+    ensures { IfOk result (λ yes. yes
+        ≡ list_any (is_lost schema.now before.now left.now spec.now row.now) spec.now.foreigns) }
 {
     for foreign in spec.foreigns.as_slice() {
         if is_lost(alloc, schema, before, left, spec, row, foreign)? {
@@ -190,7 +194,10 @@ fn table_lost(
     table: TableId,
     rows: &TableRows,
 ) -> Result<bool, AllocError>
-    ensures { IfOk result (λ yes. yes ≡ list_any (λ row. list_any (is_lost schema.now before.now left.now (spec_of schema.now table) row.1) (spec_of schema.now table).foreigns) rows.now) }
+    ensures { IfOk result (λ yes. yes
+        ≡ list_any (λ row. list_any
+        (is_lost schema.now before.now left.now (spec_of schema.now table) row.1)
+        (spec_of schema.now table).foreigns) rows.now) }
 {
     if schema.count() <= table.0 {
         return Ok(false);
@@ -230,7 +237,9 @@ fn some_collides(
     key: &Key,
     row: &[Value],
 ) -> Result<bool, AllocError>
-    ensures { IfOk result (λ yes. yes ≡ list_any (λ other. not (same_values key.now other.0) && collide spec.now unique.now row.now other.1) rows.now) }
+    ensures { IfOk result (λ yes. yes
+        ≡ list_any (λ other. not
+        (same_values key.now other.0) && collide spec.now unique.now row.now other.1) rows.now) }
 {
     for (other_key, other) in rows.entries() {
         if !same_values(key, other_key) && collide(alloc, spec, unique, row, other.as_slice())? {

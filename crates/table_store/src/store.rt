@@ -67,7 +67,11 @@ impl TableStore {
 
     /// Makes a table that has no rows. At an error nothing changes.
     pub fn create(&mut self, alloc: Global, table: TableId) -> Result<(), AllocError>
-        ensures ok { OnOk result (self.new ≡ record { tables = created self.old.tables table; scopes = self.old.scopes }) }
+        ensures ok { OnOk result
+            (self.new ≡ record {
+              tables = created self.old.tables table;
+              scopes = self.old.scopes;
+            }) }
         ensures err { OnErr result (self.new ≡ self.old) }
     {
         self.tables.create(alloc, table)
@@ -75,14 +79,22 @@ impl TableStore {
 
     /// Drops a table.
     pub fn drop_table(&mut self, table: TableId)
-        ensures { self.new ≡ record { tables = dropped self.old.tables table; scopes = self.old.scopes } }
+        ensures { self.new ≡ record {
+          tables = dropped self.old.tables table;
+          scopes = self.old.scopes;
+        } }
     {
         self.tables.drop_table(table);
     }
 
     /// Starts a scope. At an error nothing changes.
     pub fn start(&mut self) -> Result<(), AllocError>
-        ensures ok { OnOk result (self.new ≡ record { tables = self.old.tables; scopes = self.old.tables ∷ self.old.scopes }) }
+        ensures ok { OnOk result
+            (self.new ≡ record {
+              tables = self.old.tables;
+              scopes = self.old.tables
+                  ∷ self.old.scopes;
+            }) }
         ensures err { OnErr result (self.new ≡ self.old) }
     {
         let copy = self.tables.copied()?;
@@ -121,7 +133,11 @@ impl TableStore {
     /// and ends it and all inside it.
     pub fn go_back_to(&mut self, number: usize)
         requires { number < length self.old.scopes }
-        ensures { self.new ≡ record { tables = slice_index_or self.old.scopes (length self.old.scopes - number - 1) self.old.tables; scopes = drop (length self.old.scopes - number) self.old.scopes } }
+        ensures { self.new ≡ record {
+          tables = slice_index_or self.old.scopes
+              (length self.old.scopes - number - 1) self.old.tables;
+          scopes = drop (length self.old.scopes - number) self.old.scopes;
+        } }
     {
         let inside = self.scopes.len() - number - 1;
         for _done in 0..inside {
@@ -186,8 +202,12 @@ impl TableStore {
         ensures rows { Gives (λ x. x) result (answer schema.now (bare self.now.tables) select.now) }
         ensures refuses { IfErr result (λ e. CanRefuse select.now e) }
         ensures wide { IfOk result (λ rows. AreWide select.now rows) }
-        ensures kinds { IsPlainSelect schema.now select.now → AreRows schema.now (bare self.now.tables) → IfOk result (λ rows. AreOfItems schema.now select.now rows) }
-        ensures given { IsPlainSelect schema.now select.now → AreLegalRows schema.now (bare self.now.tables) → IfOk result (λ rows. AreGiven schema.now select.now rows) }
+        ensures kinds { IsPlainSelect schema.now select.now
+            → AreRows schema.now (bare self.now.tables)
+            → IfOk result (λ rows. AreOfItems schema.now select.now rows) }
+        ensures given { IsPlainSelect schema.now select.now
+            → AreLegalRows schema.now (bare self.now.tables)
+            → IfOk result (λ rows. AreGiven schema.now select.now rows) }
     {
         let tables = self.tables.bare(alloc)?;
         rows_of(alloc, schema, &tables, select)
@@ -195,7 +215,8 @@ impl TableStore {
 
     /// The rows of a table, ascending by key, or none where it is not created.
     pub fn rows(&self, alloc: Global, table: TableId) -> Result<Option<RowList>, AllocError>
-        ensures { IfOk result (λ rows. rows ≡ option_map (λ rows. map (λ entry. entry.1) rows) (rows_in self.now.tables table)) }
+        ensures { IfOk result (λ rows. rows
+            ≡ option_map (λ rows. map (λ entry. entry.1) rows) (rows_in self.now.tables table)) }
     {
         let Some(rows) = self.tables.get(table) else {
             return Ok(None);

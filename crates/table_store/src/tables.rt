@@ -100,7 +100,8 @@ impl TableMap {
         row: RowValues,
     ) -> Result<Option<RowValues>, AllocError>
         requires { is_some (rows_in self.old table) ≡ true }
-        ensures ok { OnOk result (self.new ≡ with_rows self.old table (with_row (rows_at self.old table) key row)) }
+        ensures ok { OnOk result
+            (self.new ≡ with_rows self.old table (with_row (rows_at self.old table) key row)) }
         ensures before { IfOk result (λ before. before ≡ row_under (rows_at self.old table) key) }
         ensures err { OnErr result (self.new ≡ self.old) }
         ensures sorted { AreSorted self.old table }
@@ -115,7 +116,8 @@ impl TableMap {
     /// Takes out the row of a key of a created table.
     pub fn take(&mut self, table: TableId, key: &Key) -> Option<RowValues>
         requires { is_some (rows_in self.old table) ≡ true }
-        ensures rows { self.new ≡ with_rows self.old table (without_row (rows_at self.old table) key.now) }
+        ensures rows { self.new
+            ≡ with_rows self.old table (without_row (rows_at self.old table) key.now) }
         ensures taken { result ≡ row_under (rows_at self.old table) key.now }
         ensures sorted { AreSorted self.old table }
     {
@@ -129,7 +131,8 @@ impl TableMap {
     /// Brings back what stood under a key of a created table.
     pub fn restore(&mut self, table: TableId, key: &Key, before: Option<RowValues>)
         requires { is_some (rows_in self.old table) ≡ true }
-        ensures { self.new ≡ with_rows self.old table (restored (rows_at self.old table) key.now before) }
+        ensures { self.new ≡ with_rows self.old table
+            (restored (rows_at self.old table) key.now before) }
     {
         let Some(rows) = self.tables.get_mut(&table) else {
             return;

@@ -96,7 +96,8 @@ fn with_own_key(
     row: &RowValues,
 ) -> Result<Option<RowValues>, AllocError>
     requires { IsTable schema.now table }
-    ensures { IfOk result (λ keyed. keyed ≡ with_own_key (spec_of schema.now table) rows.now row.now) }
+    ensures { IfOk result (λ keyed. keyed
+        ≡ with_own_key (spec_of schema.now table) rows.now row.now) }
 {
     if !wants_key(alloc, schema, table, row.as_slice())? {
         return Ok(Some(row.copied()?));
@@ -141,7 +142,8 @@ fn new_entry(
 ) -> Result<(Key, RowValues), Unwritten>
     requires declared { IsTable schema.now table }
     requires created { is_some (rows_in tables.now table) ≡ true }
-    ensures { Told (entry_of (spec_of schema.now table) (rows_at tables.now table) (with_own_key (spec_of schema.now table) (rows_at tables.now table) row.now)) result }
+    ensures { Told (entry_of (spec_of schema.now table) (rows_at tables.now table)
+        (with_own_key (spec_of schema.now table) (rows_at tables.now table) row.now)) result }
 {
     let Some(rows) = tables.get(table) else {
         return Err(Unwritten::Memory);
@@ -220,7 +222,9 @@ fn put_from(
 /// Whether a new row has a NULL in a column that takes none; a key that is generated may be left open.
 fn some_lacks_demanded(schema: &Schema, table: TableId, new: &[RowValues]) -> bool
     requires { IsTable schema.now table }
-    ensures { result ≡ list_any (lacks_value (is_demanded (spec_of schema.now table)) (spec_of schema.now table).columns) new.now }
+    ensures { result ≡ list_any
+        (lacks_value (is_demanded (spec_of schema.now table))
+        (spec_of schema.now table).columns) new.now }
 {
     let generated = schema.generated(table);
     let columns = schema.spec(table).columns.as_slice();
@@ -240,7 +244,8 @@ pub(crate) fn insert_rows(
     requires declared { IsTable schema.now table }
     requires created { is_some (rows_in tables.old table) ≡ true }
     requires some { 0 < length new.now }
-    ensures { Did (insert_rows schema.now tables.old table (rows_at tables.old table) new.now) tables.old result tables.new }
+    ensures { Did (insert_rows schema.now tables.old table
+        (rows_at tables.old table) new.now) tables.old result tables.new }
 {
     if some_lacks_demanded(schema, table, new) {
         return Err(Unwritten::Violates(Violation::NotNull));
@@ -261,7 +266,8 @@ fn update_row(
 ) -> Result<KeyList, Unwritten>
     requires declared { IsTable schema.now table }
     requires created { is_some (rows_in tables.old table) ≡ true }
-    ensures { Did (update_row schema.now tables.old table (rows_at tables.old table) key.now cells.now) tables.old result tables.new }
+    ensures { Did (update_row schema.now tables.old table
+        (rows_at tables.old table) key.now cells.now) tables.old result tables.new }
 {
     let keys = one_key(alloc, key)?;
     let Some(row) = row_under(tables, table, key)? else {
@@ -289,7 +295,8 @@ fn delete_row(
     key: &Key,
 ) -> Result<KeyList, Unwritten>
     requires created { is_some (rows_in tables.old table) ≡ true }
-    ensures { Did (delete_row schema.now tables.old table (rows_at tables.old table) key.now) tables.old result tables.new }
+    ensures { Did (delete_row schema.now tables.old table
+        (rows_at tables.old table) key.now) tables.old result tables.new }
 {
     let keys = one_key(alloc, key)?;
     if !has_row(tables, table, key) {
