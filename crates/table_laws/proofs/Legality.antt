@@ -1,7 +1,6 @@
 -- Legal tables stay legal where rows that fit are written under their keys, and where rows are taken out that no row refers to.
-use Rattle.std.proofs.Common.{◌≡◌, ◌⊎◌, inl, inr, ℕ, ℤ, ◌==◌, Bool, true, false, not, cond, ◌&&◌, ◌||◌, List, [], ◌∷◌, Option, None, Some, Result, Ok, Err, if◌then◌else◌, is_some, refl, sym, ap, ◌∙◌, subst}
+use Rattle.std.proofs.Common.{◌≡◌, ◌⊎◌, inl, inr, ℕ, ℤ, ◌==◌, Bool, true, false, not, cond, ◌&&◌, ◌||◌, List, [], ◌∷◌, Option, None, Some, Ok, Err, is_some, refl, sym, ap, ◌∙◌, subst}
 use Rattle.std.specs.declared.cmp.Ordering.TheVariants.{Equal}
-use Rattle.std.specs.Ordering.{is_eq}
 use Rattle.std.specs.BTreeMap.{is_at}
 use Rattle.std.specs.List.{AllByRecursion, count_by, list_all, list_any}
 use Rattle.std.specs.Cmp.Lexicographic.{pointwise}
@@ -20,7 +19,7 @@ use Rattle.schema_core.specs.declared.statement.RowStmt.TheVariants.{Insert, Upd
 use Rattle.schema_core.specs.declared.table.ColumnSpec.{ColumnSpec}
 use Rattle.schema_core.specs.declared.table.ForeignSpec.{ForeignSpec}
 use Rattle.schema_core.specs.declared.table.TableSpec.{TableSpec}
-use Rattle.schema_core.specs.Apply.{Outcome, answer_keys, apply, apply_found, delete_found, delete_row, entries_of, entry_of, insert_rows, is_demanded, keys_of_entries, next_key, table_of, update_found, update_row, wants_key, with_cells, with_key, with_own_key}
+use Rattle.schema_core.specs.Apply.{answer_keys, apply, apply_found, delete_found, delete_row, entries_of, entry_of, insert_rows, is_demanded, keys_of_entries, next_key, table_of, update_found, update_row, wants_key, with_cells, with_key, with_own_key}
 use Rattle.schema_core.specs.Catalog.{Catalog, IsTable, has_generated_key, has_name, is_free_integer, is_required, kind_of, same_kind, spec_of, target_of}
 use Rattle.schema_core.specs.Judged.{Judged, and_then, change_all, lacks_value, loses_row, remove_all, some_lacks, some_loses_row, some_repeats, some_written_dangles, with_all, without_all, write_all}
 use Rattle.schema_core.specs.WellFormed.{IsWellFormed, are_cells, is_row, may_hold}
@@ -103,16 +102,16 @@ uniques_left spec rows keys old =
 -- ---- foreign keys
 
 -- no foreign key of a row of the tables dangles
-abbrev Bound : Catalog → Tables → TableId × Rows → Type 0
+abbrev pub Bound : Catalog → Tables → TableId × Rows → Type 0
 Bound schema tables created = AllByRecursion (λ row. some_dangles schema tables (spec_of schema created.0) row.1 ≡ false) created.1
 
-bound_at : (schema : Catalog) (tables : Tables) → has_dangling schema tables ≡ false → AllByRecursion (Bound schema tables) tables
+pub bound_at : (schema : Catalog) (tables : Tables) → has_dangling schema tables ≡ false → AllByRecursion (Bound schema tables) tables
 bound_at schema tables none =
     all_map (λ c. list_any (λ row. some_dangles schema tables (spec_of schema c.0) row.1) c.1 ≡ false) (Bound schema tables)
     (λ c e. any_none (λ row. some_dangles schema tables (spec_of schema c.0) row.1) c.1 e) tables
     (any_none (λ c. list_any (λ row. some_dangles schema tables (spec_of schema c.0) row.1) c.1) tables none)
 
-bound_by : (schema : Catalog) (tables : Tables) → AllByRecursion (Bound schema tables) tables → has_dangling schema tables ≡ false
+pub bound_by : (schema : Catalog) (tables : Tables) → AllByRecursion (Bound schema tables) tables → has_dangling schema tables ≡ false
 bound_by schema tables all =
     none_any (λ c. list_any (λ row. some_dangles schema tables (spec_of schema c.0) row.1) c.1) tables
     (all_map (Bound schema tables) (λ c. list_any (λ row. some_dangles schema tables (spec_of schema c.0) row.1) c.1 ≡ false)
@@ -229,7 +228,7 @@ abbrev is_alone : Catalog → TableId → Rows → List Value × List Value → 
 is_alone schema table rows row = repeats_unique (spec_of schema table) rows row.0 row.1 ≡ false
 
 -- a row stands under its key and fits
-abbrev IsEntry : TableSpec → List Value × List Value → Type 0
+abbrev pub IsEntry : TableSpec → List Value × List Value → Type 0
 IsEntry spec e = (key_of spec e.1 ≡ e.0) × (is_legal_row spec e.1 ≡ true)
 
 each_written : (P : List Value × List Value → Type 0) (rows entries : Rows) → AllByRecursion P rows → AllByRecursion P entries → AllByRecursion P (with_all rows entries)
@@ -329,7 +328,7 @@ integers spec e =
 demands_true : (spec : TableSpec) (row : List Value) → has_generated_key spec ≡ true → lacks_value (is_demanded spec) spec.columns row ≡ lacks_value (demands true) spec.columns row
 demands_true spec row e = ap (λ g. lacks_value (demands g) spec.columns row) e
 
-or_false : (a b : Bool) → (a || b) ≡ false → (a ≡ false) × (b ≡ false)
+pub or_false : (a b : Bool) → (a || b) ≡ false → (a ≡ false) × (b ≡ false)
 or_false true b e = cc
 or_false false b e = (refl, e)
 
@@ -370,7 +369,7 @@ entries_fit spec rows (row ∷ more) entries held full e =
     subst (AllByRecursion (IsEntry spec)) (same_ok (first.0 ∷ rest.0) entries rest.2)
     (entry_fits spec rows row first.0 hold.0 fill.0 first.1, entries_fit spec (with_row rows first.0.0 first.0.1) more rest.0 hold.1 fill.1 rest.1)
 
-insert_legal : (schema : Catalog) (tables : Tables) (table : TableId) (rows : Rows) (new : List (List Value)) (answer : List (List Value) × Tables) → Legal schema tables → rows_in tables table ≡ Some rows
+pub insert_legal : (schema : Catalog) (tables : Tables) (table : TableId) (rows : Rows) (new : List (List Value)) (answer : List (List Value) × Tables) → Legal schema tables → rows_in tables table ≡ Some rows
     → list_all (is_row (spec_of schema table)) new ≡ true → insert_rows schema tables table rows new ≡ Ok answer → Legal schema answer.1
 unfolding insert_rows
 insert_legal schema tables table rows new answer legal found held e =
@@ -383,7 +382,7 @@ insert_legal schema tables table rows new answer legal found held e =
 -- ---- an UPDATE
 
 -- a row that fits may be held
-may_from_fits : (cs : List ColumnSpec) (row : List Value) → pointwise fits cs row ≡ true → pointwise may_hold cs row ≡ true
+pub may_from_fits : (cs : List ColumnSpec) (row : List Value) → pointwise fits cs row ≡ true → pointwise may_hold cs row ≡ true
 may_from_fits [] [] e = refl
 may_from_fits [] (v ∷ row) e = cc
 may_from_fits (c ∷ cs) [] e = cc
@@ -395,7 +394,7 @@ may_from_fits (c ∷ cs) (v ∷ row) e =
     or_true true = refl
     or_true false = refl
 
-plain_required : (c : ColumnSpec) → demands false c ≡ is_required c
+pub plain_required : (c : ColumnSpec) → demands false c ≡ is_required c
 plain_required c = strip (is_required c) c.key
   where
     strip : (a k : Bool) → (a && not (k && false)) ≡ a

@@ -1,6 +1,7 @@
+pub mod Ascending
 pub mod Entries
 pub mod Legality
-mod Members
+pub mod Members
 mod OneByOne
 pub mod OrderLemmas
 pub mod RowFits

@@ -1,29 +1,25 @@
 -- Where the rows of an INSERT are accepted one by one, the INSERT is accepted as one statement, and does the same.
-use Rattle.std.proofs.Common.{◌≡◌, ◌⊎◌, inl, inr, ℕ, Bool, true, false, not, cond, ◌&&◌, ◌||◌, ◌<◌, List, [], ◌∷◌, ◌++◌, length, Option, None, Some, Ok, Err, if◌then◌else◌, is_some, refl, sym, ap, ◌∙◌, subst, arith}
+use Rattle.std.proofs.Common.{◌≡◌, ◌⊎◌, inl, inr, ℕ, Bool, true, false, cond, ◌||◌, ◌<◌, List, [], ◌∷◌, ◌++◌, length, Option, None, Some, Ok, Err, if◌then◌else◌, is_some, refl, sym, ap, ◌∙◌, subst, arith}
 use Rattle.std.specs.declared.cmp.Ordering.{Ordering}
 use Rattle.std.specs.declared.cmp.Ordering.TheVariants.{Less, Equal, Greater}
-use Rattle.std.specs.Ordering.{is_eq, ordering_reverse}
 use Rattle.std.specs.List.{list_any}
-use Rattle.std.specs.Map.{lookup}
-use Rattle.std.specs.BTreeMap.{insert_entry, is_at}
 use Rattle.base_core.specs.declared.ids.TableId.{TableId}
 use Rattle.base_core.specs.declared.value.Value.{Value}
 use Rattle.base_core.specs.Order.{values_cmp}
 use Rattle.schema_core.specs.declared.statement.RowStmt.TheVariants.{Insert}
 use Rattle.schema_core.specs.declared.statement.Violation.TheVariants.{Foreign, NotNull, PrimaryKey, Unique, NoTable}
 use Rattle.schema_core.specs.declared.table.TableSpec.{TableSpec}
-use Rattle.schema_core.specs.Apply.{Outcome, answer_keys, apply, apply_found, entries_of, entry_of, insert_rows, is_demanded, keys_of_entries, with_own_key}
+use Rattle.schema_core.specs.Apply.{Outcome, answer_keys, apply, entries_of, entry_of, insert_rows, is_demanded, keys_of_entries, with_own_key}
 use Rattle.schema_core.specs.Catalog.{Catalog, spec_of}
 use Rattle.schema_core.specs.Judged.{Judged, and_then, lacks_value, some_repeats, some_written_dangles, with_all, write_all}
-use Rattle.schema_core.specs.Tables.{Rows, Tables, key_of, repeats_unique, row_under, rows_in, same_values, some_dangles, table_cmp, with_row, with_rows}
+use Rattle.schema_core.specs.Tables.{Rows, Tables, key_of, repeats_unique, row_under, rows_in, some_dangles, table_cmp, with_row, with_rows}
 use Rattle.schema_core.specs.WellFormed.{IsWellFormed}
 use Rattle.schema_core.proofs.ApplySteps.{apply_insert, apply_nowhere, entries_more, insert_full, write_dangles, write_done}
 use Rattle.table_laws.specs.OneByOne.{one_by_one, refers_to_later}
-use Rattle.table_laws.proofs.Legality.{alone_at, alone_by, and_ok, clash, clash_turned, dangle_stays, entry_is, guard_ok, in_written, keys_ok, no_ok, same_ok}
+use Rattle.table_laws.proofs.Legality.{alone_at, alone_by, and_ok, clash, clash_turned, dangle_stays, entry_is, guard_ok, in_written, no_ok, same_ok}
 use Rattle.table_laws.proofs.Entries.{any_none}
 use Rattle.table_laws.proofs.Members.{In, all_in}
-use Rattle.table_laws.proofs.SameValues.{same_key}
-use Rattle.std.specs.Cmp.{IsTotalOrder, nat_cmp_total, on_total}
+use Rattle.table_laws.proofs.SameValues.{same_key, table_equal}
 
 -- ---- entries that are put in
 
@@ -120,17 +116,6 @@ together_done schema tables table rows new answer t =
     ∙ (λ i. Ok (sym t.keys i, sym t.left i))
 
 -- ---- the tables of one statement after another
-
-tables_total : IsTotalOrder table_cmp
-tables_total = on_total (λ table. table.0) nat_cmp_total
-
-table_equal : (table : TableId) → table_cmp table table ≡ Equal
-table_equal table = by (table_cmp table table) (tables_total.antisymm table table)
-  where
-    by : (r : Ordering) → r ≡ ordering_reverse r → r ≡ Equal
-    by Less e = cc
-    by Equal e = refl
-    by Greater e = cc
 
 -- the rows of a table are those that were put in last
 rows_found : (tables : Tables) (table : TableId) (rows : Rows) → rows_in (with_rows tables table rows) table ≡ Some rows

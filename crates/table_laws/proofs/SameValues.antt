@@ -1,8 +1,8 @@
 -- What the orders of values and of tables do not tell apart is equal.
 use Rattle.std.proofs.Common.{◌≡◌, ℕ, Bool, true, false, not, ◌&&◌, List, [], ◌∷◌, Ordering, refl, sym, ap, ◌∙◌}
 use Rattle.std.specs.declared.cmp.Ordering.TheVariants.{Less, Equal, Greater}
-use Rattle.std.specs.Ordering.{is_eq, nat_cmp, bool_cmp, ordering_then}
-use Rattle.std.specs.Cmp.{eq_by_cmp_equiv}
+use Rattle.std.specs.Ordering.{is_eq, nat_cmp, bool_cmp, ordering_reverse, ordering_then}
+use Rattle.std.specs.Cmp.{IsTotalOrder, eq_by_cmp_equiv, nat_cmp_total, on_total}
 use Rattle.std.specs.Cmp.Lexicographic.{slice_cmp, lists_total, texts_ties, bytes_decides}
 use Rattle.std.proofs.lemmas.Cmp.{ranked, int_ranked}
 use Rattle.base_core.specs.declared.ids.TableId.{TableId}
@@ -11,6 +11,19 @@ use Rattle.base_core.specs.declared.value.Value.TheVariants.{Null, Int, Text, Bo
 use Rattle.base_core.specs.Order.{value_cmp, values_cmp}
 use Rattle.base_core.specs.OrderLaws.{value_cmp_total}
 use Rattle.schema_core.specs.Tables.{has_null, same_values, table_cmp}
+
+-- the order of tables is total
+pub tables_total : IsTotalOrder table_cmp
+tables_total = on_total (λ table. table.0) nat_cmp_total
+
+-- a number is equal to itself
+pub table_equal : (table : TableId) → table_cmp table table ≡ Equal
+table_equal table = by (table_cmp table table) (tables_total.antisymm table table)
+  where
+    by : (r : Ordering) → r ≡ ordering_reverse r → r ≡ Equal
+    by Less e = cc
+    by Equal e = refl
+    by Greater e = cc
 
 pub same_table : (a b : TableId) → table_cmp a b ≡ Equal → a ≡ b
 same_table a b e = ap (λ n. record { 0 = n }) (ranked a.0 b.0 Equal (sym e))

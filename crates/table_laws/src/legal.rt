@@ -9,7 +9,7 @@ ghost use Rattle.schema_core.specs.declared.statement.Violation.TheVariants.{For
 ghost use Rattle.schema_core.specs.Apply.{apply, entries_of};
 ghost use Rattle.schema_core.specs.Catalog.{Catalog, spec_of};
 ghost use Rattle.schema_core.specs.Judged.{some_loses_row, some_written_dangles, with_all, without_all};
-ghost use Rattle.schema_core.specs.Tables.{Legal, Rows, Tables, has_dangling, rows_in, with_rows};
+ghost use Rattle.schema_core.specs.Tables.{AreAscending, Legal, Rows, Tables, has_dangling, rows_in, with_rows};
 ghost use Rattle.schema_core.specs.WellFormed.{IsWellFormed};
 ghost use Rattle.table_laws.specs.OneByOne.{one_by_one, refers_to_later};
 
@@ -19,6 +19,14 @@ pub fn accepted_is_legal()
     ensures { (schema : Catalog) (tables : Tables) (sent : RowStmt) (keys : List (List Value))
         (after : Tables) → IsWellFormed schema sent → Legal schema tables
         → apply schema tables sent ≡ Ok (keys, after) → Legal schema after }
+{}
+
+#[tactic(auto, using(crate::proofs::Ascending::accepted_ascends))]
+/// An accepted statement on rows leaves tables ascending by number, and their rows by key, where they were.
+pub fn accepted_is_ascending()
+    ensures { (schema : Catalog) (tables : Tables) (sent : RowStmt) (keys : List (List Value))
+        (after : Tables) → AreAscending tables
+        → apply schema tables sent ≡ Ok (keys, after) → AreAscending after }
 {}
 
 #[tactic(auto, using(crate::proofs::Legality::written_rule, crate::proofs::Legality::removed_rule))]

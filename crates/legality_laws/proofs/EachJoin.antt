@@ -1,0 +1,85 @@
+-- However programs are joined, they keep what each of them keeps.
+use Rattle.std.proofs.Common.{◌≡◌, List, [], ◌∷◌, Result, Ok, Err, refl}
+use Rattle.base_core.specs.declared.refusal.Refusal.{Refusal}
+use Rattle.programs.specs.Programs.{Event, Run, ◌>>=◌, asked, become, becomes, caught, change, each, followed, give, guarded, mended, quiet, recovered, refuse, rescued}
+use Rattle.programs.specs.Store.{Store}
+use Rattle.programs.specs.Beside.{Beside, by_own, changes, on_own, on_store}
+use Rattle.legality_laws.specs.Legality.{Keeps}
+
+pub keeps_quiet : {W A : Type 0} (P : W → Type 0) (answer : Result A Refusal) → Keeps P (quiet answer)
+keeps_quiet P answer = record { kept = λ w p. p }
+
+pub keeps_give : {W A : Type 0} (P : W → Type 0) (a : A) → Keeps P (give a)
+unfolding give
+keeps_give P a = record { kept = λ w p. p }
+
+pub keeps_refuse : {W A : Type 0} (P : W → Type 0) (e : Refusal) → Keeps {A = A} P (refuse e)
+unfolding refuse
+keeps_refuse P e = record { kept = λ w p. p }
+
+pub keeps_asked : {W A : Type 0} (P : W → Type 0) (question : W → Result A Refusal) → Keeps P (asked question)
+unfolding asked
+keeps_asked P question = record { kept = λ w p. p }
+
+pub keeps_change : {W : Type 0} (P : W → Type 0) (f : W → W) → ((w : W) → P w → P (f w)) → Keeps P (change f)
+unfolding change
+keeps_change P f stays = record { kept = stays }
+
+pub keeps_becomes : {W : Type 0} (P : W → Type 0) (step : W → Result W Refusal) → ((w now : W) → P w → step w ≡ Ok now → P now) → Keeps P (becomes step)
+unfolding becomes
+keeps_becomes {W = W} P step stays = record { kept = λ w p. by w (step w) refl p }
+  where
+    by : (w : W) (r : Result W Refusal) → step w ≡ r → P w → P (become w r).after
+    by w (Ok now) is p = stays w now p is
+    by w (Err e) is p = p
+
+pub keeps_then : {W A B : Type 0} (P : W → Type 0) (m : W → Run W A) (next : A → W → Run W B) → Keeps P m → ((a : A) → Keeps P (next a)) → Keeps P (m >>= next)
+unfolding ◌>>=◌
+keeps_then {W = W} {A = A} P m next first rest = record { kept = λ w p. by (m w).events (m w).after (m w).answer (first.kept w p) }
+  where
+    by : (events : List Event) (w : W) (r : Result A Refusal) → P w → P (followed events w r next).after
+    by events w (Ok a) p = (rest a).kept w p
+    by events w (Err e) p = p
+
+pub keeps_each : {W A S : Type 0} (P : W → Type 0) (step : A → S → W → Run W S) (s : S) (xs : List A) → ((x : A) (s : S) → Keeps P (step x s)) → Keeps P (each step s xs)
+unfolding each
+keeps_each P step s [] one = keeps_give P s
+keeps_each P step s (x ∷ xs) one = keeps_then P (step x s) (λ t. each step t xs) (one x s) (λ t. keeps_each P step t xs one)
+
+pub keeps_caught : {W A : Type 0} (P : W → Type 0) (instead : Refusal → W → Run W A) (m : W → Run W A) → Keeps P m → ((e : Refusal) → Keeps P (instead e)) → Keeps P (caught instead m)
+unfolding caught
+keeps_caught {W = W} {A = A} P instead m first rest = record { kept = λ w p. by (m w).events (m w).after (m w).answer (first.kept w p) }
+  where
+    by : (events : List Event) (w : W) (r : Result A Refusal) → P w → P (recovered events w r instead).after
+    by events w (Ok a) p = p
+    by events w (Err e) p = (rest e).kept w p
+
+pub keeps_guarded : {W A : Type 0} (P : W → Type 0) (m : W → Run W A) (undo : W → Run W (Unit {0})) → Keeps P m → Keeps P undo → Keeps P (guarded m undo)
+unfolding guarded
+keeps_guarded {W = W} {A = A} P m undo first back = record { kept = λ w p. by (m w).events (m w).after (m w).answer (first.kept w p) }
+  where
+    by : (events : List Event) (w : W) (r : Result A Refusal) → P w → P (mended events w r undo).after
+    by events w (Ok a) p = p
+    by events w (Err e) p = (keeps_then P undo (λ u. refuse {A = A} e) back (λ u. keeps_refuse P e)).kept w p
+
+pub keeps_rescued : {W A : Type 0} (P : W → Type 0) (text : Refusal → A) (m : W → Run W A) → Keeps P m → Keeps P (rescued text m)
+unfolding rescued
+keeps_rescued P text m first = record { kept = first.kept }
+
+-- ---- what stands beside the store
+
+pub keeps_on_store : {S A : Type 0} (P : Store → Type 0) (note : List Event → S → S) (m : Store → Run Store A) → Keeps P m → Keeps (λ (w : Beside S). P w.store) (on_store note m)
+unfolding on_store
+keeps_on_store P note m first = record { kept = λ w p. first.kept w.store p }
+
+pub keeps_on_own : {S A : Type 0} (P : Store → Type 0) (m : S → Run S A) → Keeps (λ (w : Beside S). P w.store) (on_own m)
+unfolding on_own
+keeps_on_own P m = record { kept = λ w p. p }
+
+pub keeps_changes : {S : Type 0} (P : Store → Type 0) (f : S → S) → Keeps (λ (w : Beside S). P w.store) (changes f)
+unfolding changes
+keeps_changes P f = record { kept = λ w p. p }
+
+pub keeps_by_own : {S A : Type 0} (P : Store → Type 0) (choose : S → Beside S → Run (Beside S) A) → ((own : S) → Keeps (λ (w : Beside S). P w.store) (choose own)) → Keeps (λ (w : Beside S). P w.store) (by_own choose)
+unfolding by_own
+keeps_by_own P choose one = record { kept = λ w p. (one w.own).kept w p }

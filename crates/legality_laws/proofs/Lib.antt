@@ -1,0 +1,7 @@
+mod Cells
+mod Evaluated
+pub mod Accepted
+pub mod Dropped
+pub mod EachCall
+pub mod EachJoin
+pub mod HeldRows

@@ -1,0 +1,15 @@
+//! Laws of legality: what statements and programs of the store leave legal. Each is the contract of a function that does nothing, so
+//! there is no body that could be turned into a wrong one.
+#![tactic(auto)]
+
+mod bulk;
+mod calls;
+mod joined;
+mod rows;
+
+pub use bulk::accepted_bulk_is_legal;
+pub use calls::{calls_keep_legal, drop_all_keeps_legal};
+pub use joined::{
+    joined_programs_keep_legal, programs_beside_keep_legal, quiet_programs_keep_legal,
+};
+pub use rows::a_legal_store_holds_legal_rows;
