@@ -44,7 +44,7 @@ fn keep_first<T: Drop>(alloc: Global, list: &mut ListOf<T>, count: usize)
     *list = ListOf::from_vec(items);
 }
 
-/// A class goes behind the others, with its line. The only refusal is want of memory, and it leaves the classes as they were.
+/// A class goes behind the others, with its line. The only refusal is `Memory`, and it leaves the classes as they were.
 fn push_class(
     alloc: Global,
     classes: &mut Classes,

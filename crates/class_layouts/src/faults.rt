@@ -426,7 +426,8 @@ fn first_fault(
     line: &[ClassId],
 ) -> Result<Option<ArgumentKind>, Refusal>
     ensures ok { IfOk result (λ fault. fault
-        ≡ first_fault (rules_of hooks.now) schema.now.tables others.now classes.now spec.now line.now) }
+        ≡ first_fault (rules_of hooks.now) schema.now.tables others.now classes.now spec.now
+        line.now) }
     ensures err { IfErr result (λ e. e ≡ Memory) }
 {
     let tables = tables_on(alloc, schema, classes, line)?;

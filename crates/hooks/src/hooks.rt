@@ -33,7 +33,7 @@ impl Hooks {
     }
 
     /// Adds a validator under a name; it takes the place of an earlier one of this name.
-    /// The only refusal is want of memory, and it leaves the validators as they were.
+    /// The only refusal is `Memory`, and it leaves the validators as they were.
     pub fn put(&mut self, name: Name, validator: Validator) -> Result<(), Refusal>
         ensures ok { OnOk result
             (rules_of self.new

@@ -1,0 +1,4 @@
+pub mod Keys
+pub mod Sides
+pub mod Pairs
+pub mod Linking

@@ -1,0 +1,229 @@
+//! Pairs of sides that name each other, and the foreign keys that serve them.
+
+ghost use Rattle.std.specs.Prelude.{◌≡◌, ◌&&◌, find, nat_lt, count_by};
+ghost use Rattle.std.specs.Option.{option_copied};
+ghost use Rattle.std.specs.List.{list_any};
+ghost use Rattle.schema_core.specs.Declaration.{some_two};
+ghost use Rattle.class_sides.specs.Keys.{same_key};
+ghost use Rattle.class_sides.specs.Pairs.{fits, has_two_joins, is_of_target, is_plain, is_served_by, join_of, lacks_join, leads_to, mutual_of, names_each_other, overlaps, same_secondary, shares};
+
+use crate::Side;
+use crate::keys::{TableKey, allows, names_of, same_key};
+use base_core::{ClassId, Name};
+use class_layouts::{Classes, has_class, line_of};
+use schema_core::Schema;
+
+/// Whether a side has no secondary table.
+pub fn is_plain(side: &Side) -> bool
+    ensures { result ≡ is_plain side.now }
+{
+    side.spec.secondary.is_none()
+}
+
+/// Whether a class stands in the line of the target.
+fn is_of_target(classes: &Classes, target: Option<ClassId>, class: ClassId) -> bool
+    ensures { result ≡ is_of_target classes.now target class }
+{
+    match target {
+        Some(target) => has_class(line_of(classes, target.0 as usize), class.0 as usize),
+        None => false,
+    }
+}
+
+/// Whether the partner that the one names is the other.
+fn leads_to(classes: &Classes, one: &Side, other: &Side) -> bool
+    ensures { result ≡ leads_to classes.now one.now other.now }
+{
+    is_of_target(classes, one.target, other.class) && other.spec.name == one.spec.partner
+}
+
+/// Whether two declared relationships name each other.
+fn names_each_other(classes: &Classes, one: &Side, other: &Side) -> bool
+    ensures { result ≡ names_each_other classes.now one.now other.now }
+{
+    !one.spec.backref
+        && !other.spec.backref
+        && leads_to(classes, one, other)
+        && leads_to(classes, other, one)
+}
+
+/// The declared relationship that a side and it name each other.
+fn mutual_of<'a>(classes: &Classes, sides: &'a [Side], side: &Side) -> Option<&'a Side>
+    ensures { option_copied result ≡ mutual_of classes.now sides.now side.now }
+{
+    sides
+        .iter()
+        .find(|other| names_each_other(classes, side, *other))
+}
+
+/// Whether a foreign key that can serve the side is the one that its partner names too.
+fn fits(schema: &Schema, classes: &Classes, sides: &[Side], side: &Side, key: TableKey) -> bool
+    ensures { result ≡ fits schema.now.tables classes.now sides.now side.now key }
+{
+    match mutual_of(classes, sides, side) {
+        Some(partner) => allows(partner.spec.using.as_slice(), names_of(schema, key)),
+        None => true,
+    }
+}
+
+/// The first foreign key that fits.
+fn first_fit<'a>(
+    schema: &Schema,
+    classes: &Classes,
+    sides: &[Side],
+    side: &Side,
+    keys: &'a [TableKey],
+) -> Option<&'a TableKey>
+    ensures { option_copied result
+        ≡ find (fits schema.now.tables classes.now sides.now side.now) keys.now }
+{
+    keys.iter()
+        .find(|key| fits(schema, classes, sides, side, **key))
+}
+
+/// The foreign key behind a side without a secondary table.
+pub fn join_of(schema: &Schema, classes: &Classes, sides: &[Side], side: &Side) -> Option<TableKey>
+    ensures { result ≡ join_of schema.now.tables classes.now sides.now side.now }
+{
+    match first_fit(schema, classes, sides, side, side.candidates.as_slice()) {
+        Some(key) => Some(*key),
+        None => None,
+    }
+}
+
+/// Whether a foreign key fits.
+fn some_fits(
+    schema: &Schema,
+    classes: &Classes,
+    sides: &[Side],
+    side: &Side,
+    keys: &[TableKey],
+) -> bool
+    ensures { result ≡ list_any (fits schema.now.tables classes.now sides.now side.now) keys.now }
+{
+    keys.iter()
+        .any(|key| fits(schema, classes, sides, side, *key))
+}
+
+/// Whether no foreign key is found for a side without a secondary table.
+pub fn lacks_join(schema: &Schema, classes: &Classes, sides: &[Side], side: &Side) -> bool
+    ensures { result ≡ lacks_join schema.now.tables classes.now sides.now side.now }
+{
+    is_plain(side) && !some_fits(schema, classes, sides, side, side.candidates.as_slice())
+}
+
+/// How many foreign keys are found for a side.
+fn count_joins(schema: &Schema, classes: &Classes, sides: &[Side], side: &Side) -> usize
+    ensures { result ≡ count_by
+        (fits schema.now.tables classes.now sides.now side.now) side.now.candidates }
+{
+    side.candidates
+        .as_slice()
+        .iter()
+        .filter(|key| fits(schema, classes, sides, side, **key))
+        .count()
+}
+
+/// Whether two foreign keys are found for a side without a secondary table.
+pub fn has_two_joins(schema: &Schema, classes: &Classes, sides: &[Side], side: &Side) -> bool
+    ensures { result ≡ has_two_joins schema.now.tables classes.now sides.now side.now }
+{
+    is_plain(side) && 1 < count_joins(schema, classes, sides, side)
+}
+
+/// Whether a foreign key serves a side.
+fn is_served(schema: &Schema, classes: &Classes, sides: &[Side], key: TableKey, side: &Side) -> bool
+    ensures { result ≡ list_any (λ found. same_key found key
+        && fits schema.now.tables classes.now sides.now side.now found) side.now.candidates }
+{
+    side.candidates.as_slice().iter().any(|found| same_key(*found, key)
+        && fits(schema, classes, sides, side, *found))
+}
+
+/// Whether the foreign key that was found serves a side.
+fn is_served_by(
+    schema: &Schema,
+    classes: &Classes,
+    sides: &[Side],
+    key: Option<TableKey>,
+    side: &Side,
+) -> bool
+    ensures { result ≡ is_served_by schema.now.tables classes.now sides.now key side.now }
+{
+    match key {
+        Some(key) => is_served(schema, classes, sides, key, side),
+        None => false,
+    }
+}
+
+/// Whether two sides have no secondary table, or the same one.
+pub(crate) fn same_secondary(one: &Option<Name>, other: &Option<Name>) -> bool
+    ensures { result ≡ same_secondary one.now other.now }
+{
+    match (one, other) {
+        (None, None) => true,
+        (Some(one), Some(other)) => *one == *other,
+        _ => false,
+    }
+}
+
+/// Whether another side is served by the same foreign key, which is given, or by the same secondary table.
+fn shares(
+    schema: &Schema,
+    classes: &Classes,
+    sides: &[Side],
+    one: &Side,
+    join: Option<TableKey>,
+    other: &Side,
+) -> bool
+    requires { join ≡ join_of schema.now.tables classes.now sides.now one.now }
+    ensures { result ≡ shares schema.now.tables classes.now sides.now one.now other.now }
+{
+    same_secondary(&one.spec.secondary, &other.spec.secondary)
+        && (one.spec.secondary.is_some() || is_served_by(schema, classes, sides, join, other))
+}
+
+/// Whether a side and one behind it are no pair, and are served by one key or one secondary table.
+fn overlaps(
+    schema: &Schema,
+    classes: &Classes,
+    sides: &[Side],
+    one: &Side,
+    join: Option<TableKey>,
+    later: &Side,
+) -> bool
+    requires { join ≡ join_of schema.now.tables classes.now sides.now one.now }
+    ensures { result ≡ overlaps schema.now.tables classes.now sides.now later.now one.now }
+{
+    !names_each_other(classes, one, later) && shares(schema, classes, sides, one, join, later)
+}
+
+/// Whether a side overlaps with one behind it.
+fn overlaps_one(
+    schema: &Schema,
+    classes: &Classes,
+    sides: &[Side],
+    one: &Side,
+    behind: &[Side],
+) -> bool
+    ensures { result ≡ list_any
+        (λ later. overlaps schema.now.tables classes.now sides.now later one.now) behind.now }
+{
+    let join = join_of(schema, classes, sides, one);
+    behind
+        .iter()
+        .any(|later| overlaps(schema, classes, sides, one, join, later))
+}
+
+#[tactic(auto, using(schema_core::proofs::SomeTwo::some_two_steps))]
+/// Whether two sides that are no pair are served by one key or one secondary table.
+pub fn some_overlap(schema: &Schema, classes: &Classes, sides: &[Side]) -> bool
+    ensures { result ≡ some_two (overlaps schema.now.tables classes.now sides.now) sides.now }
+{
+    for (place, one) in sides.iter().enumerate() {
+        if overlaps_one(schema, classes, sides, one, &sides[place + 1..]) {
+            return true;
+        }
+    }
+    false
+}
