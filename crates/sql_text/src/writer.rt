@@ -115,8 +115,9 @@ impl Writer {
         self.put_shown(name.get())
     }
 
+    /// The same of a name that is shown.
     #[tactic(auto, unfolding(crate::specs::Written::put, crate::specs::Written::put_all, crate::specs::Names::name_text))]
-    pub(crate) fn put_shown(&mut self, name: &str) -> Result<(), Refusal>
+    pub fn put_shown(&mut self, name: &str) -> Result<(), Refusal>
         ensures wrote { Wrote (spec.name name.now ∷ []) result self.old self.new }
         ensures kept { OnErr result (self.new ≡ self.old) }
     {
@@ -138,8 +139,9 @@ impl Writer {
         self.put_mark(base.get(), value)
     }
 
+    /// The same under a base name that is shown.
     #[tactic(auto, unfolding(crate::specs::Written::put, crate::specs::Written::put_all))]
-    pub(crate) fn put_mark(&mut self, base: &str, value: &Value) -> Result<(), Refusal>
+    pub fn put_mark(&mut self, base: &str, value: &Value) -> Result<(), Refusal>
         ensures wrote { Wrote (spec.value base.now value.now ∷ []) result self.old self.new }
         ensures kept { OnErr result (self.new ≡ self.old) }
     {
@@ -168,8 +170,8 @@ impl Writer {
         Ok(())
     }
 
-    /// The same in memory of its own.
-    pub(crate) fn copied(&self) -> Result<Writer, Refusal>
+    /// The same in memory of its own. The only refusal is that memory ran out.
+    pub fn copied(&self) -> Result<Writer, Refusal>
         ensures ok { IfOk result (λ copy. copy ≡ self.now) }
         ensures cause { IfErr result (λ e. e ≡ Memory) }
     {
