@@ -17,7 +17,7 @@ use Rattle.sql_semantics.specs.Eval.{Row, Tables, evaluated}
 use Rattle.sql_semantics.specs.Rows.{answer}
 use Rattle.sql_semantics.specs.Shapes.{AreOfItems, AreRows, IsOfItsKind, scope_of}
 use Rattle.select_rows.proofs.Items.{Reads, rows_sure}
-use Rattle.select_rows.proofs.Shapes.{sure_all}
+use Rattle.select_sources.proofs.Sure.{sure_all}
 use Rattle.select_rows.proofs.ValueKinds.{KindAt, OfKind, kind_sure}
 
 flipped : (a b : Kind) → same_kind a b ≡ true → same_kind b a ≡ true
@@ -27,7 +27,7 @@ flipped kinds.Boolean kinds.Boolean e = refl
 flipped kinds.Bytes kinds.Bytes e = refl
 flipped a b e = absurd (cc)
 
-held_kind : (s : ℕ) (column : ColumnSpec) (v : Value) → may_hold column v ≡ true → KindAt s column v
+pub held_kind : (s : ℕ) (column : ColumnSpec) (v : Value) → may_hold column v ≡ true → KindAt s column v
 held_kind s column value.Null h = refl
 held_kind s column (value.Bool b) h = flipped (kind_of column.kind) kinds.Boolean h
 held_kind s column (value.Int n) h = flipped (kind_of column.kind) kinds.Integer h

@@ -17,8 +17,9 @@ use Rattle.sql_semantics.specs.declared.basis.Basis.{Basis}
 use Rattle.sql_semantics.specs.declared.basis.Basis.TheVariants as basis
 use Rattle.sql_semantics.specs.Rows.{Frame, answer, at_basis, created, of_rows, passed, sources, tables_of, values}
 use Rattle.sql_semantics.specs.Shapes.{EachItem, scope_of}
-use Rattle.select_rows.proofs.Columns.{AreRead, AreTested, Columns, Fits, Holds, HoldsNulls, Property, passed_sure, sources_sure}
-use Rattle.select_rows.proofs.Shapes.{OfBasis, Sure, always, bind_sure, of_rows_sure, sure_all, sure_told}
+use Rattle.select_sources.proofs.Columns.{AreRead, AreTested, Columns, Fits, Holds, HoldsNulls, Property, passed_sure, sources_sure}
+use Rattle.select_sources.proofs.Sure.{Sure, always, bind_sure, sure_all}
+use Rattle.select_rows.proofs.Shapes.{OfBasis, of_rows_sure, sure_told}
 
 abbrev Item : Type 0
 Item = Expr × Option (List ℕ)

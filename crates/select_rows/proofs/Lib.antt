@@ -1,4 +1,3 @@
-pub mod Columns
 pub mod Declared
 pub mod Surveys
 pub mod Firsts

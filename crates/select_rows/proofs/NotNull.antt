@@ -20,10 +20,10 @@ use Rattle.sql_semantics.specs.Checked.{Checked}
 use Rattle.sql_semantics.specs.Eval.{Meaning, Place, Row, Tables, after, evaluated, meaning}
 use Rattle.sql_semantics.specs.Rows.{answer}
 use Rattle.sql_semantics.specs.Shapes.{AreGiven, AreLegalRows, IsGiven, is_inner, is_inner_join, is_never_null, is_required_level, scope_of, takes_no_null}
-use Rattle.select_rows.proofs.Columns.{Fits, HoldsNulls, Property, column_read, not_both}
+use Rattle.select_sources.proofs.Columns.{Fits, HoldsNulls, Property, column_read, not_both}
 use Rattle.select_rows.proofs.Items.{Settled, rows_sure}
 use Rattle.sql_semantics.proofs.Equations.{rolled, settled_rolled, with_settled}
-use Rattle.select_rows.proofs.Shapes.{Sure}
+use Rattle.select_sources.proofs.Sure.{Sure}
 
 -- a value is not NULL of a column that takes none, where its source is not left-joined
 abbrev GivenAt : Select → Property

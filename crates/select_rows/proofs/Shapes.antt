@@ -14,38 +14,17 @@ use Rattle.expr_types.specs.declared.select.Select.{Select}
 use Rattle.sql_semantics.specs.Plain.{is_grouped}
 use Rattle.base_core.specs.Answers.{Gives}
 use Rattle.sql_semantics.specs.Checked.{Checked, ◌>>=◌}
-use Rattle.sql_semantics.specs.Truth.{passes}
 use Rattle.sql_semantics.specs.Eval.{Row, Tables, Place, evaluated, all_from}
 use Rattle.sql_semantics.specs.declared.basis.Basis.{Basis}
 use Rattle.sql_semantics.specs.declared.basis.Basis.TheVariants as basis
 use Rattle.sql_semantics.specs.declared.sort_key.SortKey.{SortKey}
 use Rattle.sql_semantics.specs.Order.{Rank, rank_cmp, ranked_from, in_order, same_row}
 use Rattle.sql_semantics.specs.Shapes.{AreWide}
+use Rattle.select_sources.proofs.Sure.{Sure, always, bind_sure, every_more, kept_sure, mapped_sure}
 use Rattle.select_rows.proofs.Firsts.{same_row_equiv}
 use Rattle.sql_semantics.specs.Rows.{Frame, Keyed, kept_from, mapped_from, at, at_basis, sources, passed, keyed, groups, first_row, grouped, bases, having, firsts_from, rows_with, keys_from, values, output, distinct, cut_off, limited, answered, of_rows, tables_of, created, answer}
 
--- what is answered, if it is, has the property
-abbrev pub Sure : {A : Type 0} → (A → Type 0) → Checked A → Type 0
-Sure P (Ok a) = P a
-Sure P (Err e) = Unit {0}
-
-pub bind_sure : {A B : Type 0} (Q : A → Type 0) (P : B → Type 0) (r : Checked A) (f : A → Checked B) → Sure Q r → ((a : A) → Q a → Sure P (f a)) → Sure P (r >>= f)
-bind_sure Q P (Ok a) f h g = g a h
-bind_sure Q P (Err e) f h g = tt
-
-pub sure_all : {A : Type 0} (P Q : A → Type 0) (r : Checked A) → Sure P r → ((a : A) → P a → Q a) → Sure Q r
-sure_all P Q (Ok a) h g = g a h
-sure_all P Q (Err e) h g = tt
-
-pub always : {A : Type 0} (r : Checked A) → Sure (λ _. Unit {0}) r
-always (Ok a) = tt
-always (Err e) = tt
-
 -- ---- lists
-
-pub every_more : {A : Type 0} (P : A → Type 0) (xs : List A) (x : A) → AllByRecursion P xs → P x → AllByRecursion P (xs ++ x ∷ [])
-every_more P [] x h p = (p, tt)
-every_more P (y ∷ ys) x h p = (h.0, every_more P ys x h.1 p)
 
 every_take : {A : Type 0} (P : A → Type 0) (n : ℕ) (xs : List A) → AllByRecursion P xs → AllByRecursion P (take n xs)
 every_take P zero xs h = tt
@@ -68,23 +47,6 @@ every_filter P test (x ∷ xs) h = filter_by P (test x) x (filter test xs) h.0 (
 every_map : {A B : Type 0} (f : A → B) (P : B → Type 0) (xs : List A) → AllByRecursion (λ x. P (f x)) xs → AllByRecursion P (map f xs)
 every_map f P [] h = tt
 every_map f P (x ∷ xs) h = (h.0, every_map f P xs h.1)
-
-more_by : {A : Type 0} (P : A → Type 0) (b : Bool) (done : List A) (x : A) → AllByRecursion P done → P x → AllByRecursion P (if b then done ++ x ∷ [] else done)
-more_by P true done x h p = every_more P done x h p
-more_by P false done x h p = h
-
--- the items that are kept have what all of them have
-pub kept_sure : {A : Type 0} (P : A → Type 0) (test : A → Checked Value) (done xs : List A) → AllByRecursion P done → AllByRecursion P xs → Sure (AllByRecursion P) (kept_from test done xs)
-kept_sure P test done [] d h = d
-kept_sure P test done (x ∷ xs) d h =
-    bind_sure (λ _. Unit {0}) (AllByRecursion P) (test x) (λ v. kept_from test (if passes v then done ++ x ∷ [] else done) xs) (always (test x))
-    (λ v _. kept_sure P test (if passes v then done ++ x ∷ [] else done) xs (more_by P (passes v) done x d h.0) h.1)
-
--- what is given for each item has what each gives
-mapped_sure : {A B : Type 0} (Q : A → Type 0) (P : B → Type 0) (f : A → Checked B) → ((x : A) → Q x → Sure P (f x)) → (done : List B) (xs : List A) → AllByRecursion P done → AllByRecursion Q xs → Sure (AllByRecursion P) (mapped_from f done xs)
-mapped_sure Q P f g done [] d h = d
-mapped_sure Q P f g done (x ∷ xs) d h =
-    bind_sure P (AllByRecursion P) (f x) (λ y. mapped_from f (done ++ y ∷ []) xs) (g x h.0) (λ y p. mapped_sure Q P f g (done ++ y ∷ []) xs (every_more P done y d p) h.1)
 
 -- ---- order, distinct, cut
 
@@ -193,12 +155,12 @@ bases_by : (P : Basis → Type 0) (b : Bool) (r : Checked (List Basis)) (bs : Li
 bases_by P true r bs h g = h refl
 bases_by P false r bs h g = g
 
-bases_sure : (P : Row → Type 0) (f : Frame) (s : Select) (rows : List Row) → AllByRecursion P rows → Sure (AllByRecursion (OfBasis P (is_grouped s) s.groups)) (bases f s rows)
+pub bases_sure : (P : Row → Type 0) (f : Frame) (s : Select) (rows : List Row) → AllByRecursion P rows → Sure (AllByRecursion (OfBasis P (is_grouped s) s.groups)) (bases f s rows)
 bases_sure P f s rows h =
     bases_by (OfBasis P (is_grouped s) s.groups) (is_grouped s) (grouped f s.groups rows) (map (λ r. basis.Row r) rows) (λ is. grouped_sure P (is_grouped s) f s.groups rows is h)
     (rows_every P (is_grouped s) s.groups rows h)
 
-having_sure : (P : Basis → Type 0) (f : Frame) (o : Option Expr) (bs : List Basis) → AllByRecursion P bs → Sure (AllByRecursion P) (having f o bs)
+pub having_sure : (P : Basis → Type 0) (f : Frame) (o : Option Expr) (bs : List Basis) → AllByRecursion P bs → Sure (AllByRecursion P) (having f o bs)
 having_sure P f None bs h = h
 having_sure P f (Some e) bs h = kept_sure P (λ b. evaluated e (at_basis f b)) [] bs tt h
 

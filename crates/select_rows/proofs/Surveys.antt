@@ -1,12 +1,10 @@
--- Aggregates in lists of operands; the rows that are kept.
-use Rattle.std.proofs.Common.{◌≡◌, ℕ, Bool, true, false, List, [], ◌∷◌, ◌++◌, ◌||◌, cond, map, refl, ap, sym, ◌∙◌, append_assoc, append-nil, ◌<◌, ◌+◌, length, get_or, drop}
+-- Aggregates in two lists; the keys that come first.
+use Rattle.std.proofs.Common.{◌≡◌, ℕ, Bool, true, false, List, [], ◌∷◌, ◌++◌, ◌||◌, cond, map, refl, ap, sym, ◌∙◌, ◌<◌, ◌+◌, length, get_or, drop}
 use Rattle.std.proofs.lemmas.List.{drop_more}
 use Rattle.sql_semantics.specs.Eval.{Row}
 use Rattle.sql_semantics.specs.Order.{same_row}
 use Rattle.sql_semantics.specs.Rows.{Keyed, firsts_from}
 use Rattle.std.specs.List.{list_any}
-
-pub ruleset all_named = (append_assoc, append-nil)
 
 either : (a b c : Bool) → (a || (b || c)) ≡ ((a || b) || c)
 either true b c = refl

@@ -26,8 +26,9 @@ use Rattle.sql_semantics.proofs.Typed.{all_of_each, alike_list, all_fits, gives_
 use Rattle.sql_semantics.specs.Checked.{Checked, ◌>>=◌}
 use Rattle.sql_semantics.specs.Truth.{value_of}
 use Rattle.sql_semantics.specs.Eval.{Place, Meaning, Row, after, evaluated, meaning, truth, pair, all_from, along_from, called, calculated, int, arithmetic, negated, concatenated, added, total, known, least_from, greatest_from, below, is_null, first_known, lowered, raised, text_length, first_of, applied, aggregated, gathered, over, ungrouped, count_of}
-use Rattle.select_rows.proofs.Columns.{Columns, Fits, Members, Property, column_read}
-use Rattle.select_rows.proofs.Shapes.{Sure, bind_sure, every_more, every_filter}
+use Rattle.select_sources.proofs.Columns.{Columns, Fits, Members, Property, column_read}
+use Rattle.select_sources.proofs.Sure.{Sure, bind_sure, every_more}
+use Rattle.select_rows.proofs.Shapes.{every_filter}
 
 abbrev pub OfKind : Kind → Value → Type 0
 OfKind kind v = is_of_kind kind v ≡ true

@@ -7,16 +7,15 @@ ghost use Rattle.sql_semantics.specs.Plain as plain;
 ghost use Rattle.base_core.specs.Answers.{Gives};
 ghost use Rattle.sql_semantics.specs.Eval as eval;
 ghost use Rattle.expr_eval.specs.Place.{place_of};
-ghost use Rattle.select_rows.specs.Frames.{frame_of};
+ghost use Rattle.select_sources.specs.Frames.{frame_of};
 ghost use Rattle.sql_semantics.specs.Rows as spec;
 
-use crate::Frame;
-use crate::frame::scope_at;
 use crate::seen::{Keyed, by_key, keep_first, rows_at};
 use base_core::{Copied, ListOf, Name, Refusal, RowValues};
 use expr_eval::{Scope, value_in};
 use expr_types::{Expr, ExprList, Select};
 use expr_typing::has_aggregate;
+use select_sources::{Frame, scope_at};
 use sql_semantics::Basis;
 use std::alloc::{AllocError, Global};
 use std::collections::BTreeSet;

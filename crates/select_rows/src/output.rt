@@ -4,15 +4,15 @@ ghost use Rattle.std.specs.Prelude.{◌≡◌, [], map};
 ghost use Rattle.base_core.specs.Answers.{Gives};
 ghost use Rattle.sql_semantics.specs.Eval as eval;
 ghost use Rattle.expr_eval.specs.Place.{place_of};
-ghost use Rattle.select_rows.specs.Frames.{frame_of};
+ghost use Rattle.select_sources.specs.Frames.{frame_of};
 ghost use Rattle.sql_semantics.specs.Rows as spec;
 
-use crate::Frame;
-use crate::frame::scope_of;
+use crate::basis::scope_of;
 use crate::order::Output;
 use base_core::{ListOf, Name, Refusal, RowValues};
 use expr_eval::{Scope, value_in};
 use expr_types::{Expr, Select};
+use select_sources::Frame;
 use sql_semantics::{Basis, SortKey};
 use std::alloc::Global;
 

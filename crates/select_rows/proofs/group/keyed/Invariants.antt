@@ -1,6 +1,6 @@
 use Rattle.std.proofs.Common.{◌≡◌, []}
 use Rattle.std.specs.Vec.Iter.{into_iter_items}
-use Rattle.select_rows.specs.Frames.{frame_of}
+use Rattle.select_sources.specs.Frames.{frame_of}
 use Rattle.sql_semantics.specs.Rows as spec
 use Rattle.select_rows.proofs.group.keyed.Given as goal
 

@@ -1,5 +1,5 @@
 use Rattle.std.proofs.Common.{◌≡◌, [], drop}
-use Rattle.select_rows.specs.Frames.{frame_of}
+use Rattle.select_sources.specs.Frames.{frame_of}
 use Rattle.sql_semantics.specs.Rows as spec
 use Rattle.select_rows.proofs.output.outputs.Given as goal
 

@@ -1,0 +1,6 @@
+use Rattle.std.proofs.Common.{◌≡◌, drop}
+use Rattle.sql_semantics.specs.Rows as spec
+use Rattle.select_sources.proofs.table.created.Given as goal
+
+abbrev pub invariant-loop-table : goal.invariant-loop-table
+invariant-loop-table l = spec.created l.tables (drop l.table-index l.named) ≡ spec.created l.tables l.named

@@ -1,0 +1,32 @@
+//! Scopes of a select.
+
+ghost use Rattle.std.specs.Prelude.{◌≡◌};
+ghost use Rattle.expr_eval.specs.Place.{place_of};
+ghost use Rattle.select_sources.specs.Frames.{framed};
+ghost use Rattle.sql_semantics.specs.Rows as spec;
+
+use base_core::{RowList, TableId, Value};
+use expr_eval::Scope;
+
+/// The sources in scope: the place in a row at which each begins, and the tables.
+#[derive(Clone, Copy)]
+pub struct Frame<'a> {
+    pub starts: &'a [u32],
+    pub tables: &'a [(TableId, RowList)],
+}
+
+/// The scope of a row.
+pub fn scope_at<'x>(
+    starts: &'x [u32],
+    tables: &'x [(TableId, RowList)],
+    row: &'x [Value],
+) -> Scope<'x>
+    ensures { place_of result ≡ spec.at (framed starts.now tables.now) row.now }
+{
+    Scope {
+        row,
+        starts,
+        tables,
+        group: None,
+    }
+}

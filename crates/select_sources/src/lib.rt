@@ -1,0 +1,14 @@
+//! The rows of a select's sources: the tables that its text names, its joins, and its condition on rows.
+#![tactic(auto)]
+
+mod filter;
+mod frame;
+mod source;
+mod survey;
+mod table;
+
+pub use filter::{keep_if, passed};
+pub use frame::{Frame, scope_at};
+pub use source::sources;
+pub use survey::named;
+pub use table::{all_created, created};

@@ -1,0 +1,107 @@
+//! Tables that were not created.
+
+ghost use Rattle.std.specs.Prelude.{◌≡◌, ◌∷◌, ◌++◌, map, Ok, OnOk, IfOk};
+ghost use Rattle.base_core.specs.Answers.{Gives};
+ghost use Rattle.sql_semantics.specs.Rows as spec;
+
+use crate::survey::{named, named_all};
+use base_core::{ListOf, Name, Refusal, RowList, TableId};
+use expr_types::{Expr, Joined, Select};
+use std::alloc::{AllocError, Global};
+
+/// The first table of the select's text that was not created is refused.
+pub fn all_created(
+    alloc: Global,
+    tables: &[(TableId, RowList)],
+    select: &Select,
+) -> Result<(), Refusal>
+    ensures { Gives (λ x. x) result (spec.created tables.now (spec.tables_of select.now)) }
+{
+    let named = tables_of(alloc, select)?;
+    created(tables, &named)
+}
+
+/// The first table of these numbers that is not among the tables is refused.
+///
+/// # Errors
+/// `OperationalError` with that table.
+pub fn created(tables: &[(TableId, RowList)], named: &[u32]) -> Result<(), Refusal>
+    ensures { result ≡ spec.created tables.now named.now }
+{
+    for table in named {
+        if !is_created(tables, *table) {
+            return Err(Refusal::OperationalError(TableId(*table)));
+        }
+    }
+    Ok(())
+}
+
+fn is_created(tables: &[(TableId, RowList)], table: u32) -> bool
+    ensures { result ≡ spec.is_created tables.now table }
+{
+    for (id, _) in tables {
+        if id.0 == table {
+            return true;
+        }
+    }
+    false
+}
+
+#[tactic(auto, using(crate::proofs::Surveys::all_named))]
+fn tables_of(alloc: Global, select: &Select) -> Result<Vec<u32>, AllocError>
+    ensures { IfOk result (λ v. v.items ≡ spec.tables_of select.now) }
+{
+    let mut found = Vec::new(alloc);
+    of_items(&select.items, &mut found)?;
+    found.push(select.first.table.0)?;
+    of_joins(&select.joins, &mut found)?;
+    of_condition(&select.filter, &mut found)?;
+    named_all(&select.groups, &mut found)?;
+    of_condition(&select.having, &mut found)?;
+    of_order(&select.order, &mut found)?;
+    Ok(found)
+}
+
+#[tactic(auto, using(crate::proofs::Surveys::all_named))]
+fn of_items(items: &ListOf<(Expr, Option<Name>)>, found: &mut Vec<u32>) -> Result<(), AllocError>
+    ensures { OnOk result (found.new.items
+        ≡ found.old.items ++ spec.flat (map (λ i. spec.named i.0) items.now)) }
+{
+    for item in items.as_slice() {
+        named(&item.0, found)?;
+    }
+    Ok(())
+}
+
+#[tactic(auto, using(crate::proofs::Surveys::all_named))]
+fn of_order(keys: &ListOf<(Expr, bool)>, found: &mut Vec<u32>) -> Result<(), AllocError>
+    ensures { OnOk result (found.new.items
+        ≡ found.old.items ++ spec.flat (map (λ k. spec.named k.0) keys.now)) }
+{
+    for key in keys.as_slice() {
+        named(&key.0, found)?;
+    }
+    Ok(())
+}
+
+#[tactic(auto, using(crate::proofs::Surveys::all_named))]
+fn of_joins(joins: &ListOf<Joined>, found: &mut Vec<u32>) -> Result<(), AllocError>
+    ensures { OnOk result (found.new.items
+        ≡ found.old.items ++ spec.flat (map (λ j. j.origin.table.0 ∷ spec.named j.on) joins.now)) }
+{
+    for join in joins.as_slice() {
+        found.push(join.origin.table.0)?;
+        named(&join.on, found)?;
+    }
+    Ok(())
+}
+
+#[tactic(auto, using(crate::proofs::Surveys::all_named))]
+fn of_condition(condition: &Option<Expr>, found: &mut Vec<u32>) -> Result<(), AllocError>
+    ensures { OnOk result (found.new.items ≡ found.old.items ++ spec.named_where condition.now) }
+{
+    match condition {
+        Some(e) => named(e, found),
+        None => Ok(()),
+    }
+}
