@@ -1,0 +1,428 @@
+//! The texts that make tables and drop them.
+
+ghost use Rattle.std.specs.Prelude.{◌≡◌, ◌<◌, ◌==◌, ◌∷◌, [], Ok, IfOk, IfErr, codes, length, string_bytes};
+ghost use Rattle.std.specs.List.{list_any};
+ghost use Rattle.base_core.specs.Answers.{Gives};
+ghost use Rattle.base_core.specs.declared.refusal.Refusal.TheVariants.{Memory};
+ghost use Rattle.schema_core.specs.Catalog.{IsTable, spec_of};
+ghost use Rattle.sql_tables.specs.Ddl as spec;
+ghost use Rattle.sql_text.specs.Written.{Wrote, led, joined, words, name};
+
+use base_core::{ColumnNo, ListOf, Name, Refusal, TableId, Text};
+use schema_core::{
+    ColumnKind, ColumnSpec, ForeignSpec, Schema, TableSpec, has_generated_key, is_required,
+};
+use sql_text::{Compiled, Quoting, Writer, columns_of, table_name};
+use std::alloc::{AllocError, Global};
+
+fn varchar_word(alloc: Global, most: Option<u32>) -> Result<String, AllocError>
+    ensures { IfOk result (λ word. string_bytes word ≡ spec.varchar_word most) }
+{
+    match most {
+        Some(most) => format!(in alloc; "VARCHAR({most})"),
+        None => String::from_str(alloc, "VARCHAR"),
+    }
+}
+
+fn boolean_word(quoting: Quoting) -> &'static str
+    ensures { result.now ≡ spec.boolean_word quoting }
+{
+    match quoting {
+        Quoting::Sqlite | Quoting::Postgresql => "BOOLEAN",
+        Quoting::Mysql => "BOOL",
+    }
+}
+
+fn bytes_word(quoting: Quoting) -> &'static str
+    ensures { result.now ≡ spec.bytes_word quoting }
+{
+    match quoting {
+        Quoting::Sqlite | Quoting::Mysql => "BLOB",
+        Quoting::Postgresql => "BYTEA",
+    }
+}
+
+fn generated_word(quoting: Quoting) -> &'static str
+    ensures { result.now ≡ spec.generated_word quoting }
+{
+    match quoting {
+        Quoting::Sqlite => "INTEGER NOT NULL",
+        Quoting::Postgresql => "SERIAL NOT NULL",
+        Quoting::Mysql => "INTEGER NOT NULL AUTO_INCREMENT",
+    }
+}
+
+fn type_of(writer: &mut Writer, kind: ColumnKind) -> Result<(), Refusal>
+    ensures { Wrote (words (spec.type_word writer.old.quoting kind) ∷ [])
+        result writer.old writer.new }
+{
+    match kind {
+        ColumnKind::Integer => writer.put_words("INTEGER"),
+        ColumnKind::Varchar(most) => {
+            let word = varchar_word(writer.alloc(), most)?;
+            writer.put_words(word.as_str())
+        }
+        ColumnKind::Text => writer.put_words("TEXT"),
+        ColumnKind::Boolean => writer.put_words(boolean_word(writer.quoting())),
+        ColumnKind::Bytes => writer.put_words(bytes_word(writer.quoting())),
+    }
+}
+
+#[tactic(auto, using(sql_text::proofs::Steps::steps))]
+fn column(writer: &mut Writer, generated: bool, column: &ColumnSpec) -> Result<(), Refusal>
+    ensures { Wrote (spec.column_pieces writer.old.quoting generated column.now)
+        result writer.old writer.new }
+{
+    writer.put_name(&column.name)?;
+    writer.put_words(" ")?;
+    if generated && column.key {
+        return writer.put_words(generated_word(writer.quoting()));
+    }
+    type_of(writer, column.kind)?;
+    if is_required(column) {
+        writer.put_words(" NOT NULL")?;
+    }
+    Ok(())
+}
+
+#[tactic(auto, unfolding(sql_text::specs::Written::put_all), using(sql_text::proofs::Steps::steps))]
+fn more_columns(writer: &mut Writer, generated: bool, columns: &[ColumnSpec]) -> Result<(), Refusal>
+    ensures { Wrote (led (codes ", ") (spec.column_pieces writer.old.quoting generated) columns.now)
+        result writer.old writer.new }
+{
+    for next in columns {
+        writer.put_words(", ")?;
+        column(writer, generated, next)?;
+    }
+    Ok(())
+}
+
+#[tactic(auto, using(sql_text::proofs::Steps::steps))]
+fn columns(writer: &mut Writer, generated: bool, columns: &[ColumnSpec]) -> Result<(), Refusal>
+    ensures { Wrote (joined (codes ", ")
+        (spec.column_pieces writer.old.quoting generated) columns.now)
+        result writer.old writer.new }
+{
+    let Some((first, others)) = columns.split_first() else {
+        return Ok(());
+    };
+    column(writer, generated, first)?;
+    more_columns(writer, generated, others)
+}
+
+#[tactic(auto, unfolding(sql_text::specs::Written::put_all), using(sql_text::proofs::Steps::steps))]
+fn more_names(writer: &mut Writer, names: &[Name]) -> Result<(), Refusal>
+    ensures { Wrote (led (codes ", ") (λ shown. name shown ∷ []) names.now)
+        result writer.old writer.new }
+{
+    for name in names {
+        writer.put_words(", ")?;
+        writer.put_name(name)?;
+    }
+    Ok(())
+}
+
+#[tactic(auto, using(sql_text::proofs::Steps::steps))]
+fn names(writer: &mut Writer, names: &[Name]) -> Result<(), Refusal>
+    ensures { Wrote (spec.names_pieces names.now) result writer.old writer.new }
+{
+    let Some((first, others)) = names.split_first() else {
+        return Ok(());
+    };
+    writer.put_name(first)?;
+    more_names(writer, others)
+}
+
+/// The names of the key's columns.
+#[tactic(auto, unfolding(sql_text::specs::Written::put_all), using(sql_text::proofs::Steps::steps))]
+fn key_names(writer: &mut Writer, opening: &str, columns: &[ColumnSpec]) -> Result<(), Refusal>
+    ensures { Wrote (spec.key_names opening.now columns.now) result writer.old writer.new }
+{
+    let mut word = opening;
+    for column in columns {
+        if !column.key {
+            continue;
+        }
+        writer.put_words(word)?;
+        writer.put_name(&column.name)?;
+        word = ", ";
+    }
+    Ok(())
+}
+
+#[tactic(auto, using(sql_text::proofs::Steps::steps))]
+fn unique(writer: &mut Writer, columns: &[Name]) -> Result<(), Refusal>
+    ensures { Wrote (spec.unique_pieces columns.now) result writer.old writer.new }
+{
+    writer.put_words(", UNIQUE (")?;
+    names(writer, columns)?;
+    writer.put_words(")")
+}
+
+#[tactic(auto, unfolding(sql_text::specs::Written::put_all), using(sql_text::proofs::Steps::steps))]
+fn uniques(writer: &mut Writer, uniques: &[ListOf<Name>]) -> Result<(), Refusal>
+    ensures { Wrote (spec.uniques_pieces uniques.now) result writer.old writer.new }
+{
+    for columns in uniques {
+        unique(writer, columns.as_slice())?;
+    }
+    Ok(())
+}
+
+/// The table that a foreign key refers to, and the columns of its key.
+#[tactic(auto, using(sql_text::proofs::Steps::steps))]
+fn target(writer: &mut Writer, schema: &Schema, target: Option<TableId>) -> Result<(), Refusal>
+    ensures { Wrote (spec.target_pieces schema.now target) result writer.old writer.new }
+{
+    match target {
+        Some(table) => {
+            writer.put_shown(table_name(schema, table))?;
+            key_names(writer, " (", columns_of(schema, table))
+        }
+        None => {
+            writer.put_shown("")?;
+            writer.put_words(" (")
+        }
+    }
+}
+
+#[tactic(auto, using(sql_text::proofs::Steps::steps))]
+fn reference(writer: &mut Writer, schema: &Schema, it: Option<TableId>) -> Result<(), Refusal>
+    ensures { Wrote (spec.reference_pieces schema.now it) result writer.old writer.new }
+{
+    writer.put_words(") REFERENCES ")?;
+    target(writer, schema, it)?;
+    writer.put_words(")")
+}
+
+#[tactic(auto, using(sql_text::proofs::Steps::steps))]
+fn foreign_to(
+    writer: &mut Writer,
+    schema: &Schema,
+    columns: &[Name],
+    target: Option<TableId>,
+) -> Result<(), Refusal>
+    ensures { Wrote (spec.foreign_to schema.now columns.now target) result writer.old writer.new }
+{
+    writer.put_words("FOREIGN KEY(")?;
+    names(writer, columns)?;
+    reference(writer, schema, target)
+}
+
+fn foreign(writer: &mut Writer, schema: &Schema, foreign: &ForeignSpec) -> Result<(), Refusal>
+    ensures { Wrote (spec.foreign_pieces schema.now foreign.now) result writer.old writer.new }
+{
+    let target = schema.find(&foreign.target);
+    foreign_to(writer, schema, foreign.columns.as_slice(), target)
+}
+
+fn has_number(numbers: &[u32], number: usize) -> bool
+    ensures { result ≡ list_any (λ other. other == number) numbers.now }
+{
+    numbers.iter().any(|other| *other as usize == number)
+}
+
+/// The foreign keys but for those that come later.
+#[tactic(auto, unfolding(sql_text::specs::Written::put_all), using(sql_text::proofs::Steps::steps))]
+fn foreigns(
+    writer: &mut Writer,
+    schema: &Schema,
+    later: &[u32],
+    foreigns: &[ForeignSpec],
+) -> Result<(), Refusal>
+    ensures { Wrote (spec.foreigns_pieces schema.now later.now 0 foreigns.now)
+        result writer.old writer.new }
+{
+    for (number, next) in foreigns.iter().enumerate() {
+        if has_number(later, number) {
+            continue;
+        }
+        writer.put_words(", ")?;
+        foreign(writer, schema, next)?;
+    }
+    Ok(())
+}
+
+/// The key, the uniques, and the foreign keys but for those that come later.
+#[tactic(auto, using(sql_text::proofs::Steps::steps))]
+fn constraints(
+    writer: &mut Writer,
+    schema: &Schema,
+    declared: &TableSpec,
+    later: &[u32],
+) -> Result<(), Refusal>
+    ensures { Wrote (spec.constraint_pieces schema.now declared.now later.now)
+        result writer.old writer.new }
+{
+    key_names(writer, ", PRIMARY KEY (", declared.columns.as_slice())?;
+    writer.put_words(")")?;
+    uniques(writer, declared.uniques.as_slice())?;
+    foreigns(writer, schema, later, declared.foreigns.as_slice())
+}
+
+#[tactic(auto, using(sql_text::proofs::Steps::steps))]
+fn create(
+    writer: &mut Writer,
+    schema: &Schema,
+    declared: &TableSpec,
+    later: &[u32],
+) -> Result<(), Refusal>
+    ensures { Wrote (spec.create_pieces writer.old.quoting schema.now declared.now later.now)
+        result writer.old writer.new }
+{
+    let generated = has_generated_key(declared);
+    writer.put_words("CREATE TABLE ")?;
+    writer.put_name(&declared.name)?;
+    writer.put_words(" (")?;
+    columns(writer, generated, declared.columns.as_slice())?;
+    constraints(writer, schema, declared, later)?;
+    writer.put_words(")")
+}
+
+fn is_unsized(kind: ColumnKind) -> bool
+    ensures { result ≡ spec.is_unsized kind }
+{
+    match kind {
+        ColumnKind::Varchar(None) => true,
+        _ => false,
+    }
+}
+
+/// The first varchar without a length. A place past 32 bits, which no memory holds, is answered as memory that ran out.
+fn first_unsized(columns: &[ColumnSpec]) -> Result<Option<ColumnNo>, Refusal>
+    ensures found { IfOk result (λ found. found ≡ spec.first_unsized 0 columns.now) }
+    ensures cause { IfErr result (λ e. e ≡ Memory) }
+{
+    let mut place: u32 = 0;
+    for column in columns {
+        if is_unsized(column.kind) {
+            return Ok(Some(ColumnNo(place)));
+        }
+        place = match place.checked_add(1) {
+            Some(next) => next,
+            None => return Err(Refusal::Memory),
+        };
+    }
+    Ok(None)
+}
+
+/// The first column that has no type in the dialect.
+fn unsized_in(quoting: Quoting, columns: &[ColumnSpec]) -> Result<Option<ColumnNo>, Refusal>
+    ensures found { IfOk result (λ found. found ≡ spec.unsized_in quoting columns.now) }
+    ensures cause { IfErr result (λ e. e ≡ Memory) }
+{
+    match quoting {
+        Quoting::Sqlite | Quoting::Postgresql => Ok(None),
+        Quoting::Mysql => first_unsized(columns),
+    }
+}
+
+/// What was written, where it has no marks.
+fn text_of(writer: Writer) -> Text
+    ensures { result ≡ writer.text }
+{
+    let Compiled {
+        text,
+        names: _,
+        values: _,
+    } = writer.finish();
+    text
+}
+
+/// CREATE TABLE where each column has a type.
+#[tactic(auto, using(sql_text::proofs::Behind::text_is))]
+fn created(
+    alloc: Global,
+    quoting: Quoting,
+    schema: &Schema,
+    declared: &TableSpec,
+    later: &[u32],
+) -> Result<Text, Refusal>
+    ensures { Gives (λ text. text) result
+        (Ok (spec.create_text quoting schema.now declared.now later.now)) }
+{
+    let mut writer = Writer::new(alloc, quoting);
+    create(&mut writer, schema, declared, later)?;
+    Ok(text_of(writer))
+}
+
+/// CREATE TABLE in a dialect, without the foreign keys numbered in `later`.
+///
+/// # Errors
+/// `CompileError` with the first varchar that has no length, in MySQL.
+#[tactic(auto, unfolding(crate::specs::Ddl::ddl))]
+pub fn ddl(
+    alloc: Global,
+    quoting: Quoting,
+    schema: &Schema,
+    table: TableId,
+    later: &[u32],
+) -> Result<Text, Refusal>
+    requires { IsTable schema.now table }
+    ensures { Gives (λ text. text) result (spec.ddl quoting schema.now table later.now) }
+{
+    let declared = schema.spec(table);
+    match unsized_in(quoting, declared.columns.as_slice())? {
+        Some(column) => Err(Refusal::CompileError(table, column)),
+        None => created(alloc, quoting, schema, declared, later),
+    }
+}
+
+#[tactic(auto, using(sql_text::proofs::Steps::steps))]
+fn add(
+    writer: &mut Writer,
+    schema: &Schema,
+    declared: &TableSpec,
+    added: &ForeignSpec,
+) -> Result<(), Refusal>
+    ensures { Wrote (spec.alter_pieces schema.now declared.now added.now)
+        result writer.old writer.new }
+{
+    writer.put_words("ALTER TABLE ")?;
+    writer.put_name(&declared.name)?;
+    writer.put_words(" ADD ")?;
+    foreign(writer, schema, added)
+}
+
+/// ALTER TABLE that adds a foreign key. The only refusal is that memory ran out.
+#[tactic(auto, unfolding(crate::specs::Ddl::alter), using(sql_text::proofs::Behind::text_is))]
+pub fn alter(
+    alloc: Global,
+    quoting: Quoting,
+    schema: &Schema,
+    table: TableId,
+    number: u32,
+) -> Result<Text, Refusal>
+    requires declared { IsTable schema.now table }
+    requires numbered { number < length (spec_of schema.now table).foreigns }
+    ensures { Gives (λ text. text) result (Ok (spec.alter quoting schema.now table number)) }
+{
+    let declared = schema.spec(table);
+    let added = declared.foreigns.at(number as usize);
+    let mut writer = Writer::new(alloc, quoting);
+    add(&mut writer, schema, declared, added)?;
+    Ok(text_of(writer))
+}
+
+#[tactic(auto, using(sql_text::proofs::Steps::steps))]
+fn drop_table(writer: &mut Writer, schema: &Schema, table: TableId) -> Result<(), Refusal>
+    ensures { Wrote (spec.drop_pieces schema.now table) result writer.old writer.new }
+{
+    writer.put_words("DROP TABLE ")?;
+    writer.put_shown(table_name(schema, table))
+}
+
+/// DROP TABLE. The only refusal is that memory ran out.
+#[tactic(auto, unfolding(crate::specs::Ddl::drop_text), using(sql_text::proofs::Behind::text_is))]
+pub fn drop_text(
+    alloc: Global,
+    quoting: Quoting,
+    schema: &Schema,
+    table: TableId,
+) -> Result<Text, Refusal>
+    ensures { Gives (λ text. text) result (Ok (spec.drop_text quoting schema.now table)) }
+{
+    let mut writer = Writer::new(alloc, quoting);
+    drop_table(&mut writer, schema, table)?;
+    Ok(text_of(writer))
+}
