@@ -19,13 +19,13 @@ use Rattle.sql_semantics.specs.Rows.{created}
 use Rattle.sql_semantics.specs.Taken.{deleted_from, inserted, updated_from}
 use Rattle.programs.specs.Store.{Store}
 use Rattle.keeper_core.specs.Calls as call
-use Rattle.select_rows.proofs.Shapes.{Sure}
+use Rattle.select_sources.proofs.Sure.{Sure}
 use Rattle.table_laws.proofs.Ascending.{change_ascends, insert_ascends, remove_ascends}
 use Rattle.table_laws.proofs.Entries.{all_both, all_lookup, any_none}
 use Rattle.table_laws.proofs.Legality.{IsEntry, change_legal, insert_legal, may_from_fits, plain_required, remove_legal}
 use Rattle.table_laws.proofs.RowFits.{plain_fits}
 use Rattle.table_laws.proofs.SameValues.{same_table}
-use Rattle.legality_laws.specs.Legality.{IsLegalStore, KeepsLegal}
+use Rattle.legality_laws.specs.Legality.{AreSound, Keeps, KeepsAscending, KeepsLegal, Throughout}
 use Rattle.legality_laws.proofs.Cells.{inserted_held}
 use Rattle.legality_laws.proofs.Evaluated.{IsHeld, updated_sure}
 
@@ -147,13 +147,18 @@ bulk_ascends schema tables (bulk.Delete table filter) count after up e =
     let there = found_ok table (rows_in tables table) one.0 one.1 in
     delete_leaves AreAscending schema tables after table filter one.0 count up (λ keys. remove_ascends schema tables after table one.0 keys up there) one.2
 
-pub keeps_bulk : (schema : Catalog) (statement : Bulk) → IsPlainBulk schema statement → KeepsLegal schema (call.bulk schema statement)
+bulk_has : (P : Tables → Type 0) (schema : Catalog) (statement : Bulk) → ((tables after : Tables) (count : ℕ) → P tables → applied schema tables statement ≡ Ok (count, after) → P after) → Keeps (Throughout P) (call.bulk schema statement)
 unfolding call.bulk
-keeps_bulk schema statement plain = record { kept = λ w legal. by w (applied schema w.tables statement) refl legal }
+bulk_has P schema statement stays = record { kept = λ w all. by w (applied schema w.tables statement) refl all }
   where
-    by : (w : Store) (outcome : Outcome) → applied schema w.tables statement ≡ outcome → IsLegalStore schema w → IsLegalStore schema (call.bulked statement outcome w).after
-    by w (Ok done) is legal = record {
-      tables = record { legal = bulk_legal schema w.tables statement done.0 done.1 plain legal.tables.legal is; ascending = bulk_ascends schema w.tables statement done.0 done.1 legal.tables.ascending is };
-      scopes = legal.scopes;
-    }
-    by w (Err refusal) is legal = legal
+    by : (w : Store) (outcome : Outcome) → applied schema w.tables statement ≡ outcome → Throughout P w → Throughout P (call.bulked statement outcome w).after
+    by w (Ok done) is all = record { tables = stays w.tables done.1 done.0 all.tables is; scopes = all.scopes }
+    by w (Err refusal) is all = all
+
+pub keeps_bulk_legal : (schema : Catalog) (statement : Bulk) → IsPlainBulk schema statement → KeepsLegal schema (call.bulk schema statement)
+keeps_bulk_legal schema statement plain =
+    bulk_has (AreSound schema) schema statement
+    (λ tables after count sound is. record { legal = bulk_legal schema tables statement count after plain sound.legal is; ascending = bulk_ascends schema tables statement count after sound.ascending is })
+
+pub keeps_bulk_ascending : (schema : Catalog) (statement : Bulk) → KeepsAscending (call.bulk schema statement)
+keeps_bulk_ascending schema statement = bulk_has AreAscending schema statement (λ tables after count up is. bulk_ascends schema tables statement count after up is)

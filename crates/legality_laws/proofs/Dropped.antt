@@ -8,16 +8,15 @@ use Rattle.std.specs.List.Sorted.{IsStrictlySortedBy}
 use Rattle.std.specs.Map.{keys_of, lookup, remove_entry}
 use Rattle.std.specs.BTreeMap.{is_at}
 use Rattle.base_core.specs.declared.ids.TableId.{TableId}
-use Rattle.base_core.specs.Order.{values_cmp}
 use Rattle.schema_core.specs.Catalog.{Catalog, IsTable}
 use Rattle.schema_core.specs.Tables.{AreAscending, Rows, Tables, table_cmp}
 use Rattle.programs.specs.Programs.{Run, ◌>>=◌, each, give}
 use Rattle.programs.specs.Store.{Store, dropped, is_created}
 use Rattle.keeper_core.specs.Calls.{drop_table}
-use Rattle.table_laws.proofs.Ascending.{sorted_remove}
 use Rattle.table_laws.proofs.Entries.{all_map, all_remove}
 use Rattle.table_laws.proofs.Members.{In}
 use Rattle.table_laws.proofs.SameValues.{same_table, table_equal}
+use Rattle.legality_laws.proofs.EachCall.{ascending_without}
 use Rattle.legality_laws.specs.Legality.{AreSound, KeepsLegal, drop_each, drop_one}
 
 -- ---- entries without one
@@ -51,12 +50,6 @@ missed test [] none = tt
 missed test (e ∷ es) none = missed_step test e es (test e.0) refl none (missed test es)
 
 -- ---- one table
-
-ascending_without : (tables : Tables) (table : TableId) → AreAscending tables → AreAscending (dropped tables table)
-ascending_without tables table up = record {
-  numbers = sorted_remove table_cmp (is_at (table_cmp table)) tables up.numbers;
-  keys = all_remove (is_at (table_cmp table)) (λ c. IsStrictlySortedBy values_cmp (keys_of c.1)) tables up.keys;
-}
 
 -- a table that is left and is not this one is of the other ones
 other_left : (table : TableId) (order : List TableId) (c : TableId × Rows) → is_at (table_cmp table) c.0 ≡ false → In c.0 (table ∷ order) → In c.0 order
@@ -116,9 +109,12 @@ none_left : (tables : Tables) → AllByRecursion (λ c. In c.0 []) tables → ta
 none_left [] all = refl
 none_left (c ∷ tables) all = absurd all.0
 
-no_tables_sound : (schema : Catalog) → AreSound schema []
+pub no_tables_ascend : AreAscending []
 unfolding IsStrictlySortedBy
-no_tables_sound schema = record { legal = record { created = tt; keys = tt; cells = tt; uniques = tt; foreigns = refl }; ascending = record { numbers = tt; keys = tt } }
+no_tables_ascend = record { numbers = tt; keys = tt }
+
+pub no_tables_sound : (schema : Catalog) → AreSound schema []
+no_tables_sound schema = record { legal = record { created = tt; keys = tt; cells = tt; uniques = tt; foreigns = refl }; ascending = no_tables_ascend }
 
 listed : (order : List TableId) (k : ℕ) (table : TableId) → k < length order → slice_index_or order k table ≡ table → In table order
 listed [] k table below is = absurd (omega arith)

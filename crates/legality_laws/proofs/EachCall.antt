@@ -4,6 +4,8 @@ use Rattle.std.specs.Prelude.{slice_index_or}
 use Rattle.std.specs.declared.cmp.Ordering.TheVariants.{Equal}
 use Rattle.std.specs.List.{AllByRecursion, list_any}
 use Rattle.std.specs.List.Sorted.{IsStrictlySortedBy}
+use Rattle.std.specs.Map.{keys_of}
+use Rattle.std.specs.BTreeMap.{is_at}
 use Rattle.std.specs.Option.{option_and_then}
 use Rattle.base_core.specs.declared.ids.TableId.{TableId}
 use Rattle.base_core.specs.declared.value.Value.{Value}
@@ -13,18 +15,18 @@ use Rattle.schema_core.specs.declared.table.ForeignSpec.{ForeignSpec}
 use Rattle.schema_core.specs.declared.table.TableSpec.{TableSpec}
 use Rattle.schema_core.specs.Apply as row
 use Rattle.schema_core.specs.Catalog.{Catalog, IsTable, spec_of, target_of}
-use Rattle.schema_core.specs.Tables.{Legal, Rows, Tables, cells_of, has_dangling, has_null, has_row, is_legal_row, key_of, names_row, repeats_unique, rows_in, some_dangles, table_cmp}
+use Rattle.schema_core.specs.Tables.{AreAscending, Legal, Rows, Tables, cells_of, has_dangling, has_null, has_row, is_legal_row, key_of, names_row, repeats_unique, rows_in, some_dangles, table_cmp}
 use Rattle.schema_core.specs.WellFormed.{IsWellFormed}
 use Rattle.expr_types.specs.declared.select.Select.{Select}
 use Rattle.programs.specs.Programs.{give}
-use Rattle.programs.specs.Store.{Store, created, is_created, outermost}
+use Rattle.programs.specs.Store.{Store, committed_of, created, dropped, is_created, outermost}
 use Rattle.keeper_core.specs.Calls as call
-use Rattle.table_laws.proofs.Ascending.{accepted_ascends, ascending_with}
-use Rattle.table_laws.proofs.Entries.{all_insert, all_map}
+use Rattle.table_laws.proofs.Ascending.{accepted_ascends, ascending_with, sorted_remove}
+use Rattle.table_laws.proofs.Entries.{all_insert, all_map, all_remove}
 use Rattle.table_laws.proofs.Legality.{Bound, accepted, bound_at, bound_by}
 use Rattle.table_laws.proofs.Members.{lookup_after}
 use Rattle.table_laws.proofs.SameValues.{same_table}
-use Rattle.legality_laws.specs.Legality.{AreSound, IsLegalStore, KeepsLegal}
+use Rattle.legality_laws.specs.Legality.{AreSound, IsAscendingStore, Keeps, KeepsAscending, KeepsLegal, Throughout}
 
 -- ---- scopes
 
@@ -42,50 +44,52 @@ every_outermost : (P : Tables → Type 0) (tables : Tables) (scopes : List Table
 every_outermost P tables [] now all = now
 every_outermost P tables (s ∷ scopes) now all = every_outermost P s scopes all.0 all.1
 
--- what was committed last is legal
-pub committed_sound : (schema : Catalog) (w : Store) → IsLegalStore schema w → AreSound schema (outermost w.tables w.scopes)
-committed_sound schema w legal = every_outermost (AreSound schema) w.tables w.scopes legal.tables legal.scopes
+-- what was committed last has what the store has throughout
+pub committed_has : (P : Tables → Type 0) (w : Store) → Throughout P w → P (committed_of w)
+committed_has P w all = every_outermost P w.tables w.scopes all.tables all.scopes
 
 -- the store with other tables
-with_tables : (schema : Catalog) (tables : Tables) (w : Store) → AreSound schema tables → IsLegalStore schema w → IsLegalStore schema (record { tables = tables; scopes = w.scopes })
-with_tables schema tables w sound legal = record { tables = sound; scopes = legal.scopes }
+with_tables : (P : Tables → Type 0) (tables : Tables) (w : Store) → P tables → Throughout P w → Throughout P (record { tables = tables; scopes = w.scopes })
+with_tables P tables w now all = record { tables = now; scopes = all.scopes }
 
-pub keeps_begin : (schema : Catalog) → KeepsLegal schema call.begin
+-- ---- calls that start and end scopes, and those that read
+
+pub keeps_begin : (P : Tables → Type 0) → Keeps (Throughout P) call.begin
 unfolding call.begin
-keeps_begin schema = record { kept = λ w legal. record { tables = legal.tables; scopes = (legal.tables, legal.scopes) } }
+keeps_begin P = record { kept = λ w all. record { tables = all.tables; scopes = (all.tables, all.scopes) } }
 
-pub keeps_savepoint : (schema : Catalog) → KeepsLegal schema call.savepoint
+pub keeps_savepoint : (P : Tables → Type 0) → Keeps (Throughout P) call.savepoint
 unfolding call.savepoint
-keeps_savepoint schema = record { kept = λ w legal. record { tables = legal.tables; scopes = (legal.tables, legal.scopes) } }
+keeps_savepoint P = record { kept = λ w all. record { tables = all.tables; scopes = (all.tables, all.scopes) } }
 
-pub keeps_release : (schema : Catalog) → KeepsLegal schema call.release
+pub keeps_release : (P : Tables → Type 0) → Keeps (Throughout P) call.release
 unfolding call.release
-keeps_release schema = record { kept = λ w legal. record { tables = legal.tables; scopes = every_left (AreSound schema) 1 w.scopes legal.scopes } }
+keeps_release P = record { kept = λ w all. record { tables = all.tables; scopes = every_left P 1 w.scopes all.scopes } }
 
-pub keeps_rollback_to : (schema : Catalog) (number : ℕ) → KeepsLegal schema (call.rollback_to number)
+pub keeps_rollback_to : (P : Tables → Type 0) (number : ℕ) → Keeps (Throughout P) (call.rollback_to number)
 unfolding call.rollback_to
-keeps_rollback_to schema number = record {
-  kept = λ w legal. record {
-    tables = every_at (AreSound schema) w.scopes (length w.scopes - number - 1) w.tables legal.scopes legal.tables;
-    scopes = every_left (AreSound schema) (length w.scopes - number) w.scopes legal.scopes;
+keeps_rollback_to P number = record {
+  kept = λ w all. record {
+    tables = every_at P w.scopes (length w.scopes - number - 1) w.tables all.scopes all.tables;
+    scopes = every_left P (length w.scopes - number) w.scopes all.scopes;
   };
 }
 
-pub keeps_rollback : (schema : Catalog) → KeepsLegal schema call.rollback
+pub keeps_rollback : (P : Tables → Type 0) → Keeps (Throughout P) call.rollback
 unfolding call.rollback
-keeps_rollback schema = record { kept = λ w legal. record { tables = committed_sound schema w legal; scopes = tt } }
+keeps_rollback P = record { kept = λ w all. record { tables = committed_has P w all; scopes = tt } }
 
-pub keeps_commit : (schema : Catalog) → KeepsLegal schema call.commit
+pub keeps_commit : (P : Tables → Type 0) → Keeps (Throughout P) call.commit
 unfolding call.commit
-keeps_commit schema = record { kept = λ w legal. record { tables = legal.tables; scopes = tt } }
+keeps_commit P = record { kept = λ w all. record { tables = all.tables; scopes = tt } }
 
-pub keeps_query : (schema : Catalog) (other : Catalog) (select : Select) → KeepsLegal schema (call.query other select)
+pub keeps_query : (P : Tables → Type 0) (schema : Catalog) (select : Select) → Keeps (Throughout P) (call.query schema select)
 unfolding call.query
-keeps_query schema other select = record { kept = λ w legal. legal }
+keeps_query P schema select = record { kept = λ w all. all }
 
-pub keeps_scan : (schema : Catalog) (table : TableId) → KeepsLegal schema (call.scan table)
+pub keeps_scan : (P : Tables → Type 0) (table : TableId) → Keeps (Throughout P) (call.scan table)
 unfolding call.scan give
-keeps_scan schema table = record { kept = λ w legal. legal }
+keeps_scan P table = record { kept = λ w all. all }
 
 -- ---- a table that is made
 
@@ -142,22 +146,50 @@ created_sound : (schema : Catalog) (tables : Tables) (table : TableId) → IsTab
 created_sound schema tables table declared sound none =
     record { legal = created_legal schema tables table declared sound.legal none; ascending = ascending_with tables table [] sound.ascending no_rows_ascend }
 
-pub keeps_create : (schema : Catalog) (table : TableId) → IsTable schema table → KeepsLegal schema (call.create table)
+create_has : (P : Tables → Type 0) (table : TableId) → ((tables : Tables) → P tables → is_created tables table ≡ false → P (created tables table)) → Keeps (Throughout P) (call.create table)
 unfolding call.create
-keeps_create schema table declared = record { kept = λ w legal. by w (is_created w.tables table) refl legal }
+create_has P table stays = record { kept = λ w all. by w (is_created w.tables table) refl all }
   where
-    by : (w : Store) (b : Bool) → is_created w.tables table ≡ b → IsLegalStore schema w → IsLegalStore schema (call.create table w).after
-    by w true is legal = rw is legal
-    by w false is legal = rw is (with_tables schema (created w.tables table) w (created_sound schema w.tables table declared legal.tables is) legal)
+    by : (w : Store) (b : Bool) → is_created w.tables table ≡ b → Throughout P w → Throughout P (call.create table w).after
+    by w true is all = rw is all
+    by w false is all = rw is (with_tables P (created w.tables table) w (stays w.tables all.tables is) all)
+
+pub create_legal : (schema : Catalog) (table : TableId) → IsTable schema table → KeepsLegal schema (call.create table)
+create_legal schema table declared = create_has (AreSound schema) table (λ tables sound none. created_sound schema tables table declared sound none)
+
+pub create_ascends : (table : TableId) → KeepsAscending (call.create table)
+create_ascends table = create_has AreAscending table (λ tables up none. ascending_with tables table [] up no_rows_ascend)
+
+-- ---- a table that is dropped
+
+pub ascending_without : (tables : Tables) (table : TableId) → AreAscending tables → AreAscending (dropped tables table)
+ascending_without tables table up = record {
+  numbers = sorted_remove table_cmp (is_at (table_cmp table)) tables up.numbers;
+  keys = all_remove (is_at (table_cmp table)) (λ c. IsStrictlySortedBy values_cmp (keys_of c.1)) tables up.keys;
+}
+
+pub drop_ascends : (table : TableId) → KeepsAscending (call.drop_table table)
+unfolding call.drop_table
+drop_ascends table = record { kept = λ w up. by w (is_created w.tables table) refl up }
+  where
+    by : (w : Store) (b : Bool) → is_created w.tables table ≡ b → IsAscendingStore w → IsAscendingStore (call.drop_table table w).after
+    by w true is up = rw is (with_tables AreAscending (dropped w.tables table) w (ascending_without w.tables table up.tables) up)
+    by w false is up = rw is up
 
 -- ---- a statement on rows
 
-pub keeps_write : (schema : Catalog) (statement : RowStmt) → IsWellFormed schema statement → KeepsLegal schema (call.write schema statement)
+write_has : (P : Tables → Type 0) (schema : Catalog) (statement : RowStmt) → ((tables after : Tables) (keys : List (List Value)) → P tables → row.apply schema tables statement ≡ Ok (keys, after) → P after) → Keeps (Throughout P) (call.write schema statement)
 unfolding call.write
-keeps_write schema statement well = record { kept = λ w legal. by w (row.apply schema w.tables statement) refl legal }
+write_has P schema statement stays = record { kept = λ w all. by w (row.apply schema w.tables statement) refl all }
   where
-    by : (w : Store) (outcome : row.Outcome) → row.apply schema w.tables statement ≡ outcome → IsLegalStore schema w → IsLegalStore schema (call.written statement outcome w).after
-    by w (Ok done) is legal =
-        with_tables schema done.1 w
-        (record { legal = accepted schema w.tables statement done.0 done.1 well legal.tables.legal is; ascending = accepted_ascends schema w.tables statement done.0 done.1 legal.tables.ascending is }) legal
-    by w (Err violation) is legal = legal
+    by : (w : Store) (outcome : row.Outcome) → row.apply schema w.tables statement ≡ outcome → Throughout P w → Throughout P (call.written statement outcome w).after
+    by w (Ok done) is all = with_tables P done.1 w (stays w.tables done.1 done.0 all.tables is) all
+    by w (Err violation) is all = all
+
+pub write_legal : (schema : Catalog) (statement : RowStmt) → IsWellFormed schema statement → KeepsLegal schema (call.write schema statement)
+write_legal schema statement well =
+    write_has (AreSound schema) schema statement
+    (λ tables after keys sound is. record { legal = accepted schema tables statement keys after well sound.legal is; ascending = accepted_ascends schema tables statement keys after sound.ascending is })
+
+pub write_ascends : (schema : Catalog) (statement : RowStmt) → KeepsAscending (call.write schema statement)
+write_ascends schema statement = write_has AreAscending schema statement (λ tables after keys up is. accepted_ascends schema tables statement keys after up is)

@@ -20,8 +20,8 @@ use Rattle.sql_semantics.specs.Eval.{Row, Tables, evaluated, item_or_null}
 use Rattle.sql_semantics.specs.Kinds.{column_in}
 use Rattle.sql_semantics.specs.Plain.{IfSet, IsWritten, is_free_column, is_key_column, is_kind_where}
 use Rattle.sql_semantics.specs.Taken.{at, cells_from, one_more, rewritten, takes, updated_from, value_for}
-use Rattle.select_rows.proofs.Columns.{Columns}
-use Rattle.select_rows.proofs.Shapes.{Sure, always, bind_sure, every_more}
+use Rattle.select_sources.proofs.Columns.{Columns}
+use Rattle.select_sources.proofs.Sure.{Sure, always, bind_sure, every_more}
 use Rattle.select_rows.proofs.ValueKinds.{KindAt, OfKind, kind_sure}
 use Rattle.legality_laws.proofs.Cells.{IsFor, IsFree, cells_held, cells_keyed, held_by_kind, kind_turned}
 

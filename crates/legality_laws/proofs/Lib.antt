@@ -5,3 +5,5 @@ pub mod Dropped
 pub mod EachCall
 pub mod EachJoin
 pub mod HeldRows
+pub mod Telling
+pub mod Scanned

@@ -1,10 +1,11 @@
 -- Stores whose tables are legal, and programs that leave them so.
-use Rattle.std.specs.Prelude.{List}
+use Rattle.std.specs.Prelude.{IfSome, List, Option}
 use Rattle.std.specs.List.{AllByRecursion}
 use Rattle.base_core.specs.declared.ids.TableId.{TableId}
 use Rattle.schema_core.specs.Catalog.{Catalog}
 use Rattle.schema_core.specs.Tables.{AreAscending, Legal, Tables}
 use Rattle.programs.specs.Beside.{Beside}
+use Rattle.programs.specs.Moment.{Told}
 use Rattle.programs.specs.Programs.{Run, ◌>>=◌, each, give}
 use Rattle.programs.specs.Store.{Store}
 use Rattle.keeper_core.specs.Calls.{drop_table}
@@ -14,10 +15,22 @@ pub record AreSound (schema : Catalog) (tables : Tables) : Type 0 where
   pub legal : Legal schema tables
   pub ascending : AreAscending tables
 
--- the tables now, and those at the start of each scope, are legal and ascending
-pub record IsLegalStore (schema : Catalog) (store : Store) : Type 0 where
-  pub tables : AreSound schema store.tables
-  pub scopes : AllByRecursion (AreSound schema) store.scopes
+-- the tables now, and those at the start of each scope, have the property
+pub record Throughout (P : Tables → Type 0) (store : Store) : Type 0 where
+  pub tables : P store.tables
+  pub scopes : AllByRecursion P store.scopes
+
+-- a store whose tables are legal and ascending, now and at the start of each scope
+abbrev pub IsLegalStore : Catalog → Store → Type 0
+IsLegalStore schema = Throughout (AreSound schema)
+
+-- a store whose tables are ascending
+abbrev pub IsAscendingStore : Store → Type 0
+IsAscendingStore = Throughout AreAscending
+
+-- the store that is told, where one is, has the property
+abbrev pub IfTold : (Store → Type 0) → Option (Told Store) → Type 0
+IfTold P told = IfSome told (λ t. P t.world)
 
 -- a program that keeps a property of its world: what has it before has it after, whatever the program answers
 pub record Keeps {W A : Type 0} (P : W → Type 0) (m : W → Run W A) : Type 0 where
@@ -27,7 +40,11 @@ pub record Keeps {W A : Type 0} (P : W → Type 0) (m : W → Run W A) : Type 0 
 abbrev pub KeepsLegal : {A : Type 0} → Catalog → (Store → Run Store A) → Type 0
 KeepsLegal schema m = Keeps (IsLegalStore schema) m
 
--- the same of a program of a world in which a store stands
+-- a program of the store that leaves an ascending store ascending
+abbrev pub KeepsAscending : {A : Type 0} → (Store → Run Store A) → Type 0
+KeepsAscending m = Keeps IsAscendingStore m
+
+-- a program that leaves a store legal, of a world in which it stands
 abbrev pub KeepsLegalIn : {W A : Type 0} → (W → Store) → Catalog → (W → Run W A) → Type 0
 KeepsLegalIn store_of schema m = Keeps (λ w. IsLegalStore schema (store_of w)) m
 

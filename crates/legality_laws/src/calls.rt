@@ -9,9 +9,9 @@ ghost use Rattle.expr_types.specs.declared.select.Bulk.{Bulk};
 ghost use Rattle.expr_types.specs.declared.select.Select.{Select};
 ghost use Rattle.sql_semantics.specs.Plain.{IsPlainBulk};
 ghost use Rattle.keeper_core.specs.Calls as call;
-ghost use Rattle.legality_laws.specs.Legality.{KeepsLegal, drop_each};
+ghost use Rattle.legality_laws.specs.Legality.{KeepsAscending, KeepsLegal, drop_each};
 
-#[tactic(auto, using(crate::proofs::EachCall::keeps_create, crate::proofs::EachCall::keeps_begin, crate::proofs::EachCall::keeps_savepoint, crate::proofs::EachCall::keeps_release, crate::proofs::EachCall::keeps_rollback_to, crate::proofs::EachCall::keeps_rollback, crate::proofs::EachCall::keeps_commit, crate::proofs::EachCall::keeps_write, crate::proofs::EachCall::keeps_query, crate::proofs::EachCall::keeps_scan, crate::proofs::Accepted::keeps_bulk))]
+#[tactic(auto, using(crate::proofs::EachCall::create_legal, crate::proofs::EachCall::keeps_begin, crate::proofs::EachCall::keeps_savepoint, crate::proofs::EachCall::keeps_release, crate::proofs::EachCall::keeps_rollback_to, crate::proofs::EachCall::keeps_rollback, crate::proofs::EachCall::keeps_commit, crate::proofs::EachCall::write_legal, crate::proofs::EachCall::keeps_query, crate::proofs::EachCall::keeps_scan, crate::proofs::Accepted::keeps_bulk_legal))]
 /// Each call of a keeper leaves a legal store legal, but one that drops a table to which others may refer.
 pub fn calls_keep_legal()
     ensures create { (schema : Catalog) (table : TableId) → IsTable schema table
@@ -30,6 +30,26 @@ pub fn calls_keep_legal()
     ensures query { (schema : Catalog) (select : Select)
         → KeepsLegal schema (call.query schema select) }
     ensures scan { (schema : Catalog) (table : TableId) → KeepsLegal schema (call.scan table) }
+{}
+
+#[tactic(auto, using(crate::proofs::EachCall::create_ascends, crate::proofs::EachCall::drop_ascends, crate::proofs::EachCall::keeps_begin, crate::proofs::EachCall::keeps_savepoint, crate::proofs::EachCall::keeps_release, crate::proofs::EachCall::keeps_rollback_to, crate::proofs::EachCall::keeps_rollback, crate::proofs::EachCall::keeps_commit, crate::proofs::EachCall::write_ascends, crate::proofs::EachCall::keeps_query, crate::proofs::EachCall::keeps_scan, crate::proofs::Accepted::keeps_bulk_ascending))]
+/// Every call of a keeper, whatever it is sent, leaves tables that are ascending by number, and their rows by key, ascending.
+pub fn calls_keep_ascending()
+    ensures create { (table : TableId) → KeepsAscending (call.create table) }
+    ensures drop_table { (table : TableId) → KeepsAscending (call.drop_table table) }
+    ensures begin { KeepsAscending call.begin }
+    ensures savepoint { KeepsAscending call.savepoint }
+    ensures release { KeepsAscending call.release }
+    ensures rollback_to { (number : ℕ) → KeepsAscending (call.rollback_to number) }
+    ensures rollback { KeepsAscending call.rollback }
+    ensures commit { KeepsAscending call.commit }
+    ensures write { (schema : Catalog) (statement : RowStmt)
+        → KeepsAscending (call.write schema statement) }
+    ensures bulk { (schema : Catalog) (statement : Bulk)
+        → KeepsAscending (call.bulk schema statement) }
+    ensures query { (schema : Catalog) (select : Select)
+        → KeepsAscending (call.query schema select) }
+    ensures scan { (table : TableId) → KeepsAscending (call.scan table) }
 {}
 
 #[tactic(auto, using(crate::proofs::Dropped::keeps_dropping))]

@@ -6,10 +6,12 @@ mod bulk;
 mod calls;
 mod joined;
 mod rows;
+mod told;
 
 pub use bulk::accepted_bulk_is_legal;
-pub use calls::{calls_keep_legal, drop_all_keeps_legal};
+pub use calls::{calls_keep_ascending, calls_keep_legal, drop_all_keeps_legal};
 pub use joined::{
     joined_programs_keep_legal, programs_beside_keep_legal, quiet_programs_keep_legal,
 };
-pub use rows::a_legal_store_holds_legal_rows;
+pub use rows::{a_legal_store_holds_legal_rows, scanned_rows_ascend};
+pub use told::{what_is_told_stays_ascending, what_is_told_stays_legal};

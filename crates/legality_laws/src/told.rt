@@ -1,0 +1,72 @@
+//! What a keeper tells of its tables, whatever its calls answer.
+
+ghost use Rattle.std.specs.Prelude.{ℕ, List, Ok, Result};
+ghost use Rattle.base_core.specs.declared.refusal.Refusal.{Refusal};
+ghost use Rattle.base_core.specs.declared.value.Value.{Value};
+ghost use Rattle.schema_core.specs.Catalog.{Catalog};
+ghost use Rattle.schema_core.specs.WellFormed.{IsWellFormed};
+ghost use Rattle.schema_core.specs.declared.statement.RowStmt.{RowStmt};
+ghost use Rattle.expr_types.specs.declared.select.Bulk.{Bulk};
+ghost use Rattle.expr_types.specs.declared.select.Select.{Select};
+ghost use Rattle.sql_semantics.specs.Plain.{IsPlainBulk};
+ghost use Rattle.programs.specs.Programs.{Run};
+ghost use Rattle.programs.specs.Store.{Store};
+ghost use Rattle.programs.specs.declared.target.Target.TheVariants as targets;
+ghost use Rattle.keeper_core.specs.Keeping.{IsAttached, IsBulk, IsCall, IsQuery, IsWrite};
+ghost use Rattle.legality_laws.specs.Legality.{IfTold, IsAscendingStore, IsLegalStore, KeepsAscending, KeepsLegal};
+
+use keeper_core::Keeper;
+
+/// What any keeper tells is legal once it took memory as its target. It stays legal after a call that nothing refuses and whose
+/// program leaves a legal store legal, and after each statement: where the call answers, where it is refused, and where the store
+/// fails or memory runs out.
+pub fn what_is_told_stays_legal<K: Keeper, A>()
+    ensures attached { (schema : Catalog) (old new : K)
+        → IsAttached (K.moment old) targets.Memory (Ok tt) (K.moment new)
+        → IfTold (IsLegalStore schema) (K.moment new).told }
+    ensures called { (schema : Catalog) (m : Store → Run Store A) (scopes : ℕ) (old new : K)
+        (result : Result A Refusal) → KeepsLegal schema m
+        → IfTold (IsLegalStore schema) (K.moment old).told
+        → IsCall K.moment m scopes old result new
+        → IfTold (IsLegalStore schema) (K.moment new).told }
+    ensures written { (schema : Catalog) (statement : RowStmt) (old new : K)
+        (result : Result (List (List Value)) Refusal) → IsWellFormed schema statement
+        → IfTold (IsLegalStore schema) (K.moment old).told
+        → IsWrite K.moment schema statement old result new
+        → IfTold (IsLegalStore schema) (K.moment new).told }
+    ensures bulk { (schema : Catalog) (statement : Bulk) (old new : K) (result : Result ℕ Refusal)
+        → IsPlainBulk schema statement → IfTold (IsLegalStore schema) (K.moment old).told
+        → IsBulk K.moment schema statement old result new
+        → IfTold (IsLegalStore schema) (K.moment new).told }
+    ensures queried { (schema : Catalog) (select : Select) (old new : K)
+        (result : Result (List (List Value)) Refusal)
+        → IfTold (IsLegalStore schema) (K.moment old).told
+        → IsQuery K.moment schema select old result new
+        → IfTold (IsLegalStore schema) (K.moment new).told }
+{}
+
+/// The tables that any keeper tells are ascending by number, and their rows by key, once it took memory as its target, and stay so
+/// after each of its calls, whatever it is sent and whatever it answers.
+pub fn what_is_told_stays_ascending<K: Keeper, A>()
+    ensures attached { (old new : K)
+        → IsAttached (K.moment old) targets.Memory (Ok tt) (K.moment new)
+        → IfTold IsAscendingStore (K.moment new).told }
+    ensures called { (m : Store → Run Store A) (scopes : ℕ) (old new : K)
+        (result : Result A Refusal) → KeepsAscending m
+        → IfTold IsAscendingStore (K.moment old).told → IsCall K.moment m scopes old result new
+        → IfTold IsAscendingStore (K.moment new).told }
+    ensures written { (schema : Catalog) (statement : RowStmt) (old new : K)
+        (result : Result (List (List Value)) Refusal)
+        → IfTold IsAscendingStore (K.moment old).told
+        → IsWrite K.moment schema statement old result new
+        → IfTold IsAscendingStore (K.moment new).told }
+    ensures bulk { (schema : Catalog) (statement : Bulk) (old new : K) (result : Result ℕ Refusal)
+        → IfTold IsAscendingStore (K.moment old).told
+        → IsBulk K.moment schema statement old result new
+        → IfTold IsAscendingStore (K.moment new).told }
+    ensures queried { (schema : Catalog) (select : Select) (old new : K)
+        (result : Result (List (List Value)) Refusal)
+        → IfTold IsAscendingStore (K.moment old).told
+        → IsQuery K.moment schema select old result new
+        → IfTold IsAscendingStore (K.moment new).told }
+{}
