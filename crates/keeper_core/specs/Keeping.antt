@@ -11,6 +11,7 @@ use Rattle.schema_core.specs.declared.statement.Violation.{Violation}
 use Rattle.schema_core.specs.Apply.{table_of}
 use Rattle.schema_core.specs.Catalog.{Catalog, spec_of}
 use Rattle.schema_core.specs.Refusals.{violation_refusal}
+use Rattle.schema_core.specs.Tables.{AreAscending}
 use Rattle.schema_core.specs.WellFormed.{MayViolate, is_row}
 use Rattle.expr_types.specs.declared.select.Bulk.{Bulk}
 use Rattle.expr_types.specs.declared.select.Select.{Select}
@@ -54,10 +55,10 @@ HoldsLegalRows schema told = IfSome told (λ t. AreLegalRows schema (bare t.worl
 abbrev pub new_store : Told Store
 new_store = record { world = record { tables = []; scopes = [] }; log = record { sent = []; committed = []; written = [] } }
 
--- no statement was sent and no scope is open; a file may have tables
+-- no statement was sent and no scope is open; a file may have tables, which are told ascending by number, and their rows by key
 abbrev pub IsOpened : Target → Told Store → Type 0
 IsOpened targets.Memory told = told ≡ new_store
-IsOpened (targets.File name) told = (told.log.sent ≡ []) × (told.world.scopes ≡ [])
+IsOpened (targets.File name) told = (told.log.sent ≡ []) × (told.world.scopes ≡ []) × AreAscending told.world.tables
 
 -- What is told after a target was given. A keeper need not tell before, and in memory one that told goes on telling.
 abbrev pub IsToldAnew : Target → Option (Told Store) → Result (Unit {0}) Refusal → Option (Told Store) → Type 0

@@ -1,4 +1,6 @@
 -- The rows of a table of a legal store ascend by their keys.
+use Rattle.keeper_core.specs.Keeping.{IsScan}
+use Rattle.programs.specs.Moment.{AsTold, Moment, Told, parts}
 use Rattle.std.proofs.Common.{◌≡◌, List, [], ◌∷◌, map, Option, None, Some, Result, Ok, refl, sym, subst}
 use Rattle.std.specs.List.{AllByRecursion}
 use Rattle.std.specs.List.Sorted.{IsStrictlySortedBy}
@@ -44,3 +46,13 @@ scanned_ascend schema w table rows legal e = by (rows_in w.tables table) refl e
         let keys = keys_are (spec_of schema table) entries (all_lookup table_cmp same_table (λ c. AllByRecursion (λ row. key_of (spec_of schema c.0) row.1 ≡ row.0) c.1) w.tables table entries legal.tables.legal.keys at) in
         subst (λ (them : List (List Value)). IsStrictlySortedBy values_cmp (map (key_of (spec_of schema table)) them)) (same_rows (map (λ entry. entry.1) entries) rows is)
         (subst (IsStrictlySortedBy values_cmp) (sym keys) (rows_ascend w.tables table entries legal.tables.ascending at))
+
+-- the same of what a keeper that tells answers
+pub scan_ascends : {K : Type 0} (moment : K → Moment Store) (schema : Catalog) (table : TableId) (rows : List (List Value)) (told : Told Store) (old new : K) → (moment old).told ≡ Some told → IsLegalStore schema told.world
+    → IsScan moment table old (Ok (Some rows)) new → IsStrictlySortedBy values_cmp (map (key_of (spec_of schema table)) rows)
+scan_ascends moment schema table rows told old new is legal did =
+    by (moment new).told (subst (λ (o : Option (Told Store)). AsTold (λ (x : Option (List (List Value))). x) (call.scan table) o (Ok (Some rows)) (moment new).told) is (parts did.step).told)
+  where
+    by : (now : Option (Told Store)) → AsTold (λ (x : Option (List (List Value))). x) (call.scan table) (Some told) (Ok (Some rows)) now → IsStrictlySortedBy values_cmp (map (key_of (spec_of schema table)) rows)
+    by None ran = absurd ran
+    by (Some n) ran = scanned_ascend schema told.world table rows legal ran.answer

@@ -1,8 +1,10 @@
 -- What a keeper tells of its tables stays so after each call whose program keeps it, whatever the call answers.
+use Rattle.programs.specs.declared.target.Target.{Target}
+use Rattle.legality_laws.proofs.Dropped.{no_tables_ascend}
 use Rattle.std.proofs.Common.{◌≡◌, ℕ, Bool, true, false, cond, List, [], ◌∷◌, length, Option, None, Some, MatchBool, Result, Ok, Err, refl, sym, ap, ◌∙◌, subst, arith}
 use Rattle.std.specs.List.{AllByRecursion}
 use Rattle.base_core.specs.declared.refusal.Refusal.{Refusal}
-use Rattle.schema_core.specs.Tables.{Tables}
+use Rattle.schema_core.specs.Tables.{AreAscending, Tables}
 use Rattle.programs.specs.declared.sent.Sent.{Sent}
 use Rattle.programs.specs.declared.target.Target.TheVariants as targets
 use Rattle.programs.specs.Programs.{Run, ends_early}
@@ -11,7 +13,7 @@ use Rattle.programs.specs.Store.{Store, committed_of, outermost}
 use Rattle.base_core.specs.Counts.{Rose}
 use Rattle.keeper_core.specs.Keeping.{IsAttached, IsCall, IsCoherent, IsCoherentTold, IsStatement, IsToldAnew, IsUndone, IsUnseen, new_store}
 use Rattle.keeper_core.proofs.Telling.{holds_answered, holds_refused}
-use Rattle.legality_laws.specs.Legality.{IfTold, Keeps, Throughout}
+use Rattle.legality_laws.specs.Legality.{IfTold, IsAscendingStore, Keeps, Throughout}
 use Rattle.legality_laws.proofs.EachCall.{committed_has}
 
 -- a store without scopes, whose tables are those that were committed last
@@ -68,3 +70,13 @@ told_attached P old new none attached = by old.told new.told attached.told
     by (Some told) None is = tt
     by None (Some n) is = fresh n is
     by None None is = tt
+
+-- what a file has is told in order
+opened_ascends : (name : List ℕ) (told now : Option (Told Store)) → IsToldAnew (targets.File name) told (Ok tt) now → IfTold IsAscendingStore now
+opened_ascends name told None is = tt
+opened_ascends name told (Some n) is = record { tables = is.2; scopes = subst (AllByRecursion AreAscending) (sym is.1) tt }
+
+-- a keeper that took its target tells ascending tables
+pub attached_ascends : (target : Target) (old new : Moment Store) → IsAttached old target (Ok tt) new → IfTold IsAscendingStore new.told
+attached_ascends targets.Memory old new attached = told_attached AreAscending old new no_tables_ascend attached
+attached_ascends (targets.File name) old new attached = opened_ascends name old.told new.told attached.told

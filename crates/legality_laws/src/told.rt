@@ -1,18 +1,24 @@
 //! What a keeper tells of its tables, whatever its calls answer.
 
-ghost use Rattle.std.specs.Prelude.{ℕ, List, Ok, Result};
+ghost use Rattle.std.specs.Prelude.{◌≡◌, ℕ, List, Ok, Result, Some, map};
+ghost use Rattle.std.specs.List.Sorted.{IsStrictlySortedBy};
+ghost use Rattle.base_core.specs.declared.ids.TableId.{TableId};
 ghost use Rattle.base_core.specs.declared.refusal.Refusal.{Refusal};
 ghost use Rattle.base_core.specs.declared.value.Value.{Value};
-ghost use Rattle.schema_core.specs.Catalog.{Catalog};
+ghost use Rattle.base_core.specs.Order.{values_cmp};
+ghost use Rattle.schema_core.specs.Catalog.{Catalog, spec_of};
+ghost use Rattle.schema_core.specs.Tables.{key_of};
 ghost use Rattle.schema_core.specs.WellFormed.{IsWellFormed};
 ghost use Rattle.schema_core.specs.declared.statement.RowStmt.{RowStmt};
 ghost use Rattle.expr_types.specs.declared.select.Bulk.{Bulk};
 ghost use Rattle.expr_types.specs.declared.select.Select.{Select};
 ghost use Rattle.sql_semantics.specs.Plain.{IsPlainBulk};
+ghost use Rattle.programs.specs.Moment.{Told};
 ghost use Rattle.programs.specs.Programs.{Run};
 ghost use Rattle.programs.specs.Store.{Store};
+ghost use Rattle.programs.specs.declared.target.Target.{Target};
 ghost use Rattle.programs.specs.declared.target.Target.TheVariants as targets;
-ghost use Rattle.keeper_core.specs.Keeping.{IsAttached, IsBulk, IsCall, IsQuery, IsWrite};
+ghost use Rattle.keeper_core.specs.Keeping.{IsAttached, IsBulk, IsCall, IsQuery, IsScan, IsWrite};
 ghost use Rattle.legality_laws.specs.Legality.{IfTold, IsAscendingStore, IsLegalStore, KeepsAscending, KeepsLegal};
 
 use keeper_core::Keeper;
@@ -45,11 +51,11 @@ pub fn what_is_told_stays_legal<K: Keeper, A>()
         → IfTold (IsLegalStore schema) (K.moment new).told }
 {}
 
-/// The tables that any keeper tells are ascending by number, and their rows by key, once it took memory as its target, and stay so
-/// after each of its calls, whatever it is sent and whatever it answers.
+/// The tables that any keeper tells are ascending by number, and their rows by key, once it took its target, and stay so after each of
+/// its calls, whatever it is sent and whatever it answers.
 pub fn what_is_told_stays_ascending<K: Keeper, A>()
-    ensures attached { (old new : K)
-        → IsAttached (K.moment old) targets.Memory (Ok tt) (K.moment new)
+    ensures attached { (target : Target) (old new : K)
+        → IsAttached (K.moment old) target (Ok tt) (K.moment new)
         → IfTold IsAscendingStore (K.moment new).told }
     ensures called { (m : Store → Run Store A) (scopes : ℕ) (old new : K)
         (result : Result A Refusal) → KeepsAscending m
@@ -69,4 +75,12 @@ pub fn what_is_told_stays_ascending<K: Keeper, A>()
         → IfTold IsAscendingStore (K.moment old).told
         → IsQuery K.moment schema select old result new
         → IfTold IsAscendingStore (K.moment new).told }
+{}
+
+/// Where a keeper tells a legal store, the rows that its `scan` answers ascend by their keys.
+pub fn what_is_scanned_ascends<K: Keeper>()
+    ensures { (schema : Catalog) (table : TableId) (rows : List (List Value)) (told : Told Store)
+        (old new : K) → (K.moment old).told ≡ Some told → IsLegalStore schema told.world
+        → IsScan K.moment table old (Ok (Some rows)) new
+        → IsStrictlySortedBy values_cmp (map (key_of (spec_of schema table)) rows) }
 {}

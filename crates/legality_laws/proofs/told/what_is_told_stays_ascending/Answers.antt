@@ -3,13 +3,12 @@ use Rattle.keeper_core.specs.Calls as call
 use Rattle.keeper_core.specs.Keeping.{RefusesBulk, RefusesRow, RefusesSelect}
 use Rattle.schema_core.specs.Tables.{AreAscending}
 use Rattle.legality_laws.proofs.Accepted.{keeps_bulk_ascending}
-use Rattle.legality_laws.proofs.Dropped.{no_tables_ascend}
 use Rattle.legality_laws.proofs.EachCall.{keeps_query, write_ascends}
-use Rattle.legality_laws.proofs.Telling.{told_attached, told_called, told_stated}
+use Rattle.legality_laws.proofs.Telling.{attached_ascends, told_called, told_stated}
 use Rattle.legality_laws.proofs.told.what_is_told_stays_ascending.Goals as goal
 
 pub returns-clause-attached : goal.returns-clause-attached
-returns-clause-attached g c = λ old new is. told_attached AreAscending (g.K.Keeper.moment old) (g.K.Keeper.moment new) no_tables_ascend is
+returns-clause-attached g c = λ target old new is. attached_ascends target (g.K.Keeper.moment old) (g.K.Keeper.moment new) is
 
 pub returns-clause-called : goal.returns-clause-called
 returns-clause-called g c = λ m scopes old new result keeps held did.
