@@ -23,7 +23,8 @@ use Rattle.grammar_laws.proofs.Steps.{whole_rest, both, both_taken, both_refused
 use Rattle.grammar_laws.proofs.Options.{introduced}
 use Rattle.grammar_laws.proofs.Lists.{listed, some_list}
 use Rattle.grammar_laws.proofs.Basics.{named, some_name, literal_read, some_literal}
-use Rattle.expression_laws.proofs.Steps.{Within, within, within_at, first_as, either_up, either_second, then_within, then_says, either_word, mapped}
+use Rattle.grammar_laws.proofs.Sequences.{then_says}
+use Rattle.expression_laws.proofs.Steps.{Within, within, within_at, first_as, either_up, either_second, then_within, either_word, mapped}
 use Rattle.expression_laws.proofs.Nesting.{Fits, place, nested_form, entered, by_depth, deeper_read, behind_nesting}
 
 -- ---- sources
@@ -114,7 +115,7 @@ taken_as c q b kd i j first took is up =
     let t = s.0 in
     let tokens : i.ahead ≡ t ∷ j.ahead = took.joined ∙ ap (λ us. us ++ j.ahead) s.1 in
     record {
-      front = t ∷ [];
+      prefix = t ∷ [];
       count = 0;
       joined = tokens;
       budget = subst (λ m. Budget c m i.operators j.operators) s.6 took.budget;
@@ -247,7 +248,7 @@ module _ (depth room outer lower : ℕ) (fits : Fits depth room outer lower) (ex
   named_by : (kd : Kind) (i : Input) → Whole i.ahead → kind i ≡ kd → (out : Outcome (List ℕ)) → Kept (Inside outer) basic.name i out
       → Kept (Inside outer) (form.atom room inner) i (and_then out (λ first. r.named_by depth expr first (r.function kd)))
   named_by kd i whole is (Ok p) took =
-      by_function (r.function kd) kd (calls kd) i p.1 p.0 took is (whole_rest took.front p.1.ahead (subst Whole took.joined whole))
+      by_function (r.function kd) kd (calls kd) i p.1 p.0 took is (whole_rest took.prefix p.1.ahead (subst Whole took.joined whole))
   named_by kd i whole is (Err f) refused =
       within_out (Inside outer) (sequence basic.name path_rest) (form.atom room inner) i (path_up room inner) (Err f) (both_refused (Inside outer) basic.name path_rest i f some_path_rest refused)
 

@@ -15,7 +15,8 @@ use Rattle.grammar_laws.proofs.Taking.{Inside, Took, Kept, Whole, Sound, Inhabit
 use Rattle.grammar_laws.proofs.Steps.{budget_none, is_end, whole_next, both, both_taken, made, some_made, some_both, some_left, some_right, within_out, refused_here}
 use Rattle.grammar_laws.proofs.Options.{if_word}
 use Rattle.grammar_laws.proofs.Lists.{joined_three, listed_behind}
-use Rattle.expression_laws.proofs.Steps.{Within, within, regrouped, none_before, mapped}
+use Rattle.grammar_laws.proofs.Sequences.{paired, then_value}
+use Rattle.expression_laws.proofs.Steps.{Within, within, grouped_left, none_before, mapped}
 
 pub some_many : {A : Type 0} (item : Form A) → Inhabited (many item)
 some_many item = record { tokens = []; value = []; said = (refl, refl) }
@@ -55,44 +56,21 @@ one_more joint operand left ts n b s =
     let three = two.second.1 in (
       (s.0, one.second.0) ∷ two.second.0,
       record {
-        front = one.front ++ (two.front ++ three.front);
+        prefix = one.prefix ++ (two.prefix ++ three.prefix);
         rest = three.rest;
-        front_count = one.front_count + (two.front_count + three.front_count);
+        prefix_count = one.prefix_count + (two.prefix_count + three.prefix_count);
         rest_count = three.rest_count;
-        joined = one.joined ∙ ap (λ us. one.front ++ us) (two.joined ∙ ap (λ us. two.front ++ us) three.joined) ∙ joined_three one.front two.front three.front three.rest;
+        joined = one.joined ∙ ap (λ us. one.prefix ++ us) (two.joined ∙ ap (λ us. two.prefix ++ us) three.joined) ∙ joined_three one.prefix two.prefix three.prefix three.rest;
         counted = omega (arith, one.counted, two.counted, three.counted);
         first = record {
-          front = one.front ++ two.front;
-          rest = three.front;
-          front_count = one.front_count + two.front_count;
-          rest_count = three.front_count;
-          joined = sym (append_assoc one.front two.front three.front);
+          prefix = one.prefix ++ two.prefix;
+          rest = three.prefix;
+          prefix_count = one.prefix_count + two.prefix_count;
+          rest_count = three.prefix_count;
+          joined = sym (append_assoc one.prefix two.prefix three.prefix);
           counted = omega arith;
-          first = (
-            s.0,
-            record {
-              front = one.front;
-              rest = two.front;
-              front_count = one.front_count;
-              rest_count = two.front_count;
-              joined = refl;
-              counted = refl;
-              first = one.first;
-              second = (
-                one.second.0,
-                record {
-                  front = two.front;
-                  rest = [];
-                  front_count = two.front_count;
-                  rest_count = 0;
-                  joined = sym (append-nil two.front);
-                  counted = omega arith;
-                  first = two.first;
-                  second = (refl, refl, refl);
-                },
-              );
-            },
-          );
+          first = paired joint (λ by. sequence operand (λ right. says (by, right))) s.0 (s.0, one.second.0) one.prefix two.prefix one.prefix_count two.prefix_count one.first
+              (then_value operand (λ right. (s.0, right)) two.prefix two.prefix_count one.second.0 two.first);
           second = three.first;
         };
         second = three.second;
@@ -114,7 +92,7 @@ module _ (depth : ℕ) (joints : Kind → Option Joint) (joint : Form form.Joint
       let i : Input = record { ahead = t ∷ ts; operators = o } in
       let m : Input = record { ahead = ts; operators = o - 1 } in
       let out = and_then (p m) (λ right. more (r.joined j left right)) in
-      let took : Took (Inside depth) joint i joins.by m = record { front = t ∷ []; count = 1; joined = refl; budget = omega (arith, some); said = joins.said t is } in
+      let took : Took (Inside depth) joint i joins.by m = record { prefix = t ∷ []; count = 1; joined = refl; budget = omega (arith, some); said = joins.said t is } in
       let turn : Sound (Inside depth) (p >>= (λ right. more (r.joined j left right))) (sequence operand (λ right. rest joint operand (form.joined joins.by left right))) =
       both operand_read (λ right. subst (λ x. Sound (Inside depth) (more (r.joined j left right)) (rest joint operand x)) (joins.joined left right) (rec (r.joined j left right)))
       (λ right. some_rest joint operand (form.joined joins.by left right)) in
@@ -135,11 +113,11 @@ module _ (depth : ℕ) (joints : Kind → Option Joint) (joint : Form form.Joint
       → Kept (Inside depth) (rest joint operand left) i (r.chained_by more p left found i)
   unfolding operator head
   by_joint left more rec i whole None joins = record {
-    front = [];
+    prefix = [];
     count = 0;
     joined = refl;
     budget = budget_none (Inside depth) i.operators;
-    said = ([], record { front = []; rest = []; front_count = 0; rest_count = 0; joined = refl; counted = refl; first = (refl, refl); second = (refl, refl, refl) });
+    said = ([], record { prefix = []; rest = []; prefix_count = 0; rest_count = 0; joined = refl; counted = refl; first = (refl, refl); second = (refl, refl, refl) });
   }
   by_joint left more rec i whole (Some j) joins = counted_by left j (first_of i.ahead).kind joins more rec i.ahead i.operators refl whole (i.operators == 0) refl
 
@@ -164,33 +142,33 @@ some_chain joint {operand = operand} any = some_both any (λ first. some_rest jo
 abbrev pub behind_first : Kind → (List Syn → Syn) → Form Syn → Syn → Form Syn
 behind_first mark list g first = sequence (word mark) (λ _. sequence (sequence (separated mark g) (λ more. says (first ∷ more))) (λ all. says (list all))) or says first
 
-list_by : (mark : Kind) (list : List Syn → Syn) (g : Form Syn) (first : Syn) (ts front rest : List Token) (n m l : ℕ) (a : Syn) → ts ≡ front ++ rest → n ≡ m + l → g front m first
+list_by : (mark : Kind) (list : List Syn → Syn) (g : Form Syn) (first : Syn) (ts prefix rest : List Token) (n m l : ℕ) (a : Syn) → ts ≡ prefix ++ rest → n ≡ m + l → g prefix m first
     → behind_first mark list g first rest l a → one_or_list mark list g ts n a
-list_by mark list g first ts front rest n m l a joined counted said (inl more) =
+list_by mark list g first ts prefix rest n m l a joined counted said (inl more) =
     let items : Syn → Form (List Syn) = λ x. sequence (separated mark g) (λ xs. says (x ∷ xs)) in
     let made_of : List Syn → Form Syn = λ all. says (list all) in
-    inr (regrouped g (λ x. sequence (word mark) (λ _. items x)) made_of ts n a (
+    inr (grouped_left g (λ x. sequence (word mark) (λ _. items x)) made_of ts n a (
       first,
       record {
-        front = front;
+        prefix = prefix;
         rest = rest;
-        front_count = m;
+        prefix_count = m;
         rest_count = l;
         joined = joined;
         counted = counted;
         first = said;
-        second = regrouped (word mark) (λ _. items first) made_of rest l a more;
+        second = grouped_left (word mark) (λ _. items first) made_of rest l a more;
       },
     ))
-list_by mark list g first ts front rest n m l a joined counted said (inr only) =
-    let tokens : front ≡ ts = sym (joined ∙ ap (λ us. front ++ us) only.0 ∙ append-nil front) in
+list_by mark list g first ts prefix rest n m l a joined counted said (inr only) =
+    let tokens : prefix ≡ ts = sym (joined ∙ ap (λ us. prefix ++ us) only.0 ∙ append-nil prefix) in
     let counts : m ≡ n = omega (arith, counted, only.1) in
     inl (subst (λ x. g ts n x) (sym only.2) (subst (λ k. g ts k first) counts (subst (λ us. g us m first) tokens said)))
 
 list_up : (mark : Kind) (list : List Syn → Syn) (g : Form Syn) → Within (sequence g (behind_first mark list g)) (one_or_list mark list g)
 list_up mark list g ts n a s =
     let w = s.1 in
-    list_by mark list g s.0 ts w.front w.rest n w.front_count w.rest_count a w.joined w.counted w.first w.second
+    list_by mark list g s.0 ts w.prefix w.rest n w.prefix_count w.rest_count a w.joined w.counted w.first w.second
 
 -- one operand, or a list of them
 pub one_or_list_read : {depth : ℕ} (mark : Kind) (list : List Syn → Syn) {p : Reader Syn} {g : Form Syn} → is_end mark ≡ false → Sound (Inside depth) p g → Inhabited g

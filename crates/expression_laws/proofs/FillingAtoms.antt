@@ -49,16 +49,16 @@ nesting_up depth kd tokens count u said = (said.0, said.1, said.2, said.4)
 pub nesting_opens : (depth : ℕ) (kd : Kind) {next these : Kind → Bool} → these kd ≡ true → Opens (form.nesting depth kd) next these
 nesting_opens depth kd is = opens_onto (nesting_up depth kd) (word_opens kd is)
 
-deeper_run : (depth : ℕ) (expr : Level → Reader Syn) (kd : Kind) (front rest : List Token) (count o : ℕ) (u : Unit {0}) → form.nesting depth kd front count u → Enough inside count o
-    → Read inside (r.deeper depth expr kd) (front ++ rest) rest count o u
+deeper_run : (depth : ℕ) (expr : Level → Reader Syn) (kd : Kind) (prefix rest : List Token) (count o : ℕ) (u : Unit {0}) → form.nesting depth kd prefix count u → Enough inside count o
+    → Read inside (r.deeper depth expr kd) (prefix ++ rest) rest count o u
 unfolding r.deeper
-deeper_run depth expr kd front rest count o u said enough =
-    let i : Input = record { ahead = front ++ rest; operators = o } in
-    let read = (expected {mode = inside} kd).run front rest count o u (nesting_up depth kd front count u said) enough refl in
+deeper_run depth expr kd prefix rest count o u said enough =
+    let i : Input = record { ahead = prefix ++ rest; operators = o } in
+    let read = (expected {mode = inside} kd).run prefix rest count o u (nesting_up depth kd prefix count u said) enough refl in
     record { left = read.left; budget = read.budget; is = ap (λ b. if b then refuse i else expect kd i) (deeper_by depth said.3) ∙ read.is }
 
 pub deeper_read : (depth : ℕ) (expr : Level → Reader Syn) (kd : Kind) → Complete inside always (r.deeper depth expr kd) (form.nesting depth kd)
-deeper_read depth expr kd = record { run = λ front rest count o u said enough stop. deeper_run depth expr kd front rest count o u said enough }
+deeper_read depth expr kd = record { run = λ prefix rest count o u said enough stop. deeper_run depth expr kd prefix rest count o u said enough }
 
 -- ---- the functions
 
@@ -75,14 +75,14 @@ word_called : (kd : Kind) (called : Func) → r.function kd ≡ Some called → 
 word_called kd called holds tokens count f said =
     let w = said.1 in
     let t = w.first.0.0 in
-    let whole : w.front ≡ tokens = sym (w.joined ∙ ap (λ ts. w.front ++ ts) w.second.0 ∙ append-nil w.front) in
-    let counts : w.front_count ≡ count = omega (arith, w.counted, w.second.1) in
+    let whole : w.prefix ≡ tokens = sym (w.joined ∙ ap (λ ts. w.prefix ++ ts) w.second.0 ∙ append-nil w.prefix) in
+    let counts : w.prefix_count ≡ count = omega (arith, w.counted, w.second.1) in
     record {
       first = t;
       joined = sym whole ∙ w.first.0.1;
       is = subst (λ x. r.function t.kind ≡ Some x) (sym w.second.2) (ap r.function w.first.0.2 ∙ holds);
       bytes = w.first.1.0;
-      named = subst (λ ts. basic.name ts count w.first.1.0) whole (subst (λ m. basic.name w.front m w.first.1.0) counts w.first.1.1);
+      named = subst (λ ts. basic.name ts count w.first.1.0) whole (subst (λ m. basic.name w.prefix m w.first.1.0) counts w.first.1.1);
     }
 
 function_called : (tokens : List Token) (count : ℕ) (f : Func) → form.function tokens count f → Called tokens count f
@@ -249,24 +249,24 @@ module _ (depth : ℕ) (inner : form.Place → Form Syn) (expr : Level → Reade
   call_by f =
       then_any named (λ first. called_read f first (sequence (form.nesting depth k.LParen) (λ _. operands f)) (first_opens (nesting_opens depth k.LParen refl)) (operands_called f))
 
-  call_run : (front rest : List Token) (count o : ℕ) (a : Syn) → form.call depth inner front count a → Enough inside count o
-      → Read inside (peek >>= named_at) (front ++ rest) rest count o a
-  call_run front rest count o a said enough =
+  call_run : (prefix rest : List Token) (count o : ℕ) (a : Syn) → form.call depth inner prefix count a → Enough inside count o
+      → Read inside (peek >>= named_at) (prefix ++ rest) rest count o a
+  call_run prefix rest count o a said enough =
       let f = said.0 in
       let w = said.1 in
-      let c = function_called w.front w.front_count f w.first in
-      let tokens : front ≡ c.first ∷ w.rest = w.joined ∙ ap (λ ts. ts ++ w.rest) c.joined in
-      let found : sequence basic.name (λ _. sequence (form.nesting depth k.LParen) (λ _. operands f)) front count a =
-      (c.bytes, record { front = w.front; rest = w.rest; front_count = w.front_count; rest_count = w.rest_count; joined = w.joined; counted = w.counted; first = c.named; second = w.second }) in
-      let known : Read inside (n.name >>= (λ first. r.called depth expr f first)) (front ++ rest) rest count o a = (call_by f).run front rest count o a found enough refl in
-      let read : Read inside (named_at c.first.kind) (front ++ rest) rest count o a =
-      subst (λ x. Read inside (n.name >>= (λ first. r.named_by depth expr first x)) (front ++ rest) rest count o a) (sym c.is) known in
+      let c = function_called w.prefix w.prefix_count f w.first in
+      let tokens : prefix ≡ c.first ∷ w.rest = w.joined ∙ ap (λ ts. ts ++ w.rest) c.joined in
+      let found : sequence basic.name (λ _. sequence (form.nesting depth k.LParen) (λ _. operands f)) prefix count a =
+      (c.bytes, record { prefix = w.prefix; rest = w.rest; prefix_count = w.prefix_count; rest_count = w.rest_count; joined = w.joined; counted = w.counted; first = c.named; second = w.second }) in
+      let known : Read inside (n.name >>= (λ first. r.called depth expr f first)) (prefix ++ rest) rest count o a = (call_by f).run prefix rest count o a found enough refl in
+      let read : Read inside (named_at c.first.kind) (prefix ++ rest) rest count o a =
+      subst (λ x. Read inside (n.name >>= (λ first. r.named_by depth expr first x)) (prefix ++ rest) rest count o a) (sym c.is) known in
       subst (λ ts. Read inside (peek >>= named_at) (ts ++ rest) rest count o a) (sym tokens)
       (by_kind_read inside named_at c.first.kind c.first (w.rest ++ rest) rest count o a refl (subst (λ ts. Read inside (named_at c.first.kind) (ts ++ rest) rest count o a) tokens read))
 
   call_read : Complete inside always (r.named depth expr) (form.call depth inner)
   unfolding r.named
-  call_read = record { run = λ front rest count o a said enough stop. call_run front rest count o a said enough }
+  call_read = record { run = λ prefix rest count o a said enough stop. call_run prefix rest count o a said enough }
 
   -- ---- ATOM
 

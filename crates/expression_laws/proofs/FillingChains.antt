@@ -58,11 +58,11 @@ module _ (joint : Kind → Option Joint) (marks : Form form.Joint) (named : form
   links_fit [] tokens count said = omega arith
   links_fit (a ∷ more) tokens count said =
       let v = said.first.1 in
-      let one = sg.run v.front v.front_count said.first.0 v.first in
+      let one = sg.run v.prefix v.prefix_count said.first.0 v.first in
       let rest = links_fit more said.rest said.rest_count said.second in
-      let whole : length tokens ≡ length said.front + length said.rest = ap length said.joined ∙ length-append said.front said.rest in
-      let part : length said.front ≡ length v.front + length v.rest = ap length v.joined ∙ length-append v.front v.rest in
-      let single : length v.front ≡ 1 = ap length one.joined in
+      let whole : length tokens ≡ length said.prefix + length said.rest = ap length said.joined ∙ length-append said.prefix said.rest in
+      let part : length said.prefix ≡ length v.prefix + length v.rest = ap length v.joined ∙ length-append v.prefix v.rest in
+      let single : length v.prefix ≡ 1 = ap length one.joined in
       omega arith
 
   links_open : (all : List (form.Joint × Syn)) (tokens rest : List Token) (count : ℕ) → many (linked marks operands) tokens count all → t (first_of rest).kind ≡ true
@@ -70,69 +70,69 @@ module _ (joint : Kind → Option Joint) (marks : Form form.Joint) (named : form
   links_open [] tokens rest count said stop = subst (λ ts. s (first_of (ts ++ rest)).kind ≡ true) (sym said.0) (within (first_of rest).kind stop)
   links_open (a ∷ more) tokens rest count said stop =
       let v = said.first.1 in
-      let one = sg.run v.front v.front_count said.first.0 v.first in
+      let one = sg.run v.prefix v.prefix_count said.first.0 v.first in
       let split : tokens ≡ one.token ∷ (v.rest ++ said.rest) = said.joined ∙ ap (λ ts. ts ++ said.rest) (v.joined ∙ ap (λ ts. ts ++ v.rest) one.joined) in
       subst (λ ts. s (first_of (ts ++ rest)).kind ≡ true) (sym split) (before one.token.kind (named said.first.0) one.is)
 
-  links_read : (n : ℕ) (all : List (form.Joint × Syn)) (left : Syn) (front rest : List Token) (count o : ℕ) → length all ≤ n → many (linked marks operands) front count all → count ≤ o
-      → t (first_of rest).kind ≡ true → Read inside (chained_from joint operand n left) (front ++ rest) rest count o (form.grouped left all)
-  links_read n [] left front rest count o fits said enough stop =
+  links_read : (n : ℕ) (all : List (form.Joint × Syn)) (left : Syn) (prefix rest : List Token) (count o : ℕ) → length all ≤ n → many (linked marks operands) prefix count all → count ≤ o
+      → t (first_of rest).kind ≡ true → Read inside (chained_from joint operand n left) (prefix ++ rest) rest count o (form.grouped left all)
+  links_read n [] left prefix rest count o fits said enough stop =
       subst (λ ts. Read inside (chained_from joint operand n left) (ts ++ rest) rest count o left) (sym said.0)
       (subst (λ m. Read inside (chained_from joint operand n left) rest rest m o left) (sym said.1) (last_read n left rest o (ends (first_of rest).kind stop)))
-  links_read zero (a ∷ more) left front rest count o fits said enough stop = absurd (omega arith)
-  links_read (suc n) (a ∷ more) left front rest count zero fits said enough stop =
+  links_read zero (a ∷ more) left prefix rest count o fits said enough stop = absurd (omega arith)
+  links_read (suc n) (a ∷ more) left prefix rest count zero fits said enough stop =
       let v = said.first.1 in
-      let one = sg.run v.front v.front_count said.first.0 v.first in
+      let one = sg.run v.prefix v.prefix_count said.first.0 v.first in
       absurd (omega (arith, said.counted, v.counted, one.counts))
-  links_read (suc n) (a ∷ more) left front rest count (suc o) fits said enough stop =
+  links_read (suc n) (a ∷ more) left prefix rest count (suc o) fits said enough stop =
       let by = said.first.0 in
       let v = said.first.1 in
       let w = v.second.1 in
       let right = v.second.0 in
-      let one = sg.run v.front v.front_count by v.first in
+      let one = sg.run v.prefix v.prefix_count by v.first in
       let pair : a ≡ (by, right) = w.second.2 in
-      let operand_tokens : v.rest ≡ w.front = w.joined ∙ ap (λ ts. w.front ++ ts) w.second.0 ∙ append-nil w.front in
-      let split : front ≡ one.token ∷ (w.front ++ said.rest) =
+      let operand_tokens : v.rest ≡ w.prefix = w.joined ∙ ap (λ ts. w.prefix ++ ts) w.second.0 ∙ append-nil w.prefix in
+      let split : prefix ≡ one.token ∷ (w.prefix ++ said.rest) =
       said.joined ∙ ap (λ ts. ts ++ said.rest) (v.joined ∙ ap (λ ts. ts ++ v.rest) one.joined) ∙ ap (λ ts. one.token ∷ (ts ++ said.rest)) operand_tokens in
-      let tokens : one.token ∷ (w.front ++ (said.rest ++ rest)) ≡ front ++ rest =
-      ap (λ ts. one.token ∷ ts) (sym (append_assoc w.front said.rest rest)) ∙ ap (λ ts. ts ++ rest) (sym split) in
-      let counts : 1 + (w.front_count + said.rest_count) ≡ count = omega (arith, said.counted, v.counted, w.counted, w.second.1, one.counts) in
-      let first : Read inside operand (w.front ++ (said.rest ++ rest)) (said.rest ++ rest) w.front_count o right =
-      cp.run w.front (said.rest ++ rest) w.front_count o right w.first (omega (arith, counts)) (links_open more said.rest rest said.rest_count said.second stop) in
+      let tokens : one.token ∷ (w.prefix ++ (said.rest ++ rest)) ≡ prefix ++ rest =
+      ap (λ ts. one.token ∷ ts) (sym (append_assoc w.prefix said.rest rest)) ∙ ap (λ ts. ts ++ rest) (sym split) in
+      let counts : 1 + (w.prefix_count + said.rest_count) ≡ count = omega (arith, said.counted, v.counted, w.counted, w.second.1, one.counts) in
+      let first : Read inside operand (w.prefix ++ (said.rest ++ rest)) (said.rest ++ rest) w.prefix_count o right =
+      cp.run w.prefix (said.rest ++ rest) w.prefix_count o right w.first (omega (arith, counts)) (links_open more said.rest rest said.rest_count said.second stop) in
       let second : Read inside (chained_from joint operand n (r.joined (named by) left right)) (said.rest ++ rest) rest said.rest_count first.left
       (form.grouped (r.joined (named by) left right) more) =
       links_read n more (r.joined (named by) left right) said.rest rest said.rest_count first.left (omega arith) said.second (omega (arith, counts, first.budget)) stop in
-      let read = next_read n left right (form.grouped (r.joined (named by) left right) more) (named by) one.token (w.front ++ (said.rest ++ rest)) (said.rest ++ rest) rest
-      w.front_count said.rest_count o one.is first second in
+      let read = next_read n left right (form.grouped (r.joined (named by) left right) more) (named by) one.token (w.prefix ++ (said.rest ++ rest)) (said.rest ++ rest) rest
+      w.prefix_count said.rest_count o one.is first second in
       let said_so : form.grouped (r.joined (named by) left right) more ≡ form.grouped left (a ∷ more) =
       ap (λ x. form.grouped x more) (alike by left right) ∙ ap (λ x. form.grouped left (x ∷ more)) (sym pair) in
       subst (λ ts. Read inside (chained_from joint operand (suc n) left) ts rest count (suc o) (form.grouped left (a ∷ more))) tokens
-      (subst (λ m. Read inside (chained_from joint operand (suc n) left) (one.token ∷ (w.front ++ (said.rest ++ rest))) rest m (suc o) (form.grouped left (a ∷ more))) counts
-      (subst (λ x. Read inside (chained_from joint operand (suc n) left) (one.token ∷ (w.front ++ (said.rest ++ rest))) rest (1 + (w.front_count + said.rest_count)) (suc o) x) said_so read))
+      (subst (λ m. Read inside (chained_from joint operand (suc n) left) (one.token ∷ (w.prefix ++ (said.rest ++ rest))) rest m (suc o) (form.grouped left (a ∷ more))) counts
+      (subst (λ x. Read inside (chained_from joint operand (suc n) left) (one.token ∷ (w.prefix ++ (said.rest ++ rest))) rest (1 + (w.prefix_count + said.rest_count)) (suc o) x) said_so read))
 
   abbrev links : Syn → Form Syn
   links first = sequence (many (linked marks operands)) (λ more. says (form.grouped first more))
 
-  behind_by : (first : Syn) (front rest : List Token) (count o : ℕ) (a : Syn) → links first front count a → count ≤ o → t (first_of rest).kind ≡ true
-      → Read inside (λ i. chained_from joint operand (length i.ahead) first i) (front ++ rest) rest count o a
-  behind_by first front rest count o a said enough stop =
+  behind_by : (first : Syn) (prefix rest : List Token) (count o : ℕ) (a : Syn) → links first prefix count a → count ≤ o → t (first_of rest).kind ≡ true
+      → Read inside (λ i. chained_from joint operand (length i.ahead) first i) (prefix ++ rest) rest count o a
+  behind_by first prefix rest count o a said enough stop =
       let w = said.1 in
-      let tokens : w.front ≡ front = sym (w.joined ∙ ap (λ ts. w.front ++ ts) w.second.0 ∙ append-nil w.front) in
-      let counts : w.front_count ≡ count = omega (arith, w.counted, w.second.1) in
-      let all : many (linked marks operands) front count said.0 =
-      subst (λ ts. many (linked marks operands) ts count said.0) tokens (subst (λ m. many (linked marks operands) w.front m said.0) counts w.first) in
-      let fits = links_fit said.0 front count all in
-      let long = length-append front rest in
-      let read = links_read (length (front ++ rest)) said.0 first front rest count o (omega arith) all enough stop in
-      subst (λ x. Read inside (λ i. chained_from joint operand (length i.ahead) first i) (front ++ rest) rest count o x) (sym w.second.2)
+      let tokens : w.prefix ≡ prefix = sym (w.joined ∙ ap (λ ts. w.prefix ++ ts) w.second.0 ∙ append-nil w.prefix) in
+      let counts : w.prefix_count ≡ count = omega (arith, w.counted, w.second.1) in
+      let all : many (linked marks operands) prefix count said.0 =
+      subst (λ ts. many (linked marks operands) ts count said.0) tokens (subst (λ m. many (linked marks operands) w.prefix m said.0) counts w.first) in
+      let fits = links_fit said.0 prefix count all in
+      let long = length-append prefix rest in
+      let read = links_read (length (prefix ++ rest)) said.0 first prefix rest count o (omega arith) all enough stop in
+      subst (λ x. Read inside (λ i. chained_from joint operand (length i.ahead) first i) (prefix ++ rest) rest count o x) (sym w.second.2)
       (record { left = read.left; budget = read.budget; is = read.is })
 
   behind_opens : (first : Syn) (tokens rest : List Token) (count : ℕ) (a : Syn) → links first tokens count a → t (first_of rest).kind ≡ true
       → s (first_of (tokens ++ rest)).kind ≡ true
   behind_opens first tokens rest count a said stop =
       let w = said.1 in
-      let same_tokens : w.front ≡ tokens = sym (w.joined ∙ ap (λ ts. w.front ++ ts) w.second.0 ∙ append-nil w.front) in
-      subst (λ ts. s (first_of (ts ++ rest)).kind ≡ true) same_tokens (links_open said.0 w.front rest w.front_count w.first stop)
+      let same_tokens : w.prefix ≡ tokens = sym (w.joined ∙ ap (λ ts. w.prefix ++ ts) w.second.0 ∙ append-nil w.prefix) in
+      subst (λ ts. s (first_of (ts ++ rest)).kind ≡ true) same_tokens (links_open said.0 w.prefix rest w.prefix_count w.first stop)
 
   pub chain_read : Complete inside t (operand >>= (λ first i. chained_from joint operand (length i.ahead) first i)) (form.chain marks operands)
   chain_read =

@@ -98,23 +98,23 @@ nested_opens (suc depth) = disjunction_opens depth (form.nested depth)
 
 nested_read : (depth : ℕ) (place : form.Place) → Complete inside (ends place) (r.expr depth (level_of place)) (form.nested depth place)
 unfolding r.expr form.nested
-nested_read zero place = record { run = λ front rest count o a said enough stop. absurd said }
+nested_read zero place = record { run = λ prefix rest count o a said enough stop. absurd said }
 nested_read (suc depth) place = at_read depth (form.nested depth) (r.expr depth) (nested_read depth) (nested_opens depth) place
 
 -- ---- whole expressions
 
-whole_by : (front rest : List Token) (operators : ℕ) (o : ℕ) (a : Syn) → form.nested 101 form.Anywhere front operators a → operators ≤ 1000
-    → ends_expression (first_of rest).kind ≡ true → Read Plain r.whole (front ++ rest) rest 0 o a
+whole_by : (prefix rest : List Token) (operators : ℕ) (o : ℕ) (a : Syn) → form.nested 101 form.Anywhere prefix operators a → operators ≤ 1000
+    → ends_expression (first_of rest).kind ≡ true → Read Plain r.whole (prefix ++ rest) rest 0 o a
 unfolding r.whole
-whole_by front rest operators o a said few stop =
-    let read = (nested_read 101 form.Anywhere).run front rest operators 1000 a said few stop in
+whole_by prefix rest operators o a said few stop =
+    let read = (nested_read 101 form.Anywhere).run prefix rest operators 1000 a said few stop in
     record { left = read.left; budget = refl; is = read.is }
 
 pub whole_plain : Complete Plain ends_expression r.whole form.expression
-whole_plain = record { run = λ front rest count o a said enough stop. let read = whole_by front rest said.0 o a said.1 said.2 stop in record { left = read.left; budget = said.3; is = read.is } }
+whole_plain = record { run = λ prefix rest count o a said enough stop. let read = whole_by prefix rest said.0 o a said.1 said.2 stop in record { left = read.left; budget = said.3; is = read.is } }
 
 pub whole_around : Complete Around ends_expression r.whole form.expression
-whole_around = record { run = λ front rest count o a said enough stop. let read = whole_by front rest said.0 o a said.1 said.2 stop in record { left = read.left; budget = said.3; is = read.is } }
+whole_around = record { run = λ prefix rest count o a said enough stop. let read = whole_by prefix rest said.0 o a said.1 said.2 stop in record { left = read.left; budget = said.3; is = read.is } }
 
 pub expression_opens : {next : Kind → Bool} → Opens form.expression next begins_expression
 expression_opens = record { run = λ tokens rest count a said stop. (nested_opens 101).run tokens rest said.0 a said.1 refl }

@@ -7,13 +7,11 @@ use Rattle.script_tokens.specs.Literals.{begins_literal}
 use Rattle.script_expr.specs.declared.expression.Joint.{Joint}
 use Rattle.script_expr.specs.declared.expression.Test.TheVariants as test
 use Rattle.script_expr.specs.Expr.{product_joint, sum_joint, test_kind}
+use Rattle.grammar_laws.proofs.Options.{none_same}
 use Rattle.grammar_laws.proofs.FillingBasics.{closes}
 
 false_true : false ≡ true → ⊥
 false_true e = cc
-
-none_some : {A : Type 0} {a : A} → None ≡ Some a → ⊥
-none_some e = cc
 
 -- ---- how expressions begin
 
@@ -147,7 +145,7 @@ ends_sum_joint k.Concat e = absurd (false_true e)
 ends_sum_joint _ e = refl
 
 pub sum_joint_ends_product : (y : Kind) (j : Joint) → sum_joint y ≡ Some j → ends_product y ≡ true
-sum_joint_ends_product k.Star j e = absurd (none_some e)
+sum_joint_ends_product k.Star j e = absurd (none_same e)
 sum_joint_ends_product _ j e = refl
 
 pub ends_comparison_test : (y : Kind) → ends_comparison y ≡ true → test_kind y ≡ test.Absent

@@ -39,7 +39,7 @@ read_by : (ahead rest : List Token) (o : ℕ) (found : Syn) → SaysUpTo ahead r
     → (left : Input) × (left.ahead ≡ rest) × (whole (record { ahead = ahead; operators = o }) ≡ Ok (found, left))
 read_by ahead rest o found said =
     let w = said.before in
-    let read = whole_plain.run w.front rest 0 o found w.said refl (stops (first_of rest).kind said.ends) in
+    let read = whole_plain.run w.prefix rest 0 o found w.said refl (stops (first_of rest).kind said.ends) in
     subst (λ ts. (left : Input) × (left.ahead ≡ rest) × (whole (record { ahead = ts; operators = o }) ≡ Ok (found, left))) (sym w.joined)
     (record { ahead = rest; operators = read.left }, refl, read.is)
 

@@ -16,6 +16,7 @@ use Rattle.script_forms.specs.Basics as form
 use Rattle.script_forms.specs.Expressions.{source}
 use Rattle.grammar_laws.proofs.Taking.{Mode}
 use Rattle.grammar_laws.proofs.Steps.{budget_none}
+use Rattle.grammar_laws.proofs.Options.{none_same}
 use Rattle.grammar_laws.proofs.Filling.{Read, Complete, Opens, always, both, then_any, made, either, introduced, less, made_opens}
 use Rattle.grammar_laws.proofs.FillingBasics.{named, Solid}
 use Rattle.expression_laws.proofs.FillingSteps.{unlike, solid_of}
@@ -23,9 +24,6 @@ use Rattle.expression_laws.proofs.FillingKinds.{is_name}
 
 false_true : false ≡ true → ⊥
 false_true e = cc
-
-none_some : {v : Value} → None ≡ Some v → ⊥
-none_some e = cc
 
 -- ---- literals
 
@@ -46,15 +44,15 @@ unsigned : (t : Token) (b : Bool) → t.kind ≢ k.Signed → same_kind t.kind k
 unsigned t false other is = refl
 unsigned t true other is = absurd (other (same is))
 
-plain_run : (mode : Mode) (front rest : List Token) (count o : ℕ) (a : Value) → form.plain_literal front count a → Read mode l.literal (front ++ rest) rest count o a
-plain_run mode front rest count o a said =
+plain_run : (mode : Mode) (prefix rest : List Token) (count o : ℕ) (a : Value) → form.plain_literal prefix count a → Read mode l.literal (prefix ++ rest) rest count o a
+plain_run mode prefix rest count o a said =
     let t = said.0 in
     subst (λ ts. Read mode l.literal (ts ++ rest) rest count o a) (sym said.1)
     (subst (λ n. Read mode l.literal (t ∷ rest) rest n o a) (sym said.4)
     (literal_by mode t rest rest o a said.3 (past_by t rest o false (unsigned t (same_kind t.kind k.Signed) said.2 refl))))
 
-signed_run : (mode : Mode) (front rest : List Token) (count o : ℕ) (a : Value) → form.signed_literal front count a → Read mode l.literal (front ++ rest) rest count o a
-signed_run mode front rest count o a said =
+signed_run : (mode : Mode) (prefix rest : List Token) (count o : ℕ) (a : Value) → form.signed_literal prefix count a → Read mode l.literal (prefix ++ rest) rest count o a
+signed_run mode prefix rest count o a said =
     let t = said.0 in
     let digits = said.1 in
     subst (λ ts. Read mode l.literal (ts ++ rest) rest count o a) (sym said.2)
@@ -63,29 +61,29 @@ signed_run mode front rest count o a said =
 
 pub literal_read : {mode : Mode} → Complete mode always l.literal form.literal
 literal_read {mode = mode} =
-    either (record { run = λ front rest count o a said enough stop. plain_run mode front rest count o a said })
-    (record { run = λ front rest count o a said enough stop. signed_run mode front rest count o a said })
+    either (record { run = λ prefix rest count o a said enough stop. plain_run mode prefix rest count o a said })
+    (record { run = λ prefix rest count o a said enough stop. signed_run mode prefix rest count o a said })
 
 number_begins : (kd : Kind) (n : ℕ) (v : Value) → l.number_by kd n ≡ Some v → begins_literal kd ≡ true
 number_begins k.Number n v e = refl
 number_begins k.Signed n v e = refl
-number_begins _ n v e = absurd (none_some e)
+number_begins _ n v e = absurd (none_same e)
 
 quoted_begins : (kd : Kind) (found v : Value) → l.quoted_by kd found ≡ Some v → begins_literal kd ≡ true
 quoted_begins k.TextLiteral found v e = refl
 quoted_begins k.BytesLiteral found v e = refl
-quoted_begins _ found v e = absurd (none_some e)
+quoted_begins _ found v e = absurd (none_same e)
 
 truth_begins : (kd : Kind) (v : Value) → l.truth_by kd ≡ Some v → begins_literal kd ≡ true
 truth_begins k.True v e = refl
 truth_begins k.False v e = refl
-truth_begins _ v e = absurd (none_some e)
+truth_begins _ v e = absurd (none_same e)
 
 literal_begins : (kd : Kind) (held : Content) (v : Value) → literal_in kd held ≡ Some v → begins_literal kd ≡ true
 literal_begins kd (content.Number n) v e = number_begins kd n v e
 literal_begins kd (content.Literal found) v e = quoted_begins kd found v e
 literal_begins kd (content.Name word) v e = truth_begins kd v e
-literal_begins kd content.Nothing v e = absurd (none_some e)
+literal_begins kd content.Nothing v e = absurd (none_same e)
 
 literal_opens_by : (tokens rest : List Token) (count : ℕ) (a : Value) → form.literal tokens count a → begins_literal (first_of (tokens ++ rest)).kind ≡ true
 literal_opens_by tokens rest count a (inl said) =

@@ -9,6 +9,7 @@ use Rattle.script_tokens.specs.Input.{Input, Reader, ◌>>=◌, pure, eat, peek,
 use Rattle.script_forms.specs.Form.{Form, Both, sequence, says, word, whether, separated, ◌or◌}
 use Rattle.script_forms.specs.Expressions.{several}
 use Rattle.grammar_laws.proofs.Taking.{Mode, Inside, Enough}
+use Rattle.grammar_laws.proofs.Sequences.{then_to, regrouped}
 use Rattle.grammar_laws.proofs.Filling.{Read, Complete, Opens, always, both, less, made, made_opens, if_word, first_opens, word_opens, either_opens}
 use Rattle.grammar_laws.proofs.FillingBasics.{Solid, items_fit, all_read}
 
@@ -37,7 +38,7 @@ only this kind = same_kind kind this
 
 pub onto : {A : Type 0} {mode : Mode} {next : Kind → Bool} {p : Reader A} {g h : Form A} → ((ts : List Token) (n : ℕ) (a : A) → g ts n a → h ts n a)
     → Complete mode next p h → Complete mode next p g
-onto up cp = record { run = λ front rest count o a said enough stop. cp.run front rest count o a (up front count a said) enough stop }
+onto up cp = record { run = λ prefix rest count o a said enough stop. cp.run prefix rest count o a (up prefix count a said) enough stop }
 
 pub opens_onto : {A : Type 0} {next these : Kind → Bool} {g h : Form A} → ((ts : List Token) (n : ℕ) (a : A) → g ts n a → h ts n a) → Opens h next these → Opens g next these
 opens_onto up og = record { run = λ tokens rest count a said stop. og.run tokens rest count a (up tokens count a said) stop }
@@ -60,39 +61,20 @@ separated_opens_by mark g these og [] tokens rest count said = absurd said
 separated_opens_by mark g these og (a ∷ []) tokens rest count said = og.run tokens rest count a said refl
 separated_opens_by mark g these og (a ∷ b ∷ more) tokens rest count said =
     let w = said in
-    let split : w.front ++ (w.rest ++ rest) ≡ tokens ++ rest = sym (append_assoc w.front w.rest rest) ∙ ap (λ ts. ts ++ rest) (sym w.joined) in
-    subst (λ ts. these (first_of ts).kind ≡ true) split (og.run w.front (w.rest ++ rest) w.front_count a w.first refl)
+    let split : w.prefix ++ (w.rest ++ rest) ≡ tokens ++ rest = sym (append_assoc w.prefix w.rest rest) ∙ ap (λ ts. ts ++ rest) (sym w.joined) in
+    subst (λ ts. these (first_of ts).kind ≡ true) split (og.run w.prefix (w.rest ++ rest) w.prefix_count a w.first refl)
 
 -- items begin as the first does
 pub separated_opens : {A : Type 0} (mark : Kind) {g : Form A} {next these : Kind → Bool} → Opens g always these → Opens (separated mark g) next these
 separated_opens mark {g = g} {these = these} og =
     record { run = λ tokens rest count all said stop. separated_opens_by mark g these og all tokens rest count said }
 
--- grouped to the left, and to the right
-pub regrouped : {A B C : Type 0} (g : Form A) (h : A → Form B) (f : B → Form C) (ts : List Token) (n : ℕ) (c : C) → sequence (sequence g h) f ts n c
-    → sequence g (λ a. sequence (h a) f) ts n c
-regrouped g h f ts n c said =
-    let w = said.1 in
-    let v = w.first.1 in (
-      w.first.0,
-      record {
-        front = v.front;
-        rest = v.rest ++ w.rest;
-        front_count = v.front_count;
-        rest_count = v.rest_count + w.rest_count;
-        joined = w.joined ∙ ap (λ us. us ++ w.rest) v.joined ∙ append_assoc v.front v.rest w.rest;
-        counted = omega (arith, w.counted, v.counted);
-        first = v.first;
-        second = (said.0, record { front = v.rest; rest = w.rest; front_count = v.rest_count; rest_count = w.rest_count; joined = refl; counted = refl; first = v.second; second = w.second });
-      },
-    )
-
 either_then_by : {A B : Type 0} (g h : Form A) (f : A → Form B) (ts : List Token) (n : ℕ) (b : B) (a : A) (w : Both (λ us m. (g or h) us m a) (λ us m. f a us m b) ts n)
-    → (g or h) w.front w.front_count a → (sequence g f or sequence h f) ts n b
+    → (g or h) w.prefix w.prefix_count a → (sequence g f or sequence h f) ts n b
 either_then_by g h f ts n b a w (inl first) =
-    inl (a, record { front = w.front; rest = w.rest; front_count = w.front_count; rest_count = w.rest_count; joined = w.joined; counted = w.counted; first = first; second = w.second })
+    inl (a, record { prefix = w.prefix; rest = w.rest; prefix_count = w.prefix_count; rest_count = w.rest_count; joined = w.joined; counted = w.counted; first = first; second = w.second })
 either_then_by g h f ts n b a w (inr first) =
-    inr (a, record { front = w.front; rest = w.rest; front_count = w.front_count; rest_count = w.rest_count; joined = w.joined; counted = w.counted; first = first; second = w.second })
+    inr (a, record { prefix = w.prefix; rest = w.rest; prefix_count = w.prefix_count; rest_count = w.rest_count; joined = w.joined; counted = w.counted; first = first; second = w.second })
 
 pub either_then : {A B : Type 0} (g h : Form A) (f : A → Form B) (ts : List Token) (n : ℕ) (b : B) → sequence (g or h) f ts n b → (sequence g f or sequence h f) ts n b
 either_then g h f ts n b said = either_then_by g h f ts n b said.0 said.1 said.1.first
@@ -110,23 +92,23 @@ pub first_onto : {A B C : Type 0} (g : Form A) (h : Form B) (f : Form C) → ((t
     → sequence g (λ _. f) ts n c → sequence h (λ _. f) ts n c
 first_onto g h f up ts n c said =
     let w = said.1 in
-    let u = up w.front w.front_count said.0 w.first in (
+    let u = up w.prefix w.prefix_count said.0 w.first in (
       u.0,
-      record { front = w.front; rest = w.rest; front_count = w.front_count; rest_count = w.rest_count; joined = w.joined; counted = w.counted; first = u.1; second = w.second },
+      record { prefix = w.prefix; rest = w.rest; prefix_count = w.prefix_count; rest_count = w.rest_count; joined = w.joined; counted = w.counted; first = u.1; second = w.second },
     )
 
 -- ---- the kind of the next token decides
 
 opening_run : {A : Type 0} (mode : Mode) (next these : Kind → Bool) (by : Kind → Reader A) (p : Reader A) (g : Form A) → Opens g next these
     → ((kd : Kind) → these kd ≡ true → by kd ≡ p) → Complete mode next p g
-    → (front rest : List Token) (count o : ℕ) (a : A) → g front count a → Enough mode count o → next (first_of rest).kind ≡ true
-    → Read mode (peek >>= by) (front ++ rest) rest count o a
+    → (prefix rest : List Token) (count o : ℕ) (a : A) → g prefix count a → Enough mode count o → next (first_of rest).kind ≡ true
+    → Read mode (peek >>= by) (prefix ++ rest) rest count o a
 unfolding head
-opening_run mode next these by p g og is cp front rest count o a said enough stop =
-    let found = (first_of (front ++ rest)).kind in
-    let opens : these found ≡ true = og.run front rest count a said stop in
-    let r : Read mode (by found) (front ++ rest) rest count o a =
-    subst (λ q. Read mode q (front ++ rest) rest count o a) (sym (is found opens)) (cp.run front rest count o a said enough stop) in
+opening_run mode next these by p g og is cp prefix rest count o a said enough stop =
+    let found = (first_of (prefix ++ rest)).kind in
+    let opens : these found ≡ true = og.run prefix rest count a said stop in
+    let r : Read mode (by found) (prefix ++ rest) rest count o a =
+    subst (λ q. Read mode q (prefix ++ rest) rest count o a) (sym (is found opens)) (cp.run prefix rest count o a said enough stop) in
     record { left = r.left; budget = r.budget; is = r.is }
 
 pub on_opening : {A : Type 0} {mode : Mode} {next : Kind → Bool} (these : Kind → Bool) (by : Kind → Reader A) {p : Reader A} {g : Form A} → Opens g next these
@@ -134,11 +116,11 @@ pub on_opening : {A : Type 0} {mode : Mode} {next : Kind → Bool} (these : Kind
 on_opening {mode = mode} {next = next} these by {p = p} {g = g} og is cp = record { run = opening_run mode next these by p g og is cp }
 
 any_kind_run : {A : Type 0} (mode : Mode) (next : Kind → Bool) (by : Kind → Reader A) (g : Form A) → ((kd : Kind) → Complete mode next (by kd) g)
-    → (front rest : List Token) (count o : ℕ) (a : A) → g front count a → Enough mode count o → next (first_of rest).kind ≡ true
-    → Read mode (peek >>= by) (front ++ rest) rest count o a
+    → (prefix rest : List Token) (count o : ℕ) (a : A) → g prefix count a → Enough mode count o → next (first_of rest).kind ≡ true
+    → Read mode (peek >>= by) (prefix ++ rest) rest count o a
 unfolding head
-any_kind_run mode next by g cp front rest count o a said enough stop =
-    let r : Read mode (by (first_of (front ++ rest)).kind) (front ++ rest) rest count o a = (cp (first_of (front ++ rest)).kind).run front rest count o a said enough stop in
+any_kind_run mode next by g cp prefix rest count o a said enough stop =
+    let r : Read mode (by (first_of (prefix ++ rest)).kind) (prefix ++ rest) rest count o a = (cp (first_of (prefix ++ rest)).kind).run prefix rest count o a said enough stop in
     record { left = r.left; budget = r.budget; is = r.is }
 
 pub any_kind : {A : Type 0} {mode : Mode} {next : Kind → Bool} (by : Kind → Reader A) {g : Form A} → ((kd : Kind) → Complete mode next (by kd) g) → Complete mode next (peek >>= by) g
@@ -146,26 +128,26 @@ any_kind {mode = mode} {next = next} by {g = g} cp = record { run = any_kind_run
 
 -- where this kind comes next, and where another does
 seen_run : {A : Type 0} (mode : Mode) (next : Kind → Bool) (kd : Kind) (p q : Reader A) (g : Form A) → Opens g next (only kd) → Complete mode next p g
-    → (front rest : List Token) (count o : ℕ) (a : A) → g front count a → Enough mode count o → next (first_of rest).kind ≡ true
-    → Read mode (λ i. if sees kd i then p i else q i) (front ++ rest) rest count o a
+    → (prefix rest : List Token) (count o : ℕ) (a : A) → g prefix count a → Enough mode count o → next (first_of rest).kind ≡ true
+    → Read mode (λ i. if sees kd i then p i else q i) (prefix ++ rest) rest count o a
 unfolding sees head
-seen_run mode next kd p q g og cp front rest count o a said enough stop =
-    let i : Input = record { ahead = front ++ rest; operators = o } in
-    let r = cp.run front rest count o a said enough stop in
-    record { left = r.left; budget = r.budget; is = ap (λ b. if b then p i else q i) (og.run front rest count a said stop) ∙ r.is }
+seen_run mode next kd p q g og cp prefix rest count o a said enough stop =
+    let i : Input = record { ahead = prefix ++ rest; operators = o } in
+    let r = cp.run prefix rest count o a said enough stop in
+    record { left = r.left; budget = r.budget; is = ap (λ b. if b then p i else q i) (og.run prefix rest count a said stop) ∙ r.is }
 
 pub seen : {A : Type 0} {mode : Mode} {next : Kind → Bool} (kd : Kind) (p q : Reader A) {g : Form A} → Opens g next (only kd) → Complete mode next p g
     → Complete mode next (λ i. if sees kd i then p i else q i) g
 seen {mode = mode} {next = next} kd p q {g = g} og cp = record { run = seen_run mode next kd p q g og cp }
 
 unseen_run : {A : Type 0} (mode : Mode) (next these : Kind → Bool) (kd : Kind) (p q : Reader A) (g : Form A) → Opens g next these → these kd ≡ false → Complete mode next q g
-    → (front rest : List Token) (count o : ℕ) (a : A) → g front count a → Enough mode count o → next (first_of rest).kind ≡ true
-    → Read mode (λ i. if sees kd i then p i else q i) (front ++ rest) rest count o a
+    → (prefix rest : List Token) (count o : ℕ) (a : A) → g prefix count a → Enough mode count o → next (first_of rest).kind ≡ true
+    → Read mode (λ i. if sees kd i then p i else q i) (prefix ++ rest) rest count o a
 unfolding sees head
-unseen_run mode next these kd p q g og out cp front rest count o a said enough stop =
-    let i : Input = record { ahead = front ++ rest; operators = o } in
-    let r = cp.run front rest count o a said enough stop in
-    let other = unlike these kd out (first_of (front ++ rest)).kind (og.run front rest count a said stop) in
+unseen_run mode next these kd p q g og out cp prefix rest count o a said enough stop =
+    let i : Input = record { ahead = prefix ++ rest; operators = o } in
+    let r = cp.run prefix rest count o a said enough stop in
+    let other = unlike these kd out (first_of (prefix ++ rest)).kind (og.run prefix rest count a said stop) in
     record { left = r.left; budget = r.budget; is = ap (λ b. if b then p i else q i) other ∙ r.is }
 
 pub unseen : {A : Type 0} {mode : Mode} {next : Kind → Bool} (these : Kind → Bool) (kd : Kind) (p q : Reader A) {g : Form A} → Opens g next these → these kd ≡ false
@@ -175,14 +157,14 @@ unseen {mode = mode} {next = next} these kd p q {g = g} og out cp = record { run
 -- a word that would be taken does not come next
 uneaten_run : {A : Type 0} (mode : Mode) (next these : Kind → Bool) (kd : Kind) (f : Bool → Reader A) (g : Form A) → Opens g next these → these kd ≡ false
     → Complete mode next (f false) g
-    → (front rest : List Token) (count o : ℕ) (a : A) → g front count a → Enough mode count o → next (first_of rest).kind ≡ true
-    → Read mode (eat kd >>= f) (front ++ rest) rest count o a
+    → (prefix rest : List Token) (count o : ℕ) (a : A) → g prefix count a → Enough mode count o → next (first_of rest).kind ≡ true
+    → Read mode (eat kd >>= f) (prefix ++ rest) rest count o a
 unfolding sees head after next
-uneaten_run mode next these kd f g og out cp front rest count o a said enough stop =
-    let i : Input = record { ahead = front ++ rest; operators = o } in
-    let r = cp.run front rest count o a said enough stop in
-    let other = unlike these kd out (first_of (front ++ rest)).kind (og.run front rest count a said stop) in
-    record { left = r.left; budget = r.budget; is = ap (λ b. f b (if b then record { ahead = drop 1 (front ++ rest); operators = o } else i)) other ∙ r.is }
+uneaten_run mode next these kd f g og out cp prefix rest count o a said enough stop =
+    let i : Input = record { ahead = prefix ++ rest; operators = o } in
+    let r = cp.run prefix rest count o a said enough stop in
+    let other = unlike these kd out (first_of (prefix ++ rest)).kind (og.run prefix rest count a said stop) in
+    record { left = r.left; budget = r.budget; is = ap (λ b. f b (if b then record { ahead = drop 1 (prefix ++ rest); operators = o } else i)) other ∙ r.is }
 
 pub uneaten : {A : Type 0} {mode : Mode} {next : Kind → Bool} (these : Kind → Bool) (kd : Kind) (f : Bool → Reader A) {g : Form A} → Opens g next these → these kd ≡ false
     → Complete mode next (f false) g → Complete mode next (eat kd >>= f) g
@@ -190,13 +172,13 @@ uneaten {mode = mode} {next = next} these kd f {g = g} og out cp = record { run 
 
 -- it does
 eaten_then_run : {A : Type 0} (mode : Mode) (next : Kind → Bool) (kd : Kind) (f : Bool → Reader A) (g : Form A) → Complete mode next (f true) g
-    → (front rest : List Token) (count o : ℕ) (a : A) → sequence (word kd) (λ _. g) front count a → Enough mode count o → next (first_of rest).kind ≡ true
-    → Read mode (eat kd >>= f) (front ++ rest) rest count o a
+    → (prefix rest : List Token) (count o : ℕ) (a : A) → sequence (word kd) (λ _. g) prefix count a → Enough mode count o → next (first_of rest).kind ≡ true
+    → Read mode (eat kd >>= f) (prefix ++ rest) rest count o a
 unfolding sees head after next
-eaten_then_run mode next kd f g cp front rest count o a said enough stop =
+eaten_then_run mode next kd f g cp prefix rest count o a said enough stop =
     let w = said.1 in
     let t = w.first.0 in
-    let tokens : front ≡ t ∷ w.rest = w.joined ∙ ap (λ ts. ts ++ w.rest) w.first.1 in
+    let tokens : prefix ≡ t ∷ w.rest = w.joined ∙ ap (λ ts. ts ++ w.rest) w.first.1 in
     let counts : w.rest_count ≡ count = omega (arith, w.counted, w.first.3) in
     let r : Read mode (f true) (w.rest ++ rest) rest count o a =
     subst (λ n. Read mode (f true) (w.rest ++ rest) rest n o a) counts
@@ -215,21 +197,21 @@ eaten_then {mode = mode} {next = next} kd f {g = g} cp = record { run = eaten_th
 
 whether_by : {A : Type 0} (mode : Mode) (next : Kind → Bool) (p : Reader A) (kd : Kind) (h : Bool → Form A) → Complete mode next p (h false)
     → Complete mode next p (sequence (word kd) (λ _. h true))
-    → (b : Bool) (front rest : List Token) (count o : ℕ) (a : A) → Both (λ ts n. whether (word kd) ts n b) (λ ts n. h b ts n a) front count → Enough mode count o
-    → next (first_of rest).kind ≡ true → Read mode p (front ++ rest) rest count o a
-whether_by mode next p kd h without with_word false front rest count o a w enough stop =
-    let tokens : w.rest ≡ front = sym (w.joined ∙ ap (λ ts. ts ++ w.rest) w.first.0) in
+    → (b : Bool) (prefix rest : List Token) (count o : ℕ) (a : A) → Both (λ ts n. whether (word kd) ts n b) (λ ts n. h b ts n a) prefix count → Enough mode count o
+    → next (first_of rest).kind ≡ true → Read mode p (prefix ++ rest) rest count o a
+whether_by mode next p kd h without with_word false prefix rest count o a w enough stop =
+    let tokens : w.rest ≡ prefix = sym (w.joined ∙ ap (λ ts. ts ++ w.rest) w.first.0) in
     let counts : w.rest_count ≡ count = omega (arith, w.counted, w.first.1) in
-    without.run front rest count o a (subst (λ ts. h false ts count a) tokens (subst (λ n. h false w.rest n a) counts w.second)) enough stop
-whether_by mode next p kd h without with_word true front rest count o a w enough stop =
-    with_word.run front rest count o a
-    (tt, record { front = w.front; rest = w.rest; front_count = w.front_count; rest_count = w.rest_count; joined = w.joined; counted = w.counted; first = w.first; second = w.second })
+    without.run prefix rest count o a (subst (λ ts. h false ts count a) tokens (subst (λ n. h false w.rest n a) counts w.second)) enough stop
+whether_by mode next p kd h without with_word true prefix rest count o a w enough stop =
+    with_word.run prefix rest count o a
+    (tt, record { prefix = w.prefix; rest = w.rest; prefix_count = w.prefix_count; rest_count = w.rest_count; joined = w.joined; counted = w.counted; first = w.first; second = w.second })
     enough stop
 
 pub whether_before : {A : Type 0} {mode : Mode} {next : Kind → Bool} {p : Reader A} (kd : Kind) {h : Bool → Form A} → Complete mode next p (h false)
     → Complete mode next p (sequence (word kd) (λ _. h true)) → Complete mode next p (sequence (whether (word kd)) h)
 whether_before {mode = mode} {next = next} {p = p} kd {h = h} without with_word =
-    record { run = λ front rest count o a said enough stop. whether_by mode next p kd h without with_word said.0 front rest count o a said.1 enough stop }
+    record { run = λ prefix rest count o a said enough stop. whether_by mode next p kd h without with_word said.0 prefix rest count o a said.1 enough stop }
 
 -- ---- one token, of which its kind tells what it says
 
@@ -258,10 +240,10 @@ one_says : {A : Type 0} (g : Form (Unit {0})) (kd : Kind) (counted : ℕ) (a : A
     → (tokens : List Token) (count : ℕ) (b : A) → sequence g (λ _. says a) tokens count b → One tells counted tokens count b
 one_says g kd counted a tells sg holds tokens count b said =
     let w = said.1 in
-    let one = sg.run w.front w.front_count said.0 w.first in
+    let one = sg.run w.prefix w.prefix_count said.0 w.first in
     record {
       token = one.token;
-      joined = w.joined ∙ ap (λ ts. w.front ++ ts) w.second.0 ∙ append-nil w.front ∙ one.joined;
+      joined = w.joined ∙ ap (λ ts. w.prefix ++ ts) w.second.0 ∙ append-nil w.prefix ∙ one.joined;
       counts = omega (arith, w.counted, w.second.1, one.counts);
       is = subst (λ x. tells one.token.kind x) (sym w.second.2) (subst (λ found. tells found a) (sym one.is) holds);
     }
@@ -273,14 +255,14 @@ sign {g = g} kd {counted = counted} {a = a} {tells = tells} sg holds = record { 
 
 sign_run : {A B : Type 0} (mode : Mode) (next : Kind → Bool) (g : Form A) (tells : Kind → A → Type 0) (h : A → Form B) (by : Kind → Reader B) (q : A → Reader B) → Sign g tells 0
     → ((kd : Kind) (a : A) → tells kd a → by kd ≡ (take_token >>= (λ _. q a))) → ((a : A) → Complete mode next (q a) (h a))
-    → (front rest : List Token) (count o : ℕ) (b : B) → sequence g h front count b → Enough mode count o → next (first_of rest).kind ≡ true
-    → Read mode (peek >>= by) (front ++ rest) rest count o b
+    → (prefix rest : List Token) (count o : ℕ) (b : B) → sequence g h prefix count b → Enough mode count o → next (first_of rest).kind ≡ true
+    → Read mode (peek >>= by) (prefix ++ rest) rest count o b
 unfolding head next
-sign_run mode next g tells h by q sg is cp front rest count o b said enough stop =
+sign_run mode next g tells h by q sg is cp prefix rest count o b said enough stop =
     let w = said.1 in
-    let one = sg.run w.front w.front_count said.0 w.first in
+    let one = sg.run w.prefix w.prefix_count said.0 w.first in
     let t = one.token in
-    let tokens : front ≡ t ∷ w.rest = w.joined ∙ ap (λ ts. ts ++ w.rest) one.joined in
+    let tokens : prefix ≡ t ∷ w.rest = w.joined ∙ ap (λ ts. ts ++ w.rest) one.joined in
     let counts : w.rest_count ≡ count = omega (arith, w.counted, one.counts) in
     let r : Read mode (q said.0) (w.rest ++ rest) rest count o b =
     subst (λ n. Read mode (q said.0) (w.rest ++ rest) rest n o b) counts
@@ -312,17 +294,17 @@ module _ {A : Type 0} (mode : Mode) (mark : Kind) (item : Reader A) (form : Form
   abbrev behind : A → Form (List A)
   behind first = sequence (separated mark form) (λ more. says (first ∷ more))
 
-  behind_by : (first : A) (front rest : List Token) (count o : ℕ) (all : List A) → behind first front count all → Enough mode count o → t (first_of rest).kind ≡ true
-      → Read mode (λ i. separated_from mark item (length i.ahead) (first ∷ []) i) (front ++ rest) rest count o all
-  behind_by first front rest count o all said enough stop =
+  behind_by : (first : A) (prefix rest : List Token) (count o : ℕ) (all : List A) → behind first prefix count all → Enough mode count o → t (first_of rest).kind ≡ true
+      → Read mode (λ i. separated_from mark item (length i.ahead) (first ∷ []) i) (prefix ++ rest) rest count o all
+  behind_by first prefix rest count o all said enough stop =
       let w = said.1 in
-      let tokens : w.front ≡ front = sym (w.joined ∙ ap (λ ts. w.front ++ ts) w.second.0 ∙ append-nil w.front) in
-      let counts : w.front_count ≡ count = omega (arith, w.counted, w.second.1) in
-      let items : separated mark form front count said.0 = subst (λ ts. separated mark form ts count said.0) tokens (subst (λ n. separated mark form w.front n said.0) counts w.first) in
-      let fits = items_fit mark form solid said.0 front count items in
-      let long = length-append front rest in
-      let r = all_read mode mark item form s t cp marks within (λ y e. unlike t mark other y e) (length (front ++ rest)) said.0 (first ∷ []) front rest count o (omega arith) items enough stop in
-      subst (λ found. Read mode (λ i. separated_from mark item (length i.ahead) (first ∷ []) i) (front ++ rest) rest count o found) (sym w.second.2)
+      let tokens : w.prefix ≡ prefix = sym (w.joined ∙ ap (λ ts. w.prefix ++ ts) w.second.0 ∙ append-nil w.prefix) in
+      let counts : w.prefix_count ≡ count = omega (arith, w.counted, w.second.1) in
+      let items : separated mark form prefix count said.0 = subst (λ ts. separated mark form ts count said.0) tokens (subst (λ n. separated mark form w.prefix n said.0) counts w.first) in
+      let fits = items_fit mark form solid said.0 prefix count items in
+      let long = length-append prefix rest in
+      let r = all_read mode mark item form s t cp marks within (λ y e. unlike t mark other y e) (length (prefix ++ rest)) said.0 (first ∷ []) prefix rest count o (omega arith) items enough stop in
+      subst (λ found. Read mode (λ i. separated_from mark item (length i.ahead) (first ∷ []) i) (prefix ++ rest) rest count o found) (sym w.second.2)
       (record { left = r.left; budget = r.budget; is = r.is })
 
   behind_read : (first : A) → Complete mode t (λ i. separated_from mark item (length i.ahead) (first ∷ []) i) (behind first)
@@ -340,9 +322,9 @@ module _ {A : Type 0} (mode : Mode) (mark : Kind) (item : Reader A) (form : Form
     alone ts n a said = (
       a,
       record {
-        front = ts;
+        prefix = ts;
         rest = [];
-        front_count = n;
+        prefix_count = n;
         rest_count = 0;
         joined = sym (append-nil ts);
         counted = omega arith;
@@ -353,20 +335,9 @@ module _ {A : Type 0} (mode : Mode) (mark : Kind) (item : Reader A) (form : Form
 
     listed_up : (ts : List Token) (n : ℕ) (a : A) → sequence (several mark form) (λ found. says (list found)) ts n a → sequence form tail ts n a
     listed_up ts n a said =
-        let one = regrouped form (λ first. sequence (word mark) (λ _. behind first)) (λ found. says (list found)) ts n a said in
-        let w = one.1 in (
-          one.0,
-          record {
-            front = w.front;
-            rest = w.rest;
-            front_count = w.front_count;
-            rest_count = w.rest_count;
-            joined = w.joined;
-            counted = w.counted;
-            first = w.first;
-            second = inl (regrouped (word mark) (λ _. behind one.0) (λ found. says (list found)) w.rest w.rest_count a w.second);
-          },
-        )
+        then_to form (λ first. sequence (sequence (word mark) (λ _. behind first)) (λ found. says (list found))) tail a a
+        (λ first us m s. inl (regrouped (word mark) (λ _. behind first) (λ found. says (list found)) us m a s)) ts n
+        (regrouped form (λ first. sequence (word mark) (λ _. behind first)) (λ found. says (list found)) ts n a said)
 
     list_up : (ts : List Token) (n : ℕ) (a : A) → (form or sequence (several mark form) (λ found. says (list found))) ts n a → sequence form tail ts n a
     list_up ts n a (inl said) = alone ts n a said

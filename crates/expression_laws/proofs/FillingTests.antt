@@ -19,9 +19,10 @@ use Rattle.script_expr.specs.Expr as r
 use Rattle.script_forms.specs.Form.{Form, sequence, says, word, whether, separated, ◌or◌}
 use Rattle.script_forms.specs.Basics as basic
 use Rattle.script_forms.specs.Expressions as form
+use Rattle.grammar_laws.proofs.Sequences.{regrouped}
 use Rattle.grammar_laws.proofs.Filling.{Complete, Opens, always, both, then_any, less, made, expected, taken, eaten, on_word, either, made_opens, word_opens, then_opens, first_opens, whether_opens, either_opens}
 use Rattle.grammar_laws.proofs.FillingBasics.{listed, closes}
-use Rattle.expression_laws.proofs.FillingSteps.{inside, unlike, only, onto, separated_opens, regrouped, either_then, says_then, on_opening, on_sign, uneaten, eaten_then, whether_before, Sign, sign, either_sign, word_one, sign_opens}
+use Rattle.expression_laws.proofs.FillingSteps.{inside, unlike, only, onto, separated_opens, either_then, says_then, on_opening, on_sign, uneaten, eaten_then, whether_before, Sign, sign, either_sign, word_one, sign_opens}
 use Rattle.expression_laws.proofs.FillingKinds.{begins_sum, begins_expression, ends_sum, ends_comparison, ends_expression, comparison_ends_sum, ends_comparison_test}
 use Rattle.expression_laws.proofs.FillingLiterals.{literal_read, literal_opens, literal_solid}
 use Rattle.expression_laws.proofs.FillingAtoms.{deeper_read, sum_read, sum_opens}

@@ -39,16 +39,16 @@ nested_form depth kd g = sequence (nesting depth kd) (λ _. g)
 behind : {A : Type 0} (room outer lower : ℕ) → outer ≤ lower + 1 → (kd : Kind) → opens kd ≡ 1 → room ≢ 0 → (g : Form A) (t : Token) (ts : List Token) (o : ℕ) → t.kind ≡ kd
     → (out : Outcome A) → Kept (Inside lower) g (record { ahead = ts; operators = o }) out → Kept (Inside outer) (nested_form room kd g) (record { ahead = t ∷ ts; operators = o }) out
 behind room outer lower near kd one some g t ts o is (Ok q) u = record {
-  front = t ∷ u.front;
+  prefix = t ∷ u.prefix;
   count = u.count;
   joined = ap (λ us. t ∷ us) u.joined;
   budget = u.budget;
   said = (
     tt,
     record {
-      front = t ∷ [];
-      rest = u.front;
-      front_count = 0;
+      prefix = t ∷ [];
+      rest = u.prefix;
+      prefix_count = 0;
       rest_count = u.count;
       joined = refl;
       counted = omega arith;
@@ -66,9 +66,9 @@ behind room outer lower near kd one some g t ts o is (Err e) (Behind before afte
       said = (
         tt,
         record {
-          front = t ∷ [];
+          prefix = t ∷ [];
           rest = before ++ done.more;
-          front_count = 0;
+          prefix_count = 0;
           rest_count = done.count;
           joined = refl;
           counted = omega arith;
@@ -87,9 +87,9 @@ some_nested room kd some any = record {
   said = (
     tt,
     record {
-      front = token_of kd ∷ [];
+      prefix = token_of kd ∷ [];
       rest = any.tokens;
-      front_count = 0;
+      prefix_count = 0;
       rest_count = 0;
       joined = refl;
       counted = refl;

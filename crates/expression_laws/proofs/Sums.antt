@@ -10,7 +10,7 @@ use Rattle.script_forms.specs.Form.{Form}
 use Rattle.script_forms.specs.Expressions as form
 use Rattle.script_forms.specs.Expressions.{Place}
 use Rattle.grammar_laws.proofs.Taking.{Inside, Sound, Inhabited}
-use Rattle.expression_laws.proofs.Steps.{then_says}
+use Rattle.grammar_laws.proofs.Sequences.{then_says}
 use Rattle.expression_laws.proofs.Nesting.{Fits, place}
 use Rattle.expression_laws.proofs.Chains.{JoinsBy, chain_read, some_chain}
 use Rattle.expression_laws.proofs.Atoms.{unary_read, some_unary}

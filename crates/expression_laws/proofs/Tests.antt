@@ -21,7 +21,8 @@ use Rattle.grammar_laws.proofs.Steps.{both, both_at, at, made, some_made, some_b
 use Rattle.grammar_laws.proofs.Options.{eaten}
 use Rattle.grammar_laws.proofs.Lists.{listed}
 use Rattle.grammar_laws.proofs.Basics.{literal_read, some_literal}
-use Rattle.expression_laws.proofs.Steps.{Within, within_at, within, then_says, none_before, first_within, first_as, regrouped, ungrouped, either_up, either_second, with_word, without_word, either_word, mapped}
+use Rattle.grammar_laws.proofs.Sequences.{regrouped, then_says}
+use Rattle.expression_laws.proofs.Steps.{Within, within_at, within, none_before, first_within, first_as, grouped_left, either_up, either_second, with_word, without_word, either_word, mapped}
 use Rattle.expression_laws.proofs.Nesting.{Fits, place, nested_form, behind_nesting}
 use Rattle.expression_laws.proofs.Sums.{sum_read, some_sum}
 
@@ -118,11 +119,11 @@ module _ (depth : ℕ) (inner : Place → Form Syn) where
 
   equal_null_up : (left : Syn) → Within (sequence (word k.Equal) (λ _. null_form false left)) (form.tested depth inner left)
   unfolding null_form
-  equal_null_up left ts n a s = inr (inr (inl (regrouped (word k.Equal) (λ _. word k.Null) (λ _. says (e.IsNull false left)) ts n a s)))
+  equal_null_up left ts n a s = inr (inr (inl (grouped_left (word k.Equal) (λ _. word k.Null) (λ _. says (e.IsNull false left)) ts n a s)))
 
   unlike_null_up : (left : Syn) → Within (sequence (word k.NotEqual) (λ _. null_form true left)) (form.tested depth inner left)
   unfolding null_form
-  unlike_null_up left ts n a s = inr (inr (inr (inl (regrouped (word k.NotEqual) (λ _. word k.Null) (λ _. says (e.IsNull true left)) ts n a s))))
+  unlike_null_up left ts n a s = inr (inr (inr (inl (grouped_left (word k.NotEqual) (λ _. word k.Null) (λ _. says (e.IsNull true left)) ts n a s))))
 
   equal_up : (left : Syn) → Within (sequence (word k.Equal) (λ _. null_form false left or against (e.Compare compare.Equal left))) (form.tested depth inner left)
   equal_up left =
@@ -197,7 +198,7 @@ module _ (depth room outer lower : ℕ) (fits : Fits depth room outer lower) (ex
       within_at
       (both_at (λ j. and_then (take_token j) (λ _. r.members depth expr)) i whole (members_at i whole is) (λ found. made (e.InList negated left found))
       (λ found. some_made (e.InList negated left found)))
-      (ungrouped (word k.In) (λ _. nested_form room k.LParen listing) (λ found. says (e.InList negated left found)))
+      (regrouped (word k.In) (λ _. nested_form room k.LParen listing) (λ found. says (e.InList negated left found)))
 
   bounds_read : (negated : Bool) (left : Syn) → Sound (Inside outer) (r.between depth expr negated left) (between_bounds room inner negated left)
   unfolding r.between between_bounds

@@ -16,7 +16,7 @@ abbrev counted : Input → Input
 counted i = record i { operators = 1000 }
 
 around : (i : Input) (out : Outcome Syn) → Kept (Inside 100) (nested 101 Anywhere) (counted i) out → Kept Around expression i out
-around i (Ok p) t = record { front = t.front; count = 0; joined = t.joined; budget = refl; said = (t.count, t.said, omega (arith, t.budget), refl) }
+around i (Ok p) t = record { prefix = t.prefix; count = 0; joined = t.joined; budget = refl; said = (t.count, t.said, omega (arith, t.budget), refl) }
 around i (Err e) (Behind before after split at done) =
     Behind before after split at (record { more = done.more; count = 0; value = done.value; enough = refl; said = (done.count, done.said, done.enough, refl) })
 around i (Err e) (TooDeep before after u dp split at wants) = TooDeep before after u dp split at wants
@@ -25,13 +25,13 @@ pub whole_sound : Sound Around r.whole expression
 unfolding r.whole
 whole_sound = record { run = λ i whole. around i (r.expr 101 level.Whole (counted i)) ((nested_read 100 level.Whole).run (counted i) whole) }
 
--- no front of tokens has more that nest than all of them
+-- no prefix of tokens has more that nest than all of them
 few : (ahead before after : List Token) (t : Token) → ahead ≡ (before ++ t ∷ []) ++ after → openings before ≤ openings ahead
 few ahead before after t split = omega (arith, ap openings split, openings_append (before ++ t ∷ []) after, openings_append before (t ∷ []))
 
--- where one more may nest, whatever is refused ends a viable front
+-- where one more may nest, whatever is refused ends a viable prefix
 wide : (i : Input) (out : Outcome Syn) → Kept (Inside (suc (openings i.ahead) + 100)) (nested 102 Anywhere) (counted i) out → Kept Plain (expression_to 101) i out
-wide i (Ok p) t = record { front = t.front; count = 0; joined = t.joined; budget = refl; said = (t.count, t.said, omega (arith, t.budget), refl) }
+wide i (Ok p) t = record { prefix = t.prefix; count = 0; joined = t.joined; budget = refl; said = (t.count, t.said, omega (arith, t.budget), refl) }
 wide i (Err e) (Behind before after split at done) =
     Behind before after split at (record { more = done.more; count = 0; value = done.value; enough = refl; said = (done.count, done.said, done.enough, refl) })
 wide i (Err e) (TooDeep before after u dp split at wants) = absurd (omega (arith, dp, few i.ahead before after u split))

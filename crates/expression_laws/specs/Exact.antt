@@ -15,9 +15,9 @@ use Rattle.grammar_laws.specs.Nesting.{openings, nests}
 
 -- the tokens before the rest say this
 pub record SaysBefore (ahead rest : List Token) (found : Syn) : Type 0 where
-  pub front : List Token
-  pub joined : ahead ≡ front ++ rest
-  pub said : expression front 0 found
+  pub prefix : List Token
+  pub joined : ahead ≡ prefix ++ rest
+  pub said : expression prefix 0 found
 
 -- what may go on with an expression: an operator, what begins a comparison's second part, `and` and `or`
 abbrev pub goes_on : Kind → Bool
@@ -54,7 +54,7 @@ pub record Begins (form : Form Syn) (before : List Token) : Type 0 where
   pub said : form (before ++ more) 0 found
 
 -- a refused token, the tokens before which begin some expression of the form
-pub record EndsAViableFront (form : Form Syn) (ahead : List Token) (e : Fault) : Type 0 where
+pub record EndsAViablePrefix (form : Form Syn) (ahead : List Token) (e : Fault) : Type 0 where
   pub before : List Token
   pub after : List Token
   pub joined : ahead ≡ before ++ after
@@ -91,8 +91,8 @@ IsRefused there = (line : List ℕ) (before : List Token) (i : Input) (e : Fault
 
 -- The tokens before the refused one begin some expression, in which one more may nest than in those that are read.
 abbrev pub RefusesNoSooner : Type 0
-RefusesNoSooner = IsRefused (EndsAViableFront (expression_to 101))
+RefusesNoSooner = IsRefused (EndsAViablePrefix (expression_to 101))
 
 -- They begin an expression that is read, but where a parenthesis must come next that would be nested in a hundred.
 abbrev pub RefusesSoonerInDepthAlone : Type 0
-RefusesSoonerInDepthAlone = IsRefused (λ ahead e. EndsAViableFront expression ahead e ⊎ EndsInDepth ahead e)
+RefusesSoonerInDepthAlone = IsRefused (λ ahead e. EndsAViablePrefix expression ahead e ⊎ EndsInDepth ahead e)

@@ -37,7 +37,7 @@ module _ (c : Mode) (excluded : Kind → Bool) (free : excluded k.Quoted ≡ fal
       → Kept c (form.name_but excluded) (record { ahead = t ∷ ts; operators = o }) (n.named_by (if fits then Some found else None) (record { ahead = t ∷ ts; operators = o }))
   unfolding next
   long_by t ts o found other is holds true fits =
-      record { front = t ∷ []; count = 0; joined = refl; budget = budget_none c o; said = (t, refl, other, is, holds, fits, refl) }
+      record { prefix = t ∷ []; count = 0; joined = refl; budget = budget_none c o; said = (t, refl, other, is, holds, fits, refl) }
   long_by t ts o found other is holds false fits = refused_here _ (record { ahead = t ∷ ts; operators = o }) (some_name_but excluded free)
 
   token_by : (t : Token) (ts : List Token) (o : ℕ) → excluded t.kind ≡ false → (no : Bool) → is_no_name t.kind ≡ no → (held : Content) → t.content ≡ held
@@ -91,14 +91,14 @@ signed_by : (c : Mode) (t : Token) (ts : List Token) (o : ℕ) (found : Value) �
     → Kept c form.literal (record { ahead = t ∷ ts; operators = o }) (Ok (found, record { ahead = drop 1 ts; operators = o }))
 signed_by c t [] o found is whole signed = absurd (whole signed)
 signed_by c t (d ∷ ds) o found is whole signed =
-    record { front = t ∷ d ∷ []; count = 0; joined = refl; budget = budget_none c o; said = inr (t, d, refl, signed, is, refl) }
+    record { prefix = t ∷ d ∷ []; count = 0; joined = refl; budget = budget_none c o; said = inr (t, d, refl, signed, is, refl) }
 
 past_by : (c : Mode) (t : Token) (ts : List Token) (o : ℕ) (found : Value) → l.literal_in t.kind t.content ≡ Some found → Whole (t ∷ ts) → (signed : Bool)
     → same_kind t.kind k.Signed ≡ signed
     → Kept c form.literal (record { ahead = t ∷ ts; operators = o }) (Ok (found, if signed then record { ahead = drop 1 ts; operators = o } else record { ahead = ts; operators = o }))
 past_by c t ts o found is whole true signed = signed_by _ t ts o found is whole (same signed)
 past_by c t ts o found is whole false signed =
-    record { front = t ∷ []; count = 0; joined = refl; budget = budget_none c o; said = inl (t, refl, differs signed, is, refl) }
+    record { prefix = t ∷ []; count = 0; joined = refl; budget = budget_none c o; said = inl (t, refl, differs signed, is, refl) }
 
 value_by : (c : Mode) (t : Token) (ts : List Token) (o : ℕ) → Whole (t ∷ ts) → (found : Option Value) → l.literal_in t.kind t.content ≡ found
     → Kept c form.literal (record { ahead = t ∷ ts; operators = o }) (l.literal_by found (record { ahead = t ∷ ts; operators = o }))
@@ -117,17 +117,17 @@ literal_read = record { run = λ i whole. literal_by _ i.ahead i.operators whole
 
 -- ---- numbers without a minus
 
-number : Token
+-- a token of digits
+abbrev pub number : Token
 number = record { kind = k.Number; content = content.Number 0; at = 0 }
 
 pub some_int : Inhabited form.int
-unfolding number
 some_int = record { tokens = number ∷ []; value = 0; said = (number, refl, refl, refl, refl, refl) }
 
 int_within : (c : Mode) (t : Token) (ts : List Token) (o : ℕ) (m : ℕ) → t.kind ≡ k.Number → t.content ≡ content.Number m → (fits : Bool) → nat_lt m (2 ^ 63) ≡ fits
     → Kept c form.int (record { ahead = t ∷ ts; operators = o }) (l.int_by (if fits then Some m else None) (record { ahead = t ∷ ts; operators = o }))
 unfolding next head
-int_within c t ts o m is holds true fits = record { front = t ∷ []; count = 0; joined = refl; budget = budget_none c o; said = (t, refl, is, holds, fits, refl) }
+int_within c t ts o m is holds true fits = record { prefix = t ∷ []; count = 0; joined = refl; budget = budget_none c o; said = (t, refl, is, holds, fits, refl) }
 int_within c t ts o m is holds false fits = refused_here _ (record { ahead = t ∷ ts; operators = o }) some_int
 
 int_by : (c : Mode) (t : Token) (ts : List Token) (o : ℕ) (kd : Kind) → t.kind ≡ kd → (held : Content) → t.content ≡ held

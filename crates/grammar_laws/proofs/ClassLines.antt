@@ -15,6 +15,7 @@ use Rattle.script_forms.specs.Basics as basic
 use Rattle.script_forms.specs.ClassLines as form
 use Rattle.grammar_laws.proofs.Taking.{Mode, Took, Refused, Behind, TooDeep, Kept, Out, Whole, Sound, Inhabited}
 use Rattle.grammar_laws.proofs.Steps.{whole_rest, whole_next, budget_more, enough_more, deep_behind, both, both_taken, made, some_both, some_made, some_left, some_right, some_word, left_of, right_of, refused_here, refused_at, at, is_end, expected, taken_by, taken_at, behind_word, on_kind}
+use Rattle.grammar_laws.proofs.Sequences.{then_value, then_says}
 use Rattle.grammar_laws.proofs.Options.{if_word, introduced, eaten}
 use Rattle.grammar_laws.proofs.Lists.{more_items, joined_three, some_list}
 use Rattle.grammar_laws.proofs.Basics.{named, some_name, names_read}
@@ -28,10 +29,10 @@ dash_taken : {m : Mode} (xs : List Token) (o : ℕ) (minus signed : Bool) → sa
     → (minus || signed) ≡ true → Took m form.dash (record { ahead = xs; operators = o }) tt (record { ahead = drop 1 xs; operators = o })
 dash_taken {m = m} xs o true signed is _ seen =
     let t : Took m (word k.Minus) (record { ahead = xs; operators = o }) tt (record { ahead = drop 1 xs; operators = o }) = taken_by k.Minus refl xs o (same is) in
-    record { front = t.front; count = t.count; joined = t.joined; budget = t.budget; said = inl t.said }
+    record { prefix = t.prefix; count = t.count; joined = t.joined; budget = t.budget; said = inl t.said }
 dash_taken {m = m} xs o false true _ is seen =
     let t : Took m (word k.Signed) (record { ahead = xs; operators = o }) tt (record { ahead = drop 1 xs; operators = o }) = taken_by k.Signed refl xs o (same is) in
-    record { front = t.front; count = t.count; joined = t.joined; budget = t.budget; said = inr t.said }
+    record { prefix = t.prefix; count = t.count; joined = t.joined; budget = t.budget; said = inr t.said }
 dash_taken xs o false false _ _ seen = absurd (false_true seen)
   where
     false_true : false ≡ true → ⊥
@@ -57,16 +58,12 @@ WordKept : Mode → Cascade → Input → Outcome Cascade → Type 0
 WordKept m so_far i (Ok p) = (w : Cascade) × (p.0 ≡ form.joined w so_far) × Took m form.cascade_word i w p.1
 WordKept m so_far i (Err e) = Refused m form.cascade_word i e
 
-then_says : {A B : Type 0} (g : Form A) (w : B) (ts : List Token) (n : ℕ) (a : A) → g ts n a → sequence g (λ _. says w) ts n w
-then_says g w ts n a s =
-    (a, record { front = ts; rest = []; front_count = n; rest_count = 0; joined = sym (append-nil ts); counted = omega arith; first = s; second = (refl, refl, refl) })
-
 -- tokens that stand for a word, and the word
 word_after : (m : Mode) (g : Form (Unit {0})) (w so_far : Cascade) → ((ts : List Token) (n : ℕ) → sequence g (λ _. says w) ts n w → form.cascade_word ts n w) → (i : Input)
     → (out : Outcome (Unit {0})) → Kept m g i out → WordKept m so_far i (and_then out (λ _. pure (form.joined w so_far)))
 unfolding WordKept
 word_after m g w so_far up i (Ok p) t =
-    (w, refl, record { front = t.front; count = t.count; joined = t.joined; budget = t.budget; said = up t.front t.count (then_says g w t.front t.count p.0 t.said) })
+    (w, refl, record { prefix = t.prefix; count = t.count; joined = t.joined; budget = t.budget; said = up t.prefix t.count (then_says g w t.prefix t.count p.0 t.said) })
 word_after m g w so_far up i (Err e) (Behind before after split at done) =
     Behind before after split at (record {
       more = done.more;
@@ -83,25 +80,25 @@ dashed_kept : (m : Mode) (first second : Kind) → is_end first ≡ false → is
 dashed_kept m first second one two i whole is =
     (behind_word first one (both dash_read (λ _. expected second two) (λ _. some_word second)) (some_both some_dash (λ _. some_word second)) i whole is).kept
 
-abbrev save_update : Cascade
+abbrev pub save_update : Cascade
 save_update = record form.none { save_update = true }
 
-abbrev merge : Cascade
+abbrev pub merge : Cascade
 merge = record form.none { merge = true }
 
-abbrev refresh_expire : Cascade
+abbrev pub refresh_expire : Cascade
 refresh_expire = record form.none { refresh_expire = true }
 
-abbrev expunge : Cascade
+abbrev pub expunge : Cascade
 expunge = record form.none { expunge = true }
 
-abbrev delete : Cascade
+abbrev pub delete : Cascade
 delete = record form.none { delete = true }
 
-abbrev delete_orphan : Cascade
+abbrev pub delete_orphan : Cascade
 delete_orphan = record form.none { delete_orphan = true }
 
-abbrev all : Cascade
+abbrev pub all : Cascade
 all = record { save_update = true; merge = true; refresh_expire = true; expunge = true; delete = true; delete_orphan = false }
 
 orphan_by : (m : Mode) (so_far : Cascade) (i j : Input) → Whole j.ahead → Took m (word k.Delete) i tt j → (b : Bool)
@@ -120,11 +117,11 @@ orphan_by m so_far i j whole t false seen = (
   delete,
   refl,
   record {
-    front = t.front;
+    prefix = t.prefix;
     count = t.count;
     joined = t.joined;
     budget = t.budget;
-    said = inr (inr (inr (inr (inl (then_says (word k.Delete) delete t.front t.count tt t.said)))));
+    said = inr (inr (inr (inr (inl (then_says (word k.Delete) delete t.prefix t.count tt t.said)))));
   },
 )
 
@@ -165,27 +162,27 @@ behind m so_far longer i j l w is t u (Ok q) words =
       w ∷ more,
       words.1 ∙ ap (λ x. form.all_of x more) is,
       record {
-        front = t.front ++ (u.front ++ v.front);
+        prefix = t.prefix ++ (u.prefix ++ v.prefix);
         count = t.count + (u.count + v.count);
-        joined = t.joined ∙ ap (λ ts. t.front ++ ts) (u.joined ∙ ap (λ ts. u.front ++ ts) v.joined) ∙ joined_three t.front u.front v.front q.1.ahead;
+        joined = t.joined ∙ ap (λ ts. t.prefix ++ ts) (u.joined ∙ ap (λ ts. u.prefix ++ ts) v.joined) ∙ joined_three t.prefix u.prefix v.prefix q.1.ahead;
         budget = budget_more m t.count (u.count + v.count) i.operators j.operators q.1.operators t.budget
             (budget_more m u.count v.count j.operators l.operators q.1.operators u.budget v.budget);
-        said = more_items k.Comma form.cascade_word t.front u.front v.front t.count u.count v.count w more t.said u.said v.said;
+        said = more_items k.Comma form.cascade_word t.prefix u.prefix v.prefix t.count u.count v.count w more t.said u.said v.said;
       },
     )
 behind m so_far longer i j l w is t u (Err e) (Behind before after split at done) =
-    Behind (t.front ++ (u.front ++ before)) after (t.joined ∙ ap (λ ts. t.front ++ ts) (u.joined ∙ ap (λ ts. u.front ++ ts) split) ∙ joined_three t.front u.front before after) at (record {
+    Behind (t.prefix ++ (u.prefix ++ before)) after (t.joined ∙ ap (λ ts. t.prefix ++ ts) (u.joined ∙ ap (λ ts. u.prefix ++ ts) split) ∙ joined_three t.prefix u.prefix before after) at (record {
       more = done.more;
       count = t.count + (u.count + done.count);
       value = w ∷ done.value;
       enough = enough_more m t.count (u.count + done.count) i.operators j.operators t.budget (enough_more m u.count done.count j.operators l.operators u.budget done.enough);
-      said = subst (λ ts. separated k.Comma form.cascade_word ts (t.count + (u.count + done.count)) (w ∷ done.value)) (joined_three t.front u.front before done.more)
-          (more_items k.Comma form.cascade_word t.front u.front (before ++ done.more) t.count u.count done.count w done.value t.said u.said done.said);
+      said = subst (λ ts. separated k.Comma form.cascade_word ts (t.count + (u.count + done.count)) (w ∷ done.value)) (joined_three t.prefix u.prefix before done.more)
+          (more_items k.Comma form.cascade_word t.prefix u.prefix (before ++ done.more) t.count u.count done.count w done.value t.said u.said done.said);
     })
 behind m so_far longer i j l w is t u (Err e) (TooDeep before after x dp split at wants) =
-    TooDeep (t.front ++ (u.front ++ before)) after x (deep_behind m t.front (u.front ++ before) (deep_behind m u.front before dp))
-    (t.joined ∙ ap (λ ts. t.front ++ ts) (u.joined ∙ ap (λ ts. u.front ++ ts) split) ∙ joined_three t.front u.front (before ++ x ∷ []) after
-    ∙ ap (λ ts. ts ++ after) (joined_three t.front u.front before (x ∷ []))) at wants
+    TooDeep (t.prefix ++ (u.prefix ++ before)) after x (deep_behind m t.prefix (u.prefix ++ before) (deep_behind m u.prefix before dp))
+    (t.joined ∙ ap (λ ts. t.prefix ++ ts) (u.joined ∙ ap (λ ts. u.prefix ++ ts) split) ∙ joined_three t.prefix u.prefix (before ++ x ∷ []) after
+    ∙ ap (λ ts. ts ++ after) (joined_three t.prefix u.prefix before (x ∷ []))) at wants
 
 by_mark : (m : Mode) (n : ℕ) (so_far longer : Cascade) (i : Input) (w : Cascade) (xs : List Token) (o : ℕ) → longer ≡ form.joined w so_far
     → Took m form.cascade_word i w (record { ahead = xs; operators = o }) → Whole xs → ((so_far : Cascade) (j : Input) → Whole j.ahead → WordsKept m so_far j (r.cascade_from n so_far j))
@@ -197,7 +194,7 @@ by_mark m n so_far longer i w xs o is t whole rec true seen =
     let l : Input = record { ahead = drop 1 xs; operators = o } in
     behind _ so_far longer i j l w is t (taken_by k.Comma refl xs o (same seen)) (r.cascade_from n longer l) (rec longer l (whole_next xs whole))
 by_mark m n so_far longer i w xs o is t whole rec false seen =
-    (w ∷ [], is, record { front = t.front; count = t.count; joined = t.joined; budget = t.budget; said = t.said })
+    (w ∷ [], is, record { prefix = t.prefix; count = t.count; joined = t.joined; budget = t.budget; said = t.said })
 
 by_word : (m : Mode) (n : ℕ) (so_far : Cascade) (i : Input) → Whole i.ahead → ((so_far : Cascade) (j : Input) → Whole j.ahead → WordsKept m so_far j (r.cascade_from n so_far j))
     → (out : Outcome Cascade) → WordKept m so_far i out
@@ -205,7 +202,7 @@ by_word : (m : Mode) (n : ℕ) (so_far : Cascade) (i : Input) → Whole i.ahead 
 unfolding WordKept WordsKept sees after head next
 by_word m n so_far i whole rec (Ok p) word =
     let t = word.2 in
-    by_mark _ n so_far p.0 i word.0 p.1.ahead p.1.operators word.1 t (whole_rest t.front p.1.ahead (subst Whole t.joined whole)) rec (same_kind (first_of p.1.ahead).kind k.Comma) refl
+    by_mark _ n so_far p.0 i word.0 p.1.ahead p.1.operators word.1 t (whole_rest t.prefix p.1.ahead (subst Whole t.joined whole)) rec (same_kind (first_of p.1.ahead).kind k.Comma) refl
 by_word m n so_far i whole rec (Err e) (Behind before after split at done) =
     Behind before after split at (record { more = done.more; count = done.count; value = done.value ∷ []; enough = done.enough; said = done.said })
 by_word m n so_far i whole rec (Err e) (TooDeep before after x dp split at wants) = TooDeep before after x dp split at wants
@@ -226,11 +223,11 @@ unfolding WordsKept
 all_words m i (Ok p) words =
     let t = words.2 in
     subst (λ x. Took m words_form i x p.1) (sym words.1) (record {
-      front = t.front;
+      prefix = t.prefix;
       count = t.count;
       joined = t.joined;
       budget = t.budget;
-      said = (words.0, record { front = t.front; rest = []; front_count = t.count; rest_count = 0; joined = sym (append-nil t.front); counted = omega arith; first = t.said; second = (refl, refl, refl) });
+      said = then_value (separated k.Comma form.cascade_word) (form.all_of form.none) t.prefix t.count words.0 t.said;
     })
 all_words m i (Err e) (Behind before after split at done) =
     Behind before after split at (record {
@@ -241,9 +238,9 @@ all_words m i (Err e) (Behind before after split at done) =
       said = (
         done.value,
         record {
-          front = before ++ done.more;
+          prefix = before ++ done.more;
           rest = [];
-          front_count = done.count;
+          prefix_count = done.count;
           rest_count = 0;
           joined = sym (append-nil (before ++ done.more));
           counted = omega arith;

@@ -18,8 +18,8 @@ pub record Read {A : Type 0} (mode : Mode) (p : Reader A) (tokens rest : List To
 
 -- Whatever the form says is read, where the next token is of a kind before which the reader stops.
 pub record Complete {A : Type 0} (mode : Mode) (stops : Kind → Bool) (p : Reader A) (form : Form A) : Type 0 where
-  pub run : (front rest : List Token) (count operators : ℕ) (a : A) → form front count a → Enough mode count operators → stops (first_of rest).kind ≡ true
-      → Read mode p (front ++ rest) rest count operators a
+  pub run : (prefix rest : List Token) (count operators : ℕ) (a : A) → form prefix count a → Enough mode count operators → stops (first_of rest).kind ≡ true
+      → Read mode p (prefix ++ rest) rest count operators a
 
 -- Before what follows, the tokens of a form begin with a kind of these.
 pub record Opens {A : Type 0} (form : Form A) (next these : Kind → Bool) : Type 0 where
@@ -54,14 +54,14 @@ both_by mode s t p g f h cp cf opens rest o a b fs rs m n one two enough stop =
     both_read mode p f (fs ++ (rs ++ rest)) (rs ++ rest) rest m n o a b first ((cf a).run rs rest n first.left b two (enough_then mode m n o first.left enough first.budget) stop)
 
 both_run : {A B : Type 0} (mode : Mode) (s t : Kind → Bool) (p : Reader A) (g : Form A) (f : A → Reader B) (h : A → Form B) → Complete mode s p g
-    → ((a : A) → Complete mode t (f a) (h a)) → ((a : A) → Opens (h a) t s) → (front rest : List Token) (count o : ℕ) (b : B) → sequence g h front count b
-    → Enough mode count o → t (first_of rest).kind ≡ true → Read mode (p >>= f) (front ++ rest) rest count o b
-both_run mode s t p g f h cp cf opens front rest count o b said enough stop =
+    → ((a : A) → Complete mode t (f a) (h a)) → ((a : A) → Opens (h a) t s) → (prefix rest : List Token) (count o : ℕ) (b : B) → sequence g h prefix count b
+    → Enough mode count o → t (first_of rest).kind ≡ true → Read mode (p >>= f) (prefix ++ rest) rest count o b
+both_run mode s t p g f h cp cf opens prefix rest count o b said enough stop =
     let a = said.0 in
     let w = said.1 in
-    let read = both_by mode s t p g f h cp cf opens rest o a b w.front w.rest w.front_count w.rest_count w.first w.second (subst (λ n. Enough mode n o) w.counted enough) stop in
-    let tokens : w.front ++ (w.rest ++ rest) ≡ front ++ rest = sym (append_assoc w.front w.rest rest) ∙ ap (λ ts. ts ++ rest) (sym w.joined) in
-    subst (λ ts. Read mode (p >>= f) ts rest count o b) tokens (subst (λ n. Read mode (p >>= f) (w.front ++ (w.rest ++ rest)) rest n o b) (sym w.counted) read)
+    let read = both_by mode s t p g f h cp cf opens rest o a b w.prefix w.rest w.prefix_count w.rest_count w.first w.second (subst (λ n. Enough mode n o) w.counted enough) stop in
+    let tokens : w.prefix ++ (w.rest ++ rest) ≡ prefix ++ rest = sym (append_assoc w.prefix w.rest rest) ∙ ap (λ ts. ts ++ rest) (sym w.joined) in
+    subst (λ ts. Read mode (p >>= f) ts rest count o b) tokens (subst (λ n. Read mode (p >>= f) (w.prefix ++ (w.rest ++ rest)) rest n o b) (sym w.counted) read)
 
 pub both : {A B : Type 0} {mode : Mode} {s t : Kind → Bool} {p : Reader A} {g : Form A} {f : A → Reader B} {h : A → Form B} → Complete mode s p g
     → ((a : A) → Complete mode t (f a) (h a)) → ((a : A) → Opens (h a) t s) → Complete mode t (p >>= f) (sequence g h)
@@ -73,15 +73,15 @@ pub then_any : {A B : Type 0} {mode : Mode} {t : Kind → Bool} {p : Reader A} {
 then_any cp cf = both cp cf (λ a. record { run = λ tokens rest count b said stop. refl })
 
 pub less : {A : Type 0} {mode : Mode} {s t : Kind → Bool} {p : Reader A} {g : Form A} → Complete mode s p g → ((kd : Kind) → t kd ≡ true → s kd ≡ true) → Complete mode t p g
-less {t = t} cp within = record { run = λ front rest count o a said enough stop. cp.run front rest count o a said enough (within (first_of rest).kind stop) }
+less {t = t} cp within = record { run = λ prefix rest count o a said enough stop. cp.run prefix rest count o a said enough (within (first_of rest).kind stop) }
 
-made_by : {A : Type 0} (mode : Mode) (a b : A) (front rest : List Token) (count o : ℕ) → says a front count b → Enough mode count o → Read mode (pure a) (front ++ rest) rest count o b
-made_by mode a b front rest count o said enough =
+made_by : {A : Type 0} (mode : Mode) (a b : A) (prefix rest : List Token) (count o : ℕ) → says a prefix count b → Enough mode count o → Read mode (pure a) (prefix ++ rest) rest count o b
+made_by mode a b prefix rest count o said enough =
     subst (λ ts. Read mode (pure a) (ts ++ rest) rest count o b) (sym said.0) (subst (λ n. Read mode (pure a) rest rest n o b) (sym said.1)
     (subst (λ c. Read mode (pure a) rest rest 0 o c) (sym said.2) (record { left = o; budget = budget_none mode o; is = refl })))
 
 pub made : {A : Type 0} {mode : Mode} (a : A) → Complete mode always (pure a) (says a)
-made {mode = mode} a = record { run = λ front rest count o b said enough stop. made_by mode a b front rest count o said enough }
+made {mode = mode} a = record { run = λ prefix rest count o b said enough stop. made_by mode a b prefix rest count o said enough }
 
 -- ---- single tokens
 
@@ -94,18 +94,18 @@ expected_by mode kd t rest o u is = record {
 }
 
 word_run : {A : Type 0} (mode : Mode) (p : Reader A) (kd : Kind) (a : A) → ((t : Token) (rest : List Token) (o : ℕ) → t.kind ≡ kd → Read mode p (t ∷ rest) rest 0 o a)
-    → (front rest : List Token) (count o : ℕ) (u : Unit {0}) → word kd front count u → Read mode p (front ++ rest) rest count o a
-word_run mode p kd a one front rest count o u said =
+    → (prefix rest : List Token) (count o : ℕ) (u : Unit {0}) → word kd prefix count u → Read mode p (prefix ++ rest) rest count o a
+word_run mode p kd a one prefix rest count o u said =
     subst (λ ts. Read mode p (ts ++ rest) rest count o a) (sym said.1) (subst (λ n. Read mode p (said.0 ∷ rest) rest n o a) (sym said.3) (one said.0 rest o said.2))
 
 pub expected : {mode : Mode} (kd : Kind) → Complete mode always (expect kd) (word kd)
 expected {mode = mode} kd =
-    record { run = λ front rest count o u said enough stop. word_run mode (expect kd) kd u (λ t ts p is. expected_by mode kd t ts p u is) front rest count o u said }
+    record { run = λ prefix rest count o u said enough stop. word_run mode (expect kd) kd u (λ t ts p is. expected_by mode kd t ts p u is) prefix rest count o u said }
 
 pub taken : {mode : Mode} (kd : Kind) → Complete mode always take_token (word kd)
 unfolding next
 taken {mode = mode} kd = record {
-  run = λ front rest count o u said enough stop. word_run mode take_token kd u (λ t ts p is. record { left = p; budget = budget_none mode p; is = refl }) front rest count o u said;
+  run = λ prefix rest count o u said enough stop. word_run mode take_token kd u (λ t ts p is. record { left = p; budget = budget_none mode p; is = refl }) prefix rest count o u said;
 }
 
 -- ---- the kind of the next token decides
@@ -119,14 +119,14 @@ by_kind_read mode by kd t ts rest n o a is read =
     record { left = r.left; budget = r.budget; is = r.is }
 
 on_word_run : {A : Type 0} (mode : Mode) (next : Kind → Bool) (by : Kind → Reader A) (kd : Kind) (g : Form A) → Complete mode next (by kd) (sequence (word kd) (λ _. g))
-    → (front rest : List Token) (count o : ℕ) (a : A) → sequence (word kd) (λ _. g) front count a → Enough mode count o → next (first_of rest).kind ≡ true
-    → Read mode (peek >>= by) (front ++ rest) rest count o a
-on_word_run mode next by kd g cp front rest count o a said enough stop =
+    → (prefix rest : List Token) (count o : ℕ) (a : A) → sequence (word kd) (λ _. g) prefix count a → Enough mode count o → next (first_of rest).kind ≡ true
+    → Read mode (peek >>= by) (prefix ++ rest) rest count o a
+on_word_run mode next by kd g cp prefix rest count o a said enough stop =
     let w = said.1 in
     let t = w.first.0 in
-    let tokens : front ≡ t ∷ w.rest = w.joined ∙ ap (λ ts. ts ++ w.rest) w.first.1 in
+    let tokens : prefix ≡ t ∷ w.rest = w.joined ∙ ap (λ ts. ts ++ w.rest) w.first.1 in
     let read : Read mode (by kd) (t ∷ (w.rest ++ rest)) rest count o a =
-    subst (λ ts. Read mode (by kd) (ts ++ rest) rest count o a) tokens (cp.run front rest count o a said enough stop) in
+    subst (λ ts. Read mode (by kd) (ts ++ rest) rest count o a) tokens (cp.run prefix rest count o a said enough stop) in
     subst (λ ts. Read mode (peek >>= by) (ts ++ rest) rest count o a) (sym tokens) (by_kind_read mode by kd t (w.rest ++ rest) rest count o a w.first.2 read)
 
 pub on_word : {A : Type 0} {mode : Mode} {next : Kind → Bool} (by : Kind → Reader A) (kd : Kind) {g : Form A} → Complete mode next (by kd) (sequence (word kd) (λ _. g))
@@ -142,12 +142,12 @@ pub record Begun (kd : Kind) (tokens : List Token) : Type 0 where
 
 on_first_run : {A : Type 0} (mode : Mode) (next : Kind → Bool) (by : Kind → Reader A) (kd : Kind) (form : Form A)
     → ((tokens : List Token) (count : ℕ) (a : A) → form tokens count a → Begun kd tokens) → Complete mode next (by kd) form
-    → (front rest : List Token) (count o : ℕ) (a : A) → form front count a → Enough mode count o → next (first_of rest).kind ≡ true
-    → Read mode (peek >>= by) (front ++ rest) rest count o a
-on_first_run mode next by kd form begins cp front rest count o a said enough stop =
-    let b = begins front count a said in
+    → (prefix rest : List Token) (count o : ℕ) (a : A) → form prefix count a → Enough mode count o → next (first_of rest).kind ≡ true
+    → Read mode (peek >>= by) (prefix ++ rest) rest count o a
+on_first_run mode next by kd form begins cp prefix rest count o a said enough stop =
+    let b = begins prefix count a said in
     let read : Read mode (by kd) (b.first ∷ (b.more ++ rest)) rest count o a =
-    subst (λ ts. Read mode (by kd) (ts ++ rest) rest count o a) b.joined (cp.run front rest count o a said enough stop) in
+    subst (λ ts. Read mode (by kd) (ts ++ rest) rest count o a) b.joined (cp.run prefix rest count o a said enough stop) in
     subst (λ ts. Read mode (peek >>= by) (ts ++ rest) rest count o a) (sym b.joined) (by_kind_read mode by kd b.first (b.more ++ rest) rest count o a b.is read)
 
 pub on_first : {A : Type 0} {mode : Mode} {next : Kind → Bool} (by : Kind → Reader A) (kd : Kind) {form : Form A}
@@ -161,13 +161,13 @@ pub then_begun : {A B : Type 0} (kd : Kind) (g : Form A) (h : A → Form B) → 
     → (tokens : List Token) (count : ℕ) (b : B) → sequence g h tokens count b → Begun kd tokens
 then_begun kd g h begins tokens count b said =
     let w = said.1 in
-    let f = begins w.front w.front_count said.0 w.first in
+    let f = begins w.prefix w.prefix_count said.0 w.first in
     record { first = f.first; more = f.more ++ w.rest; joined = w.joined ∙ ap (λ ts. ts ++ w.rest) f.joined; is = f.is }
 
 either_run : {A : Type 0} (mode : Mode) (next : Kind → Bool) (p : Reader A) (g h : Form A) → Complete mode next p g → Complete mode next p h
-    → (front rest : List Token) (count o : ℕ) (a : A) → (g or h) front count a → Enough mode count o → next (first_of rest).kind ≡ true → Read mode p (front ++ rest) rest count o a
-either_run mode next p g h cg ch front rest count o a (inl said) enough stop = cg.run front rest count o a said enough stop
-either_run mode next p g h cg ch front rest count o a (inr said) enough stop = ch.run front rest count o a said enough stop
+    → (prefix rest : List Token) (count o : ℕ) (a : A) → (g or h) prefix count a → Enough mode count o → next (first_of rest).kind ≡ true → Read mode p (prefix ++ rest) rest count o a
+either_run mode next p g h cg ch prefix rest count o a (inl said) enough stop = cg.run prefix rest count o a said enough stop
+either_run mode next p g h cg ch prefix rest count o a (inr said) enough stop = ch.run prefix rest count o a said enough stop
 
 pub either : {A : Type 0} {mode : Mode} {next : Kind → Bool} {p : Reader A} {g h : Form A} → Complete mode next p g → Complete mode next p h → Complete mode next p (g or h)
 either {mode = mode} {next = next} {p = p} {g = g} {h = h} cg ch = record { run = either_run mode next p g h cg ch }
@@ -198,40 +198,40 @@ present_by mode kd p x t ts rest n o a is read = record {
 
 -- a word and what it introduces
 pub present : {A : Type 0} (mode : Mode) (next : Kind → Bool) (kd : Kind) (p : Reader A) (x : A) (g : Form A) → Complete mode next p g
-    → (front rest : List Token) (count o : ℕ) (a : A) → sequence (word kd) (λ _. g) front count a → Enough mode count o → next (first_of rest).kind ≡ true
-    → Read mode (eat kd >>= (λ found. if found then p else pure x)) (front ++ rest) rest count o a
-present mode next kd p x g cp front rest count o a said enough stop =
+    → (prefix rest : List Token) (count o : ℕ) (a : A) → sequence (word kd) (λ _. g) prefix count a → Enough mode count o → next (first_of rest).kind ≡ true
+    → Read mode (eat kd >>= (λ found. if found then p else pure x)) (prefix ++ rest) rest count o a
+present mode next kd p x g cp prefix rest count o a said enough stop =
     let w = said.1 in
     let t = w.first.0 in
-    let tokens : front ≡ t ∷ w.rest = w.joined ∙ ap (λ ts. ts ++ w.rest) w.first.1 in
+    let tokens : prefix ≡ t ∷ w.rest = w.joined ∙ ap (λ ts. ts ++ w.rest) w.first.1 in
     let counts : w.rest_count ≡ count = omega (arith, w.counted, w.first.3) in
     let read : Read mode p (w.rest ++ rest) rest w.rest_count o a = cp.run w.rest rest w.rest_count o a w.second (subst (λ n. Enough mode n o) (sym counts) enough) stop in
     subst (λ ts. Read mode (eat kd >>= (λ found. if found then p else pure x)) (ts ++ rest) rest count o a) (sym tokens)
     (present_by mode kd p x t (w.rest ++ rest) rest count o a w.first.2 (subst (λ n. Read mode p (w.rest ++ rest) rest n o a) counts read))
 
-pub absent : {A : Type 0} (mode : Mode) (kd : Kind) (p : Reader A) (x : A) (front rest : List Token) (count o : ℕ) → front ≡ [] → count ≡ 0
-    → same_kind (first_of rest).kind kd ≡ false → Read mode (eat kd >>= (λ found. if found then p else pure x)) (front ++ rest) rest count o x
-absent mode kd p x front rest count o none counts is =
+pub absent : {A : Type 0} (mode : Mode) (kd : Kind) (p : Reader A) (x : A) (prefix rest : List Token) (count o : ℕ) → prefix ≡ [] → count ≡ 0
+    → same_kind (first_of rest).kind kd ≡ false → Read mode (eat kd >>= (λ found. if found then p else pure x)) (prefix ++ rest) rest count o x
+absent mode kd p x prefix rest count o none counts is =
     subst (λ ts. Read mode (eat kd >>= (λ found. if found then p else pure x)) (ts ++ rest) rest count o x) (sym none)
     (subst (λ n. Read mode (eat kd >>= (λ found. if found then p else pure x)) rest rest n o x) (sym counts) (absent_by mode kd p x rest o is))
 
 -- a value behind what introduces it
 pub mapped_run : {A B : Type 0} (mode : Mode) (next : Kind → Bool) (p : Reader A) (g : Form A) (f : A → B) → Complete mode next p g
-    → (front rest : List Token) (count o : ℕ) (a : A) → g front count a → Enough mode count o → next (first_of rest).kind ≡ true
-    → Read mode (p >>= (λ x. pure (f x))) (front ++ rest) rest count o (f a)
-mapped_run mode next p g f cp front rest count o a said enough stop =
-    let read = cp.run front rest count o a said enough stop in
+    → (prefix rest : List Token) (count o : ℕ) (a : A) → g prefix count a → Enough mode count o → next (first_of rest).kind ≡ true
+    → Read mode (p >>= (λ x. pure (f x))) (prefix ++ rest) rest count o (f a)
+mapped_run mode next p g f cp prefix rest count o a said enough stop =
+    let read = cp.run prefix rest count o a said enough stop in
     record { left = read.left; budget = read.budget; is = ap (λ out. and_then out (λ x. pure (f x))) read.is }
 
 clause_run : {A : Type 0} (mode : Mode) (next : Kind → Bool) (kd : Kind) (p : Reader A) (g : Form A) → Complete mode next p g → ((x : Kind) → next x ≡ true → same_kind x kd ≡ false)
-    → (front rest : List Token) (count o : ℕ) (a : Option A) → maybe (sequence (word kd) (λ _. g)) front count a → Enough mode count o → next (first_of rest).kind ≡ true
-    → Read mode (clause kd p) (front ++ rest) rest count o a
-clause_run mode next kd p g cp other front rest count o None said enough stop =
-    absent mode kd (p >>= (λ x. pure (Some x))) None front rest count o said.0 said.1 (other (first_of rest).kind stop)
-clause_run mode next kd p g cp other front rest count o (Some x) said enough stop =
+    → (prefix rest : List Token) (count o : ℕ) (a : Option A) → maybe (sequence (word kd) (λ _. g)) prefix count a → Enough mode count o → next (first_of rest).kind ≡ true
+    → Read mode (clause kd p) (prefix ++ rest) rest count o a
+clause_run mode next kd p g cp other prefix rest count o None said enough stop =
+    absent mode kd (p >>= (λ x. pure (Some x))) None prefix rest count o said.0 said.1 (other (first_of rest).kind stop)
+clause_run mode next kd p g cp other prefix rest count o (Some x) said enough stop =
     let w = said.1 in
     let t = w.first.0 in
-    let tokens : front ≡ t ∷ w.rest = w.joined ∙ ap (λ ts. ts ++ w.rest) w.first.1 in
+    let tokens : prefix ≡ t ∷ w.rest = w.joined ∙ ap (λ ts. ts ++ w.rest) w.first.1 in
     let counts : w.rest_count ≡ count = omega (arith, w.counted, w.first.3) in
     let read : Read mode (p >>= (λ x. pure (Some x))) (w.rest ++ rest) rest w.rest_count o (Some x) =
     mapped_run mode next p g Some cp w.rest rest w.rest_count o x w.second (subst (λ n. Enough mode n o) (sym counts) enough) stop in
@@ -245,12 +245,12 @@ introduced {mode = mode} {next = next} kd {p = p} {g = g} cp other = record { ru
 
 if_word_run : {A : Type 0} (mode : Mode) (next : Kind → Bool) (kd : Kind) (p : Reader A) (x : A) (g : Form A) → Complete mode next p g
     → ((y : Kind) → next y ≡ true → same_kind y kd ≡ false)
-    → (front rest : List Token) (count o : ℕ) (a : A) → ((sequence (word kd) (λ _. g)) or says x) front count a → Enough mode count o → next (first_of rest).kind ≡ true
-    → Read mode (eat kd >>= (λ found. if found then p else pure x)) (front ++ rest) rest count o a
-if_word_run mode next kd p x g cp other front rest count o a (inl said) enough stop = present mode next kd p x g cp front rest count o a said enough stop
-if_word_run mode next kd p x g cp other front rest count o a (inr said) enough stop =
-    subst (λ v. Read mode (eat kd >>= (λ found. if found then p else pure x)) (front ++ rest) rest count o v) (sym said.2)
-    (absent mode kd p x front rest count o said.0 said.1 (other (first_of rest).kind stop))
+    → (prefix rest : List Token) (count o : ℕ) (a : A) → ((sequence (word kd) (λ _. g)) or says x) prefix count a → Enough mode count o → next (first_of rest).kind ≡ true
+    → Read mode (eat kd >>= (λ found. if found then p else pure x)) (prefix ++ rest) rest count o a
+if_word_run mode next kd p x g cp other prefix rest count o a (inl said) enough stop = present mode next kd p x g cp prefix rest count o a said enough stop
+if_word_run mode next kd p x g cp other prefix rest count o a (inr said) enough stop =
+    subst (λ v. Read mode (eat kd >>= (λ found. if found then p else pure x)) (prefix ++ rest) rest count o v) (sym said.2)
+    (absent mode kd p x prefix rest count o said.0 said.1 (other (first_of rest).kind stop))
 
 -- a word and what it introduces, or else this
 pub if_word : {A : Type 0} {mode : Mode} {next : Kind → Bool} (kd : Kind) {p : Reader A} (x : A) {g : Form A} → Complete mode next p g
@@ -258,16 +258,16 @@ pub if_word : {A : Type 0} {mode : Mode} {next : Kind → Bool} (kd : Kind) {p :
 if_word {mode = mode} {next = next} kd {p = p} x {g = g} cp other = record { run = if_word_run mode next kd p x g cp other }
 
 eaten_run : (mode : Mode) (next : Kind → Bool) (kd : Kind) → ((y : Kind) → next y ≡ true → same_kind y kd ≡ false)
-    → (front rest : List Token) (count o : ℕ) (b : Bool) → whether (word kd) front count b → Enough mode count o → next (first_of rest).kind ≡ true
-    → Read mode (eat kd) (front ++ rest) rest count o b
+    → (prefix rest : List Token) (count o : ℕ) (b : Bool) → whether (word kd) prefix count b → Enough mode count o → next (first_of rest).kind ≡ true
+    → Read mode (eat kd) (prefix ++ rest) rest count o b
 unfolding sees after head next
-eaten_run mode next kd other front rest count o false said enough stop =
+eaten_run mode next kd other prefix rest count o false said enough stop =
     subst (λ ts. Read mode (eat kd) (ts ++ rest) rest count o false) (sym said.0) (subst (λ n. Read mode (eat kd) rest rest n o false) (sym said.1) (record {
       left = o;
       budget = budget_none mode o;
       is = ap (λ b. Ok (b, if b then record { ahead = drop 1 rest; operators = o } else record { ahead = rest; operators = o })) (other (first_of rest).kind stop);
     }))
-eaten_run mode next kd other front rest count o true said enough stop =
+eaten_run mode next kd other prefix rest count o true said enough stop =
     let t = said.0 in
     subst (λ ts. Read mode (eat kd) (ts ++ rest) rest count o true) (sym said.1) (subst (λ n. Read mode (eat kd) (t ∷ rest) rest n o true) (sym said.3) (record {
       left = o;
@@ -279,14 +279,14 @@ pub eaten : {mode : Mode} {next : Kind → Bool} (kd : Kind) → ((y : Kind) →
 eaten {mode = mode} {next = next} kd other = record { run = eaten_run mode next kd other }
 
 two_run : (mode : Mode) (next : Kind → Bool) (one two : Kind) → ((y : Kind) → next y ≡ true → same_kind y one ≡ false)
-    → (front rest : List Token) (count o : ℕ) (b : Bool) → whether (sequence (word one) (λ _. word two)) front count b → Enough mode count o → next (first_of rest).kind ≡ true
-    → Read mode (eat one >>= (λ found. if found then (expect two >> pure true) else pure false)) (front ++ rest) rest count o b
-two_run mode next one two other front rest count o false said enough stop =
-    absent mode one (expect two >> pure true) false front rest count o said.0 said.1 (other (first_of rest).kind stop)
-two_run mode next one two other front rest count o true said enough stop =
+    → (prefix rest : List Token) (count o : ℕ) (b : Bool) → whether (sequence (word one) (λ _. word two)) prefix count b → Enough mode count o → next (first_of rest).kind ≡ true
+    → Read mode (eat one >>= (λ found. if found then (expect two >> pure true) else pure false)) (prefix ++ rest) rest count o b
+two_run mode next one two other prefix rest count o false said enough stop =
+    absent mode one (expect two >> pure true) false prefix rest count o said.0 said.1 (other (first_of rest).kind stop)
+two_run mode next one two other prefix rest count o true said enough stop =
     let w = said.1 in
     let t = w.first.0 in
-    let tokens : front ≡ t ∷ w.rest = w.joined ∙ ap (λ ts. ts ++ w.rest) w.first.1 in
+    let tokens : prefix ≡ t ∷ w.rest = w.joined ∙ ap (λ ts. ts ++ w.rest) w.first.1 in
     let counts : w.rest_count ≡ count = omega (arith, w.counted, w.first.3) in
     let read : Read mode (expect two >> pure true) (w.rest ++ rest) rest w.rest_count o true =
     mapped_run mode always (expect two) (word two) (λ _. true) (expected two) w.rest rest w.rest_count o tt w.second (subst (λ n. Enough mode n o) (sym counts) enough) refl in
@@ -321,9 +321,9 @@ then_opens_by : {A B : Type 0} (g : Form A) (h : A → Form B) (next middle thes
     → (tokens rest : List Token) (count : ℕ) (b : B) → sequence g h tokens count b → next (first_of rest).kind ≡ true → these (first_of (tokens ++ rest)).kind ≡ true
 then_opens_by g h next middle these og oh tokens rest count b said stop =
     let w = said.1 in
-    let split : w.front ++ (w.rest ++ rest) ≡ tokens ++ rest = sym (append_assoc w.front w.rest rest) ∙ ap (λ ts. ts ++ rest) (sym w.joined) in
+    let split : w.prefix ++ (w.rest ++ rest) ≡ tokens ++ rest = sym (append_assoc w.prefix w.rest rest) ∙ ap (λ ts. ts ++ rest) (sym w.joined) in
     subst (λ ts. these (first_of ts).kind ≡ true) split
-    (og.run w.front (w.rest ++ rest) w.front_count said.0 w.first ((oh said.0).run w.rest rest w.rest_count b w.second stop))
+    (og.run w.prefix (w.rest ++ rest) w.prefix_count said.0 w.first ((oh said.0).run w.rest rest w.rest_count b w.second stop))
 
 pub then_opens : {A B : Type 0} {g : Form A} {h : A → Form B} {next : Kind → Bool} (middle : Kind → Bool) {these : Kind → Bool} → Opens g middle these
     → ((a : A) → Opens (h a) next middle) → Opens (sequence g h) next these

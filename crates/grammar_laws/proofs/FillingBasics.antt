@@ -28,14 +28,14 @@ named_by mode t rest o found is holds fits =
       is = ap (λ b. n.named_by (name_in (not b) t.content) i) is ∙ ap (λ held. n.named_by (name_in true held) i) holds ∙ ap (λ b. n.named_by (if b then Some found else None) i) fits;
     }
 
-name_run : (mode : Mode) (excluded : Kind → Bool) (front rest : List Token) (count o : ℕ) (found : List ℕ) → form.name_but excluded front count found
-    → Read mode n.name (front ++ rest) rest count o found
-name_run mode excluded front rest count o found said =
+name_run : (mode : Mode) (excluded : Kind → Bool) (prefix rest : List Token) (count o : ℕ) (found : List ℕ) → form.name_but excluded prefix count found
+    → Read mode n.name (prefix ++ rest) rest count o found
+name_run mode excluded prefix rest count o found said =
     subst (λ ts. Read mode n.name (ts ++ rest) rest count o found) (sym said.1)
     (subst (λ m. Read mode n.name (said.0 ∷ rest) rest m o found) (sym said.6) (named_by mode said.0 rest o found said.3 said.4 said.5))
 
 pub name_but_read : {mode : Mode} (excluded : Kind → Bool) → Complete mode always n.name (form.name_but excluded)
-name_but_read {mode = mode} excluded = record { run = λ front rest count o found said enough stop. name_run mode excluded front rest count o found said }
+name_but_read {mode = mode} excluded = record { run = λ prefix rest count o found said enough stop. name_run mode excluded prefix rest count o found said }
 
 pub named : {mode : Mode} → Complete mode always n.name form.name
 named = name_but_read form.no_words
@@ -55,12 +55,12 @@ name_solid = record { run = λ tokens count found said. one_token said.0 tokens 
 pub word_solid : (kd : Kind) → Solid (word kd)
 word_solid kd = record { run = λ tokens count u said. one_token said.0 tokens said.1 }
 
-pub longer : (front rest tokens : List Token) → tokens ≡ front ++ rest → 1 ≤ length front → 1 ≤ length tokens
-longer front rest tokens e some = subst (λ ts. 1 ≤ length ts) (sym e) (omega (arith, length-append front rest))
+pub longer : (prefix rest tokens : List Token) → tokens ≡ prefix ++ rest → 1 ≤ length prefix → 1 ≤ length tokens
+longer prefix rest tokens e some = subst (λ ts. 1 ≤ length ts) (sym e) (omega (arith, length-append prefix rest))
 
 pub first_solid : {A B : Type 0} {g : Form A} {h : A → Form B} → Solid g → Solid (sequence g h)
 first_solid sg =
-    record { run = λ tokens count b said. let w = said.1 in longer w.front w.rest tokens w.joined (sg.run w.front w.front_count said.0 w.first) }
+    record { run = λ tokens count b said. let w = said.1 in longer w.prefix w.rest tokens w.joined (sg.run w.prefix w.prefix_count said.0 w.first) }
 
 -- there are no more items than tokens
 pub items_fit : {A : Type 0} (mark : Kind) (item : Form A) → Solid item → (all : List A) (tokens : List Token) (count : ℕ) → separated mark item tokens count all
@@ -70,10 +70,10 @@ items_fit mark item solid (a ∷ []) tokens count said = solid.run tokens count 
 items_fit mark item solid (a ∷ b ∷ more) tokens count said =
     let w = said in
     let v = w.second in
-    let some = solid.run w.front w.front_count a w.first in
+    let some = solid.run w.prefix w.prefix_count a w.first in
     let rest = items_fit mark item solid (b ∷ more) v.rest v.rest_count v.second in
-    let one : length w.rest ≡ length v.front + length v.rest = ap length v.joined ∙ length-append v.front v.rest in
-    let all : length tokens ≡ length w.front + length w.rest = ap length w.joined ∙ length-append w.front w.rest in
+    let one : length w.rest ≡ length v.prefix + length v.rest = ap length v.joined ∙ length-append v.prefix v.rest in
+    let all : length tokens ≡ length w.prefix + length w.rest = ap length w.joined ∙ length-append w.prefix w.rest in
     omega arith
 
 module _ {A : Type 0} (mode : Mode) (mark : Kind) (item : Reader A) (form : Form A) (s t : Kind → Bool) (cp : Complete mode s item form) (sm : s mark ≡ true)
@@ -109,59 +109,59 @@ module _ {A : Type 0} (mode : Mode) (mark : Kind) (item : Reader A) (form : Form
     is = ap (λ out. and_then out (λ x. eat mark >>= (λ more. if more then separated_from mark item n (found ++ x ∷ []) else pure (found ++ x ∷ [])))) one.is ∙ two.is;
   }
 
-  enough_last : (n l o : ℕ) (found : List A) (a : A) (front rest : List Token) → form front l a → Enough mode l o → t (first_of rest).kind ≡ true
-      → Read mode (separated_from mark item (suc n) found) (front ++ rest) rest l o (found ++ a ∷ [])
-  enough_last n l o found a front rest said enough stop =
-      let one = cp.run front rest l o a said enough (within (first_of rest).kind stop) in
+  enough_last : (n l o : ℕ) (found : List A) (a : A) (prefix rest : List Token) → form prefix l a → Enough mode l o → t (first_of rest).kind ≡ true
+      → Read mode (separated_from mark item (suc n) found) (prefix ++ rest) rest l o (found ++ a ∷ [])
+  enough_last n l o found a prefix rest said enough stop =
+      let one = cp.run prefix rest l o a said enough (within (first_of rest).kind stop) in
       let counts : l + 0 ≡ l = omega arith in
-      subst (λ m. Read mode (separated_from mark item (suc n) found) (front ++ rest) rest m o (found ++ a ∷ [])) counts
-      (step n found a (front ++ rest) rest rest l 0 o (found ++ a ∷ []) one (last_by n found a rest one.left (other (first_of rest).kind stop)))
+      subst (λ m. Read mode (separated_from mark item (suc n) found) (prefix ++ rest) rest m o (found ++ a ∷ [])) counts
+      (step n found a (prefix ++ rest) rest rest l 0 o (found ++ a ∷ []) one (last_by n found a rest one.left (other (first_of rest).kind stop)))
 
   -- items behind those that were found
-  pub all_read : (n : ℕ) (all found : List A) (front rest : List Token) (count o : ℕ) → length all ≤ n → separated mark form front count all → Enough mode count o
-      → t (first_of rest).kind ≡ true → Read mode (separated_from mark item n found) (front ++ rest) rest count o (found ++ all)
-  all_read n [] found front rest count o fits said enough stop = absurd said
-  all_read zero (a ∷ more) found front rest count o fits said enough stop = absurd (omega arith)
-  all_read (suc n) (a ∷ []) found front rest count o fits said enough stop = enough_last n count o found a front rest said enough stop
-  all_read (suc n) (a ∷ b ∷ more) found front rest count o fits said enough stop =
+  pub all_read : (n : ℕ) (all found : List A) (prefix rest : List Token) (count o : ℕ) → length all ≤ n → separated mark form prefix count all → Enough mode count o
+      → t (first_of rest).kind ≡ true → Read mode (separated_from mark item n found) (prefix ++ rest) rest count o (found ++ all)
+  all_read n [] found prefix rest count o fits said enough stop = absurd said
+  all_read zero (a ∷ more) found prefix rest count o fits said enough stop = absurd (omega arith)
+  all_read (suc n) (a ∷ []) found prefix rest count o fits said enough stop = enough_last n count o found a prefix rest said enough stop
+  all_read (suc n) (a ∷ b ∷ more) found prefix rest count o fits said enough stop =
       let w = said in
       let v = w.second in
       let u = v.first.0 in
       let zero_mark : v.rest_count ≡ w.rest_count = omega (arith, v.counted, v.first.3) in
-      let enough_all : Enough mode (w.front_count + w.rest_count) o = subst (λ m. Enough mode m o) w.counted enough in
+      let enough_all : Enough mode (w.prefix_count + w.rest_count) o = subst (λ m. Enough mode m o) w.counted enough in
       let tail : w.rest ≡ u ∷ v.rest = v.joined ∙ ap (λ ts. ts ++ v.rest) v.first.1 in
-      let tokens : w.front ++ (u ∷ (v.rest ++ rest)) ≡ front ++ rest =
-      ap (λ ts. w.front ++ (ts ++ rest)) (sym tail) ∙ sym (append_assoc w.front w.rest rest) ∙ ap (λ ts. ts ++ rest) (sym w.joined) in
+      let tokens : w.prefix ++ (u ∷ (v.rest ++ rest)) ≡ prefix ++ rest =
+      ap (λ ts. w.prefix ++ (ts ++ rest)) (sym tail) ∙ sym (append_assoc w.prefix w.rest rest) ∙ ap (λ ts. ts ++ rest) (sym w.joined) in
       let marked : s u.kind ≡ true = ap s v.first.2 ∙ sm in
-      let one : Read mode item (w.front ++ (u ∷ (v.rest ++ rest))) (u ∷ (v.rest ++ rest)) w.front_count o a =
-      cp.run w.front (u ∷ (v.rest ++ rest)) w.front_count o a w.first (enough_first mode w.front_count w.rest_count o enough_all) marked in
+      let one : Read mode item (w.prefix ++ (u ∷ (v.rest ++ rest))) (u ∷ (v.rest ++ rest)) w.prefix_count o a =
+      cp.run w.prefix (u ∷ (v.rest ++ rest)) w.prefix_count o a w.first (enough_first mode w.prefix_count w.rest_count o enough_all) marked in
       let more_enough : Enough mode v.rest_count one.left =
-      subst (λ m. Enough mode m one.left) (sym zero_mark) (enough_then mode w.front_count w.rest_count o one.left enough_all one.budget) in
+      subst (λ m. Enough mode m one.left) (sym zero_mark) (enough_then mode w.prefix_count w.rest_count o one.left enough_all one.budget) in
       let less : length (b ∷ more) ≤ n = omega arith in
       let rec : Read mode (separated_from mark item n (found ++ a ∷ [])) (v.rest ++ rest) rest v.rest_count one.left ((found ++ a ∷ []) ++ (b ∷ more)) =
       all_read n (b ∷ more) (found ++ a ∷ []) v.rest rest v.rest_count one.left less v.second more_enough stop in
       let two = more_by n found a u (v.rest ++ rest) rest v.rest_count one.left ((found ++ a ∷ []) ++ (b ∷ more)) v.first.2 rec in
-      let whole : Read mode (separated_from mark item (suc n) found) (w.front ++ (u ∷ (v.rest ++ rest))) rest (w.front_count + v.rest_count) o ((found ++ a ∷ []) ++ (b ∷ more)) =
-      step n found a (w.front ++ (u ∷ (v.rest ++ rest))) (u ∷ (v.rest ++ rest)) rest w.front_count v.rest_count o ((found ++ a ∷ []) ++ (b ∷ more)) one two in
-      let counts : w.front_count + v.rest_count ≡ count = omega (arith, w.counted) in
+      let whole : Read mode (separated_from mark item (suc n) found) (w.prefix ++ (u ∷ (v.rest ++ rest))) rest (w.prefix_count + v.rest_count) o ((found ++ a ∷ []) ++ (b ∷ more)) =
+      step n found a (w.prefix ++ (u ∷ (v.rest ++ rest))) (u ∷ (v.rest ++ rest)) rest w.prefix_count v.rest_count o ((found ++ a ∷ []) ++ (b ∷ more)) one two in
+      let counts : w.prefix_count + v.rest_count ≡ count = omega (arith, w.counted) in
       subst (λ ts. Read mode (separated_from mark item (suc n) found) ts rest count o (found ++ a ∷ b ∷ more)) tokens
-      (subst (λ m. Read mode (separated_from mark item (suc n) found) (w.front ++ (u ∷ (v.rest ++ rest))) rest m o (found ++ a ∷ b ∷ more)) counts
-      (subst (λ xs. Read mode (separated_from mark item (suc n) found) (w.front ++ (u ∷ (v.rest ++ rest))) rest (w.front_count + v.rest_count) o xs)
+      (subst (λ m. Read mode (separated_from mark item (suc n) found) (w.prefix ++ (u ∷ (v.rest ++ rest))) rest m o (found ++ a ∷ b ∷ more)) counts
+      (subst (λ xs. Read mode (separated_from mark item (suc n) found) (w.prefix ++ (u ∷ (v.rest ++ rest))) rest (w.prefix_count + v.rest_count) o xs)
       (append_assoc found (a ∷ []) (b ∷ more)) whole))
 
-  from_start : (front rest : List Token) (count o : ℕ) (all : List A) → Solid form → separated mark form front count all → Enough mode count o → t (first_of rest).kind ≡ true
-      → Read mode (λ i. separated_from mark item (length i.ahead) [] i) (front ++ rest) rest count o all
-  from_start front rest count o all solid said enough stop =
-      let fits = items_fit mark form solid all front count said in
-      let long = length-append front rest in
-      let read = all_read (length (front ++ rest)) all [] front rest count o (omega arith) said enough stop in
+  from_start : (prefix rest : List Token) (count o : ℕ) (all : List A) → Solid form → separated mark form prefix count all → Enough mode count o → t (first_of rest).kind ≡ true
+      → Read mode (λ i. separated_from mark item (length i.ahead) [] i) (prefix ++ rest) rest count o all
+  from_start prefix rest count o all solid said enough stop =
+      let fits = items_fit mark form solid all prefix count said in
+      let long = length-append prefix rest in
+      let read = all_read (length (prefix ++ rest)) all [] prefix rest count o (omega arith) said enough stop in
       record { left = read.left; budget = read.budget; is = read.is }
 
 pub listed : {A : Type 0} {mode : Mode} (mark : Kind) {item : Reader A} {form : Form A} (s t : Kind → Bool) → Complete mode s item form → Solid form → s mark ≡ true
     → ((y : Kind) → t y ≡ true → s y ≡ true) → ((y : Kind) → t y ≡ true → same_kind y mark ≡ false)
     → Complete mode t (λ i. separated_from mark item (length i.ahead) [] i) (separated mark form)
 listed {mode = mode} mark {item = item} {form = form} s t cp solid sm within other =
-    record { run = λ front rest count o all said enough stop. from_start mode mark item form s t cp sm within other front rest count o all solid said enough stop }
+    record { run = λ prefix rest count o all said enough stop. from_start mode mark item form s t cp sm within other prefix rest count o all solid said enough stop }
 
 -- ---- `(NAME {, NAME})`
 

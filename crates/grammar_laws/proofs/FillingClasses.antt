@@ -14,11 +14,12 @@ use Rattle.script_forms.specs.Form.{Form, sequence, says, word, maybe, whether, 
 use Rattle.script_forms.specs.Basics as basic
 use Rattle.script_forms.specs.ClassLines as form
 use Rattle.grammar_laws.proofs.Taking.{Mode, Enough}
-use Rattle.grammar_laws.proofs.Steps.{budget_none, budget_more}
+use Rattle.grammar_laws.proofs.Steps.{budget_none, budget_more, is_end}
 use Rattle.grammar_laws.proofs.Options.{mapped_of}
+use Rattle.grammar_laws.proofs.Sequences.{then_to, says_to, regrouped}
+use Rattle.grammar_laws.proofs.ClassLines.{save_update, merge, refresh_expire, expunge, delete, delete_orphan, all}
 use Rattle.grammar_laws.proofs.Filling.{Read, Complete, Opens, Begun, always, enough_first, enough_then, both, then_any, less, made, expected, taken, on_word, on_first, word_begun, then_begun, either, eaten, introduced, if_word, made_opens, word_opens, then_opens, first_opens, maybe_opens, whether_opens, either_opens}
 use Rattle.grammar_laws.proofs.FillingBasics.{Solid, named, names_read, items_fit, word_solid, first_solid}
-use Rattle.grammar_laws.proofs.FillingTables.{line_end}
 
 false_true : false ≡ true → ⊥
 false_true e = cc
@@ -51,13 +52,13 @@ dashed_of tokens count u (inl said) =
 dashed_of tokens count u (inr said) =
     record { token = said.0; joined = said.1; counted = said.3; is = ap (λ b. same_kind (said.0).kind k.Minus || b) (alike said.2) ∙ or_true (same_kind (said.0).kind k.Minus) }
 
-dash_run : (mode : Mode) (front rest : List Token) (count o : ℕ) (u : Unit {0}) → form.dash front count u → Read mode r.dash (front ++ rest) rest count o u
-dash_run mode front rest count o u said =
-    let d = dashed_of front count u said in
+dash_run : (mode : Mode) (prefix rest : List Token) (count o : ℕ) (u : Unit {0}) → form.dash prefix count u → Read mode r.dash (prefix ++ rest) rest count o u
+dash_run mode prefix rest count o u said =
+    let d = dashed_of prefix count u said in
     subst (λ ts. Read mode r.dash (ts ++ rest) rest count o u) (sym d.joined) (subst (λ n. Read mode r.dash (d.token ∷ rest) rest n o u) (sym d.counted) (dash_by mode d.token rest o u d.is))
 
 dash_read : {mode : Mode} → Complete mode always r.dash form.dash
-dash_read {mode = mode} = record { run = λ front rest count o u said enough stop. dash_run mode front rest count o u said }
+dash_read {mode = mode} = record { run = λ prefix rest count o u said enough stop. dash_run mode prefix rest count o u said }
 
 -- ---- words of a cascade
 
@@ -76,20 +77,7 @@ sees_no_dash _ e = refl
 -- the same form, which says another value
 resaid : {A B C : Type 0} (g : Form A) (w : B) (f : B → C) (tokens : List Token) (count : ℕ) (v : B) → sequence g (λ _. says w) tokens count v
     → sequence g (λ _. says (f w)) tokens count (f v)
-resaid g w f tokens count v said =
-    let p = said.1 in (
-      said.0,
-      record {
-        front = p.front;
-        rest = p.rest;
-        front_count = p.front_count;
-        rest_count = p.rest_count;
-        joined = p.joined;
-        counted = p.counted;
-        first = p.first;
-        second = (p.second.0, p.second.1, ap f p.second.2);
-      },
-    )
+resaid g w f tokens count v said = then_to g (λ _. says w) (λ _. says (f w)) v (f v) (λ _. says_to f) tokens count said
 
 abbrev adds : Cascade → Cascade → Cascade
 adds so_far w = form.joined w so_far
@@ -99,27 +87,6 @@ one_word kd w = sequence (word kd) (λ _. says w)
 
 abbrev two_words : Kind → Kind → Cascade → Form Cascade
 two_words first second w = sequence (sequence (word first) (λ _. sequence form.dash (λ _. word second))) (λ _. says w)
-
-abbrev save_update : Cascade
-save_update = record form.none { save_update = true }
-
-abbrev merge : Cascade
-merge = record form.none { merge = true }
-
-abbrev refresh_expire : Cascade
-refresh_expire = record form.none { refresh_expire = true }
-
-abbrev expunge : Cascade
-expunge = record form.none { expunge = true }
-
-abbrev delete : Cascade
-delete = record form.none { delete = true }
-
-abbrev delete_orphan : Cascade
-delete_orphan = record form.none { delete_orphan = true }
-
-abbrev all : Cascade
-all = record { save_update = true; merge = true; refresh_expire = true; expunge = true; delete = true; delete_orphan = false }
 
 one_read : {mode : Mode} (so_far : Cascade) (kd : Kind) (w : Cascade) → Complete mode always (r.cascade_by so_far kd) (one_word kd (adds so_far w))
     → Complete mode always (peek >>= r.cascade_by so_far) (one_word kd (adds so_far w))
@@ -156,35 +123,17 @@ orphan_by mode so_far d ts rest n o is read = record {
       (if b then record { ahead = ts; operators = o } else record { ahead = d ∷ ts; operators = o })) is ∙ read.is;
 }
 
-associated : {A B C : Type 0} (g : Form A) (h : A → Form B) (f : B → Form C) (tokens : List Token) (count : ℕ) (b : C) → sequence (sequence g h) f tokens count b
-    → sequence g (λ a. sequence (h a) f) tokens count b
-associated g h f tokens count b said =
-    let w = said.1 in
-    let v = w.first.1 in (
-      w.first.0,
-      record {
-        front = v.front;
-        rest = v.rest ++ w.rest;
-        front_count = v.front_count;
-        rest_count = v.rest_count + w.rest_count;
-        joined = w.joined ∙ ap (λ ts. ts ++ w.rest) v.joined ∙ append_assoc v.front v.rest w.rest;
-        counted = omega (arith, w.counted, v.counted);
-        first = v.first;
-        second = (said.0, record { front = v.rest; rest = w.rest; front_count = v.rest_count; rest_count = w.rest_count; joined = refl; counted = refl; first = v.second; second = w.second });
-      },
-    )
-
 widen : {A : Type 0} {mode : Mode} {t : Kind → Bool} {p : Reader A} {g h : Form A} → Complete mode t p h → ((ts : List Token) (n : ℕ) (a : A) → g ts n a → h ts n a) → Complete mode t p g
-widen cp up = record { run = λ front rest count o a said enough stop. cp.run front rest count o a (up front count a said) enough stop }
+widen cp up = record { run = λ prefix rest count o a said enough stop. cp.run prefix rest count o a (up prefix count a said) enough stop }
 
-orphan_run : (mode : Mode) (so_far : Cascade) (front rest : List Token) (count o : ℕ) (a : Cascade)
-    → sequence form.dash (λ _. sequence (word k.Orphan) (λ _. says (adds so_far delete_orphan))) front count a → Enough mode count o
-    → Read mode (r.deleting so_far) (front ++ rest) rest count o a
-orphan_run mode so_far front rest count o a said enough =
+orphan_run : (mode : Mode) (so_far : Cascade) (prefix rest : List Token) (count o : ℕ) (a : Cascade)
+    → sequence form.dash (λ _. sequence (word k.Orphan) (λ _. says (adds so_far delete_orphan))) prefix count a → Enough mode count o
+    → Read mode (r.deleting so_far) (prefix ++ rest) rest count o a
+orphan_run mode so_far prefix rest count o a said enough =
     let w = said.1 in
-    let d = dashed_of w.front w.front_count said.0 w.first in
+    let d = dashed_of w.prefix w.prefix_count said.0 w.first in
     let is : a ≡ adds so_far delete_orphan = w.second.1.second.2 in
-    let tokens : front ≡ d.token ∷ w.rest = w.joined ∙ ap (λ ts. ts ++ w.rest) d.joined in
+    let tokens : prefix ≡ d.token ∷ w.rest = w.joined ∙ ap (λ ts. ts ++ w.rest) d.joined in
     let counts : w.rest_count ≡ count = omega (arith, w.counted, d.counted) in
     let orphan : Complete mode always (expect k.Orphan >> pure (adds so_far delete_orphan)) (sequence (word k.Orphan) (λ _. says (adds so_far delete_orphan))) =
     then_any (expected k.Orphan) (λ _. made (adds so_far delete_orphan)) in
@@ -198,46 +147,46 @@ orphan_run mode so_far front rest count o a said enough =
 
 orphan_read : {mode : Mode} (so_far : Cascade) → Complete mode always (r.deleting so_far) (sequence (sequence form.dash (λ _. word k.Orphan)) (λ _. says (adds so_far delete_orphan)))
 orphan_read {mode = mode} so_far =
-    widen (record { run = λ front rest count o a said enough stop. orphan_run mode so_far front rest count o a said enough })
-    (associated form.dash (λ _. word k.Orphan) (λ _. says (adds so_far delete_orphan)))
+    widen (record { run = λ prefix rest count o a said enough stop. orphan_run mode so_far prefix rest count o a said enough })
+    (regrouped form.dash (λ _. word k.Orphan) (λ _. says (adds so_far delete_orphan)))
 
-delete_run : (mode : Mode) (so_far : Cascade) (front rest : List Token) (count o : ℕ) (a : Cascade) → says (adds so_far delete) front count a → no_dash (first_of rest).kind ≡ true
-    → Read mode (r.deleting so_far) (front ++ rest) rest count o a
-delete_run mode so_far front rest count o a said stop =
+delete_run : (mode : Mode) (so_far : Cascade) (prefix rest : List Token) (count o : ℕ) (a : Cascade) → says (adds so_far delete) prefix count a → no_dash (first_of rest).kind ≡ true
+    → Read mode (r.deleting so_far) (prefix ++ rest) rest count o a
+delete_run mode so_far prefix rest count o a said stop =
     subst (λ ts. Read mode (r.deleting so_far) (ts ++ rest) rest count o a) (sym said.0) (subst (λ n. Read mode (r.deleting so_far) rest rest n o a) (sym said.1)
     (subst (λ x. Read mode (r.deleting so_far) rest rest 0 o x) (sym said.2) (deleting_by mode so_far rest o (sees_no_dash (first_of rest).kind stop))))
 
 delete_read : {mode : Mode} (so_far : Cascade) → Complete mode no_dash (r.deleting so_far) (says (adds so_far delete))
-delete_read {mode = mode} so_far = record { run = λ front rest count o a said enough stop. delete_run mode so_far front rest count o a said stop }
+delete_read {mode = mode} so_far = record { run = λ prefix rest count o a said enough stop. delete_run mode so_far prefix rest count o a said stop }
 
-word_read : (mode : Mode) (so_far : Cascade) (front rest : List Token) (count o : ℕ) (w : Cascade) → form.cascade_word front count w → Enough mode count o
-    → no_dash (first_of rest).kind ≡ true → Read mode (r.cascade_word so_far) (front ++ rest) rest count o (adds so_far w)
+word_read : (mode : Mode) (so_far : Cascade) (prefix rest : List Token) (count o : ℕ) (w : Cascade) → form.cascade_word prefix count w → Enough mode count o
+    → no_dash (first_of rest).kind ≡ true → Read mode (r.cascade_word so_far) (prefix ++ rest) rest count o (adds so_far w)
 unfolding r.cascade_word
-word_read mode so_far front rest count o w (inl s) enough stop =
-    (on_first (r.cascade_by so_far) k.Save (two_begun k.Save k.Update (adds so_far save_update)) (two_read k.Save k.Update (adds so_far save_update))).run front rest count o (adds so_far w)
-    (resaid (sequence (word k.Save) (λ _. sequence form.dash (λ _. word k.Update))) save_update (adds so_far) front count w s) enough refl
-word_read mode so_far front rest count o w (inr (inl s)) enough stop =
-    (on_word (r.cascade_by so_far) k.Merge (then_any (taken k.Merge) (λ _. made (adds so_far merge)))).run front rest count o (adds so_far w)
-    (resaid (word k.Merge) merge (adds so_far) front count w s) enough refl
-word_read mode so_far front rest count o w (inr (inr (inl s))) enough stop =
-    (on_first (r.cascade_by so_far) k.Refresh (two_begun k.Refresh k.Expire (adds so_far refresh_expire)) (two_read k.Refresh k.Expire (adds so_far refresh_expire))).run front rest count o (adds so_far w)
-    (resaid (sequence (word k.Refresh) (λ _. sequence form.dash (λ _. word k.Expire))) refresh_expire (adds so_far) front count w s) enough refl
-word_read mode so_far front rest count o w (inr (inr (inr (inl s)))) enough stop =
-    (on_word (r.cascade_by so_far) k.Expunge (then_any (taken k.Expunge) (λ _. made (adds so_far expunge)))).run front rest count o (adds so_far w)
-    (resaid (word k.Expunge) expunge (adds so_far) front count w s) enough refl
-word_read mode so_far front rest count o w (inr (inr (inr (inr (inl s))))) enough stop =
-    (on_word (r.cascade_by so_far) k.Delete (then_any (taken k.Delete) (λ _. delete_read so_far))).run front rest count o (adds so_far w)
-    (resaid (word k.Delete) delete (adds so_far) front count w s) enough stop
-word_read mode so_far front rest count o w (inr (inr (inr (inr (inr (inl s)))))) enough stop =
+word_read mode so_far prefix rest count o w (inl s) enough stop =
+    (on_first (r.cascade_by so_far) k.Save (two_begun k.Save k.Update (adds so_far save_update)) (two_read k.Save k.Update (adds so_far save_update))).run prefix rest count o (adds so_far w)
+    (resaid (sequence (word k.Save) (λ _. sequence form.dash (λ _. word k.Update))) save_update (adds so_far) prefix count w s) enough refl
+word_read mode so_far prefix rest count o w (inr (inl s)) enough stop =
+    (on_word (r.cascade_by so_far) k.Merge (then_any (taken k.Merge) (λ _. made (adds so_far merge)))).run prefix rest count o (adds so_far w)
+    (resaid (word k.Merge) merge (adds so_far) prefix count w s) enough refl
+word_read mode so_far prefix rest count o w (inr (inr (inl s))) enough stop =
+    (on_first (r.cascade_by so_far) k.Refresh (two_begun k.Refresh k.Expire (adds so_far refresh_expire)) (two_read k.Refresh k.Expire (adds so_far refresh_expire))).run prefix rest count o (adds so_far w)
+    (resaid (sequence (word k.Refresh) (λ _. sequence form.dash (λ _. word k.Expire))) refresh_expire (adds so_far) prefix count w s) enough refl
+word_read mode so_far prefix rest count o w (inr (inr (inr (inl s)))) enough stop =
+    (on_word (r.cascade_by so_far) k.Expunge (then_any (taken k.Expunge) (λ _. made (adds so_far expunge)))).run prefix rest count o (adds so_far w)
+    (resaid (word k.Expunge) expunge (adds so_far) prefix count w s) enough refl
+word_read mode so_far prefix rest count o w (inr (inr (inr (inr (inl s))))) enough stop =
+    (on_word (r.cascade_by so_far) k.Delete (then_any (taken k.Delete) (λ _. delete_read so_far))).run prefix rest count o (adds so_far w)
+    (resaid (word k.Delete) delete (adds so_far) prefix count w s) enough stop
+word_read mode so_far prefix rest count o w (inr (inr (inr (inr (inr (inl s)))))) enough stop =
     (on_first (r.cascade_by so_far) k.Delete (two_begun k.Delete k.Orphan (adds so_far delete_orphan))
-    (widen (then_any (taken k.Delete) (λ _. orphan_read so_far)) (associated (word k.Delete) (λ _. sequence form.dash (λ _. word k.Orphan)) (λ _. says (adds so_far delete_orphan))))).run
-    front rest count o (adds so_far w) (resaid (sequence (word k.Delete) (λ _. sequence form.dash (λ _. word k.Orphan))) delete_orphan (adds so_far) front count w s) enough refl
-word_read mode so_far front rest count o w (inr (inr (inr (inr (inr (inr (inl s))))))) enough stop =
-    (on_word (r.cascade_by so_far) k.All (then_any (taken k.All) (λ _. made (adds so_far all)))).run front rest count o (adds so_far w)
-    (resaid (word k.All) all (adds so_far) front count w s) enough refl
-word_read mode so_far front rest count o w (inr (inr (inr (inr (inr (inr (inr s))))))) enough stop =
-    (on_word (r.cascade_by so_far) k.NoneWord (then_any (taken k.NoneWord) (λ _. made (adds so_far form.none)))).run front rest count o (adds so_far w)
-    (resaid (word k.NoneWord) form.none (adds so_far) front count w s) enough refl
+    (widen (then_any (taken k.Delete) (λ _. orphan_read so_far)) (regrouped (word k.Delete) (λ _. sequence form.dash (λ _. word k.Orphan)) (λ _. says (adds so_far delete_orphan))))).run
+    prefix rest count o (adds so_far w) (resaid (sequence (word k.Delete) (λ _. sequence form.dash (λ _. word k.Orphan))) delete_orphan (adds so_far) prefix count w s) enough refl
+word_read mode so_far prefix rest count o w (inr (inr (inr (inr (inr (inr (inl s))))))) enough stop =
+    (on_word (r.cascade_by so_far) k.All (then_any (taken k.All) (λ _. made (adds so_far all)))).run prefix rest count o (adds so_far w)
+    (resaid (word k.All) all (adds so_far) prefix count w s) enough refl
+word_read mode so_far prefix rest count o w (inr (inr (inr (inr (inr (inr (inr s))))))) enough stop =
+    (on_word (r.cascade_by so_far) k.NoneWord (then_any (taken k.NoneWord) (λ _. made (adds so_far form.none)))).run prefix rest count o (adds so_far w)
+    (resaid (word k.NoneWord) form.none (adds so_far) prefix count w s) enough refl
 
 one_solid : (kd : Kind) (w v : Cascade) (tokens : List Token) (count : ℕ) → one_word kd w tokens count v → 1 ≤ length tokens
 one_solid kd w v tokens count said =
@@ -309,47 +258,47 @@ module _ (mode : Mode) where
     is = ap (λ out. and_then out (λ longer. eat k.Comma >>= (λ more. if more then r.cascade_from n longer else pure longer))) one.is ∙ two.is;
   }
 
-  words_from : (n : ℕ) (ws : List Cascade) (so_far : Cascade) (front rest : List Token) (count o : ℕ) → length ws ≤ n → separated k.Comma form.cascade_word front count ws
-      → Enough mode count o → behind_cascade (first_of rest).kind ≡ true → Read mode (r.cascade_from n so_far) (front ++ rest) rest count o (form.all_of so_far ws)
-  words_from n [] so_far front rest count o fits said enough stop = absurd said
-  words_from zero (w ∷ ws) so_far front rest count o fits said enough stop = absurd (omega arith)
-  words_from (suc n) (w ∷ []) so_far front rest count o fits said enough stop =
-      let one = word_read mode so_far front rest count o w said enough (cascade_no_dash (first_of rest).kind stop) in
+  words_from : (n : ℕ) (ws : List Cascade) (so_far : Cascade) (prefix rest : List Token) (count o : ℕ) → length ws ≤ n → separated k.Comma form.cascade_word prefix count ws
+      → Enough mode count o → behind_cascade (first_of rest).kind ≡ true → Read mode (r.cascade_from n so_far) (prefix ++ rest) rest count o (form.all_of so_far ws)
+  words_from n [] so_far prefix rest count o fits said enough stop = absurd said
+  words_from zero (w ∷ ws) so_far prefix rest count o fits said enough stop = absurd (omega arith)
+  words_from (suc n) (w ∷ []) so_far prefix rest count o fits said enough stop =
+      let one = word_read mode so_far prefix rest count o w said enough (cascade_no_dash (first_of rest).kind stop) in
       let counts : count + 0 ≡ count = omega arith in
-      subst (λ m. Read mode (r.cascade_from (suc n) so_far) (front ++ rest) rest m o (adds so_far w)) counts
-      (step n so_far (adds so_far w) (front ++ rest) rest rest count 0 o (adds so_far w) one (last_by n (adds so_far w) rest one.left (cascade_no_comma (first_of rest).kind stop)))
-  words_from (suc n) (w ∷ v ∷ ws) so_far front rest count o fits said enough stop =
+      subst (λ m. Read mode (r.cascade_from (suc n) so_far) (prefix ++ rest) rest m o (adds so_far w)) counts
+      (step n so_far (adds so_far w) (prefix ++ rest) rest rest count 0 o (adds so_far w) one (last_by n (adds so_far w) rest one.left (cascade_no_comma (first_of rest).kind stop)))
+  words_from (suc n) (w ∷ v ∷ ws) so_far prefix rest count o fits said enough stop =
       let p = said in
       let q = p.second in
       let u = q.first.0 in
       let zero_mark : q.rest_count ≡ p.rest_count = omega (arith, q.counted, q.first.3) in
-      let enough_all : Enough mode (p.front_count + p.rest_count) o = subst (λ m. Enough mode m o) p.counted enough in
+      let enough_all : Enough mode (p.prefix_count + p.rest_count) o = subst (λ m. Enough mode m o) p.counted enough in
       let tail : p.rest ≡ u ∷ q.rest = q.joined ∙ ap (λ ts. ts ++ q.rest) q.first.1 in
-      let tokens : p.front ++ (u ∷ (q.rest ++ rest)) ≡ front ++ rest =
-      ap (λ ts. p.front ++ (ts ++ rest)) (sym tail) ∙ sym (append_assoc p.front p.rest rest) ∙ ap (λ ts. ts ++ rest) (sym p.joined) in
-      let one : Read mode (r.cascade_word so_far) (p.front ++ (u ∷ (q.rest ++ rest))) (u ∷ (q.rest ++ rest)) p.front_count o (adds so_far w) =
-      word_read mode so_far p.front (u ∷ (q.rest ++ rest)) p.front_count o w p.first (enough_first mode p.front_count p.rest_count o enough_all) (ap no_dash q.first.2) in
+      let tokens : p.prefix ++ (u ∷ (q.rest ++ rest)) ≡ prefix ++ rest =
+      ap (λ ts. p.prefix ++ (ts ++ rest)) (sym tail) ∙ sym (append_assoc p.prefix p.rest rest) ∙ ap (λ ts. ts ++ rest) (sym p.joined) in
+      let one : Read mode (r.cascade_word so_far) (p.prefix ++ (u ∷ (q.rest ++ rest))) (u ∷ (q.rest ++ rest)) p.prefix_count o (adds so_far w) =
+      word_read mode so_far p.prefix (u ∷ (q.rest ++ rest)) p.prefix_count o w p.first (enough_first mode p.prefix_count p.rest_count o enough_all) (ap no_dash q.first.2) in
       let more_enough : Enough mode q.rest_count one.left =
-      subst (λ m. Enough mode m one.left) (sym zero_mark) (enough_then mode p.front_count p.rest_count o one.left enough_all one.budget) in
+      subst (λ m. Enough mode m one.left) (sym zero_mark) (enough_then mode p.prefix_count p.rest_count o one.left enough_all one.budget) in
       let less_words : length (v ∷ ws) ≤ n = omega arith in
       let rec : Read mode (r.cascade_from n (adds so_far w)) (q.rest ++ rest) rest q.rest_count one.left (form.all_of (adds so_far w) (v ∷ ws)) =
       words_from n (v ∷ ws) (adds so_far w) q.rest rest q.rest_count one.left less_words q.second more_enough stop in
       let two = more_by n (adds so_far w) u (q.rest ++ rest) rest q.rest_count one.left (form.all_of (adds so_far w) (v ∷ ws)) q.first.2 rec in
-      let whole : Read mode (r.cascade_from (suc n) so_far) (p.front ++ (u ∷ (q.rest ++ rest))) rest (p.front_count + q.rest_count) o (form.all_of (adds so_far w) (v ∷ ws)) =
-      step n so_far (adds so_far w) (p.front ++ (u ∷ (q.rest ++ rest))) (u ∷ (q.rest ++ rest)) rest p.front_count q.rest_count o (form.all_of (adds so_far w) (v ∷ ws)) one two in
-      let counts : p.front_count + q.rest_count ≡ count = omega (arith, p.counted) in
+      let whole : Read mode (r.cascade_from (suc n) so_far) (p.prefix ++ (u ∷ (q.rest ++ rest))) rest (p.prefix_count + q.rest_count) o (form.all_of (adds so_far w) (v ∷ ws)) =
+      step n so_far (adds so_far w) (p.prefix ++ (u ∷ (q.rest ++ rest))) (u ∷ (q.rest ++ rest)) rest p.prefix_count q.rest_count o (form.all_of (adds so_far w) (v ∷ ws)) one two in
+      let counts : p.prefix_count + q.rest_count ≡ count = omega (arith, p.counted) in
       subst (λ ts. Read mode (r.cascade_from (suc n) so_far) ts rest count o (form.all_of (adds so_far w) (v ∷ ws))) tokens
-      (subst (λ m. Read mode (r.cascade_from (suc n) so_far) (p.front ++ (u ∷ (q.rest ++ rest))) rest m o (form.all_of (adds so_far w) (v ∷ ws))) counts whole)
+      (subst (λ m. Read mode (r.cascade_from (suc n) so_far) (p.prefix ++ (u ∷ (q.rest ++ rest))) rest m o (form.all_of (adds so_far w) (v ∷ ws))) counts whole)
 
-  cascade_run : (front rest : List Token) (count o : ℕ) (a : Cascade) → sequence (separated k.Comma form.cascade_word) (λ words. says (form.all_of form.none words)) front count a
-      → Enough mode count o → behind_cascade (first_of rest).kind ≡ true → Read mode r.cascade (front ++ rest) rest count o a
+  cascade_run : (prefix rest : List Token) (count o : ℕ) (a : Cascade) → sequence (separated k.Comma form.cascade_word) (λ words. says (form.all_of form.none words)) prefix count a
+      → Enough mode count o → behind_cascade (first_of rest).kind ≡ true → Read mode r.cascade (prefix ++ rest) rest count o a
   unfolding r.cascade
-  cascade_run front rest count o a said enough stop =
-      let m = mapped_of (separated k.Comma form.cascade_word) (form.all_of form.none) front count a said in
-      let fits = items_fit k.Comma form.cascade_word cascade_word_solid m.value front count m.said in
-      let long = length-append front rest in
-      let read = words_from (length (front ++ rest)) m.value form.none front rest count o (omega arith) m.said enough stop in
-      subst (λ x. Read mode r.cascade (front ++ rest) rest count o x) (sym m.is) (record { left = read.left; budget = read.budget; is = read.is })
+  cascade_run prefix rest count o a said enough stop =
+      let m = mapped_of (separated k.Comma form.cascade_word) (form.all_of form.none) prefix count a said in
+      let fits = items_fit k.Comma form.cascade_word cascade_word_solid m.value prefix count m.said in
+      let long = length-append prefix rest in
+      let read = words_from (length (prefix ++ rest)) m.value form.none prefix rest count o (omega arith) m.said enough stop in
+      subst (λ x. Read mode r.cascade (prefix ++ rest) rest count o x) (sym m.is) (record { left = read.left; budget = read.budget; is = read.is })
 
 cascade_read : {mode : Mode} → Complete mode behind_cascade r.cascade (sequence (separated k.Comma form.cascade_word) (λ words. says (form.all_of form.none words)))
 cascade_read {mode = mode} = record { run = cascade_run mode }
@@ -381,12 +330,12 @@ cascade_using k.LineEnd e = refl
 cascade_using k.PostUpdate e = refl
 cascade_using _ e = absurd (false_true e)
 
-end_no_post : (y : Kind) → line_end y ≡ true → same_kind y k.PostUpdate ≡ false
+end_no_post : (y : Kind) → is_end y ≡ true → same_kind y k.PostUpdate ≡ false
 unfolding same_kind
 end_no_post k.LineEnd e = refl
 end_no_post _ e = absurd (false_true e)
 
-end_cascade : (y : Kind) → line_end y ≡ true → behind_cascade y ≡ true
+end_cascade : (y : Kind) → is_end y ≡ true → behind_cascade y ≡ true
 end_cascade k.LineEnd e = refl
 end_cascade _ e = absurd (false_true e)
 
@@ -411,21 +360,21 @@ back_opens : Opens form.back always no_secondary
 back_opens = either_opens (first_opens (word_opens k.Back refl)) (first_opens (word_opens k.Backref refl))
 
 module _ {mode : Mode} (many : Bool) (secondary : Form (Option (List ℕ))) (post_update : Form Bool) (secondary_read : Complete mode no_secondary (r.secondary many) secondary)
-    (post_read : Complete mode line_end (r.post_update many) post_update) (post_opens : Opens post_update line_end behind_cascade) where
+    (post_read : Complete mode is_end (r.post_update many) post_update) (post_opens : Opens post_update is_end behind_cascade) where
   sides_read : Complete mode always (r.sides many) (form.sides secondary)
   unfolding r.sides
   sides_read =
       then_any named (λ called. then_any named (λ target. both secondary_read (λ through. then_any back_read (λ back. then_any named (λ partner. made _)))
       (λ through. first_opens back_opens)))
 
-  relation_read : Complete mode line_end (r.relation many) (form.relation many secondary post_update)
+  relation_read : Complete mode is_end (r.relation many) (form.relation many secondary post_update)
   unfolding r.relation r.cascade_if_any
   relation_read =
       then_any sides_read (λ found. both using_read (λ columns. both (introduced k.Cascade cascade_read cascade_no_cascade) (λ words. both post_read (λ post. less (made _) (λ y e. refl))
       (λ post. made_opens _ (λ y e. e)))
-      (λ words. then_opens line_end post_opens (λ post. made_opens _ (λ y e. e))))
+      (λ words. then_opens is_end post_opens (λ post. made_opens _ (λ y e. e))))
       (λ columns. then_opens behind_cascade (maybe_opens (first_opens {h = λ _. sequence (separated k.Comma form.cascade_word) (λ words. says (form.all_of form.none words))} (word_opens k.Cascade refl)) cascade_using)
-      (λ words. then_opens line_end post_opens (λ post. made_opens _ (λ y e. e)))))
+      (λ words. then_opens is_end post_opens (λ post. made_opens _ (λ y e. e)))))
 
 no_secondary_read : {mode : Mode} → Complete mode no_secondary (r.secondary false) (says None)
 unfolding r.secondary
@@ -435,28 +384,28 @@ a_secondary_read : {mode : Mode} → Complete mode no_secondary (r.secondary tru
 unfolding r.secondary
 a_secondary_read = introduced k.Secondary (less named (λ y e. refl)) not_secondary
 
-no_post_read : {mode : Mode} → Complete mode line_end (r.post_update true) (says false)
+no_post_read : {mode : Mode} → Complete mode is_end (r.post_update true) (says false)
 unfolding r.post_update
 no_post_read = less (made false) (λ y e. refl)
 
-a_post_read : {mode : Mode} → Complete mode line_end (r.post_update false) (whether (word k.PostUpdate))
+a_post_read : {mode : Mode} → Complete mode is_end (r.post_update false) (whether (word k.PostUpdate))
 unfolding r.post_update
 a_post_read = eaten k.PostUpdate end_no_post
 
-one_line_read : {mode : Mode} → Complete mode line_end (take_token >> r.relation false) form.one_line
+one_line_read : {mode : Mode} → Complete mode is_end (take_token >> r.relation false) form.one_line
 one_line_read =
     then_any (taken k.One) (λ _. relation_read false (says None) (whether (word k.PostUpdate)) no_secondary_read a_post_read (whether_opens (word_opens k.PostUpdate refl) end_cascade))
 
-many_line_read : {mode : Mode} → Complete mode line_end (take_token >> r.relation true) form.many_line
+many_line_read : {mode : Mode} → Complete mode is_end (take_token >> r.relation true) form.many_line
 many_line_read =
     then_any (taken k.Many) (λ _. relation_read true (maybe (sequence (word k.Secondary) (λ _. basic.name))) (says false) a_secondary_read no_post_read (made_opens false end_cascade))
 
-validate_read : {mode : Mode} → Complete mode line_end (take_token >> r.validate) form.validate_line
+validate_read : {mode : Mode} → Complete mode is_end (take_token >> r.validate) form.validate_line
 unfolding r.validate
 validate_read =
     less (then_any (taken k.Validate) (λ _. then_any named (λ attribute. then_any (expected k.With) (λ _. then_any named (λ hook. made _))))) (λ y e. refl)
 
-pub class_line_read : {mode : Mode} → Complete mode line_end r.class_line form.class_line
+pub class_line_read : {mode : Mode} → Complete mode is_end r.class_line form.class_line
 unfolding r.class_line
 class_line_read =
     either (on_word r.class_line_by k.One one_line_read)

@@ -1,5 +1,6 @@
 pub mod Taking
 pub mod Steps
+pub mod Sequences
 pub mod Options
 pub mod Lists
 pub mod Basics

@@ -15,14 +15,15 @@ use Rattle.script_forms.specs.Form.{Form}
 use Rattle.script_forms.specs.Lines.{Says, Begins}
 use Rattle.script_forms.specs.TableLines as form
 use Rattle.script_forms.specs.ClassLines as classes
-use Rattle.grammar_laws.specs.Exact.{EndsAViableFront, ReadsWhatIsSaid, ReadsAllThatIsSaid, SaysOneThing, RefusesNoSooner, table_reader, class_reader}
+use Rattle.grammar_laws.specs.Exact.{EndsAViablePrefix, ReadsWhatIsSaid, ReadsAllThatIsSaid, SaysOneThing, RefusesNoSooner, table_reader, class_reader}
 use Rattle.script_read.specs.Line.{ends, line_of}
 use Rattle.grammar_laws.proofs.Taking.{Plain, Took, Completed, Behind, TooDeep, Kept, last_of, Whole, Sound}
 use Rattle.grammar_laws.proofs.Filling.{Read, Complete}
-use Rattle.grammar_laws.proofs.FillingTables.{line_end, table_line_read as tables_filled}
+use Rattle.grammar_laws.proofs.FillingTables.{table_line_read as tables_filled}
 use Rattle.grammar_laws.proofs.FillingClasses.{class_line_read as classes_filled}
 use Rattle.grammar_laws.proofs.TableLines.{table_line_read}
 use Rattle.grammar_laws.proofs.ClassLines.{class_line_read}
+use Rattle.grammar_laws.proofs.Steps.{is_end}
 
 -- ---- outcomes
 
@@ -93,11 +94,11 @@ unfolding sees head
 ends_read form line said j t true seen command left e =
     let same_command : said ≡ command = value_same e in
     record {
-      front = t.front;
+      prefix = t.prefix;
       rest = j.ahead;
       joined = t.joined;
       ends = same seen;
-      said = subst (λ c. form t.front 0 c) same_command (subst (λ n. form t.front n said) t.budget t.said);
+      said = subst (λ c. form t.prefix 0 c) same_command (subst (λ n. form t.prefix n said) t.budget t.said);
     }
 ends_read form line said j t false seen command left e = absurd (refused_yields e)
 
@@ -112,18 +113,18 @@ read_as_said p form sp line command left e =
     read_by form (tokens line) (p (start_of (tokens line))) (sp.run (start_of (tokens line)) (line_is_whole line)) command left e
 
 pub ends_refused : (form : Form Command) (line : List Token) (said : Command) (j : Input) → Took Plain form (start_of line) said j → (b : Bool)
-    → (e : Fault) → ◌≡◌ {A = Outcome Command} (if b then Ok (said, j) else Err (At (head j).at)) (Err e) → EndsAViableFront form line e
+    → (e : Fault) → ◌≡◌ {A = Outcome Command} (if b then Ok (said, j) else Err (At (head j).at)) (Err e) → EndsAViablePrefix form line e
 unfolding head
 ends_refused form line said j t true e is = absurd (refused_yields (sym is))
 ends_refused form line said j t false e is = record {
-  before = t.front;
+  before = t.prefix;
   after = j.ahead;
   joined = t.joined;
   at = sym (fault_same is);
   begins = record {
     more = [];
     command = said;
-    said = subst (λ ts. form ts 0 said) (sym (append-nil t.front)) (subst (λ n. form t.front n said) t.budget t.said);
+    said = subst (λ ts. form ts 0 said) (sym (append-nil t.prefix)) (subst (λ n. form t.prefix n said) t.budget t.said);
   };
 }
 
@@ -131,7 +132,7 @@ pub begun : (form : Form Command) (before : List Token) → Completed Plain form
 begun form before done = record { more = done.more; command = done.value; said = subst (λ n. form (before ++ done.more) n done.value) done.enough done.said }
 
 pub refused_by : (form : Form Command) (line : List Token) (out : Outcome Command) → Kept Plain form (start_of line) out → (e : Fault)
-    → ◌≡◌ {A = Outcome Command} (and_then out ends) (Err e) → EndsAViableFront form line e
+    → ◌≡◌ {A = Outcome Command} (and_then out ends) (Err e) → EndsAViablePrefix form line e
 unfolding ends
 refused_by form line (Ok p) t e is = ends_refused form line p.0 p.1 t (sees k.LineEnd p.1) e is
 refused_by form line (Err f) (Behind before after split at done) e is =
@@ -143,32 +144,32 @@ refused_no_sooner p form sp line e is = refused_by form (tokens line) (p (start_
 
 -- ---- what is said is read
 
-is_end_by : (kd : Kind) → kd ≡ k.LineEnd → line_end kd ≡ true
-is_end_by kd e = ap line_end e
+is_end_by : (kd : Kind) → kd ≡ k.LineEnd → is_end kd ≡ true
+is_end_by kd e = ap is_end e
 
 ends_there : (command : Command) (j : Input) → (first_of j.ahead).kind ≡ k.LineEnd → ends command j ≡ Ok (command, j)
 unfolding sees head ends
 ends_there command j e = ap (λ b. if b then Ok (command, j) else Err (At (first_of j.ahead).at)) (alike e)
 
-filled_by : (p : Reader Command) (front rest : List Token) (command : Command) → (first_of rest).kind ≡ k.LineEnd → Read Plain p (front ++ rest) rest 0 0 command
-    → (left : Input) × ((p >>= ends) (start_of (front ++ rest)) ≡ Ok (command, left))
-filled_by p front rest command is read =
+filled_by : (p : Reader Command) (prefix rest : List Token) (command : Command) → (first_of rest).kind ≡ k.LineEnd → Read Plain p (prefix ++ rest) rest 0 0 command
+    → (left : Input) × ((p >>= ends) (start_of (prefix ++ rest)) ≡ Ok (command, left))
+filled_by p prefix rest command is read =
     let j : Input = record { ahead = rest; operators = read.left } in
     (j, ap (λ out. and_then out ends) read.is ∙ ends_there command j is)
 
-pub filled : (p : Reader Command) (form : Form Command) → Complete Plain line_end p form → (line : List Token) (command : Command) → Says form line command
+pub filled : (p : Reader Command) (form : Form Command) → Complete Plain is_end p form → (line : List Token) (command : Command) → Says form line command
     → (left : Input) × ((p >>= ends) (start_of line) ≡ Ok (command, left))
 filled p form cp line command said =
     subst (λ ts. (left : Input) × ((p >>= ends) (start_of ts) ≡ Ok (command, left))) (sym said.joined)
-    (filled_by p said.front said.rest command said.ends (cp.run said.front said.rest 0 0 command said.said refl (is_end_by (first_of said.rest).kind said.ends)))
+    (filled_by p said.prefix said.rest command said.ends (cp.run said.prefix said.rest 0 0 command said.said refl (is_end_by (first_of said.rest).kind said.ends)))
 
-pub all_is_read : (p : Reader Command) (form : Form Command) → Complete Plain line_end p form → ReadsAllThatIsSaid (p >>= ends) form
+pub all_is_read : (p : Reader Command) (form : Form Command) → Complete Plain is_end p form → ReadsAllThatIsSaid (p >>= ends) form
 all_is_read p form cp line command said = filled p form cp line command said
 
 one_value : (out : Outcome Command) (c d : Command) (i j : Input) → ◌≡◌ {A = Outcome Command} out (Ok (c, i)) → ◌≡◌ {A = Outcome Command} out (Ok (d, j)) → c ≡ d
 one_value out c d i j e f = value_same (sym e ∙ f)
 
-pub one_thing : (p : Reader Command) (form : Form Command) → Complete Plain line_end p form → SaysOneThing form
+pub one_thing : (p : Reader Command) (form : Form Command) → Complete Plain is_end p form → SaysOneThing form
 one_thing p form cp line c d sc sd =
     let a = filled p form cp line c sc in
     let b = filled p form cp line d sd in

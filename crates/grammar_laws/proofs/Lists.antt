@@ -7,6 +7,7 @@ use Rattle.script_tokens.proofs.Alike.{same}
 use Rattle.script_tokens.specs.Input.{Input, Outcome, Reader, ◌>>=◌, and_then, pure, eat, head, next, sees, after, first_of, separated_from}
 use Rattle.script_forms.specs.Form.{Form, sequence, says, word, separated}
 use Rattle.grammar_laws.proofs.Taking.{Mode, Took, Refused, Behind, TooDeep, Kept, Whole, Sound, Inhabited}
+use Rattle.grammar_laws.proofs.Sequences.{then_value}
 use Rattle.grammar_laws.proofs.Steps.{whole_rest, whole_next, budget_more, enough_more, deep_behind, both_refused, some_made, is_end, taken_by, refused_here}
 
 pub some_list : {A : Type 0} (mark : Kind) {item : Form A} → Inhabited item → Inhabited (separated mark item)
@@ -20,14 +21,14 @@ pub more_items : {A : Type 0} (mark : Kind) (item : Form A) (a b rest : List Tok
     → separated mark item rest n more → separated mark item (a ++ (b ++ rest)) (l + (m + n)) (x ∷ more)
 more_items mark item a b rest l m n x [] one two three = absurd three
 more_items mark item a b rest l m n x (y ∷ ys) one two three = record {
-  front = a;
+  prefix = a;
   rest = b ++ rest;
-  front_count = l;
+  prefix_count = l;
   rest_count = m + n;
   joined = refl;
   counted = refl;
   first = one;
-  second = record { front = b; rest = rest; front_count = m; rest_count = n; joined = refl; counted = refl; first = two; second = three };
+  second = record { prefix = b; rest = rest; prefix_count = m; rest_count = n; joined = refl; counted = refl; first = two; second = three };
 }
 
 -- the items that were read are behind those found before
@@ -45,28 +46,28 @@ module _ {A : Type 0} (c : Mode) (mark : Kind) (not_end : is_end mark ≡ false)
         x ∷ more,
         items.1 ∙ append_assoc found (x ∷ []) more,
         record {
-          front = t.front ++ (u.front ++ v.front);
+          prefix = t.prefix ++ (u.prefix ++ v.prefix);
           count = t.count + (u.count + v.count);
-          joined = t.joined ∙ ap (λ ts. t.front ++ ts) (u.joined ∙ ap (λ ts. u.front ++ ts) v.joined) ∙ joined_three t.front u.front v.front q.1.ahead;
+          joined = t.joined ∙ ap (λ ts. t.prefix ++ ts) (u.joined ∙ ap (λ ts. u.prefix ++ ts) v.joined) ∙ joined_three t.prefix u.prefix v.prefix q.1.ahead;
           budget = budget_more c t.count (u.count + v.count) i.operators j.operators q.1.operators t.budget
               (budget_more c u.count v.count j.operators m.operators q.1.operators u.budget v.budget);
-          said = more_items mark form t.front u.front v.front t.count u.count v.count x more t.said u.said v.said;
+          said = more_items mark form t.prefix u.prefix v.prefix t.count u.count v.count x more t.said u.said v.said;
         },
       )
   behind found i j m x t u (Err e) (Behind before after split at done) =
-      Behind (t.front ++ (u.front ++ before)) after
-      (t.joined ∙ ap (λ ts. t.front ++ ts) (u.joined ∙ ap (λ ts. u.front ++ ts) split) ∙ joined_three t.front u.front before after) at (record {
+      Behind (t.prefix ++ (u.prefix ++ before)) after
+      (t.joined ∙ ap (λ ts. t.prefix ++ ts) (u.joined ∙ ap (λ ts. u.prefix ++ ts) split) ∙ joined_three t.prefix u.prefix before after) at (record {
         more = done.more;
         count = t.count + (u.count + done.count);
         value = x ∷ done.value;
         enough = enough_more c t.count (u.count + done.count) i.operators j.operators t.budget (enough_more c u.count done.count j.operators m.operators u.budget done.enough);
-        said = subst (λ ts. separated mark form ts (t.count + (u.count + done.count)) (x ∷ done.value)) (joined_three t.front u.front before done.more)
-            (more_items mark form t.front u.front (before ++ done.more) t.count u.count done.count x done.value t.said u.said done.said);
+        said = subst (λ ts. separated mark form ts (t.count + (u.count + done.count)) (x ∷ done.value)) (joined_three t.prefix u.prefix before done.more)
+            (more_items mark form t.prefix u.prefix (before ++ done.more) t.count u.count done.count x done.value t.said u.said done.said);
       })
   behind found i j m x t u (Err e) (TooDeep before after w dp split at wants) =
-      TooDeep (t.front ++ (u.front ++ before)) after w (deep_behind c t.front (u.front ++ before) (deep_behind c u.front before dp))
-      (t.joined ∙ ap (λ ts. t.front ++ ts) (u.joined ∙ ap (λ ts. u.front ++ ts) split) ∙ joined_three t.front u.front (before ++ w ∷ []) after
-      ∙ ap (λ ts. ts ++ after) (joined_three t.front u.front before (w ∷ []))) at wants
+      TooDeep (t.prefix ++ (u.prefix ++ before)) after w (deep_behind c t.prefix (u.prefix ++ before) (deep_behind c u.prefix before dp))
+      (t.joined ∙ ap (λ ts. t.prefix ++ ts) (u.joined ∙ ap (λ ts. u.prefix ++ ts) split) ∙ joined_three t.prefix u.prefix (before ++ w ∷ []) after
+      ∙ ap (λ ts. ts ++ after) (joined_three t.prefix u.prefix before (w ∷ []))) at wants
 
   by_mark : (n : ℕ) (found : List A) (i : Input) (x : A) (xs : List Token) (o : ℕ) → Took c form i x (record { ahead = xs; operators = o }) → Whole xs
       → ((found : List A) (j : Input) → Whole j.ahead → Items c mark form found j (separated_from mark item n found j))
@@ -78,7 +79,7 @@ module _ {A : Type 0} (c : Mode) (mark : Kind) (not_end : is_end mark ≡ false)
       let m : Input = record { ahead = drop 1 xs; operators = o } in
       behind found i j m x t (taken_by mark not_end xs o (same is)) (separated_from mark item n (found ++ x ∷ []) m) (rec (found ++ x ∷ []) m (whole_next xs whole))
   by_mark n found i x xs o t whole rec false is =
-      (x ∷ [], refl, record { front = t.front; count = t.count; joined = t.joined; budget = t.budget; said = t.said })
+      (x ∷ [], refl, record { prefix = t.prefix; count = t.count; joined = t.joined; budget = t.budget; said = t.said })
 
   by_item : (n : ℕ) (found : List A) (i : Input) → Whole i.ahead
       → ((found : List A) (j : Input) → Whole j.ahead → Items c mark form found j (separated_from mark item n found j))
@@ -86,7 +87,7 @@ module _ {A : Type 0} (c : Mode) (mark : Kind) (not_end : is_end mark ≡ false)
       → Items c mark form found i (and_then out (λ x. eat mark >>= (λ more. if more then separated_from mark item n (found ++ x ∷ []) else pure (found ++ x ∷ []))))
   unfolding Items sees after head next
   by_item n found i whole rec (Ok p) t =
-      by_mark n found i p.0 p.1.ahead p.1.operators t (whole_rest t.front p.1.ahead (subst Whole t.joined whole)) rec (same_kind (first_of p.1.ahead).kind mark) refl
+      by_mark n found i p.0 p.1.ahead p.1.operators t (whole_rest t.prefix p.1.ahead (subst Whole t.joined whole)) rec (same_kind (first_of p.1.ahead).kind mark) refl
   by_item n found i whole rec (Err e) (Behind before after split at done) =
       Behind before after split at (record { more = done.more; count = done.count; value = done.value ∷ []; enough = done.enough; said = done.said })
   by_item n found i whole rec (Err e) (TooDeep before after w dp split at wants) = TooDeep before after w dp split at wants
@@ -113,23 +114,11 @@ unfolding Items
 behind_one c mark form first i (Ok p) items =
     let t = items.2 in
     subst (λ all. Took c (sequence (separated mark form) (λ more. says (first ∷ more))) i all p.1) (sym items.1) (record {
-      front = t.front;
+      prefix = t.prefix;
       count = t.count;
       joined = t.joined;
       budget = t.budget;
-      said = (
-        items.0,
-        record {
-          front = t.front;
-          rest = [];
-          front_count = t.count;
-          rest_count = 0;
-          joined = sym (append-nil t.front);
-          counted = omega arith;
-          first = t.said;
-          second = (refl, refl, refl);
-        },
-      );
+      said = then_value (separated mark form) (λ more. first ∷ more) t.prefix t.count items.0 t.said;
     })
 behind_one c mark form first i (Err e) r = both_refused c (separated mark form) (λ more. says (first ∷ more)) i e (λ more. some_made (first ∷ more)) r
 

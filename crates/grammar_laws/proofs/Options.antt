@@ -7,6 +7,7 @@ use Rattle.script_tokens.proofs.Alike.{same}
 use Rattle.script_tokens.specs.Input.{Input, Reader, ◌>>=◌, ◌>>◌, pure, eat, expect, clause, head, next, sees, after, first_of}
 use Rattle.script_forms.specs.Form.{Form, sequence, says, word, maybe, whether}
 use Rattle.grammar_laws.proofs.Taking.{Mode, Took, Kept, Whole, Sound, Inhabited}
+use Rattle.grammar_laws.proofs.Sequences.{then_to}
 use Rattle.grammar_laws.proofs.Steps.{budget_none, both, both_taken, made, within_out, is_end, taken_by, expected, whole_next}
 
 pub record Mapped {A B : Type 0} (g : Form A) (f : A → B) (tokens : List Token) (count : ℕ) (b : B) : Type 0 where
@@ -18,9 +19,9 @@ pub mapped_of : {A B : Type 0} (g : Form A) (f : A → B) (ts : List Token) (n :
 mapped_of g f ts n b s =
     let x = s.0 in
     let p = s.1 in
-    let tokens : p.front ≡ ts = sym (p.joined ∙ ap (λ r. p.front ++ r) p.second.0 ∙ append-nil p.front) in
-    let counts : p.front_count ≡ n = omega (arith, p.counted, p.second.1) in
-    record { value = x; is = p.second.2; said = subst (λ m. g ts m x) counts (subst (λ us. g us p.front_count x) tokens p.first) }
+    let tokens : p.prefix ≡ ts = sym (p.joined ∙ ap (λ r. p.prefix ++ r) p.second.0 ∙ append-nil p.prefix) in
+    let counts : p.prefix_count ≡ n = omega (arith, p.counted, p.second.1) in
+    record { value = x; is = p.second.2; said = subst (λ m. g ts m x) counts (subst (λ us. g us p.prefix_count x) tokens p.first) }
 
 -- ---- a word, and what it introduces
 
@@ -34,7 +35,7 @@ if_word_by c kd {p = p} {g = g} x h not_end sp up without xs o true is whole =
     let t : Took c (word kd) i tt j = taken_by kd not_end xs o (same is) in
     within_out c (sequence (word kd) (λ _. g)) h i up (p j) (both_taken c (word kd) (λ _. g) i tt j t (p j) (sp.run j (whole_next xs whole)))
 if_word_by c kd x h not_end sp up without xs o false is whole =
-    record { front = []; count = 0; joined = refl; budget = budget_none c o; said = without }
+    record { prefix = []; count = 0; joined = refl; budget = budget_none c o; said = without }
 
 pub if_word : {A : Type 0} {c : Mode} (kd : Kind) {p : Reader A} {g : Form A} (x : A) {h : Form A} → is_end kd ≡ false → Sound c p g
     → ((ts : List Token) (n : ℕ) (a : A) → sequence (word kd) (λ _. g) ts n a → h ts n a) → h [] 0 x
@@ -49,7 +50,7 @@ clause_up kd g ts n a s =
     let p = s.1 in
     let m = mapped_of g Some p.rest p.rest_count a p.second in
     subst (λ v. maybe (sequence (word kd) (λ _. g)) ts n v) (sym m.is)
-    (s.0, record { front = p.front; rest = p.rest; front_count = p.front_count; rest_count = p.rest_count; joined = p.joined; counted = p.counted; first = p.first; second = m.said })
+    (s.0, record { prefix = p.prefix; rest = p.rest; prefix_count = p.prefix_count; rest_count = p.rest_count; joined = p.joined; counted = p.counted; first = p.first; second = m.said })
 
 pub introduced : {A : Type 0} {c : Mode} (kd : Kind) {p : Reader A} {g : Form A} → is_end kd ≡ false → Sound c p g
     → Sound c (clause kd p) (maybe (sequence (word kd) (λ _. g)))
@@ -63,8 +64,8 @@ eaten_by : (c : Mode) (kd : Kind) → is_end kd ≡ false → (xs : List Token) 
     → Kept c (whether (word kd)) (record { ahead = xs; operators = o }) (Ok (b, if b then record { ahead = drop 1 xs; operators = o } else record { ahead = xs; operators = o }))
 eaten_by c kd not_end xs o true is =
     let t : Took c (word kd) (record { ahead = xs; operators = o }) tt (record { ahead = drop 1 xs; operators = o }) = taken_by kd not_end xs o (same is) in
-    record { front = t.front; count = t.count; joined = t.joined; budget = t.budget; said = t.said }
-eaten_by c kd not_end xs o false is = record { front = []; count = 0; joined = refl; budget = budget_none c o; said = (refl, refl) }
+    record { prefix = t.prefix; count = t.count; joined = t.joined; budget = t.budget; said = t.said }
+eaten_by c kd not_end xs o false is = record { prefix = []; count = 0; joined = refl; budget = budget_none c o; said = (refl, refl) }
 
 -- one word, or nothing
 pub eaten : {c : Mode} (kd : Kind) → is_end kd ≡ false → Sound c (eat kd) (whether (word kd))
@@ -77,7 +78,7 @@ two_up one two ts n a s =
     let p = s.1 in
     let m = mapped_of (word two) (λ _. true) p.rest p.rest_count a p.second in
     subst (λ v. whether (sequence (word one) (λ _. word two)) ts n v) (sym m.is)
-    (s.0, record { front = p.front; rest = p.rest; front_count = p.front_count; rest_count = p.rest_count; joined = p.joined; counted = p.counted; first = p.first; second = m.said })
+    (s.0, record { prefix = p.prefix; rest = p.rest; prefix_count = p.prefix_count; rest_count = p.rest_count; joined = p.joined; counted = p.counted; first = p.first; second = m.said })
 
 -- two words, or nothing
 pub two_words : {c : Mode} (one two : Kind) → is_end one ≡ false → is_end two ≡ false
@@ -85,49 +86,18 @@ pub two_words : {c : Mode} (one two : Kind) → is_end one ≡ false → is_end 
 two_words one two not_end none =
     if_word one false not_end (both (expected two none) (λ _. made true) (λ _. record { tokens = []; value = true; said = (refl, refl, refl) })) (two_up one two) (refl, refl)
 
+same_some : {A : Type 0} {a b : A} → Some a ≡ Some b → a ≡ b
+same_some e = cc
+
+pub none_same : {A : Type 0} {a : A} → None ≡ Some a → ⊥
+none_same e = cc
+
 -- a form between two words, or nothing
 pub bracket_up : {A : Type 0} (open_word close_word : Kind) (g : Form A) (ts : List Token) (n : ℕ) (a : Option A)
     → sequence (word open_word) (λ _. sequence g (λ x. sequence (word close_word) (λ _. says (Some x)))) ts n a
     → maybe (sequence (word open_word) (λ _. sequence g (λ x. sequence (word close_word) (λ _. says x)))) ts n a
-bracket_up open_word close_word g ts n a s =
-    let p = s.1 in
-    let x = p.second.0 in
-    let q = p.second.1 in
-    let r = q.second.1 in
-    subst (λ v. maybe (sequence (word open_word) (λ _. sequence g (λ x. sequence (word close_word) (λ _. says x)))) ts n v) (sym r.second.2) (
-      s.0,
-      record {
-        front = p.front;
-        rest = p.rest;
-        front_count = p.front_count;
-        rest_count = p.rest_count;
-        joined = p.joined;
-        counted = p.counted;
-        first = p.first;
-        second = (
-          x,
-          record {
-            front = q.front;
-            rest = q.rest;
-            front_count = q.front_count;
-            rest_count = q.rest_count;
-            joined = q.joined;
-            counted = q.counted;
-            first = q.first;
-            second = (
-              q.second.0,
-              record {
-                front = r.front;
-                rest = r.rest;
-                front_count = r.front_count;
-                rest_count = r.rest_count;
-                joined = r.joined;
-                counted = r.counted;
-                first = r.first;
-                second = (r.second.0, r.second.1, refl);
-              },
-            );
-          },
-        );
-      },
-    )
+bracket_up open_word close_word g ts n None s = absurd (none_same s.1.second.1.second.1.second.2)
+bracket_up open_word close_word g ts n (Some a) s =
+    then_to (word open_word) (λ _. sequence g (λ x. sequence (word close_word) (λ _. says (Some x)))) (λ _. sequence g (λ x. sequence (word close_word) (λ _. says x))) (Some a) a
+    (λ _. then_to g (λ x. sequence (word close_word) (λ _. says (Some x))) (λ x. sequence (word close_word) (λ _. says x)) (Some a) a
+    (λ x. then_to (word close_word) (λ _. says (Some x)) (λ _. says x) (Some a) a (λ _ ts n said. (said.0, said.1, same_some said.2)))) ts n s

@@ -13,16 +13,16 @@ use Rattle.script_forms.specs.Form.{Form, sequence, says, word, ◌or◌}
 use Rattle.grammar_laws.specs.Nesting.{openings}
 use Rattle.grammar_laws.proofs.Taking.{Mode, Plain, Around, Inside, Budget, Enough, Deep, Took, Refused, Behind, TooDeep, Kept, Out, last_of, Whole, Sound, Inhabited}
 
-last_append : (t : Token) (front : List Token) (r : Token) (rs : List Token) → last_of t (front ++ r ∷ rs) ≡ last_of r rs
+last_append : (t : Token) (prefix : List Token) (r : Token) (rs : List Token) → last_of t (prefix ++ r ∷ rs) ≡ last_of r rs
 last_append t [] r rs = refl
 last_append t (f ∷ fs) r rs = last_append f fs r rs
 
 end_is_whole : k.LineEnd ≢ k.Signed
 end_is_whole e = cc
 
-pub whole_rest : (front rest : List Token) → Whole (front ++ rest) → Whole rest
-whole_rest front [] h = end_is_whole
-whole_rest front (r ∷ rs) h = λ e. h (ap (λ t. t.kind) (last_append no_token front r rs) ∙ e)
+pub whole_rest : (prefix rest : List Token) → Whole (prefix ++ rest) → Whole rest
+whole_rest prefix [] h = end_is_whole
+whole_rest prefix (r ∷ rs) h = λ e. h (ap (λ t. t.kind) (last_append no_token prefix r rs) ∙ e)
 
 pub whole_next : (xs : List Token) → Whole xs → Whole (drop 1 xs)
 whole_next [] h = h
@@ -53,28 +53,28 @@ enough_plus Plain m o a = omega arith
 enough_plus Around m o a = omega arith
 enough_plus (Inside d) m o a = omega arith
 
-pub openings_append : (front rest : List Token) → openings (front ++ rest) ≡ openings front + openings rest
+pub openings_append : (prefix rest : List Token) → openings (prefix ++ rest) ≡ openings prefix + openings rest
 openings_append [] rest = omega arith
 openings_append (t ∷ ts) rest = omega (arith, openings_append ts rest)
 
-pub deep_behind : (c : Mode) (front tokens : List Token) → Deep c tokens → Deep c (front ++ tokens)
-deep_behind Plain front tokens d = d
-deep_behind Around front tokens d = omega (arith, openings_append front tokens, d)
-deep_behind (Inside n) front tokens d = omega (arith, openings_append front tokens, d)
+pub deep_behind : (c : Mode) (prefix tokens : List Token) → Deep c tokens → Deep c (prefix ++ tokens)
+deep_behind Plain prefix tokens d = d
+deep_behind Around prefix tokens d = omega (arith, openings_append prefix tokens, d)
+deep_behind (Inside n) prefix tokens d = omega (arith, openings_append prefix tokens, d)
 
 -- ---- one after the other
 
 pub both_taken : {A B : Type 0} (c : Mode) (g : Form A) (h : A → Form B) (i : Input) (a : A) (j : Input) → Took c g i a j → (out : Outcome B) → Kept c (h a) j out
     → Kept c (sequence g h) i out
 both_taken c g h i a j t (Ok q) u = record {
-  front = t.front ++ u.front;
+  prefix = t.prefix ++ u.prefix;
   count = t.count + u.count;
-  joined = t.joined ∙ ap (λ ts. t.front ++ ts) u.joined ∙ sym (append_assoc t.front u.front q.1.ahead);
+  joined = t.joined ∙ ap (λ ts. t.prefix ++ ts) u.joined ∙ sym (append_assoc t.prefix u.prefix q.1.ahead);
   budget = budget_more c t.count u.count i.operators j.operators q.1.operators t.budget u.budget;
-  said = (a, record { front = t.front; rest = u.front; front_count = t.count; rest_count = u.count; joined = refl; counted = refl; first = t.said; second = u.said });
+  said = (a, record { prefix = t.prefix; rest = u.prefix; prefix_count = t.count; rest_count = u.count; joined = refl; counted = refl; first = t.said; second = u.said });
 }
 both_taken c g h i a j t (Err e) (Behind before after split at done) =
-    Behind (t.front ++ before) after (t.joined ∙ ap (λ ts. t.front ++ ts) split ∙ sym (append_assoc t.front before after)) at (record {
+    Behind (t.prefix ++ before) after (t.joined ∙ ap (λ ts. t.prefix ++ ts) split ∙ sym (append_assoc t.prefix before after)) at (record {
       more = done.more;
       count = t.count + done.count;
       value = done.value;
@@ -82,11 +82,11 @@ both_taken c g h i a j t (Err e) (Behind before after split at done) =
       said = (
         a,
         record {
-          front = t.front;
+          prefix = t.prefix;
           rest = before ++ done.more;
-          front_count = t.count;
+          prefix_count = t.count;
           rest_count = done.count;
-          joined = append_assoc t.front before done.more;
+          joined = append_assoc t.prefix before done.more;
           counted = refl;
           first = t.said;
           second = done.said;
@@ -94,8 +94,8 @@ both_taken c g h i a j t (Err e) (Behind before after split at done) =
       );
     })
 both_taken c g h i a j t (Err e) (TooDeep before after u dp split at wants) =
-    TooDeep (t.front ++ before) after u (deep_behind c t.front before dp)
-    (t.joined ∙ ap (λ ts. t.front ++ ts) split ∙ sym (append_assoc t.front (before ++ u ∷ []) after) ∙ ap (λ ts. ts ++ after) (sym (append_assoc t.front before (u ∷ []))))
+    TooDeep (t.prefix ++ before) after u (deep_behind c t.prefix before dp)
+    (t.joined ∙ ap (λ ts. t.prefix ++ ts) split ∙ sym (append_assoc t.prefix (before ++ u ∷ []) after) ∙ ap (λ ts. ts ++ after) (sym (append_assoc t.prefix before (u ∷ []))))
     at wants
 
 pub both_refused : {A B : Type 0} (c : Mode) (g : Form A) (h : A → Form B) (i : Input) (e : Fault) → ((a : A) → Inhabited (h a)) → Refused c g i e
@@ -110,9 +110,9 @@ both_refused c g h i e any (Behind before after split at done) =
       said = (
         done.value,
         record {
-          front = before ++ done.more;
+          prefix = before ++ done.more;
           rest = w.tokens;
-          front_count = done.count;
+          prefix_count = done.count;
           rest_count = 0;
           joined = sym (append_assoc before done.more w.tokens);
           counted = refl;
@@ -126,7 +126,7 @@ both_refused c g h i e any (TooDeep before after u dp split at wants) = TooDeep 
 both_out : {A B : Type 0} (c : Mode) (g : Form A) (h : A → Form B) (f : A → Reader B) (i : Input) → Whole i.ahead → ((a : A) → Sound c (f a) (h a))
     → ((a : A) → Inhabited (h a)) → (out : Outcome A) → Kept c g i out → Kept c (sequence g h) i (and_then out f)
 both_out c g h f i whole sf any (Ok p) t =
-    both_taken c g h i p.0 p.1 t (f p.0 p.1) ((sf p.0).run p.1 (whole_rest t.front p.1.ahead (subst Whole t.joined whole)))
+    both_taken c g h i p.0 p.1 t (f p.0 p.1) ((sf p.0).run p.1 (whole_rest t.prefix p.1.ahead (subst Whole t.joined whole)))
 both_out c g h f i whole sf any (Err e) r = both_refused c g h i e any r
 
 -- at one input
@@ -147,11 +147,11 @@ some_both one two =
     record {
       tokens = one.tokens ++ w.tokens;
       value = w.value;
-      said = (one.value, record { front = one.tokens; rest = w.tokens; front_count = 0; rest_count = 0; joined = refl; counted = refl; first = one.said; second = w.said });
+      said = (one.value, record { prefix = one.tokens; rest = w.tokens; prefix_count = 0; rest_count = 0; joined = refl; counted = refl; first = one.said; second = w.said });
     }
 
 pub made : {A : Type 0} {c : Mode} (a : A) → Sound c (pure a) (says a)
-made {c = c} a = record { run = λ i whole. record { front = []; count = 0; joined = refl; budget = budget_none c i.operators; said = (refl, refl, refl) } }
+made {c = c} a = record { run = λ i whole. record { prefix = []; count = 0; joined = refl; budget = budget_none c i.operators; said = (refl, refl, refl) } }
 
 pub some_made : {A : Type 0} (a : A) → Inhabited (says a)
 some_made a = record { tokens = []; value = a; said = (refl, refl, refl) }
@@ -159,7 +159,7 @@ some_made a = record { tokens = []; value = a; said = (refl, refl, refl) }
 -- ---- one form within another
 
 pub within_out : {A : Type 0} (c : Mode) (g h : Form A) (i : Input) → ((ts : List Token) (n : ℕ) (a : A) → g ts n a → h ts n a) → (out : Outcome A) → Kept c g i out → Kept c h i out
-within_out c g h i up (Ok p) t = record { front = t.front; count = t.count; joined = t.joined; budget = t.budget; said = up t.front t.count p.0 t.said }
+within_out c g h i up (Ok p) t = record { prefix = t.prefix; count = t.count; joined = t.joined; budget = t.budget; said = up t.prefix t.count p.0 t.said }
 within_out c g h i up (Err e) (Behind before after split at done) =
     Behind before after split at (record { more = done.more; count = done.count; value = done.value; enough = done.enough; said = up (before ++ done.more) done.count done.value done.said })
 within_out c g h i up (Err e) (TooDeep before after u dp split at wants) = TooDeep before after u dp split at wants
@@ -205,7 +205,7 @@ taken_by kd not_end [] o is = absurd (true_false (ap is_end is ∙ not_end))
     true_false : true ≡ false → ⊥
     true_false e = cc
 taken_by {c = c} kd not_end (t ∷ ts) o is =
-    record { front = t ∷ []; count = 0; joined = refl; budget = budget_none c o; said = (t, refl, is, refl) }
+    record { prefix = t ∷ []; count = 0; joined = refl; budget = budget_none c o; said = (t, refl, is, refl) }
 
 expected_by : (c : Mode) (kd : Kind) → is_end kd ≡ false → (xs : List Token) (o : ℕ) (b : Bool) → same_kind (first_of xs).kind kd ≡ b
     → Kept c (word kd) (record { ahead = xs; operators = o }) (if b then Ok (tt, record { ahead = drop 1 xs; operators = o }) else Err (At (first_of xs).at))

@@ -9,37 +9,34 @@ use Rattle.script_lex.specs.declared.token.Content.TheVariants as content
 use Rattle.script_lex.specs.declared.token.Token.{Token}
 use Rattle.script_tokens.specs.Input.{Input, head, kind, next, first_of}
 use Rattle.script_tokens.specs.Names as n
+use Rattle.script_tokens.specs.Literals.{int_by}
 use Rattle.script_blocks.specs.Blocks as r
 use Rattle.script_forms.specs.Form.{Form, sequence, says, word, maybe, whether}
 use Rattle.script_forms.specs.TableLines as form
 use Rattle.grammar_laws.proofs.Taking.{Mode, Kept, Out, Whole, Sound, Inhabited}
 use Rattle.grammar_laws.proofs.Steps.{budget_none, both, both_at, made, some_both, some_made, some_left, some_right, some_word, left_of, right_of, refused_here, refused_at, expected, behind_word, on_kind}
 use Rattle.grammar_laws.proofs.Options.{if_word, bracket_up, two_words}
-use Rattle.grammar_laws.proofs.Basics.{name_at, named, some_name, names_read, some_names}
+use Rattle.grammar_laws.proofs.Basics.{name_at, named, number, some_name, names_read, some_names}
 
 -- ---- lengths
 
-digits : Token
-digits = record { kind = k.Number; content = content.Number 0; at = 0 }
-
 some_length : Inhabited form.length
-unfolding digits
-some_length = record { tokens = digits ∷ []; value = 0; said = (digits, refl, refl, refl, refl, refl) }
+some_length = record { tokens = number ∷ []; value = 0; said = (number, refl, refl, refl, refl, refl) }
 
 length_within : (c : Mode) (t : Token) (ts : List Token) (o : ℕ) (m : ℕ) → t.kind ≡ k.Number → t.content ≡ content.Number m → (fits : Bool)
     → nat_le m 4294967295 ≡ fits
-    → Kept c form.length (record { ahead = t ∷ ts; operators = o }) (r.length_by (if fits then Some m else None) (record { ahead = t ∷ ts; operators = o }))
+    → Kept c form.length (record { ahead = t ∷ ts; operators = o }) (int_by (if fits then Some m else None) (record { ahead = t ∷ ts; operators = o }))
 unfolding next head
-length_within c t ts o m is holds true fits = record { front = t ∷ []; count = 0; joined = refl; budget = budget_none c o; said = (t, refl, is, holds, fits, refl) }
+length_within c t ts o m is holds true fits = record { prefix = t ∷ []; count = 0; joined = refl; budget = budget_none c o; said = (t, refl, is, holds, fits, refl) }
 length_within c t ts o m is holds false fits = refused_here _ (record { ahead = t ∷ ts; operators = o }) some_length
 
 length_by : (c : Mode) (t : Token) (ts : List Token) (o : ℕ) (kd : Kind) → t.kind ≡ kd → (held : Content) → t.content ≡ held
-    → Kept c form.length (record { ahead = t ∷ ts; operators = o }) (r.length_by (r.length_in kd held) (record { ahead = t ∷ ts; operators = o }))
+    → Kept c form.length (record { ahead = t ∷ ts; operators = o }) (int_by (r.length_in kd held) (record { ahead = t ∷ ts; operators = o }))
 length_by c t ts o k.Number is (content.Number m) holds = length_within _ t ts o m is holds (nat_le m 4294967295) refl
 length_by c t ts o _ is _ holds = refused_here _ (record { ahead = t ∷ ts; operators = o }) some_length
 
 length_at : (c : Mode) (xs : List Token) (o : ℕ)
-    → Kept c form.length (record { ahead = xs; operators = o }) (r.length_by (r.length_in (first_of xs).kind (first_of xs).content) (record { ahead = xs; operators = o }))
+    → Kept c form.length (record { ahead = xs; operators = o }) (int_by (r.length_in (first_of xs).kind (first_of xs).content) (record { ahead = xs; operators = o }))
 length_at c [] o = refused_here _ (record { ahead = []; operators = o }) some_length
 length_at c (t ∷ ts) o = length_by _ t ts o t.kind refl t.content refl
 

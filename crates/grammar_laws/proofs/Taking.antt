@@ -31,11 +31,11 @@ Deep (Inside depth) tokens = depth ≤ openings tokens
 
 -- the tokens that were taken are the form's, and say what was read
 pub record Took {A : Type 0} (mode : Mode) (form : Form A) (i : Input) (a : A) (j : Input) : Type 0 where
-  pub front : List Token
+  pub prefix : List Token
   pub count : ℕ
-  pub joined : i.ahead ≡ front ++ j.ahead
+  pub joined : i.ahead ≡ prefix ++ j.ahead
   pub budget : Budget mode count i.operators j.operators
-  pub said : form front count a
+  pub said : form prefix count a
 
 -- some tokens of the form begin with these
 pub record Completed {A : Type 0} (mode : Mode) (form : Form A) (before : List Token) (operators : ℕ) : Type 0 where

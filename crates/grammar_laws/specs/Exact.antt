@@ -12,7 +12,7 @@ use Rattle.script_forms.specs.Form.{Form}
 use Rattle.script_forms.specs.Lines.{Says, Begins}
 
 -- a refused token, the tokens before which begin some line
-pub record EndsAViableFront (form : Form Command) (line : List Token) (e : Fault) : Type 0 where
+pub record EndsAViablePrefix (form : Form Command) (line : List Token) (e : Fault) : Type 0 where
   pub before : List Token
   pub after : List Token
   pub joined : line ≡ before ++ after
@@ -33,7 +33,7 @@ SaysOneThing form = (line : List Token) (c d : Command) → Says form line c →
 
 -- A refused token stands behind tokens with which some line begins.
 abbrev pub RefusesNoSooner : Reader Command → Form Command → Type 0
-RefusesNoSooner p form = (line : List ℕ) (e : Fault) → p (start_of (tokens line)) ≡ Err e → EndsAViableFront form (tokens line) e
+RefusesNoSooner p form = (line : List ℕ) (e : Fault) → p (start_of (tokens line)) ≡ Err e → EndsAViablePrefix form (tokens line) e
 
 -- the readers of the lines of blocks, by which `read_line` reads
 abbrev pub table_reader : Reader Command

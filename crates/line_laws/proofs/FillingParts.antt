@@ -8,10 +8,11 @@ use Rattle.script_tokens.proofs.Alike.{alike}
 use Rattle.script_tokens.specs.Input.{Input, Reader, ◌>>=◌, pure, peek, eat, clause, head, sees, first_of}
 use Rattle.script_forms.specs.Form.{Form, sequence, says, word, maybe, ◌or◌}
 use Rattle.grammar_laws.proofs.Taking.{Mode, Enough}
+use Rattle.grammar_laws.proofs.Sequences.{then_value}
 use Rattle.grammar_laws.proofs.Filling.{Read, Complete, Opens, both, less, made, either, absent, introduced, if_word, made_opens, word_opens, then_opens, first_opens, maybe_opens, either_opens}
-use Rattle.grammar_laws.proofs.FillingTables.{line_end}
 use Rattle.expression_laws.proofs.FillingSteps.{unlike, only, onto, seen, unseen, uneaten, eaten_then}
-use Rattle.line_laws.proofs.SomeKinds.{false_true, among, first_among, rest_among, other_than, is_end}
+use Rattle.line_laws.proofs.SomeKinds.{false_true, among, first_among, rest_among, other_than, end_kind}
+use Rattle.grammar_laws.proofs.Steps.{is_end}
 
 not_true : (b : Bool) → not b ≡ true → b ≡ false
 not_true true e = absurd (false_true e)
@@ -28,7 +29,7 @@ same_read mode p q xs rest n o a same read = record { left = read.left; budget =
 -- a reader that does the same
 pub instead : {A : Type 0} {mode : Mode} {t : Kind → Bool} {p q : Reader A} {g : Form A} → ((i : Input) → p i ≡ q i) → Complete mode t p g → Complete mode t q g
 instead {mode = mode} {p = p} {q = q} same cp =
-    record { run = λ front rest count o a said enough stop. same_read mode p q (front ++ rest) rest count o a same (cp.run front rest count o a said enough stop) }
+    record { run = λ prefix rest count o a said enough stop. same_read mode p q (prefix ++ rest) rest count o a same (cp.run prefix rest count o a said enough stop) }
 
 pub mapped : {A B : Type 0} {mode : Mode} {t : Kind → Bool} {p : Reader A} {g : Form A} (f : A → B) → Complete mode t p g → Complete mode t (p >>= (λ x. pure (f x))) (sequence g (λ x. says (f x)))
 mapped {t = t} f cp = both cp (λ x. less (made (f x)) (λ y e. refl)) (λ x. made_opens (f x) (λ y e. e))
@@ -51,13 +52,13 @@ decided_by mode by p q r xs rest n o a b is chosen read = record {
 }
 
 decided_run : {A : Type 0} (mode : Mode) (t by : Kind → Bool) (p q : Reader A) (g h : Form A) → Complete mode t p g → Complete mode t q h → Opens g t by → Opens h t (λ kd. not (by kd))
-    → (front rest : List Token) (count o : ℕ) (a : A) → (g or h) front count a → Enough mode count o → t (first_of rest).kind ≡ true
-    → Read mode (peek >>= (λ kd. if by kd then p else q)) (front ++ rest) rest count o a
-decided_run mode t by p q g h cp cq og oh front rest count o a (inl said) enough stop =
-    decided_by mode by p q p (front ++ rest) rest count o a true (og.run front rest count a said stop) refl (cp.run front rest count o a said enough stop)
-decided_run mode t by p q g h cp cq og oh front rest count o a (inr said) enough stop =
-    decided_by mode by p q q (front ++ rest) rest count o a false (not_true (by (first_of (front ++ rest)).kind) (oh.run front rest count a said stop)) refl
-    (cq.run front rest count o a said enough stop)
+    → (prefix rest : List Token) (count o : ℕ) (a : A) → (g or h) prefix count a → Enough mode count o → t (first_of rest).kind ≡ true
+    → Read mode (peek >>= (λ kd. if by kd then p else q)) (prefix ++ rest) rest count o a
+decided_run mode t by p q g h cp cq og oh prefix rest count o a (inl said) enough stop =
+    decided_by mode by p q p (prefix ++ rest) rest count o a true (og.run prefix rest count a said stop) refl (cp.run prefix rest count o a said enough stop)
+decided_run mode t by p q g h cp cq og oh prefix rest count o a (inr said) enough stop =
+    decided_by mode by p q q (prefix ++ rest) rest count o a false (not_true (by (first_of (prefix ++ rest)).kind) (oh.run prefix rest count a said stop)) refl
+    (cq.run prefix rest count o a said enough stop)
 
 pub decided : {A : Type 0} {mode : Mode} {t : Kind → Bool} (by : Kind → Bool) {p q : Reader A} {g h : Form A} → Complete mode t p g → Complete mode t q h → Opens g t by
     → Opens h t (λ kd. not (by kd)) → Complete mode t (peek >>= (λ kd. if by kd then p else q)) (g or h)
@@ -65,39 +66,35 @@ decided {mode = mode} {t = t} by {p = p} {q = q} {g = g} {h = h} cp cq og oh = r
 
 -- ---- the end of the line
 
-end_only : (y : Kind) → line_end y ≡ true → only k.LineEnd y ≡ true
-end_only y e = alike (is_end y e)
+end_only : (y : Kind) → is_end y ≡ true → only k.LineEnd y ≡ true
+end_only y e = alike (end_kind y e)
 
 -- nothing where the line ends
-pub unless_end : {A : Type 0} {mode : Mode} (x : A) {p : Reader A} {g : Form A} → Complete mode line_end p g → Opens g line_end (other_than k.LineEnd)
-    → Complete mode line_end (λ i. if sees k.LineEnd i then Ok (x, i) else p i) (g or says x)
+pub unless_end : {A : Type 0} {mode : Mode} (x : A) {p : Reader A} {g : Form A} → Complete mode is_end p g → Opens g is_end (other_than k.LineEnd)
+    → Complete mode is_end (λ i. if sees k.LineEnd i then Ok (x, i) else p i) (g or says x)
 unless_end x {p = p} cp og =
     either (unseen (other_than k.LineEnd) k.LineEnd (pure x) p og (other_out k.LineEnd) cp)
     (seen k.LineEnd (pure x) p (made_opens x end_only) (less (made x) (λ y e. refl)))
 
-said_as : {A B : Type 0} (f : A → B) (g : Form A) (ts : List Token) (n : ℕ) (a : A) → g ts n a → sequence g (λ x. says (f x)) ts n (f a)
-said_as f g ts n a said =
-    (a, record { front = ts; rest = []; front_count = n; rest_count = 0; joined = sym (append-nil ts); counted = omega arith; first = said; second = (refl, refl, refl) })
-
 maybe_onto : {A : Type 0} (g : Form A) (ts : List Token) (n : ℕ) (a : Option A) → maybe g ts n a → ((sequence g (λ x. says (Some x))) or says None) ts n a
 maybe_onto g ts n None said = inr (said.0, said.1, refl)
-maybe_onto g ts n (Some a) said = inl (said_as Some g ts n a said)
+maybe_onto g ts n (Some a) said = inl (then_value g Some ts n a said)
 
-pub perhaps : {A : Type 0} {mode : Mode} {p : Reader A} {g : Form A} → Complete mode line_end p g → Opens g line_end (other_than k.LineEnd)
-    → Complete mode line_end (λ i. if sees k.LineEnd i then Ok (None, i) else (p >>= (λ x. pure (Some x))) i) (maybe g)
+pub perhaps : {A : Type 0} {mode : Mode} {p : Reader A} {g : Form A} → Complete mode is_end p g → Opens g is_end (other_than k.LineEnd)
+    → Complete mode is_end (λ i. if sees k.LineEnd i then Ok (None, i) else (p >>= (λ x. pure (Some x))) i) (maybe g)
 perhaps {g = g} cp og =
-    onto (maybe_onto g) (unless_end None (mapped Some cp) (then_opens line_end og (λ x. made_opens (Some x) (λ y e. e))))
+    onto (maybe_onto g) (unless_end None (mapped Some cp) (then_opens is_end og (λ x. made_opens (Some x) (λ y e. e))))
 
 -- ---- a reader that is complete, and how its form begins
 
 -- a word and what it introduces, where they come
-pub clause_run : {A : Type 0} (mode : Mode) (t : Kind → Bool) (kd : Kind) (p : Reader A) (g : Form A) → Complete mode t p g → (front rest : List Token) (count o : ℕ) (a : A)
-    → sequence (word kd) (λ _. g) front count a → Enough mode count o → t (first_of rest).kind ≡ true → Read mode (clause kd p) (front ++ rest) rest count o (Some a)
-clause_run mode t kd p g cp front rest count o a said enough stop =
+pub clause_run : {A : Type 0} (mode : Mode) (t : Kind → Bool) (kd : Kind) (p : Reader A) (g : Form A) → Complete mode t p g → (prefix rest : List Token) (count o : ℕ) (a : A)
+    → sequence (word kd) (λ _. g) prefix count a → Enough mode count o → t (first_of rest).kind ≡ true → Read mode (clause kd p) (prefix ++ rest) rest count o (Some a)
+clause_run mode t kd p g cp prefix rest count o a said enough stop =
     let w = said.1 in
-    (eaten_then kd (λ found. if found then (p >>= (λ x. pure (Some x))) else pure None) (mapped Some cp)).run front rest count o (Some a) (
+    (eaten_then kd (λ found. if found then (p >>= (λ x. pure (Some x))) else pure None) (mapped Some cp)).run prefix rest count o (Some a) (
       tt,
-      record { front = w.front; rest = w.rest; front_count = w.front_count; rest_count = w.rest_count; joined = w.joined; counted = w.counted; first = w.first; second = said_as Some g w.rest w.rest_count a w.second },
+      record { prefix = w.prefix; rest = w.rest; prefix_count = w.prefix_count; rest_count = w.rest_count; joined = w.joined; counted = w.counted; first = w.first; second = then_value g Some w.rest w.rest_count a w.second },
     ) enough stop
 
 -- nothing, where the word does not come

@@ -7,7 +7,7 @@ use Rattle.script_lex.specs.declared.kind.Kind.{Kind}
 use Rattle.script_lex.specs.declared.kind.Kind.TheVariants as k
 use Rattle.script_lex.specs.declared.token.Token.{Token}
 use Rattle.script_lex.specs.Lex.{same_kind}
-use Rattle.script_tokens.specs.Input.{◌>>=◌, ◌>>◌, and_then, pure, expect, take_token, next, head, first_of}
+use Rattle.script_tokens.specs.Input.{◌>>=◌, ◌>>◌, and_then, clause, pure, expect, take_token, next, head, first_of}
 use Rattle.script_tokens.specs.Literals as literals
 use Rattle.script_expr.specs.Expr as x
 use Rattle.script_select.specs.Select as s
@@ -28,8 +28,8 @@ use Rattle.expression_laws.proofs.FillingLiterals.{ends_source, source_read}
 use Rattle.line_laws.proofs.SomeKinds.{among, all_in, within, first_among, rest_among, not_this, false_true}
 use Rattle.line_laws.proofs.FillingParts.{Stands, instead, mapped, word_or, link, then_stands, done, clause_run, no_clause, clause_stands, list_stands}
 use Rattle.line_laws.proofs.FillingValues as values
-use Rattle.line_laws.proofs.FillingMany.{Turns, many_opens, all_gathered}
-use Rattle.line_laws.proofs.Turns.{joined_by, join_turn, joins_turned, pair_turn, pairs_turned, select_rest, select_flat, query_flat, two_words_same}
+use Rattle.line_laws.proofs.FillingMany.{Turns, many_opens, all_filled}
+use Rattle.line_laws.proofs.Turns.{select_rest, select_flat, query_flat, two_words_same}
 
 -- ---- what may stand behind the parts, to the end of the line
 
@@ -143,39 +143,39 @@ module _ (mode : Mode) (most : ℕ) (whole : Complete mode (among behind_express
       (λ on. less (made _) (λ y e. refl)) (λ on. made_opens _ (λ y e. e)))) (λ from. first_opens (word_opens k.On refl))
 
   -- the join behind its first token
-  behind_first : (kd : Kind) (front rest : List Token) (count o : ℕ) (a : SynJoin) → Begun kd front → Read mode (s.join_by kd >>= joined_by) (front ++ rest) rest count o (Some a)
-      → Read mode join_turn (front ++ rest) rest count o (Some a)
-  behind_first kd front rest count o a b read =
-      subst (λ ts. Read mode join_turn (ts ++ rest) rest count o (Some a)) (sym b.joined)
-      (by_kind_read mode (λ y. s.join_by y >>= joined_by) kd b.first (b.more ++ rest) rest count o (Some a) b.is
-      (subst (λ ts. Read mode (s.join_by kd >>= joined_by) (ts ++ rest) rest count o (Some a)) b.joined read))
+  behind_first : (kd : Kind) (prefix rest : List Token) (count o : ℕ) (a : SynJoin) → Begun kd prefix → Read mode (s.join_by kd >>= s.joined_by) (prefix ++ rest) rest count o (Some a)
+      → Read mode s.join_if_any (prefix ++ rest) rest count o (Some a)
+  behind_first kd prefix rest count o a b read =
+      subst (λ ts. Read mode s.join_if_any (ts ++ rest) rest count o (Some a)) (sym b.joined)
+      (by_kind_read mode (λ y. s.join_by y >>= s.joined_by) kd b.first (b.more ++ rest) rest count o (Some a) b.is
+      (subst (λ ts. Read mode (s.join_by kd >>= s.joined_by) (ts ++ rest) rest count o (Some a)) b.joined read))
 
-  plain_join : (front rest : List Token) (count o : ℕ) (a : SynJoin) → sequence (word k.Join) (λ _. join_rest false) front count a → Enough mode count o
-      → among behind_source (first_of rest).kind ≡ true → Read mode join_turn (front ++ rest) rest count o (Some a)
-  plain_join front rest count o a said enough stop =
+  plain_join : (prefix rest : List Token) (count o : ℕ) (a : SynJoin) → sequence (word k.Join) (λ _. join_rest false) prefix count a → Enough mode count o
+      → among behind_source (first_of rest).kind ≡ true → Read mode s.join_if_any (prefix ++ rest) rest count o (Some a)
+  plain_join prefix rest count o a said enough stop =
       let read = mapped_run mode (among behind_source) (take_token >> s.join false) (sequence (word k.Join) (λ _. join_rest false)) Some (then_any (taken k.Join) (λ _. joined false))
-      front rest count o a said enough stop in
-      behind_first k.Join front rest count o a (then_begun k.Join (word k.Join) (λ _. join_rest false) (word_begun k.Join) front count a said)
+      prefix rest count o a said enough stop in
+      behind_first k.Join prefix rest count o a (then_begun k.Join (word k.Join) (λ _. join_rest false) (word_begun k.Join) prefix count a said)
       (record { left = read.left; budget = read.budget; is = read.is })
 
-  left_join : (front rest : List Token) (count o : ℕ) (a : SynJoin) → sequence (word k.Left) (λ _. sequence (word k.Join) (λ _. join_rest true)) front count a → Enough mode count o
-      → among behind_source (first_of rest).kind ≡ true → Read mode join_turn (front ++ rest) rest count o (Some a)
-  left_join front rest count o a said enough stop =
+  left_join : (prefix rest : List Token) (count o : ℕ) (a : SynJoin) → sequence (word k.Left) (λ _. sequence (word k.Join) (λ _. join_rest true)) prefix count a → Enough mode count o
+      → among behind_source (first_of rest).kind ≡ true → Read mode s.join_if_any (prefix ++ rest) rest count o (Some a)
+  left_join prefix rest count o a said enough stop =
       let read = mapped_run mode (among behind_source) (take_token >> (expect k.Join >> s.join true)) (sequence (word k.Left) (λ _. sequence (word k.Join) (λ _. join_rest true))) Some
-      (then_any (taken k.Left) (λ _. then_any (expected k.Join) (λ _. joined true))) front rest count o a said enough stop in
-      behind_first k.Left front rest count o a (then_begun k.Left (word k.Left) (λ _. sequence (word k.Join) (λ _. join_rest true)) (word_begun k.Left) front count a said)
-      (record { left = read.left; budget = read.budget; is = sym (two_words_same (next (record { ahead = front ++ rest; operators = o }))) ∙ read.is })
+      (then_any (taken k.Left) (λ _. then_any (expected k.Join) (λ _. joined true))) prefix rest count o a said enough stop in
+      behind_first k.Left prefix rest count o a (then_begun k.Left (word k.Left) (λ _. sequence (word k.Join) (λ _. join_rest true)) (word_begun k.Left) prefix count a said)
+      (record { left = read.left; budget = read.budget; is = sym (two_words_same (next (record { ahead = prefix ++ rest; operators = o }))) ∙ read.is })
 
-  join_run : (front rest : List Token) (count o : ℕ) (a : SynJoin) (left : Bool) → (w : Both (λ ts n. whether (word k.Left) ts n left) (λ ts n. sequence (word k.Join) (λ _. join_rest left) ts n a) front count)
-      → Enough mode count o → among behind_source (first_of rest).kind ≡ true → Read mode join_turn (front ++ rest) rest count o (Some a)
-  join_run front rest count o a false w enough stop =
-      let tokens : w.rest ≡ front = sym (w.joined ∙ ap (λ ts. ts ++ w.rest) w.first.0) in
+  join_run : (prefix rest : List Token) (count o : ℕ) (a : SynJoin) (left : Bool) → (w : Both (λ ts n. whether (word k.Left) ts n left) (λ ts n. sequence (word k.Join) (λ _. join_rest left) ts n a) prefix count)
+      → Enough mode count o → among behind_source (first_of rest).kind ≡ true → Read mode s.join_if_any (prefix ++ rest) rest count o (Some a)
+  join_run prefix rest count o a false w enough stop =
+      let tokens : w.rest ≡ prefix = sym (w.joined ∙ ap (λ ts. ts ++ w.rest) w.first.0) in
       let counts : w.rest_count ≡ count = omega (arith, w.counted, w.first.1) in
-      plain_join front rest count o a
-      (subst (λ n. sequence (word k.Join) (λ _. join_rest false) front n a) counts (subst (λ ts. sequence (word k.Join) (λ _. join_rest false) ts w.rest_count a) tokens w.second)) enough stop
-  join_run front rest count o a true w enough stop =
-      left_join front rest count o a
-      (tt, record { front = w.front; rest = w.rest; front_count = w.front_count; rest_count = w.rest_count; joined = w.joined; counted = w.counted; first = w.first; second = w.second }) enough stop
+      plain_join prefix rest count o a
+      (subst (λ n. sequence (word k.Join) (λ _. join_rest false) prefix n a) counts (subst (λ ts. sequence (word k.Join) (λ _. join_rest false) ts w.rest_count a) tokens w.second)) enough stop
+  join_run prefix rest count o a true w enough stop =
+      left_join prefix rest count o a
+      (tt, record { prefix = w.prefix; rest = w.rest; prefix_count = w.prefix_count; rest_count = w.rest_count; joined = w.joined; counted = w.counted; first = w.first; second = w.second }) enough stop
 
   no_join : (y : Kind) → among behind_joins y ≡ true → s.join_by y ≡ pure None
   unfolding among same_kind
@@ -183,20 +183,20 @@ module _ (mode : Mode) (most : ℕ) (whole : Complete mode (among behind_express
   no_join k.Left e = absurd (false_true e)
   no_join _ e = refl
 
-  no_join_read : (rest : List Token) (o : ℕ) → among behind_joins (first_of rest).kind ≡ true → Read mode join_turn rest rest 0 o None
+  no_join_read : (rest : List Token) (o : ℕ) → among behind_joins (first_of rest).kind ≡ true → Read mode s.join_if_any rest rest 0 o None
   unfolding head
   no_join_read rest o stop =
-      record { left = o; budget = budget_none mode o; is = ap (λ r. and_then (r (record { ahead = rest; operators = o })) joined_by) (no_join (first_of rest).kind stop) }
+      record { left = o; budget = budget_none mode o; is = ap (λ r. and_then (r (record { ahead = rest; operators = o })) s.joined_by) (no_join (first_of rest).kind stop) }
 
   join_opens : {t : Kind → Bool} → Opens (form.join most) t (among (k.Join ∷ k.Left ∷ []))
   unfolding among all_in same_kind
   join_opens =
       then_opens (among (k.Join ∷ [])) (whether_opens (word_opens k.Left refl) (within (k.Join ∷ []) (among (k.Join ∷ k.Left ∷ [])) refl)) (λ left. first_opens (word_opens k.Join refl))
 
-  turns : Turns mode (among behind_source) (among behind_joins) join_turn (form.join most)
+  turns : Turns mode (among behind_source) (among behind_joins) s.join_if_any (form.join most)
   unfolding among all_in same_kind
   turns = record {
-    item_read = λ front rest count o a said enough stop. join_run front rest count o a said.0 said.1 enough stop;
+    item_read = λ prefix rest count o a said enough stop. join_run prefix rest count o a said.0 said.1 enough stop;
     none_read = no_join_read;
     opens = opens_less join_opens (within (k.Join ∷ k.Left ∷ []) (among behind_source) refl);
     solid = solid_of _ join_opens refl;
@@ -205,7 +205,7 @@ module _ (mode : Mode) (most : ℕ) (whole : Complete mode (among behind_express
 
   joins : Stands mode (among behind_joins) s.joins (many (form.join most)) (among behind_source)
   unfolding s.joins
-  joins = record { complete = instead (λ i. joins_turned (length i.ahead) [] i) (all_gathered turns); opens = many_opens turns.opens turns.within }
+  joins = record { complete = all_filled turns; opens = many_opens turns.opens turns.within }
 
   -- ---- selects
 
@@ -248,10 +248,10 @@ module _ (mode : Mode) (most : ℕ) (whole : Complete mode (among behind_express
   unfolding among same_kind
   pair_opens = first_opens (word_opens k.Join refl)
 
-  pair_turns : Turns mode (among (k.Join ∷ behind_pairs)) (among behind_pairs) pair_turn (sequence (word k.Join) (λ _. query.pair))
+  pair_turns : Turns mode (among (k.Join ∷ behind_pairs)) (among behind_pairs) (clause k.Join q.pair) (sequence (word k.Join) (λ _. query.pair))
   unfolding among all_in same_kind
   pair_turns = record {
-    item_read = λ front rest count o a said enough stop. clause_run mode always k.Join q.pair query.pair pair front rest count o a said enough refl;
+    item_read = λ prefix rest count o a said enough stop. clause_run mode always k.Join q.pair query.pair pair prefix rest count o a said enough refl;
     none_read = λ rest o stop. no_clause mode k.Join q.pair rest o (unlike (among behind_pairs) k.Join refl (first_of rest).kind stop);
     opens = opens_less pair_opens (within (k.Join ∷ []) (among (k.Join ∷ behind_pairs)) refl);
     solid = solid_of _ pair_opens refl;
@@ -260,7 +260,7 @@ module _ (mode : Mode) (most : ℕ) (whole : Complete mode (among behind_express
 
   pairs : Stands mode (among behind_pairs) q.joins (many (sequence (word k.Join) (λ _. query.pair))) (among (k.Join ∷ behind_pairs))
   unfolding q.joins
-  pairs = record { complete = instead (λ i. pairs_turned (length i.ahead) [] i) (all_gathered pair_turns); opens = many_opens pair_turns.opens pair_turns.within }
+  pairs = record { complete = all_filled pair_turns; opens = many_opens pair_turns.opens pair_turns.within }
 
   manner : Complete mode always q.manner query.manner
   unfolding q.manner

@@ -39,7 +39,6 @@ use Rattle.script_forms.specs.TopLines as form
 use Rattle.grammar_laws.proofs.Taking.{Mode, Enough}
 use Rattle.grammar_laws.proofs.Filling.{Read, Complete, Opens, always, both, then_any, less, made, expected, taken, on_word, either, if_word, made_opens, word_opens, then_opens, first_opens, maybe_opens, whether_opens, either_opens}
 use Rattle.grammar_laws.proofs.FillingBasics.{named, listed}
-use Rattle.grammar_laws.proofs.FillingTables.{line_end}
 use Rattle.expression_laws.proofs.FillingSteps.{unlike, opens_less, solid_of, separated_opens}
 use Rattle.expression_laws.proofs.FillingKinds.{is_name}
 use Rattle.expression_laws.proofs.FillingLiterals.{literal_read, literal_solid}
@@ -50,6 +49,7 @@ use Rattle.line_laws.proofs.FillingValues.{begins_value, name_opens, term_opens,
 use Rattle.line_laws.proofs.FillingSelects.{ends, opening, behind_expression, select_read, query_read, bulk_read}
 use Rattle.line_laws.proofs.FillingHeads.{class_head}
 use Rattle.line_laws.proofs.Tops.{same_flat}
+use Rattle.grammar_laws.proofs.Steps.{is_end}
 
 -- a name begins with no such token
 name_is_no : (kd : Kind) → is_name kd ≡ false → {t : Kind → Bool} → Opens basic.name t (other_than kd)
@@ -62,36 +62,36 @@ name_no_assign : {t : Kind → Bool} → Opens basic.name t no_assign
 unfolding is_no_name
 name_no_assign = name_is_no k.Assign refl
 
-name_no_end : Opens basic.name line_end (other_than k.LineEnd)
+name_no_end : Opens basic.name is_end (other_than k.LineEnd)
 name_no_end = name_is_no k.LineEnd values.no_name_ends
 
 dialect_opens : {t : Kind → Bool} → Opens form.dialect t no_assign
 unfolding same_kind
 dialect_opens = either_opens (first_opens (word_opens k.Sqlite refl)) (either_opens (first_opens (word_opens k.Postgresql refl)) (first_opens (word_opens k.Mysql refl)))
 
-end_no_assign : (y : Kind) → line_end y ≡ true → no_assign y ≡ true
+end_no_assign : (y : Kind) → is_end y ≡ true → no_assign y ≡ true
 unfolding same_kind
 end_no_assign = end_within no_assign refl
 
-from_ends : {A : Type 0} {mode : Mode} {p : Reader A} {g : Form A} → Complete mode (among ends) p g → Complete mode line_end p g
+from_ends : {A : Type 0} {mode : Mode} {p : Reader A} {g : Form A} → Complete mode (among ends) p g → Complete mode is_end p g
 unfolding among same_kind
 from_ends cp = less cp (end_within (among ends) refl)
 
-any : {A : Type 0} {mode : Mode} {p : Reader A} {g : Form A} → Complete mode always p g → Complete mode line_end p g
+any : {A : Type 0} {mode : Mode} {p : Reader A} {g : Form A} → Complete mode always p g → Complete mode is_end p g
 any cp = less cp (λ y e. refl)
 
 -- ---- what stands behind the first word of a line: how it is read, and that it begins with no `=`
 
 record Behind {A : Type 0} (mode : Mode) (p : Reader A) (g : Form A) : Type 0 where
-  complete : Complete mode line_end p g
-  opens : Opens g line_end no_assign
+  complete : Complete mode is_end p g
+  opens : Opens g is_end no_assign
 
 nothing_more : {A : Type 0} {mode : Mode} (a : A) → Behind mode (pure a) (says a)
 nothing_more a = record { complete = any (made a); opens = made_opens a end_no_assign }
 
 module _ {mode : Mode} where
   a_term : {A : Type 0} (f : Term → A) → Behind mode (R.term >>= (λ x. pure (f x))) (sequence basic.term (λ x. says (f x)))
-  a_term f = record { complete = mapped f (values.term {t = line_end} refl); opens = first_opens (first_opens name_no_assign) }
+  a_term f = record { complete = mapped f (values.term {t = is_end} refl); opens = first_opens (first_opens name_no_assign) }
 
   a_name : {A : Type 0} (f : List ℕ → A) → Behind mode (N.name >>= (λ x. pure (f x))) (sequence basic.name (λ x. says (f x)))
   a_name f = record { complete = mapped f (any named); opens = first_opens name_no_assign }
@@ -100,13 +100,13 @@ module _ {mode : Mode} where
   unfolding r.name_if_any
   name_if_any f = record {
     complete = mapped f (perhaps (any named) name_no_end);
-    opens = then_opens line_end (maybe_opens name_no_assign end_no_assign) (λ x. made_opens (f x) (λ y e. e));
+    opens = then_opens is_end (maybe_opens name_no_assign end_no_assign) (λ x. made_opens (f x) (λ y e. e));
   }
 
-  set_to : (owner : Term) (called : List ℕ) → Complete mode line_end (r.set_to owner called) ((sequence basic.value (λ v. says (c.SetValue owner called v))) or (sequence basic.term (λ t. says (c.SetTerm owner called t))))
+  set_to : (owner : Term) (called : List ℕ) → Complete mode is_end (r.set_to owner called) ((sequence basic.value (λ v. says (c.SetValue owner called v))) or (sequence basic.term (λ t. says (c.SetTerm owner called t))))
   unfolding r.set_to begins_value
   set_to owner called =
-      decided (λ kd. same_kind kd k.Null || begins_literal kd) (mapped (c.SetValue owner called) (any values.value)) (mapped (c.SetTerm owner called) (values.term {t = line_end} refl))
+      decided (λ kd. same_kind kd k.Null || begins_literal kd) (mapped (c.SetValue owner called) (any values.value)) (mapped (c.SetTerm owner called) (values.term {t = is_end} refl))
       (first_opens values.value_opens) (first_opens (opens_less term_opens values.name_no_value))
 
   set : Behind mode r.set (sequence bindings.member (λ owner. sequence (word k.Assign) (λ _. (sequence basic.value (λ v. says (c.SetValue owner.0 owner.1 v))) or (sequence basic.term (λ t. says (c.SetTerm owner.0 owner.1 t))))))
@@ -115,16 +115,16 @@ module _ {mode : Mode} where
 
   append : Behind mode r.append (sequence form.linked (λ found. says (c.Append found.0.0 found.0.1 found.1)))
   unfolding r.append
-  append = record { complete = mapped (λ found. c.Append found.0.0 found.0.1 found.1) (values.linked {t = line_end} refl); opens = first_opens (first_opens (first_opens (first_opens name_no_assign))) }
+  append = record { complete = mapped (λ found. c.Append found.0.0 found.0.1 found.1) (values.linked {t = is_end} refl); opens = first_opens (first_opens (first_opens (first_opens name_no_assign))) }
 
   remove : Behind mode r.remove (sequence form.linked (λ found. says (c.Remove found.0.0 found.0.1 found.1)))
   unfolding r.remove
-  remove = record { complete = mapped (λ found. c.Remove found.0.0 found.0.1 found.1) (values.linked {t = line_end} refl); opens = first_opens (first_opens (first_opens (first_opens name_no_assign))) }
+  remove = record { complete = mapped (λ found. c.Remove found.0.0 found.0.1 found.1) (values.linked {t = is_end} refl); opens = first_opens (first_opens (first_opens (first_opens name_no_assign))) }
 
   show : Behind mode r.show (sequence basic.term (λ owner. (sequence (word k.Dot) (λ _. sequence basic.name (λ called. says (c.ShowMember owner called)))) or says (c.Show owner)))
   unfolding r.show among same_kind
   show = record {
-    complete = both (values.term {t = among (k.Dot ∷ ends)} refl) (λ owner. if_word k.Dot (c.Show owner) (mapped (c.ShowMember owner) (any named)) (unlike line_end k.Dot refl))
+    complete = both (values.term {t = among (k.Dot ∷ ends)} refl) (λ owner. if_word k.Dot (c.Show owner) (mapped (c.ShowMember owner) (any named)) (unlike is_end k.Dot refl))
         (λ owner. either_opens (first_opens (word_opens k.Dot refl)) (made_opens (c.Show owner) (end_within (among (k.Dot ∷ ends)) refl)));
     opens = first_opens (first_opens name_no_assign);
   }
@@ -132,7 +132,7 @@ module _ {mode : Mode} where
   two : Behind mode r.same (sequence basic.term (λ first. sequence basic.term (λ second. says (c.Same first second))))
   unfolding is_no_name
   two = record {
-    complete = instead same_flat (both (values.term {t = is_name} refl) (λ first. mapped (c.Same first) (values.term {t = line_end} refl)) (λ first. first_opens term_opens));
+    complete = instead same_flat (both (values.term {t = is_name} refl) (λ first. mapped (c.Same first) (values.term {t = is_end} refl)) (λ first. first_opens term_opens));
     opens = first_opens (first_opens name_no_assign);
   }
 
@@ -147,24 +147,24 @@ module _ {mode : Mode} where
 
   -- ---- what a name is bound to
 
-  made_new : (bound : List ℕ) → Complete mode line_end (take_token >> b.made bound) (bindings.new bound)
+  made_new : (bound : List ℕ) → Complete mode is_end (take_token >> b.made bound) (bindings.new bound)
   unfolding b.made b.cells_if_any b.cells
   made_new bound =
-      then_any (taken k.New) (λ _. then_any named (λ class. both (unless_end [] (listed k.Comma always line_end values.cell (solid_of is_name values.cell_opens values.no_name_ends) refl (λ y e. refl) (unlike line_end k.Comma refl))
+      then_any (taken k.New) (λ _. then_any named (λ class. both (unless_end [] (listed k.Comma always is_end values.cell (solid_of is_name values.cell_opens values.no_name_ends) refl (λ y e. refl) (unlike is_end k.Comma refl))
       (separated_opens k.Comma (opens_less values.cell_opens (not_this is_name k.LineEnd values.no_name_ends)))) (λ cells. any (made _)) (λ cells. made_opens _ (λ y e. e))))
 
-  got : (bound : List ℕ) → Complete mode line_end (take_token >> b.got bound) (bindings.get bound)
+  got : (bound : List ℕ) → Complete mode is_end (take_token >> b.got bound) (bindings.get bound)
   unfolding b.got literals.literals among same_kind
   got bound =
       any (then_any (taken k.Get) (λ _. then_any named (λ class. then_any (expected k.LParen) (λ _.
       both (listed k.Comma always (among (k.RParen ∷ [])) literal_read (literal_solid) refl (λ y e. refl) (unlike (among (k.RParen ∷ [])) k.Comma refl))
       (λ key. then_any (expected k.RParen) (λ _. made _)) (λ key. first_opens (word_opens k.RParen refl))))))
 
-  related : (bound : List ℕ) → Complete mode line_end (take_token >> b.related bound) (bindings.related bound)
+  related : (bound : List ℕ) → Complete mode is_end (take_token >> b.related bound) (bindings.related bound)
   unfolding b.related
   related bound = any (then_any (taken k.Related) (λ _. then_any values.member (λ found. made _)))
 
-  begun : (bound : List ℕ) → Complete mode line_end (take_token >> pure (c.BeginNested bound)) (bindings.begin_nested bound)
+  begun : (bound : List ℕ) → Complete mode is_end (take_token >> pure (c.BeginNested bound)) (bindings.begin_nested bound)
   begun bound = any (then_any (taken k.BeginNested) (λ _. made _))
 
 -- ---- lines, by their second token
@@ -189,8 +189,8 @@ outer_top mode xs rest n o a is read = record {
 
 -- lines that are no bindings: read where the second token decides what is read, and where it does not
 record OfTop (mode : Mode) (g : Form Command) : Type 0 where
-  by_second : Complete mode line_end outer g
-  by_first : Complete mode line_end r.top g
+  by_second : Complete mode is_end outer g
+  by_first : Complete mode is_end r.top g
 
 one_of : {mode : Mode} {g h : Form Command} → OfTop mode g → OfTop mode h → OfTop mode (g or h)
 one_of og oh = record { by_second = either og.by_second oh.by_second; by_first = either og.by_first oh.by_first }
@@ -200,42 +200,42 @@ not_true true e = absurd (false_true e)
 not_true false e = refl
 
 module _ {mode : Mode} where
-  top_run : (kd : Kind) (g : Form Command) → Complete mode line_end r.top (sequence (word kd) (λ _. g)) → Opens g line_end no_assign
-      → (front rest : List Token) (count o : ℕ) (a : Command) → sequence (word kd) (λ _. g) front count a → Enough mode count o → line_end (first_of rest).kind ≡ true
-      → Read mode outer (front ++ rest) rest count o a
-  top_run kd g cp og front rest count o a said enough stop =
+  top_run : (kd : Kind) (g : Form Command) → Complete mode is_end r.top (sequence (word kd) (λ _. g)) → Opens g is_end no_assign
+      → (prefix rest : List Token) (count o : ℕ) (a : Command) → sequence (word kd) (λ _. g) prefix count a → Enough mode count o → is_end (first_of rest).kind ≡ true
+      → Read mode outer (prefix ++ rest) rest count o a
+  top_run kd g cp og prefix rest count o a said enough stop =
       let w = said.1 in
-      let tokens : front ≡ w.first.0 ∷ w.rest = w.joined ∙ ap (λ ts. ts ++ w.rest) w.first.1 in
+      let tokens : prefix ≡ w.first.0 ∷ w.rest = w.joined ∙ ap (λ ts. ts ++ w.rest) w.first.1 in
       let other : same_kind (first_of (w.rest ++ rest)).kind k.Assign ≡ false =
       not_true (same_kind (first_of (w.rest ++ rest)).kind k.Assign) (og.run w.rest rest w.rest_count a w.second stop) in
-      outer_top mode (front ++ rest) rest count o a (subst (λ ts. same_kind (first_of (drop 1 (ts ++ rest))).kind k.Assign ≡ false) (sym tokens) other)
-      (cp.run front rest count o a said enough stop)
+      outer_top mode (prefix ++ rest) rest count o a (subst (λ ts. same_kind (first_of (drop 1 (ts ++ rest))).kind k.Assign ≡ false) (sym tokens) other)
+      (cp.run prefix rest count o a said enough stop)
 
-  on_top : (kd : Kind) {g : Form Command} → Complete mode line_end r.top (sequence (word kd) (λ _. g)) → Opens g line_end no_assign → OfTop mode (sequence (word kd) (λ _. g))
+  on_top : (kd : Kind) {g : Form Command} → Complete mode is_end r.top (sequence (word kd) (λ _. g)) → Opens g is_end no_assign → OfTop mode (sequence (word kd) (λ _. g))
   on_top kd {g = g} cp og = record { by_second = record { run = top_run kd g cp og }; by_first = cp }
 
-  behind_word : (kd : Kind) {by p : Reader Command} {g : Form Command} → by ≡ (take_token >> p) → Behind mode p g → Complete mode line_end by (sequence (word kd) (λ _. g))
-  behind_word kd {g = g} is one = subst (λ q. Complete mode line_end q (sequence (word kd) (λ _. g))) (sym is) (then_any (taken kd) (λ _. one.complete))
+  behind_word : (kd : Kind) {by p : Reader Command} {g : Form Command} → by ≡ (take_token >> p) → Behind mode p g → Complete mode is_end by (sequence (word kd) (λ _. g))
+  behind_word kd {g = g} is one = subst (λ q. Complete mode is_end q (sequence (word kd) (λ _. g))) (sym is) (then_any (taken kd) (λ _. one.complete))
 
   at_top : (kd : Kind) {p : Reader Command} {g : Form Command} → r.top_by kd ≡ (take_token >> p) → Behind mode p g → OfTop mode (sequence (word kd) (λ _. g))
   unfolding r.top
   at_top kd is one = on_top kd (on_word r.top_by kd (behind_word kd is one)) one.opens
 
   -- lines of the readers within, which read every first word that the one above does not
-  in_acting : (kd : Kind) {g : Form Command} → r.top_by kd ≡ r.acting → Complete mode line_end (r.acting_by kd) (sequence (word kd) (λ _. g)) → Opens g line_end no_assign
+  in_acting : (kd : Kind) {g : Form Command} → r.top_by kd ≡ r.acting → Complete mode is_end (r.acting_by kd) (sequence (word kd) (λ _. g)) → Opens g is_end no_assign
       → OfTop mode (sequence (word kd) (λ _. g))
   unfolding r.top r.acting
   in_acting kd {g = g} top cp og =
-      on_top kd (on_word r.top_by kd (subst (λ q. Complete mode line_end q (sequence (word kd) (λ _. g))) (sym top) (on_word r.acting_by kd cp))) og
+      on_top kd (on_word r.top_by kd (subst (λ q. Complete mode is_end q (sequence (word kd) (λ _. g))) (sym top) (on_word r.acting_by kd cp))) og
 
   at_acting : (kd : Kind) {p : Reader Command} {g : Form Command} → r.top_by kd ≡ r.acting → r.acting_by kd ≡ (take_token >> p) → Behind mode p g
       → OfTop mode (sequence (word kd) (λ _. g))
   at_acting kd top is one = in_acting kd top (behind_word kd is one) one.opens
 
-  in_termed : (kd : Kind) {g : Form Command} → r.top_by kd ≡ r.acting → r.acting_by kd ≡ r.termed → Complete mode line_end (r.termed_by kd) (sequence (word kd) (λ _. g))
-      → Opens g line_end no_assign → OfTop mode (sequence (word kd) (λ _. g))
+  in_termed : (kd : Kind) {g : Form Command} → r.top_by kd ≡ r.acting → r.acting_by kd ≡ r.termed → Complete mode is_end (r.termed_by kd) (sequence (word kd) (λ _. g))
+      → Opens g is_end no_assign → OfTop mode (sequence (word kd) (λ _. g))
   unfolding r.termed
-  in_termed kd {g = g} top acting cp og = in_acting kd top (subst (λ q. Complete mode line_end q (sequence (word kd) (λ _. g))) (sym acting) (on_word r.termed_by kd cp)) og
+  in_termed kd {g = g} top acting cp og = in_acting kd top (subst (λ q. Complete mode is_end q (sequence (word kd) (λ _. g))) (sym acting) (on_word r.termed_by kd cp)) og
 
   at_termed : (kd : Kind) (f : Term → Command) → r.top_by kd ≡ r.acting → r.acting_by kd ≡ r.termed → r.termed_by kd ≡ (take_token >> (R.term >>= (λ x. pure (f x))))
       → OfTop mode (sequence (word kd) (λ _. sequence basic.term (λ x. says (f x))))
@@ -245,7 +245,7 @@ module _ {mode : Mode} where
       → OfTop mode (sequence (word kd) (λ _. says a))
   unfolding r.bare
   at_bare kd a top acting termed is =
-      in_termed kd top acting (subst (λ q. Complete mode line_end q (sequence (word kd) (λ _. says a))) (sym termed) (on_word r.bare_by kd (behind_word kd is (nothing_more a)))) (made_opens a end_no_assign)
+      in_termed kd top acting (subst (λ q. Complete mode is_end q (sequence (word kd) (λ _. says a))) (sym termed) (on_word r.bare_by kd (behind_word kd is (nothing_more a)))) (made_opens a end_no_assign)
 
   acting_lines : OfTop mode form.acting_line
   acting_lines =
@@ -261,7 +261,7 @@ module _ {mode : Mode} where
 opening_no_assign : (y : Kind) → opening y ≡ true → no_assign y ≡ true
 opening_no_assign = not_this opening k.Assign refl
 
-bulk_opens : (most : ℕ) → Opens (bulk most) line_end no_assign
+bulk_opens : (most : ℕ) → Opens (bulk most) is_end no_assign
 unfolding same_kind
 bulk_opens most = either_opens (first_opens (word_opens k.Insert refl)) (either_opens (first_opens (word_opens k.Update refl)) (first_opens (word_opens k.Delete refl)))
 
@@ -280,10 +280,10 @@ module _ (mode : Mode) (most : ℕ) (expressions : Complete mode (among behind_e
   statements : (f : SynBulk → Command) → Behind mode (B.bulk >>= (λ x. pure (f x))) (sequence (bulk most) (λ x. says (f x)))
   statements f = record {
     complete = mapped f (from_ends (bulk_read mode most expressions begins));
-    opens = then_opens line_end (bulk_opens most) (λ x. made_opens (f x) (λ y e. e));
+    opens = then_opens is_end (bulk_opens most) (λ x. made_opens (f x) (λ y e. e));
   }
 
-  compiled : (d : Dialect) → Complete mode line_end (r.compiled d) (form.compiled most d)
+  compiled : (d : Dialect) → Complete mode is_end (r.compiled d) (form.compiled most d)
   unfolding r.compiled
   compiled d =
       either (on_word (r.compiled_by d) k.Rows (then_any (taken k.Rows) (λ _. (rows (c.CompileRows d)).complete)))
@@ -300,30 +300,30 @@ module _ (mode : Mode) (most : ℕ) (expressions : Complete mode (among behind_e
       one_of (at_top k.Table refl (a_name c.TableHead)) (one_of (at_top k.Class refl a_class) (one_of (at_top k.Rows refl (rows c.Rows)) (one_of (at_top k.Bulk refl (statements c.Bulk))
       (one_of (at_top k.Compile refl compile) acting_lines))))
 
-  bound_to : (bound : List ℕ) → Complete mode line_end (b.bound_to bound) (bindings.bound_to most bound)
+  bound_to : (bound : List ℕ) → Complete mode is_end (b.bound_to bound) (bindings.bound_to most bound)
   unfolding b.bound_to
   bound_to bound =
       either (on_word (b.binding_by bound) k.New (made_new bound)) (either (on_word (b.binding_by bound) k.Get (got bound))
       (either (on_word (b.binding_by bound) k.Objects (then_any (taken k.Objects) (λ _. (objects (c.Objects bound)).complete)))
       (either (on_word (b.binding_by bound) k.Related (related bound)) (on_word (b.binding_by bound) k.BeginNested (begun bound)))))
 
-  pub binding_filled : Complete mode line_end b.binding (bindings.binding_line most)
+  pub binding_filled : Complete mode is_end b.binding (bindings.binding_line most)
   unfolding b.binding
   binding_filled = then_any named (λ bound. then_any (expected k.Assign) (λ _. bound_to bound))
 
-  binding_run : (front rest : List Token) (count o : ℕ) (a : Command) → (bindings.binding_line most) front count a → Enough mode count o → line_end (first_of rest).kind ≡ true
-      → Read mode outer (front ++ rest) rest count o a
-  binding_run front rest count o a said enough stop =
+  binding_run : (prefix rest : List Token) (count o : ℕ) (a : Command) → (bindings.binding_line most) prefix count a → Enough mode count o → is_end (first_of rest).kind ≡ true
+      → Read mode outer (prefix ++ rest) rest count o a
+  binding_run prefix rest count o a said enough stop =
       let w = said.1 in
       let v = w.second.1 in
       let u = v.first.0 in
-      let tokens : front ≡ w.first.0 ∷ u ∷ v.rest = w.joined ∙ ap (λ ts. ts ++ w.rest) w.first.1 ∙ ap (λ ts. w.first.0 ∷ ts) (v.joined ∙ ap (λ ts. ts ++ v.rest) v.first.1) in
+      let tokens : prefix ≡ w.first.0 ∷ u ∷ v.rest = w.joined ∙ ap (λ ts. ts ++ w.rest) w.first.1 ∙ ap (λ ts. w.first.0 ∷ ts) (v.joined ∙ ap (λ ts. ts ++ v.rest) v.first.1) in
       let assigns : same_kind u.kind k.Assign ≡ true = alike v.first.2 in
-      outer_binding mode (front ++ rest) rest count o a (subst (λ ts. same_kind (first_of (drop 1 (ts ++ rest))).kind k.Assign ≡ true) (sym tokens) assigns)
-      (binding_filled.run front rest count o a said enough stop)
+      outer_binding mode (prefix ++ rest) rest count o a (subst (λ ts. same_kind (first_of (drop 1 (ts ++ rest))).kind k.Assign ≡ true) (sym tokens) assigns)
+      (binding_filled.run prefix rest count o a said enough stop)
 
-  pub outer_read : Complete mode line_end outer (form.outer_line most)
+  pub outer_read : Complete mode is_end outer (form.outer_line most)
   outer_read = either (record { run = binding_run }) top_lines.by_second
 
-  pub top_filled : Complete mode line_end r.top (form.top_line most)
+  pub top_filled : Complete mode is_end r.top (form.top_line most)
   top_filled = top_lines.by_first

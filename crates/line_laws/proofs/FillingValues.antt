@@ -49,13 +49,13 @@ int_by mode t rest o m is holds fits =
       is = ap (λ y. l.int_by (l.whole_number y t.content) i) is ∙ ap (λ y. l.int_by (l.whole_number k.Number y) i) holds ∙ ap (λ b. l.int_by (if b then Some m else None) i) fits;
     }
 
-int_run : (mode : Mode) (front rest : List Token) (count o m : ℕ) → form.int front count m → Read mode l.int (front ++ rest) rest count o m
-int_run mode front rest count o m said =
+int_run : (mode : Mode) (prefix rest : List Token) (count o m : ℕ) → form.int prefix count m → Read mode l.int (prefix ++ rest) rest count o m
+int_run mode prefix rest count o m said =
     subst (λ ts. Read mode l.int (ts ++ rest) rest count o m) (sym said.1)
     (subst (λ y. Read mode l.int (said.0 ∷ rest) rest y o m) (sym said.5) (int_by mode said.0 rest o m said.2 said.3 said.4))
 
 pub int : {mode : Mode} → Complete mode always l.int form.int
-int {mode = mode} = record { run = λ front rest count o m said enough stop. int_run mode front rest count o m said }
+int {mode = mode} = record { run = λ prefix rest count o m said enough stop. int_run mode prefix rest count o m said }
 
 -- ---- values
 

@@ -66,7 +66,7 @@ decided by one two =
 -- ---- the end of the line
 
 unless_by : {A : Type 0} (c : Mode) (x : A) {p : Reader A} {h : Form A} → Sound c p h → h [] 0 x → (i : Input) → Whole i.ahead → (b : Bool) → Kept c h i (if b then Ok (x, i) else p i)
-unless_by c x sp without i whole true = record { front = []; count = 0; joined = refl; budget = budget_none c i.operators; said = without }
+unless_by c x sp without i whole true = record { prefix = []; count = 0; joined = refl; budget = budget_none c i.operators; said = without }
 unless_by c x sp without i whole false = sp.run i whole
 
 -- nothing where the line ends
@@ -77,7 +77,7 @@ unless_end {c = c} x one without =
 -- ---- what may be left out
 
 some_out : {A : Type 0} (c : Mode) (g : Form A) (i : Input) (out : Outcome A) → Kept c g i out → Kept c (maybe g) i (and_then out (λ x. pure (Some x)))
-some_out c g i (Ok p) t = record { front = t.front; count = t.count; joined = t.joined; budget = t.budget; said = t.said }
+some_out c g i (Ok p) t = record { prefix = t.prefix; count = t.count; joined = t.joined; budget = t.budget; said = t.said }
 some_out c g i (Err e) (Behind before after split at done) =
     Behind before after split at (record { more = done.more; count = done.count; value = Some done.value; enough = done.enough; said = done.said })
 some_out c g i (Err e) (TooDeep before after u dp split at wants) = TooDeep before after u dp split at wants

@@ -14,7 +14,7 @@ use Rattle.grammar_laws.specs.Exact.{ReadsWhatIsSaid, ReadsAllThatIsSaid}
 use Rattle.grammar_laws.proofs.Lines.{tables_read, tables_all_read, classes_read, classes_all_read}
 use Rattle.line_laws.specs.Language.{line_form, form_of_kind, TellsTheColumn, AnswersWhatIsSaid, AnswersAllThatIsSaid, RefusesByColumn}
 use Rattle.line_laws.proofs.Lines.{reads_what_is_said, reads_all_that_is_said}
-use Rattle.line_laws.proofs.Fronts.{LongestFront, outer_front, table_front, class_front}
+use Rattle.line_laws.proofs.Prefixes.{LongestPrefix, outer_prefix, table_prefix, class_prefix}
 
 read_at : (inside : Inside) → ReadsWhatIsSaid (line_of inside) (line_form inside)
 read_at Top = reads_what_is_said
@@ -27,10 +27,10 @@ all_at Table = tables_all_read
 all_at Class = classes_all_read
 
 refused_at : (inside : Inside) (bytes : List ℕ) (e : Fault) → line_of inside (start_of (tokens bytes)) ≡ Err e
-    → LongestFront (form_of_kind inside 101 (tokens bytes)) (form_of_kind inside 100 (tokens bytes)) (tokens bytes) e
-refused_at Top bytes e is = outer_front bytes e is
-refused_at Table bytes e is = table_front bytes e is
-refused_at Class bytes e is = class_front bytes e is
+    → LongestPrefix (form_of_kind inside 101 (tokens bytes)) (form_of_kind inside 100 (tokens bytes)) (tokens bytes) e
+refused_at Top bytes e is = outer_prefix bytes e is
+refused_at Table bytes e is = table_prefix bytes e is
+refused_at Class bytes e is = class_prefix bytes e is
 
 -- ---- answers
 
@@ -81,15 +81,15 @@ told_by : (bytes : List ℕ) (number : ℕ) (inside : Inside) (refusal : Refusal
     → answer_of number out ≡ Err refusal → TellsTheColumn inside (tokens bytes) number refusal
 told_by bytes number inside refusal (Ok p) is e = absurd (not_both (sym e))
 told_by bytes number inside refusal (Err f) is e =
-    let front = refused_at inside bytes f is in
+    let prefix = refused_at inside bytes f is in
     record {
-      before = front.before;
-      after = front.after;
-      joined = front.joined;
-      stands = front.stands;
-      told = sym (same_refusal e) ∙ ap (refusal_of number) front.at;
-      begins = front.begins;
-      stops = front.stops;
+      before = prefix.before;
+      after = prefix.after;
+      joined = prefix.joined;
+      stands = prefix.stands;
+      told = sym (same_refusal e) ∙ ap (refusal_of number) prefix.at;
+      begins = prefix.begins;
+      stops = prefix.stops;
     }
 
 refused_by : (bytes : List ℕ) (number : ℕ) (inside : Inside) (refusal : Refusal) (b : Bool)

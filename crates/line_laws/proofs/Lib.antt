@@ -16,5 +16,5 @@ pub mod FillingTops
 pub mod Lines
 pub mod Closed
 pub mod Places
-pub mod Fronts
+pub mod Prefixes
 pub mod Language

@@ -17,10 +17,9 @@ use Rattle.script_forms.specs.Lines.{Says}
 use Rattle.script_forms.specs.Expressions.{expression_to}
 use Rattle.script_forms.specs.Bindings.{binding_line}
 use Rattle.script_forms.specs.TopLines.{top_line, outer_line}
-use Rattle.grammar_laws.specs.Exact.{EndsAViableFront, ReadsWhatIsSaid, ReadsAllThatIsSaid, SaysOneThing}
+use Rattle.grammar_laws.specs.Exact.{EndsAViablePrefix, ReadsWhatIsSaid, ReadsAllThatIsSaid, SaysOneThing}
 use Rattle.grammar_laws.proofs.Taking.{Plain, Around, Took, Behind, TooDeep, Kept}
 use Rattle.grammar_laws.proofs.Filling.{Complete, Opens, always, less}
-use Rattle.grammar_laws.proofs.FillingTables.{line_end}
 use Rattle.grammar_laws.proofs.Lines.{line_is_whole, ends_read, ends_refused, begun, refused_by, refused_yields, fault_same, all_is_read, one_thing}
 use Rattle.expression_laws.specs.Exact.{EndsInDepth}
 use Rattle.expression_laws.proofs.Whole.{whole_sound, wider_sound, some_expression_to}
@@ -33,6 +32,7 @@ use Rattle.line_laws.proofs.Tops.{binding_read, top_read}
 use Rattle.expression_laws.proofs.FillingSteps.{opens_less}
 use Rattle.line_laws.proofs.FillingSelects.{behind_expression, opening}
 use Rattle.line_laws.proofs.FillingTops.{outer_read}
+use Rattle.grammar_laws.proofs.Steps.{is_end}
 
 -- ---- expressions
 
@@ -57,16 +57,16 @@ begins_opening _ e = refl
 pub opened : Opens (expression_to 100) always opening
 opened = opens_less expression_opens begins_opening
 
-complete : Complete Plain line_end outer (outer_line 100)
+complete : Complete Plain is_end outer (outer_line 100)
 complete = outer_read Plain 100 filled opened
 
 -- ---- what a line says
 
 plain : {form : Form Command} {i j : Input} {a : Command} → Took Around form i a j → Took Plain form i a j
-plain t = record { front = t.front; count = t.count; joined = t.joined; budget = t.budget; said = t.said }
+plain t = record { prefix = t.prefix; count = t.count; joined = t.joined; budget = t.budget; said = t.said }
 
 widened : (g h : Form Command) (line : List Token) (command : Command) → Says g line command → ((ts : List Token) (n : ℕ) (a : Command) → g ts n a → h ts n a) → Says h line command
-widened g h line command says up = record { front = says.front; rest = says.rest; joined = says.joined; ends = says.ends; said = up says.front 0 command says.said }
+widened g h line command says up = record { prefix = says.prefix; rest = says.rest; joined = says.joined; ends = says.ends; said = up says.prefix 0 command says.said }
 
 said_by : (form : Form Command) (line : List Token) (out : Outcome Command) → Kept Around form (start_of line) out → (command : Command) (left : Input)
     → ◌≡◌ {A = Outcome Command} (and_then out ends) (Ok (command, left)) → Says form line command
@@ -100,7 +100,7 @@ says_one_thing = one_thing outer (outer_line 100) complete
 
 refused_as : (line : List ℕ) (b : Bool) (e : Fault)
     → ◌≡◌ {A = Outcome Command} (and_then (if b then binding (start_of (tokens line)) else top (start_of (tokens line))) ends) (Err e)
-    → EndsAViableFront (binding_or_other b 101) (tokens line) e
+    → EndsAViablePrefix (binding_or_other b 101) (tokens line) e
 refused_as line true e is =
     let i = start_of (tokens line) in
     refused_by (binding_line 101) (tokens line) (binding i) ((binding_read Plain 101 wide).sound.run i (line_is_whole line)) e is
@@ -113,7 +113,7 @@ unfolding line_of outer second_kind
 refuses_no_sooner line e is = refused_as line (same_kind (first_of (drop 1 (tokens line))).kind k.Assign) e is
 
 deep_by : (form : Form Command) (line : List Token) (out : Outcome Command) → Kept Around form (start_of line) out → (e : Fault) → ◌≡◌ {A = Outcome Command} (and_then out ends) (Err e)
-    → EndsAViableFront form line e ⊎ EndsInDepth line e
+    → EndsAViablePrefix form line e ⊎ EndsInDepth line e
 unfolding ends
 deep_by form line (Ok p) t e is = inl (ends_refused form line p.0 p.1 (plain t) (sees k.LineEnd p.1) e is)
 deep_by form line (Err f) (Behind before after split at done) e is = inl (record {
@@ -128,7 +128,7 @@ deep_by form line (Err f) (TooDeep before after u deep split at wants) e is =
 
 deep_as : (line : List ℕ) (b : Bool) (e : Fault)
     → ◌≡◌ {A = Outcome Command} (and_then (if b then binding (start_of (tokens line)) else top (start_of (tokens line))) ends) (Err e)
-    → EndsAViableFront (binding_or_other b 100) (tokens line) e ⊎ EndsInDepth (tokens line) e
+    → EndsAViablePrefix (binding_or_other b 100) (tokens line) e ⊎ EndsInDepth (tokens line) e
 deep_as line true e is =
     let i = start_of (tokens line) in
     deep_by (binding_line 100) (tokens line) (binding i) ((binding_read Around 100 narrow).sound.run i (line_is_whole line)) e is

@@ -3,21 +3,12 @@ use Rattle.std.proofs.Common.{◌≡◌, ℕ, zero, suc, ◌+◌, List, [], ◌�
 use Rattle.script_lex.specs.declared.token.Token.{Token}
 use Rattle.script_tokens.specs.declared.fault.Fault.{Fault}
 use Rattle.script_tokens.specs.Input.{Input, Outcome, Reader, ◌>>=◌, and_then, pure}
+use Rattle.script_tokens.specs.Many.{many_by, many_from}
 use Rattle.script_forms.specs.Form.{Form, maybe}
 use Rattle.script_forms.specs.Expressions.{many}
 use Rattle.grammar_laws.proofs.Taking.{Mode, Took, Refused, Behind, TooDeep, Kept, Whole, Sound}
 use Rattle.grammar_laws.proofs.Steps.{whole_rest, budget_none, budget_more, enough_more, deep_behind}
 use Rattle.line_laws.proofs.Following.{Follows}
-
--- one more item, where one comes next
-abbrev pub gathered_by : {A : Type 0} → (List A → Reader (List A)) → List A → Option A → Reader (List A)
-gathered_by more found None = pure found
-gathered_by more found (Some a) = more (found ++ a ∷ [])
-
--- a turn reads an item, or nothing
-unfoldable pub gathered : {A : Type 0} → Reader (Option A) → ℕ → List A → Reader (List A)
-gathered turn zero found = pure found
-gathered turn (suc n) found = turn >>= gathered_by (gathered turn n) found
 
 -- the items that were read are behind those found before
 Items : {A : Type 0} → Mode → Form A → List A → Input → Outcome (List A) → Type 0
@@ -26,7 +17,7 @@ Items c item found i (Err e) = Refused c (many item) i e
 
 module _ {A : Type 0} (c : Mode) (item : Form A) where
   one_more : (a b : List Token) (m n : ℕ) (x : A) (more : List A) → item a m x → many item b n more → many item (a ++ b) (m + n) (x ∷ more)
-  one_more a b m n x more one two = record { front = a; rest = b; front_count = m; rest_count = n; joined = refl; counted = refl; first = one; second = two }
+  one_more a b m n x more one two = record { prefix = a; rest = b; prefix_count = m; rest_count = n; joined = refl; counted = refl; first = one; second = two }
 
   behind : (found : List A) (i j : Input) (x : A) → Took c item i x j → (out : Outcome (List A)) → Items c item (found ++ x ∷ []) j out → Items c item found i out
   unfolding Items
@@ -36,25 +27,25 @@ module _ {A : Type 0} (c : Mode) (item : Form A) where
         x ∷ more,
         items.1 ∙ append_assoc found (x ∷ []) more,
         record {
-          front = t.front ++ v.front;
+          prefix = t.prefix ++ v.prefix;
           count = t.count + v.count;
-          joined = t.joined ∙ ap (λ ts. t.front ++ ts) v.joined ∙ sym (append_assoc t.front v.front q.1.ahead);
+          joined = t.joined ∙ ap (λ ts. t.prefix ++ ts) v.joined ∙ sym (append_assoc t.prefix v.prefix q.1.ahead);
           budget = budget_more c t.count v.count i.operators j.operators q.1.operators t.budget v.budget;
-          said = one_more t.front v.front t.count v.count x more t.said v.said;
+          said = one_more t.prefix v.prefix t.count v.count x more t.said v.said;
         },
       )
   behind found i j x t (Err e) (Behind before after split at done) =
-      Behind (t.front ++ before) after (t.joined ∙ ap (λ ts. t.front ++ ts) split ∙ sym (append_assoc t.front before after)) at (record {
+      Behind (t.prefix ++ before) after (t.joined ∙ ap (λ ts. t.prefix ++ ts) split ∙ sym (append_assoc t.prefix before after)) at (record {
         more = done.more;
         count = t.count + done.count;
         value = x ∷ done.value;
         enough = enough_more c t.count done.count i.operators j.operators t.budget done.enough;
-        said = subst (λ ts. many item ts (t.count + done.count) (x ∷ done.value)) (sym (append_assoc t.front before done.more))
-            (one_more t.front (before ++ done.more) t.count done.count x done.value t.said done.said);
+        said = subst (λ ts. many item ts (t.count + done.count) (x ∷ done.value)) (sym (append_assoc t.prefix before done.more))
+            (one_more t.prefix (before ++ done.more) t.count done.count x done.value t.said done.said);
       })
   behind found i j x t (Err e) (TooDeep before after u dp split at wants) =
-      TooDeep (t.front ++ before) after u (deep_behind c t.front before dp)
-      (t.joined ∙ ap (λ ts. t.front ++ ts) split ∙ sym (append_assoc t.front (before ++ u ∷ []) after) ∙ ap (λ ts. ts ++ after) (sym (append_assoc t.front before (u ∷ []))))
+      TooDeep (t.prefix ++ before) after u (deep_behind c t.prefix before dp)
+      (t.joined ∙ ap (λ ts. t.prefix ++ ts) split ∙ sym (append_assoc t.prefix (before ++ u ∷ []) after) ∙ ap (λ ts. ts ++ after) (sym (append_assoc t.prefix before (u ∷ []))))
       at wants
 
   list_of : Option A → List A
@@ -64,7 +55,7 @@ module _ {A : Type 0} (c : Mode) (item : Form A) where
   said_of : (ts : List Token) (n : ℕ) (o : Option A) → maybe item ts n o → many item ts n (list_of o)
   unfolding list_of
   said_of ts n None s = s
-  said_of ts n (Some x) s = record { front = ts; rest = []; front_count = n; rest_count = 0; joined = sym (append-nil ts); counted = omega arith; first = s; second = (refl, refl) }
+  said_of ts n (Some x) s = record { prefix = ts; rest = []; prefix_count = n; rest_count = 0; joined = sym (append-nil ts); counted = omega arith; first = s; second = (refl, refl) }
 
   -- the item that is begun may be the last
   begun : (i : Input) (e : Fault) → Refused c (maybe item) i e → Refused c (many item) i e
@@ -79,23 +70,23 @@ module _ {A : Type 0} (c : Mode) (item : Form A) where
   begun i e (TooDeep before after u dp split at wants) = TooDeep before after u dp split at wants
 
   module _ (turn : Reader (Option A)) where
-    taken : (n : ℕ) (found : List A) (i : Input) → Whole i.ahead → ((found : List A) (j : Input) → Whole j.ahead → Items c item found j (gathered turn n found j))
-        → (o : Option A) (j : Input) → Took c (maybe item) i o j → Items c item found i (gathered_by (gathered turn n) found o j)
+    taken : (n : ℕ) (found : List A) (i : Input) → Whole i.ahead → ((found : List A) (j : Input) → Whole j.ahead → Items c item found j (many_from turn n found j))
+        → (o : Option A) (j : Input) → Took c (maybe item) i o j → Items c item found i (many_by (many_from turn n) found o j)
     unfolding Items
-    taken n found i whole rec None j t = ([], sym (append-nil found), record { front = t.front; count = t.count; joined = t.joined; budget = t.budget; said = t.said })
+    taken n found i whole rec None j t = ([], sym (append-nil found), record { prefix = t.prefix; count = t.count; joined = t.joined; budget = t.budget; said = t.said })
     taken n found i whole rec (Some x) j t =
-        behind found i j x (record { front = t.front; count = t.count; joined = t.joined; budget = t.budget; said = t.said }) (gathered turn n (found ++ x ∷ []) j)
-        (rec (found ++ x ∷ []) j (whole_rest t.front j.ahead (subst Whole t.joined whole)))
+        behind found i j x (record { prefix = t.prefix; count = t.count; joined = t.joined; budget = t.budget; said = t.said }) (many_from turn n (found ++ x ∷ []) j)
+        (rec (found ++ x ∷ []) j (whole_rest t.prefix j.ahead (subst Whole t.joined whole)))
 
-    by_turn : (n : ℕ) (found : List A) (i : Input) → Whole i.ahead → ((found : List A) (j : Input) → Whole j.ahead → Items c item found j (gathered turn n found j))
-        → (out : Outcome (Option A)) → Kept c (maybe item) i out → Items c item found i (and_then out (gathered_by (gathered turn n) found))
+    by_turn : (n : ℕ) (found : List A) (i : Input) → Whole i.ahead → ((found : List A) (j : Input) → Whole j.ahead → Items c item found j (many_from turn n found j))
+        → (out : Outcome (Option A)) → Kept c (maybe item) i out → Items c item found i (and_then out (many_by (many_from turn n) found))
     unfolding Items
     by_turn n found i whole rec (Ok p) t = taken n found i whole rec p.0 p.1 t
     by_turn n found i whole rec (Err e) r = begun i e r
 
-    items_by : Sound c turn (maybe item) → (n : ℕ) (found : List A) (i : Input) → Whole i.ahead → Items c item found i (gathered turn n found i)
-    unfolding Items gathered
-    items_by st zero found i whole = ([], sym (append-nil found), record { front = []; count = 0; joined = refl; budget = budget_none c i.operators; said = (refl, refl) })
+    items_by : Sound c turn (maybe item) → (n : ℕ) (found : List A) (i : Input) → Whole i.ahead → Items c item found i (many_from turn n found i)
+    unfolding Items many_from
+    items_by st zero found i whole = ([], sym (append-nil found), record { prefix = []; count = 0; joined = refl; budget = budget_none c i.operators; said = (refl, refl) })
     items_by st (suc n) found i whole = by_turn n found i whole (items_by st n) (turn i) (st.run i whole)
 
   all_of : (i : Input) (out : Outcome (List A)) → Items c item [] i out → Kept c (many item) i out
@@ -103,8 +94,8 @@ module _ {A : Type 0} (c : Mode) (item : Form A) where
   all_of i (Ok p) items = subst (λ all. Took c (many item) i all p.1) (sym items.1) items.2
   all_of i (Err e) r = r
 
-pub all_gathered : {A : Type 0} {c : Mode} {turn : Reader (Option A)} {item : Form A} → Follows c turn (maybe item) → Follows c (λ i. gathered turn (length i.ahead) [] i) (many item)
-all_gathered {c = c} {turn = turn} {item = item} one = record {
-  sound = record { run = λ i whole. all_of c item i (gathered turn (length i.ahead) [] i) (items_by c item turn one.sound (length i.ahead) [] i whole) };
+pub all_read : {A : Type 0} {c : Mode} {turn : Reader (Option A)} {item : Form A} → Follows c turn (maybe item) → Follows c (λ i. many_from turn (length i.ahead) [] i) (many item)
+all_read {c = c} {turn = turn} {item = item} one = record {
+  sound = record { run = λ i whole. all_of c item i (many_from turn (length i.ahead) [] i) (items_by c item turn one.sound (length i.ahead) [] i whole) };
   some = record { tokens = []; value = []; said = (refl, refl) };
 }

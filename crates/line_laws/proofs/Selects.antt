@@ -22,9 +22,9 @@ use Rattle.grammar_laws.proofs.Taking.{Mode, Out, Whole, Inhabited}
 use Rattle.grammar_laws.proofs.Steps.{is_end, budget_none, left_of, right_of, refused_at, some_left}
 use Rattle.expression_laws.proofs.Steps.{within_at, with_word, without_word}
 use Rattle.line_laws.proofs.Following.{Follows, link, made, token, mapped, instead, listed, introduced, eaten, word_or, one_of, on_kind, behind_word, lead, some_maybe}
-use Rattle.line_laws.proofs.Many.{all_gathered}
+use Rattle.line_laws.proofs.Many.{all_read}
 use Rattle.line_laws.proofs.Terms as terms
-use Rattle.line_laws.proofs.Turns.{joined_by, join_turn, joins_turned, two_words_same, pairs_turned, select_rest, select_flat, query_flat}
+use Rattle.line_laws.proofs.Turns.{two_words_same, select_rest, selected_of, select_flat, query_flat}
 
 module _ (c : Mode) (most : ℕ) (whole : Follows c x.whole (expression_to most)) where
   item : Follows c s.item (form.item most)
@@ -65,19 +65,19 @@ module _ (c : Mode) (most : ℕ) (whole : Follows c x.whole (expression_to most)
   unfolding s.join
   joined left = link terms.source (λ from. link (token k.On refl) (λ _. link whole (λ on. made _)))
 
-  join_by : (kd : Kind) (i : Input) → Whole i.ahead → kind i ≡ kd → Out c (maybe (form.join most)) i (and_then (s.join_by kd i) joined_by)
+  join_by : (kd : Kind) (i : Input) → Whole i.ahead → kind i ≡ kd → Out c (maybe (form.join most)) i (and_then (s.join_by kd i) s.joined_by)
   join_by k.Join i whole_line is = one_of (within_at (behind_word k.Join refl (joined false) i whole_line is) (without_word k.Left (λ left. sequence (word k.Join) (λ _. join_rest left))))
   join_by k.Left i whole_line is =
       subst (λ out. Out c (maybe (form.join most)) i out) (two_words_same (next i)) (one_of (within_at (behind_word k.Left refl (link (token k.Join refl) (λ _. joined true)) i whole_line is)
       (with_word k.Left (λ left. sequence (word k.Join) (λ _. join_rest left)))))
-  join_by _ i whole_line is = record { kept = record { front = []; count = 0; joined = refl; budget = budget_none c i.operators; said = (refl, refl) } }
+  join_by _ i whole_line is = record { kept = record { prefix = []; count = 0; joined = refl; budget = budget_none c i.operators; said = (refl, refl) } }
 
-  turn : Follows c join_turn (maybe (form.join most))
-  turn = on_kind (λ kd. s.join_by kd >>= joined_by) join_by (some_maybe (form.join most))
+  turn : Follows c s.join_if_any (maybe (form.join most))
+  turn = on_kind (λ kd. s.join_by kd >>= s.joined_by) join_by (some_maybe (form.join most))
 
   joins : Follows c s.joins (many (form.join most))
   unfolding s.joins
-  joins = instead (λ i. joins_turned (length i.ahead) [] i) (all_gathered turn)
+  joins = all_read turn
 
   -- ---- selects
 
@@ -86,18 +86,8 @@ module _ (c : Mode) (most : ℕ) (whole : Follows c x.whole (expression_to most)
 
   select_rest_read : (distinct : Bool) (items : List (Syn × Option (List ℕ))) (first : SynSource) (joins : List SynJoin)
       → Follows c (select_rest distinct items first joins) (sequence (form.condition most k.Where) (λ filter. sequence (form.groups most) (λ keys. sequence (form.condition most k.Having) (λ having.
-      sequence (form.order most) (λ ordered. sequence (form.int_after k.Limit) (λ limit. sequence (form.int_after k.Offset) (λ offset. says (record {
-        distinct = distinct;
-        items = items;
-        first = first;
-        joins = joins;
-        filter = filter;
-        groups = keys;
-        having = having;
-        order = ordered;
-        limit = limit;
-        offset = offset;
-      }))))))))
+      sequence (form.order most) (λ ordered. sequence (form.int_after k.Limit) (λ limit. sequence (form.int_after k.Offset) (λ offset.
+      says (selected_of distinct items first joins filter keys having ordered limit offset))))))))
   select_rest_read distinct shown first others =
       link (condition k.Where refl) (λ filter. link groups (λ keys. link (condition k.Having refl) (λ having. link order (λ ordered.
       link (int_after k.Limit refl) (λ limit. link (int_after k.Offset refl) (λ offset. made _))))))
@@ -115,7 +105,7 @@ module _ (c : Mode) (most : ℕ) (whole : Follows c x.whole (expression_to most)
 
   pairs : Follows c q.joins (many (sequence (word k.Join) (λ _. query.pair)))
   unfolding q.joins
-  pairs = instead (λ i. pairs_turned (length i.ahead) [] i) (all_gathered (introduced k.Join refl pair))
+  pairs = all_read (introduced k.Join refl pair)
 
   some_manner : Inhabited query.manner
   some_manner = some_left (lead k.Joined (made {c = c} true))

@@ -5,7 +5,7 @@ use Rattle.script_lex.specs.declared.kind.Kind.TheVariants as k
 use Rattle.script_lex.specs.Lex.{same_kind}
 use Rattle.script_tokens.proofs.Alike.{same, alike}
 use Rattle.expression_laws.proofs.FillingSteps.{unlike}
-use Rattle.grammar_laws.proofs.FillingTables.{line_end}
+use Rattle.grammar_laws.proofs.Steps.{is_end}
 
 pub false_true : false ≡ true → ⊥
 false_true e = cc
@@ -58,10 +58,10 @@ pub not_this : (these : Kind → Bool) (kd : Kind) → these kd ≡ false → (y
 not_this these kd out y e = ap not (unlike these kd out y e)
 
 -- the end of the line is one of these
-pub end_within : (these : Kind → Bool) → these k.LineEnd ≡ true → (y : Kind) → line_end y ≡ true → these y ≡ true
+pub end_within : (these : Kind → Bool) → these k.LineEnd ≡ true → (y : Kind) → is_end y ≡ true → these y ≡ true
 end_within these is k.LineEnd e = is
 end_within these is _ e = absurd (false_true e)
 
-pub is_end : (y : Kind) → line_end y ≡ true → y ≡ k.LineEnd
-is_end k.LineEnd e = refl
-is_end _ e = absurd (false_true e)
+pub end_kind : (y : Kind) → is_end y ≡ true → y ≡ k.LineEnd
+end_kind k.LineEnd e = refl
+end_kind _ e = absurd (false_true e)

@@ -1,5 +1,5 @@
 -- Readers of selects and queries, part by part.
-use Rattle.std.proofs.Common.{◌≡◌, ℕ, zero, suc, Bool, true, false, if◌then◌else◌, List, [], ◌∷◌, ◌++◌, Option, Some, None, refl, sym, ◌∙◌}
+use Rattle.std.proofs.Common.{◌≡◌, ℕ, Bool, true, List, Option, Some, refl, sym, ◌∙◌}
 use Rattle.script_types.specs.declared.expression.Syn.{Syn}
 use Rattle.script_types.specs.declared.expression.SynSource.{SynSource}
 use Rattle.script_types.specs.declared.select.SynJoin.{SynJoin}
@@ -12,47 +12,18 @@ use Rattle.script_expr.specs.Expr.{source}
 use Rattle.script_select.specs.Select as s
 use Rattle.script_select.specs.Query as q
 use Rattle.line_laws.proofs.Flat.{through, inside}
-use Rattle.line_laws.proofs.Many.{gathered, gathered_by}
 
 -- ---- joins
 
-abbrev pub joined_by : Option Bool → Reader (Option SynJoin)
-joined_by None = pure None
-joined_by (Some left) = s.join left >>= (λ j. pure (Some j))
-
--- a join, where one comes next
-abbrev pub join_turn : Reader (Option SynJoin)
-join_turn = peek >>= (λ kd. s.join_by kd >>= joined_by)
-
-join_same : (n : ℕ) (found : List SynJoin) → ((found : List SynJoin) (i : Input) → gathered join_turn n found i ≡ s.joins_from n found i) → (o : Option Bool) (j : Input)
-    → and_then (joined_by o j) (gathered_by (gathered join_turn n) found) ≡ s.joins_by (s.joins_from n) found o j
-join_same n found rec None j = refl
-join_same n found rec (Some left) j = through (s.join left j) _ _ (λ x m. rec (found ++ x ∷ []) m)
-
-pub joins_turned : (n : ℕ) (found : List SynJoin) (i : Input) → gathered join_turn n found i ≡ s.joins_from n found i
-unfolding gathered s.joins_from s.begins_join
-joins_turned zero found i = refl
-joins_turned (suc n) found i = through (s.join_by (kind i) i) _ _ (join_same n found (joins_turned n))
-
 -- the two words before a left join
-pub two_words_same : (i : Input) → and_then (and_then (expect k.Join i) (λ _. s.join true)) (λ j. pure (Some j)) ≡ and_then (and_then (expect k.Join i) (λ _. pure (Some true))) joined_by
+pub two_words_same : (i : Input) → and_then (and_then (expect k.Join i) (λ _. s.join true)) (λ j. pure (Some j)) ≡ and_then (and_then (expect k.Join i) (λ _. pure (Some true))) s.joined_by
 two_words_same i = through (expect k.Join i) _ _ (λ _ j. refl) ∙ sym (through (expect k.Join i) _ _ (λ _ j. refl))
 
--- a pair behind `join`, where one comes next
-abbrev pub pair_turn : Reader (Option (List ℕ × List ℕ))
-pair_turn = clause k.Join q.pair
-
-pair_same : (n : ℕ) (found : List (List ℕ × List ℕ)) → ((found : List (List ℕ × List ℕ)) (i : Input) → gathered pair_turn n found i ≡ q.joins_from n found i) → (b : Bool) (j : Input)
-    → and_then ((if b then (q.pair >>= (λ x. pure (Some x))) else pure None) j) (gathered_by (gathered pair_turn n) found) ≡ q.joins_by (q.joins_from n) found b j
-pair_same n found rec false j = refl
-pair_same n found rec true j = through (q.pair j) _ _ (λ x m. rec (found ++ x ∷ []) m)
-
-pub pairs_turned : (n : ℕ) (found : List (List ℕ × List ℕ)) (i : Input) → gathered pair_turn n found i ≡ q.joins_from n found i
-unfolding gathered q.joins_from
-pairs_turned zero found i = refl
-pairs_turned (suc n) found i = through (eat k.Join i) (λ b. if b then (q.pair >>= (λ x. pure (Some x))) else pure None) (gathered_by (gathered pair_turn n) found) (pair_same n found (pairs_turned n))
-
 -- ---- the parts of a select
+
+abbrev pub selected_of : Bool → List (Syn × Option (List ℕ)) → SynSource → List SynJoin → Option Syn → List Syn → Option Syn → List (Syn × Bool) → Option ℕ → Option ℕ → SynSelect
+selected_of distinct items first joins filter keys having ordered limit offset =
+    s.selected distinct items first joins (record { filter = filter; groups = keys; having = having }) (record { order = ordered; limit = limit; offset = offset })
 
 abbrev pub select_rest : Bool → List (Syn × Option (List ℕ)) → SynSource → List SynJoin → Reader SynSelect
 select_rest distinct items first joins = do
@@ -62,18 +33,7 @@ select_rest distinct items first joins = do
   ordered ← s.order
   limit ← s.int_after k.Limit
   offset ← s.int_after k.Offset
-  pure (record {
-    distinct = distinct;
-    items = items;
-    first = first;
-    joins = joins;
-    filter = filter;
-    groups = keys;
-    having = having;
-    order = ordered;
-    limit = limit;
-    offset = offset;
-  })
+  pure (selected_of distinct items first joins filter keys having ordered limit offset)
 
 abbrev pub flat_select : Reader SynSelect
 flat_select = do
@@ -85,18 +45,7 @@ flat_select = do
   select_rest distinct items first joins
 
 rest_same : (distinct : Bool) (items : List (Syn × Option (List ℕ))) (first : SynSource) (joins : List SynJoin) (i : Input)
-    → and_then (s.middle_part i) (λ part. s.last_part >>= (λ end. pure (record {
-      distinct = distinct;
-      items = items;
-      first = first;
-      joins = joins;
-      filter = part.filter;
-      groups = part.groups;
-      having = part.having;
-      order = end.order;
-      limit = end.limit;
-      offset = end.offset;
-    }))) ≡ select_rest distinct items first joins i
+    → and_then (s.middle_part i) (λ part. s.last_part >>= (λ end. pure (s.selected distinct items first joins part end))) ≡ select_rest distinct items first joins i
 unfolding s.middle_part s.last_part
 rest_same distinct items first joins i =
     through (s.condition k.Where i) _ _ (λ filter j. through (s.groups j) _ _ (λ keys j. through (s.condition k.Having j) _ _ (λ having j.

@@ -11,7 +11,7 @@ use Rattle.script_read.specs.Line.{line_of}
 use Rattle.script_forms.specs.Form.{Form}
 use Rattle.script_forms.specs.Bindings.{binding_line}
 use Rattle.script_forms.specs.TopLines.{top_line}
-use Rattle.grammar_laws.specs.Exact.{EndsAViableFront}
+use Rattle.grammar_laws.specs.Exact.{EndsAViablePrefix}
 use Rattle.expression_laws.specs.Exact.{EndsInDepth}
 
 -- the reader of the lines outside blocks, by which `read_line` reads
@@ -37,8 +37,8 @@ IsRefused there = (line : List ℕ) (e : Fault) → outer_reader (start_of (toke
 
 -- The tokens before the refused one begin some line, in whose expressions one more may nest than in those that are read.
 abbrev pub RefusesNoSooner : Type 0
-RefusesNoSooner = IsRefused (λ line e. EndsAViableFront (form_for 101 line) line e)
+RefusesNoSooner = IsRefused (λ line e. EndsAViablePrefix (form_for 101 line) line e)
 
 -- They begin a line that is read, but where a parenthesis must come next that would be nested in a hundred.
 abbrev pub RefusesSoonerInDepthAlone : Type 0
-RefusesSoonerInDepthAlone = IsRefused (λ line e. EndsAViableFront (form_for 100 line) line e ⊎ EndsInDepth line e)
+RefusesSoonerInDepthAlone = IsRefused (λ line e. EndsAViablePrefix (form_for 100 line) line e ⊎ EndsInDepth line e)

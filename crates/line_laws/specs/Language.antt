@@ -41,7 +41,7 @@ pub record EndDeep (tokens : List Token) : Type 0 where
 abbrev pub BeginOne : Inside → List Token → List Token → Type 0
 BeginOne inside line tokens = Begins (form_of_kind inside 100 line) tokens ⊎ (EndDeep tokens × Begins (form_of_kind inside 101 line) tokens)
 
--- The column of a token, which stands one past the longest front of the line with which some line of its kind begins: such a line begins with the tokens
+-- The column of a token, which stands one past the longest prefix of the line with which some line of its kind begins: such a line begins with the tokens
 -- before it, and none begins with these and the token itself.
 pub record TellsTheColumn (inside : Inside) (line : List Token) (number : ℕ) (refusal : Refusal) : Type 0 where
   pub before : List Token

@@ -1,5 +1,5 @@
 //! Laws of the lines outside blocks and the forms of the script's language, each the contract of a function that does nothing: what the reader reads of a
-//! line is what its tokens say, and a refused token stands one past the longest front of its line with which some line begins.
+//! line is what its tokens say, and a refused token stands one past the longest prefix of its line with which some line begins.
 #![tactic(auto)]
 
 ghost use Rattle.grammar_laws.specs.Exact.{ReadsAllThatIsSaid, ReadsWhatIsSaid, SaysOneThing};
@@ -23,7 +23,7 @@ pub fn lines_outside_blocks_are_read_as_their_forms_say()
 /// What `read_line` is to answer, in a block or outside: to a line that is neither blank nor a comment the command that the form of the lines there
 /// relates to its tokens; and where they say none, the column of a token.
 ///
-/// That token stands one past the longest front of the line with which some line of its kind begins: such a line begins with the tokens before it, and none
+/// That token stands one past the longest prefix of the line with which some line of its kind begins: such a line begins with the tokens before it, and none
 /// begins with these and the token itself. Where they end with an `in` or `exists` before which there are a hundred of `(`, `not` and `-`, the line that
 /// begins with them may be one in which 101 of parentheses, `not` and unary minus nest.
 pub fn lines_are_answered_as_the_language_says()

@@ -6,24 +6,21 @@ use Rattle.script_lex.specs.declared.kind.Kind.{Kind}
 use Rattle.script_lex.specs.declared.kind.Kind.TheVariants as k
 use Rattle.script_tokens.specs.Input.{Reader, ◌>>=◌, ◌>>◌, ◌<$>◌, pure, refuse, peek, take_token, eat, expect, clause, sees, separated}
 use Rattle.script_tokens.specs.Names.{name, names}
+use Rattle.script_tokens.specs.Literals.{int_by}
 use Rattle.schema_core.specs.declared.table.ColumnKind.{ColumnKind}
 use Rattle.schema_core.specs.declared.table.ColumnKind.TheVariants as kind
 use Rattle.std.specs.Prelude.{nat_le, ◌<◌, ◌-◌, ◌^◌}
 use Rattle.script_lex.specs.declared.token.Content.{Content}
 use Rattle.script_lex.specs.declared.token.Content.TheVariants.{Number}
-use Rattle.script_tokens.specs.Input.{head, next}
+use Rattle.script_tokens.specs.Input.{head}
 
 abbrev pub length_in : Kind → Content → Option ℕ
 length_in k.Number (Number n) = if nat_le n 4294967295 then Some n else None
 length_in _ _ = None
 
-abbrev pub length_by : Option ℕ → Reader ℕ
-length_by None = refuse
-length_by (Some n) = λ i. Ok (n, next i)
-
 -- a number of at most 4294967295
 unfoldable pub text_length : Reader ℕ
-text_length = λ i. length_by (length_in (head i).kind (head i).content) i
+text_length = λ i. int_by (length_in (head i).kind (head i).content) i
 
 -- `(n)`, where it comes next
 unfoldable pub length_if_any : Reader (Option ℕ)

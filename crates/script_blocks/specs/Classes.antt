@@ -65,9 +65,6 @@ class_head = do
   kind ← peek
   class_head_by class kind
 
-abbrev pub no_cascade : Cascade
-no_cascade = record { save_update = false; merge = false; refresh_expire = false; expunge = false; delete = false; delete_orphan = false }
-
 -- `-`, also directly before a digit
 abbrev pub sees_dash : Input → Bool
 sees_dash i = sees k.Minus i || sees k.Signed i
@@ -111,7 +108,9 @@ cascade_from (suc n) so_far = do
 
 -- words of a cascade with commas between
 unfoldable pub cascade : Reader Cascade
-cascade = λ i. cascade_from (turns i) no_cascade i
+cascade = λ i.
+    cascade_from (turns i)
+    (record { save_update = false; merge = false; refresh_expire = false; expunge = false; delete = false; delete_orphan = false }) i
 
 unfoldable pub cascade_if_any : Reader (Option Cascade)
 cascade_if_any = clause k.Cascade cascade

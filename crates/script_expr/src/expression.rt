@@ -1,7 +1,8 @@
 //! Expressions.
 
-ghost use Rattle.std.specs.Prelude.{[], ◌∷◌, ◌≡◌, IfOk};
+ghost use Rattle.std.specs.Prelude.{[], ◌∷◌, ◌≡◌, IfOk, IfErr};
 ghost use Rattle.script_tokens.specs.Input.{Reads};
+ghost use Rattle.script_tokens.specs.declared.fault.Fault.TheVariants.{Memory};
 ghost use Rattle.script_expr.specs.Expr as spec;
 ghost use Rattle.script_expr.specs.Nests.{Nests};
 ghost use Rattle.script_lex.specs.declared.kind.Kind.TheVariants as k;
@@ -91,6 +92,14 @@ fn product_joint(kind: Kind) -> Option<Joint>
     }
 }
 
+/// A tree in a box.
+fn boxed(alloc: Global, tree: Syn) -> Result<Boxed<Syn>, Fault>
+    ensures tree { IfOk result (λ it. it ≡ tree) }
+    ensures memory { IfErr result (λ e. e ≡ Memory) }
+{
+    Ok(Boxed::new(alloc, tree)?)
+}
+
 fn joined(joint: Joint, left: Boxed<Syn>, right: Boxed<Syn>) -> Syn
     ensures { result ≡ spec.joined joint left right }
 {
@@ -141,34 +150,26 @@ fn takes_all(tokens: &mut Tokens<'_>, f: Func) -> bool
 }
 
 /// A list of one item.
-fn only(alloc: Global, item: Syn) -> Result<Items<Syn>, AllocError>
+fn only(alloc: Global, item: Boxed<Syn>) -> Result<Items<Syn>, AllocError>
     ensures { IfOk result (λ all. all ≡ item ∷ []) }
 {
     let mut all = Items::new(alloc);
-    all.push(item)?;
+    all.push(item.into_inner())?;
     Ok(all)
 }
 
 /// A source or class and its column or attribute, after the first name.
-fn path(tokens: &mut Tokens<'_>, first: Name) -> Result<Syn, Fault>
+fn path(alloc: Global, tokens: &mut Tokens<'_>, first: Name) -> Result<Boxed<Syn>, Fault>
     ensures { Reads (spec.path first tokens.old) result tokens.new }
 {
     tokens.expect(Kind::Dot)?;
-    Ok(Syn::Path(first, name(tokens)?))
+    let second = name(tokens)?;
+    boxed(alloc, Syn::Path(first, second))
 }
 
-// An operand is boxed before more is read: a fault then drops a box, by a call of its `drop`, where the drop of a `Syn` would
+// Trees are boxed as soon as they are made: a fault then drops a box, by a call of its `drop`, where the drop of a `Syn` would
 // stand in the function itself, form by form, each form a step to prove.
-impl<F: Fn(Global, &mut Tokens<'_>, usize, Level) -> Result<Syn, Fault>> Grammar<F> {
-    /// An operand inside this expression, boxed.
-    fn boxed_inner(&self, tokens: &mut Tokens<'_>, level: Level) -> Result<Boxed<Syn>, Fault>
-        requires { Nests self.now.depth (F.pre self.now.expr) (F.post self.now.expr) }
-        ensures { Reads (spec.expr self.now.depth level tokens.old) result tokens.new }
-    {
-        let inner = self.inner(tokens, level)?;
-        Ok(Boxed::new(self.alloc, inner)?)
-    }
-
+impl<F: Fn(Global, &mut Tokens<'_>, usize, Level) -> Result<Boxed<Syn>, Fault>> Grammar<F> {
     #[tactic(auto, unfolding(crate::specs::Expr::deeper))]
     fn deeper(&self, tokens: &mut Tokens<'_>, kind: Kind) -> Result<(), Fault>
         requires { Nests self.now.depth (F.pre self.now.expr) (F.post self.now.expr) }
@@ -182,18 +183,19 @@ impl<F: Fn(Global, &mut Tokens<'_>, usize, Level) -> Result<Syn, Fault>> Grammar
     }
 
     #[tactic(auto, unfolding(crate::specs::Expr::parenthesized))]
-    fn parenthesized(&self, tokens: &mut Tokens<'_>) -> Result<Syn, Fault>
+    fn parenthesized(&self, tokens: &mut Tokens<'_>) -> Result<Boxed<Syn>, Fault>
         requires { Nests self.now.depth (F.pre self.now.expr) (F.post self.now.expr) }
         ensures { Reads (spec.parenthesized self.now.depth
             (spec.expr self.now.depth) tokens.old) result tokens.new }
     {
         self.deeper(tokens, Kind::LParen)?;
         let inner = self.inner(tokens, Level::Whole)?;
-        tokens.expect(Kind::RParen).and(Ok(inner))
+        tokens.expect(Kind::RParen)?;
+        Ok(inner)
     }
 
     #[tactic(auto, unfolding(crate::specs::Expr::exists))]
-    fn exists(&self, tokens: &mut Tokens<'_>) -> Result<Syn, Fault>
+    fn exists(&self, tokens: &mut Tokens<'_>) -> Result<Boxed<Syn>, Fault>
         requires { Nests self.now.depth (F.pre self.now.expr) (F.post self.now.expr) }
         ensures { Reads (spec.exists self.now.depth
             (spec.expr self.now.depth) tokens.old) result tokens.new }
@@ -201,10 +203,9 @@ impl<F: Fn(Global, &mut Tokens<'_>, usize, Level) -> Result<Syn, Fault>> Grammar
         self.deeper(tokens, Kind::LParen)?;
         let from = source(tokens)?;
         tokens.expect(Kind::Where)?;
-        let inner = self.boxed_inner(tokens, Level::Whole)?;
-        tokens
-            .expect(Kind::RParen)
-            .and(Ok(Syn::Exists(from, inner)))
+        let inner = self.inner(tokens, Level::Whole)?;
+        tokens.expect(Kind::RParen)?;
+        boxed(self.alloc, Syn::Exists(from, inner))
     }
 
     fn arguments(&self, tokens: &mut Tokens<'_>) -> Result<Items<Syn>, Fault>
@@ -215,7 +216,7 @@ impl<F: Fn(Global, &mut Tokens<'_>, usize, Level) -> Result<Syn, Fault>> Grammar
         let mut found = Items::new(self.alloc);
         for _turn in 0..tokens.left() {
             let item = self.inner(tokens, Level::Whole)?;
-            found.push(item)?;
+            found.push(item.into_inner())?;
             if !tokens.eat(Kind::Comma) {
                 return Ok(found);
             }
@@ -224,7 +225,7 @@ impl<F: Fn(Global, &mut Tokens<'_>, usize, Level) -> Result<Syn, Fault>> Grammar
     }
 
     #[tactic(auto, unfolding(crate::specs::Expr::call))]
-    fn call(&self, tokens: &mut Tokens<'_>, f: Func) -> Result<Syn, Fault>
+    fn call(&self, tokens: &mut Tokens<'_>, f: Func) -> Result<Boxed<Syn>, Fault>
         requires { Nests self.now.depth (F.pre self.now.expr) (F.post self.now.expr) }
         ensures { Reads (spec.call self.now.depth
             (spec.expr self.now.depth) f tokens.old) result tokens.new }
@@ -232,15 +233,15 @@ impl<F: Fn(Global, &mut Tokens<'_>, usize, Level) -> Result<Syn, Fault>> Grammar
         self.deeper(tokens, Kind::LParen)?;
         if takes_all(tokens, f) {
             tokens.expect(Kind::RParen)?;
-            return Ok(Syn::CountAll);
+            return boxed(self.alloc, Syn::CountAll);
         }
         let found = self.arguments(tokens)?;
         tokens.expect(Kind::RParen)?;
-        Ok(Syn::Call(f, found))
+        boxed(self.alloc, Syn::Call(f, found))
     }
 
     #[tactic(auto, unfolding(crate::specs::Expr::called))]
-    fn called(&self, tokens: &mut Tokens<'_>, f: Func, first: Name) -> Result<Syn, Fault>
+    fn called(&self, tokens: &mut Tokens<'_>, f: Func, first: Name) -> Result<Boxed<Syn>, Fault>
         requires { Nests self.now.depth (F.pre self.now.expr) (F.post self.now.expr) }
         ensures { Reads (spec.called self.now.depth
             (spec.expr self.now.depth) f first tokens.old) result tokens.new }
@@ -248,12 +249,12 @@ impl<F: Fn(Global, &mut Tokens<'_>, usize, Level) -> Result<Syn, Fault>> Grammar
         if tokens.sees(Kind::LParen) {
             self.call(tokens, f)
         } else {
-            path(tokens, first)
+            path(self.alloc, tokens, first)
         }
     }
 
     #[tactic(auto, unfolding(crate::specs::Expr::named))]
-    fn named(&self, tokens: &mut Tokens<'_>) -> Result<Syn, Fault>
+    fn named(&self, tokens: &mut Tokens<'_>) -> Result<Boxed<Syn>, Fault>
         requires { Nests self.now.depth (F.pre self.now.expr) (F.post self.now.expr) }
         ensures { Reads (spec.named self.now.depth
             (spec.expr self.now.depth) tokens.old) result tokens.new }
@@ -262,12 +263,12 @@ impl<F: Fn(Global, &mut Tokens<'_>, usize, Level) -> Result<Syn, Fault>> Grammar
         let first = name(tokens)?;
         match function(kind) {
             Some(f) => self.called(tokens, f, first),
-            None => path(tokens, first),
+            None => path(self.alloc, tokens, first),
         }
     }
 
     #[tactic(auto, unfolding(crate::specs::Expr::atom))]
-    fn atom(&self, tokens: &mut Tokens<'_>) -> Result<Syn, Fault>
+    fn atom(&self, tokens: &mut Tokens<'_>) -> Result<Boxed<Syn>, Fault>
         requires { Nests self.now.depth (F.pre self.now.expr) (F.post self.now.expr) }
         ensures { Reads (spec.atom self.now.depth
             (spec.expr self.now.depth) tokens.old) result tokens.new }
@@ -278,13 +279,16 @@ impl<F: Fn(Global, &mut Tokens<'_>, usize, Level) -> Result<Syn, Fault>> Grammar
                 tokens.take();
                 self.exists(tokens)
             }
-            kind if begins_literal(kind) => Ok(Syn::Lit(literal(tokens)?)),
+            kind if begins_literal(kind) => {
+                let value = literal(tokens)?;
+                boxed(self.alloc, Syn::Lit(value))
+            }
             _ => self.named(tokens),
         }
     }
 
     #[tactic(auto, unfolding(crate::specs::Expr::unary))]
-    fn unary(&self, tokens: &mut Tokens<'_>) -> Result<Syn, Fault>
+    fn unary(&self, tokens: &mut Tokens<'_>) -> Result<Boxed<Syn>, Fault>
         requires { Nests self.now.depth (F.pre self.now.expr) (F.post self.now.expr) }
         ensures { Reads (spec.unary self.now.depth
             (spec.expr self.now.depth) tokens.old) result tokens.new }
@@ -292,13 +296,14 @@ impl<F: Fn(Global, &mut Tokens<'_>, usize, Level) -> Result<Syn, Fault>> Grammar
         match tokens.kind() {
             Kind::Minus => {
                 self.deeper(tokens, Kind::Minus)?;
-                Ok(Syn::Neg(self.boxed_inner(tokens, Level::Unary)?))
+                let operand = self.inner(tokens, Level::Unary)?;
+                boxed(self.alloc, Syn::Neg(operand))
             }
             _ => self.atom(tokens),
         }
     }
 
-    fn factors(&self, tokens: &mut Tokens<'_>, mut left: Syn) -> Result<Syn, Fault>
+    fn factors(&self, tokens: &mut Tokens<'_>, mut left: Boxed<Syn>) -> Result<Boxed<Syn>, Fault>
         requires { Nests self.now.depth (F.pre self.now.expr) (F.post self.now.expr) }
         ensures { Reads (spec.factors self.now.depth
             (spec.expr self.now.depth) left tokens.old) result tokens.new }
@@ -307,16 +312,15 @@ impl<F: Fn(Global, &mut Tokens<'_>, usize, Level) -> Result<Syn, Fault>> Grammar
             let Some(joint) = product_joint(tokens.kind()) else {
                 return Ok(left);
             };
-            let first = Boxed::new(self.alloc, left)?;
             tokens.operator()?;
             let right = self.unary(tokens)?;
-            left = joined(joint, first, Boxed::new(self.alloc, right)?);
+            left = boxed(self.alloc, joined(joint, left, right))?;
         }
         Ok(left)
     }
 
     #[tactic(auto, unfolding(crate::specs::Expr::product))]
-    fn product(&self, tokens: &mut Tokens<'_>) -> Result<Syn, Fault>
+    fn product(&self, tokens: &mut Tokens<'_>) -> Result<Boxed<Syn>, Fault>
         requires { Nests self.now.depth (F.pre self.now.expr) (F.post self.now.expr) }
         ensures { Reads (spec.product self.now.depth
             (spec.expr self.now.depth) tokens.old) result tokens.new }
@@ -325,7 +329,7 @@ impl<F: Fn(Global, &mut Tokens<'_>, usize, Level) -> Result<Syn, Fault>> Grammar
         self.factors(tokens, first)
     }
 
-    fn summands(&self, tokens: &mut Tokens<'_>, mut left: Syn) -> Result<Syn, Fault>
+    fn summands(&self, tokens: &mut Tokens<'_>, mut left: Boxed<Syn>) -> Result<Boxed<Syn>, Fault>
         requires { Nests self.now.depth (F.pre self.now.expr) (F.post self.now.expr) }
         ensures { Reads (spec.summands self.now.depth
             (spec.expr self.now.depth) left tokens.old) result tokens.new }
@@ -334,16 +338,15 @@ impl<F: Fn(Global, &mut Tokens<'_>, usize, Level) -> Result<Syn, Fault>> Grammar
             let Some(joint) = sum_joint(tokens.kind()) else {
                 return Ok(left);
             };
-            let first = Boxed::new(self.alloc, left)?;
             tokens.operator()?;
             let right = self.product(tokens)?;
-            left = joined(joint, first, Boxed::new(self.alloc, right)?);
+            left = boxed(self.alloc, joined(joint, left, right))?;
         }
         Ok(left)
     }
 
     #[tactic(auto, unfolding(crate::specs::Expr::sum))]
-    fn sum(&self, tokens: &mut Tokens<'_>) -> Result<Syn, Fault>
+    fn sum(&self, tokens: &mut Tokens<'_>) -> Result<Boxed<Syn>, Fault>
         requires { Nests self.now.depth (F.pre self.now.expr) (F.post self.now.expr) }
         ensures { Reads (spec.sum self.now.depth
             (spec.expr self.now.depth) tokens.old) result tokens.new }
@@ -352,35 +355,26 @@ impl<F: Fn(Global, &mut Tokens<'_>, usize, Level) -> Result<Syn, Fault>> Grammar
         self.summands(tokens, first)
     }
 
-    /// A sum, boxed.
-    fn boxed_sum(&self, tokens: &mut Tokens<'_>) -> Result<Boxed<Syn>, Fault>
-        requires { Nests self.now.depth (F.pre self.now.expr) (F.post self.now.expr) }
-        ensures { Reads (spec.sum self.now.depth
-            (spec.expr self.now.depth) tokens.old) result tokens.new }
-    {
-        let operand = self.sum(tokens)?;
-        Ok(Boxed::new(self.alloc, operand)?)
-    }
-
     #[tactic(auto, unfolding(crate::specs::Expr::compared))]
     fn compared(
         &self,
         tokens: &mut Tokens<'_>,
         op: CompareOp,
         left: Boxed<Syn>,
-    ) -> Result<Syn, Fault>
+    ) -> Result<Boxed<Syn>, Fault>
         requires { Nests self.now.depth (F.pre self.now.expr) (F.post self.now.expr) }
         ensures { Reads (spec.compared self.now.depth
             (spec.expr self.now.depth) op left tokens.old) result tokens.new }
     {
         if null_after(tokens, op) {
-            return Ok(Syn::IsNull(is_unlike(op), left));
+            return boxed(self.alloc, Syn::IsNull(is_unlike(op), left));
         }
-        Ok(Syn::Compare(op, left, self.boxed_sum(tokens)?))
+        let right = self.sum(tokens)?;
+        boxed(self.alloc, Syn::Compare(op, left, right))
     }
 
     #[tactic(auto, unfolding(crate::specs::Expr::distinct))]
-    fn distinct(&self, tokens: &mut Tokens<'_>, left: Boxed<Syn>) -> Result<Syn, Fault>
+    fn distinct(&self, tokens: &mut Tokens<'_>, left: Boxed<Syn>) -> Result<Boxed<Syn>, Fault>
         requires { Nests self.now.depth (F.pre self.now.expr) (F.post self.now.expr) }
         ensures { Reads (spec.distinct self.now.depth
             (spec.expr self.now.depth) left tokens.old) result tokens.new }
@@ -388,7 +382,8 @@ impl<F: Fn(Global, &mut Tokens<'_>, usize, Level) -> Result<Syn, Fault>> Grammar
         let negated = tokens.eat(Kind::Not);
         tokens.expect(Kind::Distinct)?;
         tokens.expect(Kind::From)?;
-        Ok(Syn::Distinct(negated, left, self.boxed_sum(tokens)?))
+        let right = self.sum(tokens)?;
+        boxed(self.alloc, Syn::Distinct(negated, left, right))
     }
 
     #[tactic(auto, unfolding(crate::specs::Expr::members))]
@@ -411,45 +406,69 @@ impl<F: Fn(Global, &mut Tokens<'_>, usize, Level) -> Result<Syn, Fault>> Grammar
         tokens: &mut Tokens<'_>,
         negated: bool,
         left: Boxed<Syn>,
-    ) -> Result<Syn, Fault>
+    ) -> Result<Boxed<Syn>, Fault>
         requires { Nests self.now.depth (F.pre self.now.expr) (F.post self.now.expr) }
         ensures { Reads (spec.between self.now.depth
             (spec.expr self.now.depth) negated left tokens.old) result tokens.new }
     {
-        let low = self.boxed_sum(tokens)?;
+        let low = self.sum(tokens)?;
         tokens.expect(Kind::And)?;
-        Ok(Syn::Between(negated, left, low, self.boxed_sum(tokens)?))
+        let high = self.sum(tokens)?;
+        boxed(self.alloc, Syn::Between(negated, left, low, high))
     }
 
     #[tactic(auto, unfolding(crate::specs::Expr::liked))]
-    fn liked(&self, tokens: &mut Tokens<'_>, negated: bool, left: Boxed<Syn>) -> Result<Syn, Fault>
+    fn liked(
+        &self,
+        tokens: &mut Tokens<'_>,
+        negated: bool,
+        left: Boxed<Syn>,
+    ) -> Result<Boxed<Syn>, Fault>
         requires { Nests self.now.depth (F.pre self.now.expr) (F.post self.now.expr) }
         ensures { Reads (spec.liked self.now.depth
             (spec.expr self.now.depth) negated left tokens.old) result tokens.new }
     {
-        Ok(Syn::Like(negated, left, self.boxed_sum(tokens)?))
+        let pattern = self.sum(tokens)?;
+        boxed(self.alloc, Syn::Like(negated, left, pattern))
     }
 
     #[tactic(auto, unfolding(crate::specs::Expr::iliked))]
-    fn iliked(&self, tokens: &mut Tokens<'_>, negated: bool, left: Boxed<Syn>) -> Result<Syn, Fault>
+    fn iliked(
+        &self,
+        tokens: &mut Tokens<'_>,
+        negated: bool,
+        left: Boxed<Syn>,
+    ) -> Result<Boxed<Syn>, Fault>
         requires { Nests self.now.depth (F.pre self.now.expr) (F.post self.now.expr) }
         ensures { Reads (spec.iliked self.now.depth
             (spec.expr self.now.depth) negated left tokens.old) result tokens.new }
     {
-        Ok(Syn::Ilike(negated, left, self.boxed_sum(tokens)?))
+        let pattern = self.sum(tokens)?;
+        boxed(self.alloc, Syn::Ilike(negated, left, pattern))
     }
 
     #[tactic(auto, unfolding(crate::specs::Expr::among))]
-    fn among(&self, tokens: &mut Tokens<'_>, negated: bool, left: Boxed<Syn>) -> Result<Syn, Fault>
+    fn among(
+        &self,
+        tokens: &mut Tokens<'_>,
+        negated: bool,
+        left: Boxed<Syn>,
+    ) -> Result<Boxed<Syn>, Fault>
         requires { Nests self.now.depth (F.pre self.now.expr) (F.post self.now.expr) }
         ensures { Reads (spec.among self.now.depth
             (spec.expr self.now.depth) negated left tokens.old) result tokens.new }
     {
-        Ok(Syn::InList(negated, left, self.members(tokens)?))
+        let members = self.members(tokens)?;
+        boxed(self.alloc, Syn::InList(negated, left, members))
     }
 
     #[tactic(auto, unfolding(crate::specs::Expr::tested))]
-    fn tested(&self, tokens: &mut Tokens<'_>, negated: bool, left: Boxed<Syn>) -> Result<Syn, Fault>
+    fn tested(
+        &self,
+        tokens: &mut Tokens<'_>,
+        negated: bool,
+        left: Boxed<Syn>,
+    ) -> Result<Boxed<Syn>, Fault>
         requires { Nests self.now.depth (F.pre self.now.expr) (F.post self.now.expr) }
         ensures { Reads (spec.tested self.now.depth
             (spec.expr self.now.depth) negated left tokens.old) result tokens.new }
@@ -476,7 +495,12 @@ impl<F: Fn(Global, &mut Tokens<'_>, usize, Level) -> Result<Syn, Fault>> Grammar
     }
 
     /// What follows the first sum of a comparison, where this test begins.
-    fn follow(&self, tokens: &mut Tokens<'_>, test: Test, left: Boxed<Syn>) -> Result<Syn, Fault>
+    fn follow(
+        &self,
+        tokens: &mut Tokens<'_>,
+        test: Test,
+        left: Boxed<Syn>,
+    ) -> Result<Boxed<Syn>, Fault>
         requires { Nests self.now.depth (F.pre self.now.expr) (F.post self.now.expr) }
         ensures { Reads (spec.follow_by self.now.depth
             (spec.expr self.now.depth) left test tokens.old) result tokens.new }
@@ -495,25 +519,22 @@ impl<F: Fn(Global, &mut Tokens<'_>, usize, Level) -> Result<Syn, Fault>> Grammar
                 self.tested(tokens, true, left)
             }
             Test::Plain => self.tested(tokens, false, left),
-            Test::Absent => Ok(left.into_inner()),
+            Test::Absent => Ok(left),
         }
     }
 
     #[tactic(auto, unfolding(crate::specs::Expr::comparison, crate::specs::Expr::follow))]
-    fn comparison(&self, tokens: &mut Tokens<'_>) -> Result<Syn, Fault>
+    fn comparison(&self, tokens: &mut Tokens<'_>) -> Result<Boxed<Syn>, Fault>
         requires { Nests self.now.depth (F.pre self.now.expr) (F.post self.now.expr) }
         ensures { Reads (spec.comparison self.now.depth
             (spec.expr self.now.depth) tokens.old) result tokens.new }
     {
         let left = self.sum(tokens)?;
-        match test_kind(tokens.kind()) {
-            Test::Absent => Ok(left),
-            test => self.follow(tokens, test, Boxed::new(self.alloc, left)?),
-        }
+        self.follow(tokens, test_kind(tokens.kind()), left)
     }
 
     #[tactic(auto, unfolding(crate::specs::Expr::negation))]
-    fn negation(&self, tokens: &mut Tokens<'_>) -> Result<Syn, Fault>
+    fn negation(&self, tokens: &mut Tokens<'_>) -> Result<Boxed<Syn>, Fault>
         requires { Nests self.now.depth (F.pre self.now.expr) (F.post self.now.expr) }
         ensures { Reads (spec.negation self.now.depth
             (spec.expr self.now.depth) tokens.old) result tokens.new }
@@ -521,13 +542,14 @@ impl<F: Fn(Global, &mut Tokens<'_>, usize, Level) -> Result<Syn, Fault>> Grammar
         match tokens.kind() {
             Kind::Not => {
                 self.deeper(tokens, Kind::Not)?;
-                Ok(Syn::Not(self.boxed_inner(tokens, Level::Negation)?))
+                let operand = self.inner(tokens, Level::Negation)?;
+                boxed(self.alloc, Syn::Not(operand))
             }
             _ => self.comparison(tokens),
         }
     }
 
-    fn conjuncts(&self, tokens: &mut Tokens<'_>, first: Syn) -> Result<Items<Syn>, Fault>
+    fn conjuncts(&self, tokens: &mut Tokens<'_>, first: Boxed<Syn>) -> Result<Items<Syn>, Fault>
         requires { Nests self.now.depth (F.pre self.now.expr) (F.post self.now.expr) }
         ensures { Reads (spec.conjuncts self.now.depth
             (spec.expr self.now.depth) first tokens.old) result tokens.new }
@@ -535,7 +557,7 @@ impl<F: Fn(Global, &mut Tokens<'_>, usize, Level) -> Result<Syn, Fault>> Grammar
         let mut found = only(self.alloc, first)?;
         for _turn in 0..tokens.left() {
             let item = self.negation(tokens)?;
-            found.push(item)?;
+            found.push(item.into_inner())?;
             if !tokens.eat(Kind::And) {
                 return Ok(found);
             }
@@ -544,20 +566,21 @@ impl<F: Fn(Global, &mut Tokens<'_>, usize, Level) -> Result<Syn, Fault>> Grammar
     }
 
     #[tactic(auto, unfolding(crate::specs::Expr::conjunction))]
-    fn conjunction(&self, tokens: &mut Tokens<'_>) -> Result<Syn, Fault>
+    fn conjunction(&self, tokens: &mut Tokens<'_>) -> Result<Boxed<Syn>, Fault>
         requires { Nests self.now.depth (F.pre self.now.expr) (F.post self.now.expr) }
         ensures { Reads (spec.conjunction self.now.depth
             (spec.expr self.now.depth) tokens.old) result tokens.new }
     {
         let first = self.negation(tokens)?;
         if tokens.eat(Kind::And) {
-            Ok(Syn::And(self.conjuncts(tokens, first)?))
+            let parts = self.conjuncts(tokens, first)?;
+            boxed(self.alloc, Syn::And(parts))
         } else {
             Ok(first)
         }
     }
 
-    fn disjuncts(&self, tokens: &mut Tokens<'_>, first: Syn) -> Result<Items<Syn>, Fault>
+    fn disjuncts(&self, tokens: &mut Tokens<'_>, first: Boxed<Syn>) -> Result<Items<Syn>, Fault>
         requires { Nests self.now.depth (F.pre self.now.expr) (F.post self.now.expr) }
         ensures { Reads (spec.disjuncts self.now.depth
             (spec.expr self.now.depth) first tokens.old) result tokens.new }
@@ -565,7 +588,7 @@ impl<F: Fn(Global, &mut Tokens<'_>, usize, Level) -> Result<Syn, Fault>> Grammar
         let mut found = only(self.alloc, first)?;
         for _turn in 0..tokens.left() {
             let item = self.conjunction(tokens)?;
-            found.push(item)?;
+            found.push(item.into_inner())?;
             if !tokens.eat(Kind::Or) {
                 return Ok(found);
             }
@@ -574,20 +597,21 @@ impl<F: Fn(Global, &mut Tokens<'_>, usize, Level) -> Result<Syn, Fault>> Grammar
     }
 
     #[tactic(auto, unfolding(crate::specs::Expr::disjunction))]
-    fn disjunction(&self, tokens: &mut Tokens<'_>) -> Result<Syn, Fault>
+    fn disjunction(&self, tokens: &mut Tokens<'_>) -> Result<Boxed<Syn>, Fault>
         requires { Nests self.now.depth (F.pre self.now.expr) (F.post self.now.expr) }
         ensures { Reads (spec.disjunction self.now.depth
             (spec.expr self.now.depth) tokens.old) result tokens.new }
     {
         let first = self.conjunction(tokens)?;
         if tokens.eat(Kind::Or) {
-            Ok(Syn::Or(self.disjuncts(tokens, first)?))
+            let parts = self.disjuncts(tokens, first)?;
+            boxed(self.alloc, Syn::Or(parts))
         } else {
             Ok(first)
         }
     }
 
-    pub fn at_level(&self, tokens: &mut Tokens<'_>, level: Level) -> Result<Syn, Fault>
+    pub fn at_level(&self, tokens: &mut Tokens<'_>, level: Level) -> Result<Boxed<Syn>, Fault>
         requires { Nests self.now.depth (F.pre self.now.expr) (F.post self.now.expr) }
         ensures { Reads (spec.at_level self.now.depth
             (spec.expr self.now.depth) level tokens.old) result tokens.new }

@@ -6,6 +6,7 @@ ghost use Rattle.script_expr.specs.Nests.{Nests};
 
 use script_tokens::{Fault, Tokens};
 use script_types::Syn;
+use sqlite_items::Boxed;
 use std::alloc::Global;
 
 /// Where an expression stands.
@@ -31,9 +32,9 @@ pub struct Grammar<F> {
     pub expr: F,
 }
 
-impl<F: Fn(Global, &mut Tokens<'_>, usize, Level) -> Result<Syn, Fault>> Grammar<F> {
+impl<F: Fn(Global, &mut Tokens<'_>, usize, Level) -> Result<Boxed<Syn>, Fault>> Grammar<F> {
     /// An expression inside one.
-    pub fn inner(&self, tokens: &mut Tokens<'_>, level: Level) -> Result<Syn, Fault>
+    pub fn inner(&self, tokens: &mut Tokens<'_>, level: Level) -> Result<Boxed<Syn>, Fault>
         requires { Nests self.now.depth (F.pre self.now.expr) (F.post self.now.expr) }
         ensures { Reads (spec.expr self.now.depth level tokens.old) result tokens.new }
     {
@@ -42,7 +43,12 @@ impl<F: Fn(Global, &mut Tokens<'_>, usize, Level) -> Result<Syn, Fault>> Grammar
 }
 
 /// An expression with less than this number of parentheses, `not` and unary minus nested.
-fn expr(alloc: Global, tokens: &mut Tokens<'_>, depth: usize, level: Level) -> Result<Syn, Fault>
+fn expr(
+    alloc: Global,
+    tokens: &mut Tokens<'_>,
+    depth: usize,
+    level: Level,
+) -> Result<Boxed<Syn>, Fault>
     ensures { Reads (spec.expr depth level tokens.old) result tokens.new }
 {
     if depth == 0 {
@@ -58,7 +64,7 @@ fn expr(alloc: Global, tokens: &mut Tokens<'_>, depth: usize, level: Level) -> R
 
 /// A whole expression, with at most 100 of parentheses, `not` and unary minus nested and 1000 of `+ - || *`.
 #[tactic(auto, unfolding(crate::specs::Expr::whole))]
-pub fn whole(alloc: Global, tokens: &mut Tokens<'_>) -> Result<Syn, Fault>
+pub fn whole(alloc: Global, tokens: &mut Tokens<'_>) -> Result<Boxed<Syn>, Fault>
     ensures { Reads (spec.whole tokens.old) result tokens.new }
 {
     tokens.begin_expression();

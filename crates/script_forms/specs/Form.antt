@@ -9,13 +9,13 @@ Form A = List Token → ℕ → A → Type 0
 
 -- tokens, and those that follow them
 pub record Both (p q : List Token → ℕ → Type 0) (tokens : List Token) (count : ℕ) : Type 0 where
-  pub front : List Token
+  pub prefix : List Token
   pub rest : List Token
-  pub front_count : ℕ
+  pub prefix_count : ℕ
   pub rest_count : ℕ
-  pub joined : tokens ≡ front ++ rest
-  pub counted : count ≡ front_count + rest_count
-  pub first : p front front_count
+  pub joined : tokens ≡ prefix ++ rest
+  pub counted : count ≡ prefix_count + rest_count
+  pub first : p prefix prefix_count
   pub second : q rest rest_count
 
 -- no tokens, which say this

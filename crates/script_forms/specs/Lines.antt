@@ -8,11 +8,11 @@ use Rattle.script_forms.specs.Form.{Form}
 
 -- the tokens up to the end of the line say this
 pub record Says (form : Form Command) (tokens : List Token) (command : Command) : Type 0 where
-  pub front : List Token
+  pub prefix : List Token
   pub rest : List Token
-  pub joined : tokens ≡ front ++ rest
+  pub joined : tokens ≡ prefix ++ rest
   pub ends : (first_of rest).kind ≡ k.LineEnd
-  pub said : form front 0 command
+  pub said : form prefix 0 command
 
 -- some line of the form begins with these tokens
 pub record Begins (form : Form Command) (tokens : List Token) : Type 0 where

@@ -1,6 +1,7 @@
 pub mod Steps
 pub mod Loops
 pub mod Marked
+pub mod Many
 pub mod Reading
 pub mod Expressions
 pub mod Selects

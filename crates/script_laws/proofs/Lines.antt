@@ -13,7 +13,7 @@ use Rattle.script_lex.specs.declared.token.Content.{Content}
 use Rattle.script_lex.specs.Lex.{same_kind}
 use Rattle.script_tokens.specs.Input.{Input, Reader, ◌>>=◌, ◌<$>◌, pure, refuse, expect, sees, next, head, first_of}
 use Rattle.script_tokens.specs.Names.{name}
-use Rattle.script_tokens.specs.Literals.{begins_literal, value}
+use Rattle.script_tokens.specs.Literals.{begins_literal, int_by, value}
 use Rattle.script_read.specs.Terms as t
 use Rattle.script_blocks.specs.Blocks as b
 use Rattle.script_blocks.specs.Classes as l
@@ -23,7 +23,7 @@ use Rattle.script_read.specs.Line.{ends}
 use Rattle.script_laws.specs.Steady.{closes, Settled, IsSteady}
 use Rattle.script_laws.proofs.Steps.{IsSteadyAt, both, both_there, made, mapped, on_head, on_token, on_kind, there, behind, refused, gone_past, chosen, chosen_at, eaten_by, eaten, expected_by, expected, introduced, false_true}
 use Rattle.script_laws.proofs.Marked.{IsBare, bare_first, listed, marked, some_none}
-use Rattle.script_laws.proofs.Reading.{comma_marks, name_steady, name_bare, names_steady, int_steady, literal_steady, literals_steady, value_steady}
+use Rattle.script_laws.proofs.Reading.{comma_marks, name_steady, name_bare, names_steady, int_steady, literal_steady, literals_steady, value_steady, int_at}
 use Rattle.script_laws.proofs.Selects.{select_steady, query_steady, bulk_steady}
 
 -- ---- terms
@@ -50,10 +50,6 @@ linked_steady = both member_steady (λ owner. both term_steady (λ other. made (
 
 -- ---- the block of a table
 
-length_at : (i : Input) (o : Option ℕ) → ((n : ℕ) → o ≡ Some n → closes (first_of i.ahead).kind ≡ false) → Settled (b.length_by o) i
-length_at i None goes = refused i
-length_at i (Some n) goes = gone_past n i (goes n refl)
-
 length_goes : (kd : Kind) (content : Content) (n : ℕ) → b.length_in kd content ≡ Some n → closes kd ≡ false
 length_goes k.LineEnd content n e = absurd (some_none (sym e))
 length_goes k.Bad content n e = absurd (some_none (sym e))
@@ -62,8 +58,8 @@ length_goes _ content n e = refl
 text_length_steady : IsSteady b.text_length
 unfolding b.text_length head
 text_length_steady =
-    on_token (λ t. b.length_by (b.length_in t.kind t.content))
-    (λ t i is. length_at i (b.length_in t.kind t.content) (λ n e. ap (λ u. closes u.kind) is ∙ length_goes t.kind t.content n e))
+    on_token (λ t. int_by (b.length_in t.kind t.content))
+    (λ t i is. int_at i (b.length_in t.kind t.content) (λ n e. ap (λ u. closes u.kind) is ∙ length_goes t.kind t.content n e))
 
 length_if_any_steady : IsSteady b.length_if_any
 unfolding b.length_if_any
@@ -186,7 +182,7 @@ cascade_word_bare so_far = λ o. refl
 
 cascade_steady : IsSteady l.cascade
 unfolding l.cascade l.cascade_from
-cascade_steady = marked k.Comma l.cascade_word (λ s x. x) l.cascade_from (λ s i. refl) (λ n s i. refl) comma_marks cascade_word_steady cascade_word_bare l.no_cascade
+cascade_steady = marked k.Comma l.cascade_word (λ s x. x) l.cascade_from (λ s i. refl) (λ n s i. refl) comma_marks cascade_word_steady cascade_word_bare _
 
 cascade_if_any_steady : IsSteady l.cascade_if_any
 unfolding l.cascade_if_any
@@ -219,17 +215,7 @@ relation_steady : (many : Bool) → IsSteady (l.relation many)
 unfolding l.relation
 relation_steady many =
     both (sides_steady many) (λ found. both (names_after_steady k.Using refl) (λ using. both cascade_if_any_steady (λ cascade. both (post_update_steady many) (λ post.
-    made (c.RelationLine (record {
-      many = many;
-      name = found.0;
-      target = found.1;
-      secondary = found.2;
-      partner = found.4;
-      backref = found.3;
-      using = using;
-      cascade = cascade;
-      post_update = post;
-    }))))))
+    made _))))
 
 validate_steady : IsSteady l.validate
 unfolding l.validate

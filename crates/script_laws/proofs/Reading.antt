@@ -82,7 +82,7 @@ pub literal_bare : IsBare literal
 unfolding literal written head
 literal_bare = λ o. refl
 
-int_at : (i : Input) (o : Option ℕ) → ((n : ℕ) → o ≡ Some n → closes (first_of i.ahead).kind ≡ false) → Settled (int_by o) i
+pub int_at : (i : Input) (o : Option ℕ) → ((n : ℕ) → o ≡ Some n → closes (first_of i.ahead).kind ≡ false) → Settled (int_by o) i
 int_at i None goes = refused i
 int_at i (Some n) goes = gone_past n i (goes n refl)
 

@@ -13,9 +13,9 @@ use Rattle.script_select.specs.Select as s
 use Rattle.script_select.specs.Query as q
 use Rattle.script_select.specs.Bulk as b
 use Rattle.script_laws.specs.Steady.{closes, IsSteady}
-use Rattle.script_laws.proofs.Steps.{IsSteadyAt, both, made, mapped, on_kind, there, behind, refused, chosen, eaten, expected, introduced}
-use Rattle.script_laws.proofs.Loops.{Turn, Done, Again, after_turn, looped}
-use Rattle.script_laws.proofs.Marked.{none_left, IsBare, Yields, bare_first, listed, rest_same, value_same, not_done, len_same, never_longer, mark_taken, refused_yields, some_none}
+use Rattle.script_laws.proofs.Steps.{IsSteadyAt, both, both_there, made, mapped, on_kind, there, behind, refused, chosen, eaten, expected, introduced}
+use Rattle.script_laws.proofs.Many.{many_steady}
+use Rattle.script_laws.proofs.Marked.{none_left, IsBare, Yields, bare_first, listed, value_same, len_same, never_longer, mark_taken, some_none}
 use Rattle.script_laws.proofs.Reading.{comma_marks, name_steady, name_bare, names_steady, int_steady, values_steady}
 use Rattle.script_laws.proofs.Expressions.{whole_steady, whole_bare, source_steady}
 
@@ -84,113 +84,42 @@ join_by_steady k.Join = behind k.Join refl (λ _. made (Some false))
 join_by_steady k.Left = behind k.Left refl (λ _. both (expected k.Join refl) (λ _. made (Some true)))
 join_by_steady _ = there (made None)
 
-begins_join_steady : IsSteady s.begins_join
-unfolding s.begins_join
-begins_join_steady = on_kind s.join_by join_by_steady
-
 -- ---- the joins of a select
 
-joins_turn_by : List SynJoin → Option Bool → Reader (Turn (List SynJoin) (List SynJoin))
-joins_turn_by found None = pure (Done found)
-joins_turn_by found (Some left) = s.join left >>= (λ j. pure (Again (found ++ j ∷ [])))
+joined_steady : (o : Option Bool) → IsSteady (s.joined_by o)
+joined_steady None = made None
+joined_steady (Some left) = both (join_steady left) (λ j. made (Some j))
 
-joins_turn : List SynJoin → Reader (Turn (List SynJoin) (List SynJoin))
-joins_turn found = s.begins_join >>= joins_turn_by found
+join_if_any_steady : IsSteady s.join_if_any
+join_if_any_steady = on_kind (λ kd. s.join_by kd >>= s.joined_by) (λ kd. both_there (join_by_steady kd) joined_steady)
 
-joins_by_steady : (found : List SynJoin) (o : Option Bool) → IsSteady (joins_turn_by found o)
-unfolding joins_turn_by
-joins_by_steady found None = made (Done found)
-joins_by_steady found (Some left) = both (join_steady left) (λ j. made (Again (found ++ j ∷ [])))
+join_ended : (o : ℕ) → s.join_if_any (none_left o) ≡ Ok (None, none_left o)
+unfolding head
+join_ended o = refl
 
-joins_turn_steady : (found : List SynJoin) → IsSteady (joins_turn found)
-unfolding joins_turn
-joins_turn_steady found = both begins_join_steady (joins_by_steady found)
-
-join_same : (n : ℕ) (found : List SynJoin) (out : Outcome SynJoin)
-    → and_then out (λ j. s.joins_from n (found ++ j ∷ [])) ≡ and_then (and_then out (λ j. pure (Again (found ++ j ∷ [])))) (after_turn (s.joins_from n))
-join_same n found (Ok p) = refl
-join_same n found (Err f) = refl
-
-joins_same_by : (n : ℕ) (found : List SynJoin) (i : Input) (o : Option Bool)
-    → s.joins_by (s.joins_from n) found o i ≡ and_then (joins_turn_by found o i) (after_turn (s.joins_from n))
-unfolding joins_turn_by
-joins_same_by n found i None = refl
-joins_same_by n found i (Some left) = join_same n found (s.join left i)
-
-joins_same : (n : ℕ) (found : List SynJoin) (out : Outcome (Option Bool))
-    → and_then out (s.joins_by (s.joins_from n) found) ≡ and_then (and_then out (joins_turn_by found)) (after_turn (s.joins_from n))
-joins_same n found (Ok p) = joins_same_by n found p.1 p.0
-joins_same n found (Err f) = refl
-
-joins_unroll : (n : ℕ) (found : List SynJoin) (i : Input) → s.joins_from (suc n) found i ≡ and_then (joins_turn found i) (after_turn (s.joins_from n))
-unfolding s.joins_from joins_turn
-joins_unroll n found i = joins_same n found (s.begins_join i)
-
-joins_end : (found : List SynJoin) (o : ℕ) → s.joins_from 0 found (none_left o) ≡ s.joins_from 1 found (none_left o)
-unfolding s.joins_from s.begins_join head
-joins_end found o = refl
-
-word_takes : (kind : Kind) (t : Token) (ts : List Token) (o : ℕ) (left : Bool) (m : Input)
-    → Yields {A = Option Bool} (s.join_by kind (record { ahead = t ∷ ts; operators = o })) (Some left) m → length m.ahead ≤ length ts
+join_takes_by : (kind : Kind) (t : Token) (ts : List Token) (o : ℕ) (join : SynJoin) (m : Input)
+    → Yields {A = Option SynJoin} (and_then (s.join_by kind (record { ahead = t ∷ ts; operators = o })) s.joined_by) (Some join) m → length m.ahead ≤ length ts
 unfolding next
-word_takes k.Join t ts o left m e = let same : length ts ≡ length m.ahead = len_same (rest_same e) in omega arith
-word_takes k.Left t ts o left m e =
-    never_longer (both (expected k.Join refl) (λ _. made (Some true))) (record { ahead = ts; operators = o }) m (Some left) e
-word_takes _ t ts o left m e = absurd (some_none (sym (value_same e)))
+join_takes_by k.Join t ts o join m e = never_longer (joined_steady (Some false)) (record { ahead = ts; operators = o }) m (Some join) e
+join_takes_by k.Left t ts o join m e =
+    never_longer (both (both (expected k.Join refl) (λ _. made (Some true))) joined_steady) (record { ahead = ts; operators = o }) m (Some join) e
+join_takes_by _ t ts o join m e = absurd (some_none (sym (value_same e)))
 
-begins_takes : (xs : List Token) (o : ℕ) (left : Bool) (m : Input) → Yields {A = Option Bool} (s.begins_join (record { ahead = xs; operators = o })) (Some left) m
+join_takes_from : (xs : List Token) (o : ℕ) (join : SynJoin) (m : Input) → Yields {A = Option SynJoin} (s.join_if_any (record { ahead = xs; operators = o })) (Some join) m
     → suc (length m.ahead) ≤ length xs
-unfolding s.begins_join head
-begins_takes [] o left m e = absurd (some_none (sym (value_same e)))
-begins_takes (t ∷ ts) o left m e = let less : length m.ahead ≤ length ts = word_takes t.kind t ts o left m e in omega arith
-
-join_again : (found more : List SynJoin) (left : Bool) (i m : Input) (out : Outcome SynJoin) → s.join left i ≡ out
-    → Yields {A = Turn (List SynJoin) (List SynJoin)} (and_then out (λ j. pure (Again (found ++ j ∷ [])))) (Again more) m → length m.ahead ≤ length i.ahead
-join_again found more left i m (Ok p) was e =
-    let less : length p.1.ahead ≤ length i.ahead = never_longer (join_steady left) i p.1 p.0 was in
-    let same : length p.1.ahead ≡ length m.ahead = len_same (rest_same e) in
-    omega arith
-join_again found more left i m (Err f) was e = absurd (refused_yields e)
-
-joins_again_by : (found more : List SynJoin) (i j m : Input) (o : Option Bool) → ((left : Bool) → o ≡ Some left → suc (length j.ahead) ≤ length i.ahead)
-    → Yields {A = Turn (List SynJoin) (List SynJoin)} (joins_turn_by found o j) (Again more) m → suc (length m.ahead) ≤ length i.ahead
-unfolding joins_turn_by
-joins_again_by found more i j m None took e = absurd (not_done (value_same e))
-joins_again_by found more i j m (Some left) took e =
-    let less : suc (length j.ahead) ≤ length i.ahead = took left refl in
-    let after : length m.ahead ≤ length j.ahead = join_again found more left j m (s.join left j) refl e in
-    omega arith
-
-joins_again : (found more : List SynJoin) (i m : Input) (out : Outcome (Option Bool)) → s.begins_join i ≡ out
-    → Yields {A = Turn (List SynJoin) (List SynJoin)} (and_then out (joins_turn_by found)) (Again more) m → suc (length m.ahead) ≤ length i.ahead
-joins_again found more i m (Ok p) was e =
-    joins_again_by found more i p.1 m p.0 (λ left q. begins_takes i.ahead i.operators left p.1 (was ∙ ap (λ o. Ok (o, p.1)) q)) e
-joins_again found more i m (Err f) was e = absurd (refused_yields e)
-
-joins_shrink : (found : List SynJoin) (i m : Input) (more : List SynJoin) → joins_turn found i ≡ Ok (Again more, m) → suc (length m.ahead) ≤ length i.ahead
-unfolding joins_turn
-joins_shrink found i m more e = joins_again found more i m (s.begins_join i) refl e
+unfolding head
+join_takes_from [] o join m e = absurd (some_none (sym (value_same e)))
+join_takes_from (t ∷ ts) o join m e = let less : length m.ahead ≤ length ts = join_takes_by t.kind t ts o join m e in omega arith
 
 joins_steady : IsSteady s.joins
 unfolding s.joins
-joins_steady = looped s.joins_from joins_turn joins_unroll joins_end joins_turn_steady joins_shrink []
+joins_steady = many_steady s.join_if_any join_ended join_if_any_steady (λ i m join e. join_takes_from i.ahead i.operators join m e)
 
 pub select_steady : IsSteady s.select
 unfolding s.select
 select_steady =
     both (eaten k.Distinct refl) (λ distinct. both items_steady (λ shown. both (expected k.From refl) (λ _. both source_steady (λ first. both joins_steady (λ others.
-    both middle_part_steady (λ part. both last_part_steady (λ end. made (record {
-      distinct = distinct;
-      items = shown;
-      first = first;
-      joins = others;
-      filter = part.filter;
-      groups = part.groups;
-      having = part.having;
-      order = end.order;
-      limit = end.limit;
-      offset = end.offset;
-    }))))))))
+    both middle_part_steady (λ part. both last_part_steady (λ end. made (s.selected distinct shown first others part end))))))))
 
 -- ---- queries for objects
 
@@ -198,71 +127,27 @@ pair_steady : IsSteady q.pair
 unfolding q.pair
 pair_steady = both name_steady (λ first. both (expected k.Dot refl) (λ _. both name_steady (λ second. made (first, second))))
 
-pairs_turn_by : List (List ℕ × List ℕ) → Bool → Reader (Turn (List (List ℕ × List ℕ)) (List (List ℕ × List ℕ)))
-pairs_turn_by found false = pure (Done found)
-pairs_turn_by found true = q.pair >>= (λ j. pure (Again (found ++ j ∷ [])))
-
-pairs_turn : List (List ℕ × List ℕ) → Reader (Turn (List (List ℕ × List ℕ)) (List (List ℕ × List ℕ)))
-pairs_turn found = eat k.Join >>= pairs_turn_by found
-
-pairs_by_steady : (found : List (List ℕ × List ℕ)) (more : Bool) → IsSteady (pairs_turn_by found more)
-unfolding pairs_turn_by
-pairs_by_steady found false = made (Done found)
-pairs_by_steady found true = both pair_steady (λ j. made (Again (found ++ j ∷ [])))
-
-pairs_turn_steady : (found : List (List ℕ × List ℕ)) → IsSteady (pairs_turn found)
-unfolding pairs_turn
-pairs_turn_steady found = both (eaten k.Join refl) (pairs_by_steady found)
-
-pair_same : (n : ℕ) (found : List (List ℕ × List ℕ)) (out : Outcome (List ℕ × List ℕ))
-    → and_then out (λ j. q.joins_from n (found ++ j ∷ [])) ≡ and_then (and_then out (λ j. pure (Again (found ++ j ∷ [])))) (after_turn (q.joins_from n))
-pair_same n found (Ok p) = refl
-pair_same n found (Err f) = refl
-
-pairs_same_by : (n : ℕ) (found : List (List ℕ × List ℕ)) (i : Input) (more : Bool)
-    → q.joins_by (q.joins_from n) found more i ≡ and_then (pairs_turn_by found more i) (after_turn (q.joins_from n))
-unfolding pairs_turn_by
-pairs_same_by n found i false = refl
-pairs_same_by n found i true = pair_same n found (q.pair i)
-
-pairs_unroll : (n : ℕ) (found : List (List ℕ × List ℕ)) (i : Input) → q.joins_from (suc n) found i ≡ and_then (pairs_turn found i) (after_turn (q.joins_from n))
-unfolding q.joins_from pairs_turn
-pairs_unroll n found i = pairs_same_by n found (after k.Join i) (sees k.Join i)
+pair_ended : (o : ℕ) → clause k.Join q.pair (none_left o) ≡ Ok (None, none_left o)
+unfolding sees after head same_kind
+pair_ended o = refl
 
 join_marks : closes k.Join ≡ false
 join_marks = refl
 
-pairs_end : (found : List (List ℕ × List ℕ)) (o : ℕ) → q.joins_from 0 found (none_left o) ≡ q.joins_from 1 found (none_left o)
-unfolding q.joins_from sees after head same_kind
-pairs_end found o = refl
-
-pair_again : (found more : List (List ℕ × List ℕ)) (i m : Input) (out : Outcome (List ℕ × List ℕ)) → q.pair i ≡ out
-    → Yields {A = Turn (List (List ℕ × List ℕ)) (List (List ℕ × List ℕ))} (and_then out (λ j. pure (Again (found ++ j ∷ [])))) (Again more) m
-    → length m.ahead ≤ length i.ahead
-pair_again found more i m (Ok p) was e =
-    let less : length p.1.ahead ≤ length i.ahead = never_longer pair_steady i p.1 p.0 was in
-    let same : length p.1.ahead ≡ length m.ahead = len_same (rest_same e) in
-    omega arith
-pair_again found more i m (Err f) was e = absurd (refused_yields e)
-
-pairs_again : (found more : List (List ℕ × List ℕ)) (i m : Input) (b : Bool) → sees k.Join i ≡ b
-    → Yields {A = Turn (List (List ℕ × List ℕ)) (List (List ℕ × List ℕ))} (pairs_turn_by found b (after k.Join i)) (Again more) m → suc (length m.ahead) ≤ length i.ahead
-unfolding pairs_turn_by after
-pairs_again found more i m false seen e = absurd (not_done (value_same e))
-pairs_again found more i m true seen e =
+pair_takes_by : (i m : Input) (pair : List ℕ × List ℕ) (b : Bool) → sees k.Join i ≡ b
+    → Yields {A = Option (List ℕ × List ℕ)} ((if b then (q.pair >>= (λ x. pure (Some x))) else pure None) (after k.Join i)) (Some pair) m → suc (length m.ahead) ≤ length i.ahead
+unfolding after
+pair_takes_by i m pair false seen e = absurd (some_none (sym (value_same e)))
+pair_takes_by i m pair true seen e =
     let went : after k.Join i ≡ next i = ap (λ b. if b then next i else i) seen in
     let less : suc (length (next i).ahead) ≤ length i.ahead = mark_taken k.Join i join_marks seen in
     let same : length (after k.Join i).ahead ≡ length (next i).ahead = len_same went in
-    let behind : length m.ahead ≤ length (after k.Join i).ahead = pair_again found more (after k.Join i) m (q.pair (after k.Join i)) refl e in
+    let behind : length m.ahead ≤ length (after k.Join i).ahead = never_longer (both pair_steady (λ x. made (Some x))) (after k.Join i) m (Some pair) e in
     omega arith
-
-pairs_shrink : (found : List (List ℕ × List ℕ)) (i m : Input) (more : List (List ℕ × List ℕ)) → pairs_turn found i ≡ Ok (Again more, m) → suc (length m.ahead) ≤ length i.ahead
-unfolding pairs_turn
-pairs_shrink found i m more e = pairs_again found more i m (sees k.Join i) refl e
 
 query_joins_steady : IsSteady q.joins
 unfolding q.joins
-query_joins_steady = looped q.joins_from pairs_turn pairs_unroll pairs_end pairs_turn_steady pairs_shrink []
+query_joins_steady = many_steady (clause k.Join q.pair) pair_ended (introduced k.Join refl pair_steady) (λ i m pair e. pair_takes_by i m pair (sees k.Join i) refl e)
 
 manner_by_steady : (kind : Kind) → IsSteadyAt kind (q.manner_by kind)
 manner_by_steady k.Joined = behind k.Joined refl (λ _. made true)

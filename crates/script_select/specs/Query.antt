@@ -3,7 +3,8 @@ use Rattle.std.specs.Prelude.{ℕ, zero, suc, Bool, true, false, if◌then◌els
 use Rattle.script_types.specs.declared.select.SynQuery.{SynQuery}
 use Rattle.script_lex.specs.declared.kind.Kind.{Kind}
 use Rattle.script_lex.specs.declared.kind.Kind.TheVariants as k
-use Rattle.script_tokens.specs.Input.{Reader, ◌>>=◌, ◌>>◌, ◌<$>◌, pure, refuse, peek, take_token, eat, expect, turns, separated, separated_from}
+use Rattle.script_tokens.specs.Input.{Reader, ◌>>=◌, ◌>>◌, ◌<$>◌, pure, refuse, peek, take_token, eat, expect, clause, turns, separated, separated_from}
+use Rattle.script_tokens.specs.Many.{many_from}
 use Rattle.script_tokens.specs.Names.{name}
 use Rattle.script_select.specs.Select.{condition, last_part}
 
@@ -15,17 +16,9 @@ pair = do
   second ← name
   pure (first, second)
 
-abbrev pub joins_by : (List (List ℕ × List ℕ) → Reader (List (List ℕ × List ℕ))) → List (List ℕ × List ℕ) → Bool → Reader (List (List ℕ × List ℕ))
-joins_by more found false = pure found
-joins_by more found true = pair >>= (λ j. more (found ++ j ∷ []))
-
-unfoldable pub joins_from : ℕ → List (List ℕ × List ℕ) → Reader (List (List ℕ × List ℕ))
-joins_from zero found = pure found
-joins_from (suc n) found = eat k.Join >>= joins_by (joins_from n) found
-
 -- `join a.b join c.d ..`
 unfoldable pub joins : Reader (List (List ℕ × List ℕ))
-joins = λ i. joins_from (turns i) [] i
+joins = λ i. many_from (clause k.Join pair) (turns i) [] i
 
 abbrev pub manner_by : Kind → Reader Bool
 manner_by k.Joined = take_token >> pure true

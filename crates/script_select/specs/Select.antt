@@ -1,6 +1,7 @@
 -- Selects.
 use Rattle.std.specs.Prelude.{ℕ, zero, suc, Bool, true, false, if◌then◌else◌, List, [], ◌∷◌, ◌++◌, Option, Some, None, Ok}
 use Rattle.script_types.specs.declared.expression.Syn.{Syn}
+use Rattle.script_types.specs.declared.expression.SynSource.{SynSource}
 use Rattle.script_types.specs.declared.select.SynJoin.{SynJoin}
 use Rattle.script_types.specs.declared.select.SynSelect.{SynSelect}
 use Rattle.script_lex.specs.declared.kind.Kind.{Kind}
@@ -9,6 +10,7 @@ use Rattle.script_lex.specs.Lex.{same_kind}
 use Rattle.script_select.specs.declared.select.Ending.{Ending}
 use Rattle.script_select.specs.declared.select.Grouping.{Grouping}
 use Rattle.script_tokens.specs.Input.{Reader, ◌>>=◌, ◌>>◌, ◌<$>◌, pure, refuse, peek, take_token, eat, expect, clause, turns, separated, separated_from}
+use Rattle.script_tokens.specs.Many.{many_from}
 use Rattle.script_tokens.specs.Names.{name}
 use Rattle.script_tokens.specs.Literals.{int}
 use Rattle.script_expr.specs.Expr.{whole, source}
@@ -94,16 +96,31 @@ join_by _ = pure None
 unfoldable pub begins_join : Reader (Option Bool)
 begins_join = peek >>= join_by
 
-abbrev pub joins_by : (List SynJoin → Reader (List SynJoin)) → List SynJoin → Option Bool → Reader (List SynJoin)
-joins_by more found None = pure found
-joins_by more found (Some left) = join left >>= (λ j. more (found ++ j ∷ []))
+abbrev pub joined_by : Option Bool → Reader (Option SynJoin)
+joined_by None = pure None
+joined_by (Some left) = join left >>= (λ j. pure (Some j))
 
-unfoldable pub joins_from : ℕ → List SynJoin → Reader (List SynJoin)
-joins_from zero found = pure found
-joins_from (suc n) found = begins_join >>= joins_by (joins_from n) found
+-- a join, where one comes next
+abbrev pub join_if_any : Reader (Option SynJoin)
+join_if_any = peek >>= (λ kind. join_by kind >>= joined_by)
 
 unfoldable pub joins : Reader (List SynJoin)
-joins = λ i. joins_from (turns i) [] i
+joins = λ i. many_from join_if_any (turns i) [] i
+
+-- a select of its parts
+abbrev pub selected : Bool → List (Syn × Option (List ℕ)) → SynSource → List SynJoin → Grouping → Ending → SynSelect
+selected distinct items first joins part end = record {
+  distinct = distinct;
+  items = items;
+  first = first;
+  joins = joins;
+  filter = part.filter;
+  groups = part.groups;
+  having = part.having;
+  order = end.order;
+  limit = end.limit;
+  offset = end.offset;
+}
 
 unfoldable pub select : Reader SynSelect
 select = do
@@ -114,15 +131,4 @@ select = do
   others ← joins
   part ← middle_part
   end ← last_part
-  pure (record {
-    distinct = distinct;
-    items = shown;
-    first = first;
-    joins = others;
-    filter = part.filter;
-    groups = part.groups;
-    having = part.having;
-    order = end.order;
-    limit = end.limit;
-    offset = end.offset;
-  })
+  pure (selected distinct shown first others part end)

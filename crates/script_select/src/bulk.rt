@@ -4,9 +4,8 @@ ghost use Rattle.std.specs.Prelude.{◌≡◌};
 ghost use Rattle.script_tokens.specs.Input.{Reads};
 ghost use Rattle.script_select.specs.Bulk as spec;
 
-use crate::select::condition;
+use crate::select::{condition, expression, unboxed};
 use base_core::{ListOf, Name, RowValues};
-use script_expr::whole;
 use script_lex::Kind;
 use script_tokens::lists::separated;
 use script_tokens::literals::values;
@@ -22,7 +21,7 @@ fn assigned(alloc: Global, tokens: &mut Tokens<'_>) -> Result<Option<Syn>, Fault
     if tokens.eat(Kind::Null) {
         Ok(None)
     } else {
-        Ok(Some(whole(alloc, tokens)?))
+        Ok(Some(expression(alloc, tokens)?))
     }
 }
 
@@ -80,7 +79,7 @@ fn update(alloc: Global, tokens: &mut Tokens<'_>) -> Result<SynBulk, Fault>
     Ok(SynBulk::Update {
         table,
         cells,
-        filter,
+        filter: unboxed(filter),
     })
 }
 
@@ -90,7 +89,10 @@ fn delete(alloc: Global, tokens: &mut Tokens<'_>) -> Result<SynBulk, Fault>
 {
     let table = name(tokens)?;
     let filter = condition(alloc, tokens, Kind::Where)?;
-    Ok(SynBulk::Delete { table, filter })
+    Ok(SynBulk::Delete {
+        table,
+        filter: unboxed(filter),
+    })
 }
 
 /// A bulk statement.

@@ -1,13 +1,13 @@
 //! Queries for objects.
 
 ghost use Rattle.std.specs.Prelude.{◌≡◌};
-ghost use Rattle.script_tokens.specs.Input.{Reads};
+ghost use Rattle.script_tokens.specs.Input.{Reads, clause};
 ghost use Rattle.script_select.specs.Query as spec;
 
-use crate::select::{condition, last_part};
+use crate::select::{condition, last_part, unboxed};
 use base_core::{ListOf, Name};
 use script_lex::Kind;
-use script_tokens::lists::separated;
+use script_tokens::lists::{many, separated};
 use script_tokens::names::name;
 use script_tokens::{Fault, Tokens};
 use script_types::SynQuery;
@@ -24,18 +24,22 @@ fn pair(tokens: &mut Tokens<'_>) -> Result<(Name, Name), Fault>
     Ok((first, second))
 }
 
+/// What `join` introduces, where it comes next.
+fn join(tokens: &mut Tokens<'_>) -> Result<Option<(Name, Name)>, Fault>
+    ensures { Reads (clause Kind.Join spec.pair tokens.old) result tokens.new }
+{
+    if tokens.eat(Kind::Join) {
+        Ok(Some(pair(tokens)?))
+    } else {
+        Ok(None)
+    }
+}
+
+#[tactic(auto, unfolding(crate::specs::Query::joins))]
 fn joins(alloc: Global, tokens: &mut Tokens<'_>) -> Result<ListOf<(Name, Name)>, Fault>
     ensures { Reads (spec.joins tokens.old) result tokens.new }
 {
-    let mut found = Vec::new(alloc);
-    for _turn in 0..tokens.left() {
-        if !tokens.eat(Kind::Join) {
-            return Ok(ListOf::from_vec(found));
-        }
-        let item = pair(tokens)?;
-        found.push(item)?;
-    }
-    Ok(ListOf::from_vec(found))
+    many(alloc, tokens, |_alloc, tokens| join(tokens))
 }
 
 /// Whether the relationship is loaded by a join.
@@ -97,11 +101,12 @@ pub fn query(alloc: Global, tokens: &mut Tokens<'_>) -> Result<SynQuery, Fault>
     let class = name(tokens)?;
     let joins = joins(alloc, tokens)?;
     let filter = condition(alloc, tokens, Kind::Where)?;
-    let (filter, end) = last_part(alloc, tokens).map(|end| (filter, end))?;
-    options(alloc, tokens).map(|options| SynQuery {
+    let end = last_part(alloc, tokens)?;
+    let options = options(alloc, tokens)?;
+    Ok(SynQuery {
         class,
         joins,
-        filter,
+        filter: unboxed(filter),
         order: end.order,
         limit: end.limit,
         offset: end.offset,

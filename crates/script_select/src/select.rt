@@ -3,16 +3,18 @@
 ghost use Rattle.std.specs.Prelude.{◌≡◌};
 ghost use Rattle.script_tokens.specs.Input.{Reads, clause};
 ghost use Rattle.script_tokens.specs.Names.{name as called};
+ghost use Rattle.script_expr.specs.Expr.{whole as an_expression};
 ghost use Rattle.script_select.specs.Select as spec;
 
 use base_core::{ListOf, Name};
 use script_expr::{source, whole};
 use script_lex::Kind;
-use script_tokens::lists::separated;
+use script_tokens::lists::{many, separated};
 use script_tokens::literals::int;
 use script_tokens::names::name;
 use script_tokens::{Fault, Tokens};
 use script_types::{Syn, SynJoin, SynSelect};
+use sqlite_items::Boxed;
 use std::alloc::Global;
 
 /// The end of a select or query.
@@ -27,9 +29,26 @@ pub struct Ending {
 /// The middle of a select.
 #[derive(Drop)]
 pub struct Grouping {
-    pub filter: Option<Syn>,
+    pub filter: Option<Boxed<Syn>>,
     pub groups: ListOf<Syn>,
-    pub having: Option<Syn>,
+    pub having: Option<Boxed<Syn>>,
+}
+
+/// A whole expression, out of its box.
+pub fn expression(alloc: Global, tokens: &mut Tokens<'_>) -> Result<Syn, Fault>
+    ensures { Reads (an_expression tokens.old) result tokens.new }
+{
+    Ok(whole(alloc, tokens)?.into_inner())
+}
+
+/// An expression out of its box, where there is one.
+pub fn unboxed(tree: Option<Boxed<Syn>>) -> Option<Syn>
+    ensures { result ≡ tree }
+{
+    match tree {
+        Some(tree) => Some(tree.into_inner()),
+        None => None,
+    }
 }
 
 /// The name after `as`, where the word comes next.
@@ -48,7 +67,8 @@ fn item(alloc: Global, tokens: &mut Tokens<'_>) -> Result<(Syn, Option<Name>), F
     ensures { Reads (spec.item tokens.old) result tokens.new }
 {
     let value = whole(alloc, tokens)?;
-    given_name(tokens).map(|called| (value, called))
+    let called = given_name(tokens)?;
+    Ok((value.into_inner(), called))
 }
 
 #[tactic(auto, unfolding(crate::specs::Select::items))]
@@ -75,7 +95,7 @@ fn order_item(alloc: Global, tokens: &mut Tokens<'_>) -> Result<(Syn, bool), Fau
 {
     let value = whole(alloc, tokens)?;
     let down = descending(tokens);
-    Ok((value, down))
+    Ok((value.into_inner(), down))
 }
 
 #[tactic(auto, unfolding(crate::specs::Select::order_items))]
@@ -126,13 +146,7 @@ pub fn last_part(alloc: Global, tokens: &mut Tokens<'_>) -> Result<Ending, Fault
 fn expressions(alloc: Global, tokens: &mut Tokens<'_>) -> Result<ListOf<Syn>, Fault>
     ensures { Reads (spec.expressions tokens.old) result tokens.new }
 {
-    separated(
-        alloc,
-        tokens,
-        Kind::Comma,
-        Vec::new(alloc),
-        |alloc, tokens| whole(alloc, tokens),
-    )
+    separated(alloc, tokens, Kind::Comma, Vec::new(alloc), expression)
 }
 
 #[tactic(auto, unfolding(crate::specs::Select::groups))]
@@ -148,7 +162,11 @@ fn groups(alloc: Global, tokens: &mut Tokens<'_>) -> Result<ListOf<Syn>, Fault>
 
 /// The expression that this word introduces, where the word comes next.
 #[tactic(auto, unfolding(crate::specs::Select::condition))]
-pub fn condition(alloc: Global, tokens: &mut Tokens<'_>, word: Kind) -> Result<Option<Syn>, Fault>
+pub fn condition(
+    alloc: Global,
+    tokens: &mut Tokens<'_>,
+    word: Kind,
+) -> Result<Option<Boxed<Syn>>, Fault>
     ensures { Reads (spec.condition word tokens.old) result tokens.new }
 {
     if tokens.eat(word) {
@@ -163,8 +181,9 @@ fn middle_part(alloc: Global, tokens: &mut Tokens<'_>) -> Result<Grouping, Fault
     ensures { Reads (spec.middle_part tokens.old) result tokens.new }
 {
     let filter = condition(alloc, tokens, Kind::Where)?;
-    let (filter, groups) = groups(alloc, tokens).map(|groups| (filter, groups))?;
-    condition(alloc, tokens, Kind::Having).map(|having| Grouping {
+    let groups = groups(alloc, tokens)?;
+    let having = condition(alloc, tokens, Kind::Having)?;
+    Ok(Grouping {
         filter,
         groups,
         having,
@@ -179,7 +198,11 @@ fn join(alloc: Global, tokens: &mut Tokens<'_>, left: bool) -> Result<SynJoin, F
     let source = source(tokens)?;
     tokens.expect(Kind::On)?;
     let on = whole(alloc, tokens)?;
-    Ok(SynJoin { left, source, on })
+    Ok(SynJoin {
+        left,
+        source,
+        on: on.into_inner(),
+    })
 }
 
 /// Whether a join comes next, and whether it is a left join.
@@ -201,18 +224,22 @@ fn begins_join(tokens: &mut Tokens<'_>) -> Result<Option<bool>, Fault>
     }
 }
 
+/// A join, where one comes next.
+#[tactic(auto, unfolding(crate::specs::Select::begins_join))]
+fn join_if_any(alloc: Global, tokens: &mut Tokens<'_>) -> Result<Option<SynJoin>, Fault>
+    ensures { Reads (spec.join_if_any tokens.old) result tokens.new }
+{
+    match begins_join(tokens)? {
+        Some(left) => Ok(Some(join(alloc, tokens, left)?)),
+        None => Ok(None),
+    }
+}
+
+#[tactic(auto, unfolding(crate::specs::Select::joins))]
 fn joins(alloc: Global, tokens: &mut Tokens<'_>) -> Result<ListOf<SynJoin>, Fault>
     ensures { Reads (spec.joins tokens.old) result tokens.new }
 {
-    let mut found = Vec::new(alloc);
-    for _turn in 0..tokens.left() {
-        let Some(left) = begins_join(tokens)? else {
-            return Ok(ListOf::from_vec(found));
-        };
-        let item = join(alloc, tokens, left)?;
-        found.push(item)?;
-    }
-    Ok(ListOf::from_vec(found))
+    many(alloc, tokens, join_if_any)
 }
 
 /// A select.
@@ -226,14 +253,15 @@ pub fn select(alloc: Global, tokens: &mut Tokens<'_>) -> Result<SynSelect, Fault
     let first = source(tokens)?;
     let joins = joins(alloc, tokens)?;
     let part = middle_part(alloc, tokens)?;
-    last_part(alloc, tokens).map(|end| SynSelect {
+    let end = last_part(alloc, tokens)?;
+    Ok(SynSelect {
         distinct,
         items,
         first,
         joins,
-        filter: part.filter,
+        filter: unboxed(part.filter),
         groups: part.groups,
-        having: part.having,
+        having: unboxed(part.having),
         order: end.order,
         limit: end.limit,
         offset: end.offset,

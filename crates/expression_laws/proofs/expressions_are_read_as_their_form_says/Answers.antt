@@ -2,17 +2,11 @@ use Rattle.expression_laws.proofs.FillingLaws.{reads_all_that_is_said, says_one_
 use Rattle.expression_laws.proofs.Laws.{reads_what_is_said, refuses_no_sooner, refuses_sooner_in_depth_alone}
 use Rattle.expression_laws.proofs.expressions_are_read_as_their_form_says.Goals as goal
 
-pub returns-clause-read : goal.returns-clause-read
-returns-clause-read c = reads_what_is_said
-
-pub returns-clause-all : goal.returns-clause-all
-returns-clause-all c = reads_all_that_is_said
-
-pub returns-clause-one : goal.returns-clause-one
-returns-clause-one c = says_one_thing
-
-pub returns-clause-refused : goal.returns-clause-refused
-returns-clause-refused c = refuses_no_sooner
-
-pub returns-clause-deep : goal.returns-clause-deep
-returns-clause-deep c = refuses_sooner_in_depth_alone
+pub returns : goal.returns
+returns c = record {
+  read = reads_what_is_said;
+  all = reads_all_that_is_said;
+  one = says_one_thing;
+  refused = refuses_no_sooner;
+  deep = refuses_sooner_in_depth_alone;
+}

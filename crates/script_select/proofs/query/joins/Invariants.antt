@@ -1,6 +1,7 @@
-use Rattle.std.proofs.Common.{◌≡◌, ◌-◌}
-use Rattle.script_select.specs.Query.{joins, joins_from}
+use Rattle.script_lex.specs.declared.kind.Kind.TheVariants as k
+use Rattle.script_tokens.specs.Input.{clause}
+use Rattle.script_select.specs.Query.{pair}
 use Rattle.script_select.proofs.query.joins.Given as goal
 
-abbrev pub invariant-loop-turn : goal.invariant-loop-turn
-invariant-loop-turn l = joins l.initial.tokens ≡ joins_from (l._turn-end - l._turn) l.found.items l.tokens
+abbrev pub ghost-many : goal.ghost-many
+ghost-many a = clause k.Join pair

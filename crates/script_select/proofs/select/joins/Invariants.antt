@@ -1,6 +1,5 @@
-use Rattle.std.proofs.Common.{◌≡◌, ◌-◌}
-use Rattle.script_select.specs.Select.{joins, joins_from}
+use Rattle.script_select.specs.Select.{join_if_any}
 use Rattle.script_select.proofs.select.joins.Given as goal
 
-abbrev pub invariant-loop-turn : goal.invariant-loop-turn
-invariant-loop-turn l = joins l.initial.tokens ≡ joins_from (l._turn-end - l._turn) l.found.items l.tokens
+abbrev pub ghost-many : goal.ghost-many
+ghost-many a = join_if_any

@@ -1,4 +1,4 @@
--- Where a line is refused, its tokens up to there are the longest front of it with which some line begins.
+-- Where a line is refused, its tokens up to there are the longest prefix of it with which some line begins.
 use Rattle.std.proofs.Common.{◌≡◌, ◌⊎◌, ℕ, zero, suc, ◌+◌, ◌-◌, ◌≤◌, Bool, true, false, if◌then◌else◌, List, [], ◌∷◌, ◌++◌, take, drop, length, Ok, Err, refl, ap, sym, subst, ◌∙◌, append_assoc, append-nil, inl, inr, length-append, length-drop, arith}
 use Rattle.std.proofs.lemmas.List.{take-append-drop, take-append-le}
 use Rattle.std.proofs.Math.Seq.{drop-append_seam, take-append_seam}
@@ -19,7 +19,7 @@ use Rattle.script_forms.specs.Bindings.{binding_line}
 use Rattle.script_forms.specs.TopLines.{top_line}
 use Rattle.script_forms.specs.TableLines as tables
 use Rattle.script_forms.specs.ClassLines as classes
-use Rattle.grammar_laws.specs.Exact.{EndsAViableFront, ReadsAllThatIsSaid, table_reader, class_reader}
+use Rattle.grammar_laws.specs.Exact.{EndsAViablePrefix, ReadsAllThatIsSaid, table_reader, class_reader}
 use Rattle.grammar_laws.proofs.Taking.{Plain}
 use Rattle.grammar_laws.proofs.Lines.{all_is_read, refused_yields, tables_all_read, tables_refused, classes_all_read, classes_refused}
 use Rattle.grammar_laws.specs.Nesting.{openings, nests}
@@ -37,7 +37,7 @@ use Rattle.line_laws.proofs.Places.{Rise, line_rises, one_place}
 
 -- a refused token of the line: some line of the narrow form begins with the tokens before it, or they end deep and one of the wide form does; and none of
 -- the narrow form begins with these and itself
-pub record LongestFront (wide narrow : Form Command) (line : List Token) (e : Fault) : Type 0 where
+pub record LongestPrefix (wide narrow : Form Command) (line : List Token) (e : Fault) : Type 0 where
   pub before : List Token
   pub after : List Token
   pub joined : line ≡ before ++ after
@@ -57,9 +57,9 @@ same_place e = ap place_of e
 -- ---- the tokens before
 
 -- two tokens that have one place are one
-one_front : (k : ℕ) (line before : List Token) (t : Token) (ts : List Token) → line ≡ before ++ t ∷ ts → Rise 0 line → suc k ≤ length line → place k line ≡ t.at
+one_prefix : (k : ℕ) (line before : List Token) (t : Token) (ts : List Token) → line ≡ before ++ t ∷ ts → Rise 0 line → suc k ≤ length line → place k line ≡ t.at
     → k ≡ length before
-one_front k line before t ts split rise some is =
+one_prefix k line before t ts split rise some is =
     let all : length line ≡ length before + suc (length ts) = ap length split ∙ length-append before (t ∷ ts) in
     let other : suc (length before) ≤ length line = omega arith in
     let there : place (length before) line ≡ t.at = ap (λ us. (first_of us).at) (ap (drop (length before)) split ∙ drop-append_seam before (t ∷ ts)) in
@@ -70,7 +70,7 @@ no_later : (k : ℕ) (line before after : List Token) → line ≡ before ++ aft
 no_later k line before [] split rise some is =
     let all : length line ≡ length before + 0 = ap length split ∙ length-append before [] in
     omega arith
-no_later k line before (t ∷ ts) split rise some is = let same : k ≡ length before = one_front k line before t ts split rise some is in omega arith
+no_later k line before (t ∷ ts) split rise some is = let same : k ≡ length before = one_prefix k line before t ts split rise some is in omega arith
 
 begins_less : (form : Form Command) (k : ℕ) (line before after : List Token) → line ≡ before ++ after → k ≤ length before → Begins form before → Begins form (take k line)
 begins_less form k line before after split less begins =
@@ -101,17 +101,17 @@ end_deep k line earlier word [] split rise closed some is wants deep =
     let last : closes word.kind ≡ true = closed_last earlier word (subst IsClosed (split ∙ append-nil (earlier ++ word ∷ [])) closed) in
     absurd (false_true (sym (nesting_goes word.kind wants) ∙ last))
 end_deep k line earlier word (t ∷ ts) split rise closed some is wants deep =
-    let front = earlier ++ word ∷ [] in
-    let same : k ≡ length front = one_front k line front t ts split rise some is in record {
+    let prefix = earlier ++ word ∷ [] in
+    let same : k ≡ length prefix = one_prefix k line prefix t ts split rise some is in record {
       earlier = earlier;
       word = word;
-      joined = ap (λ n. take n line) same ∙ ap (take (length front)) split ∙ take-append_seam front (t ∷ ts);
+      joined = ap (λ n. take n line) same ∙ ap (take (length prefix)) split ∙ take-append_seam prefix (t ∷ ts);
       wants = wants;
       deep = deep;
     }
 
 begins_one : (wide narrow : Form Command) (k : ℕ) (line : List Token) (e : Fault) → Rise 0 line → IsClosed line → suc k ≤ length line → e ≡ At (place k line)
-    → EndsAViableFront wide line e → EndsAViableFront narrow line e ⊎ EndsInDepth line e
+    → EndsAViablePrefix wide line e → EndsAViablePrefix narrow line e ⊎ EndsInDepth line e
     → Begins narrow (take k line) ⊎ (EndDeep (take k line) × Begins wide (take k line))
 begins_one wide narrow k line e rise closed some at viable (inl v) =
     inl (begins_less narrow k line v.before v.after v.joined (no_later k line v.before v.after v.joined rise some (same_place (sym at ∙ v.at))) v.begins)
@@ -124,10 +124,10 @@ begins_one wide narrow k line e rise closed some at viable (inr d) =
 
 -- ---- the refused token itself
 
-alike_front : (k : ℕ) (line more z : List Token) → suc k ≤ length line → take (suc k) line ≡ take (suc k) (((take k line ++ first_of (drop k line) ∷ []) ++ more) ++ z)
-alike_front k [] more z some = absurd (omega arith)
-alike_front zero (t ∷ ts) more z some = refl
-alike_front (suc k) (t ∷ ts) more z some = let less : suc k ≤ length ts = omega arith in ap (λ us. t ∷ us) (alike_front k ts more z less)
+alike_prefix : (k : ℕ) (line more z : List Token) → suc k ≤ length line → take (suc k) line ≡ take (suc k) (((take k line ++ first_of (drop k line) ∷ []) ++ more) ++ z)
+alike_prefix k [] more z some = absurd (omega arith)
+alike_prefix zero (t ∷ ts) more z some = refl
+alike_prefix (suc k) (t ∷ ts) more z some = let less : suc k ≤ length ts = omega arith in ap (λ us. t ∷ us) (alike_prefix k ts more z less)
 
 not_both : (out : Outcome Command) (e : Fault) → out ≡ Err e → (left : Input) (command : Command) → out ≡ Ok (command, left) → ⊥
 not_both out e is left command read = refused_yields (sym is ∙ read)
@@ -138,15 +138,15 @@ stops_at : (p : Reader Command) (form : Form Command) (k : ℕ) (line : List Tok
 stops_at p form k line reads some again begins =
     let said = (take k line ++ first_of (drop k line) ∷ []) ++ begins.more in
     let other = said ++ no_token ∷ [] in
-    let says : Says form other begins.command = record { front = said; rest = no_token ∷ []; joined = refl; ends = refl; said = begins.said } in
+    let says : Says form other begins.command = record { prefix = said; rest = no_token ∷ []; joined = refl; ends = refl; said = begins.said } in
     let read = reads other begins.command says in
-    not_both (p (start_of other)) (At (place k other)) (again other (alike_front k line begins.more (no_token ∷ []) some)) read.0 begins.command read.1
+    not_both (p (start_of other)) (At (place k other)) (again other (alike_prefix k line begins.more (no_token ∷ []) some)) read.0 begins.command read.1
 
 -- ---- both
 
 longest : (p : Reader Command) (wide narrow : Form Command) → IsRefusedForGood p → ReadsAllThatIsSaid p narrow → (bytes : List ℕ) (e : Fault)
-    → p (start_of (tokens bytes)) ≡ Err e → EndsAViableFront wide (tokens bytes) e → EndsAViableFront narrow (tokens bytes) e ⊎ EndsInDepth (tokens bytes) e
-    → LongestFront wide narrow (tokens bytes) e
+    → p (start_of (tokens bytes)) ≡ Err e → EndsAViablePrefix wide (tokens bytes) e → EndsAViablePrefix narrow (tokens bytes) e ⊎ EndsInDepth (tokens bytes) e
+    → LongestPrefix wide narrow (tokens bytes) e
 longest p wide narrow refused reads bytes e is viable deep =
     let line = tokens bytes in
     let for_good = refused line e is in
@@ -174,20 +174,20 @@ others_all_read = all_is_read top (top_line 100) (top_filled Plain 100 filled op
 
 outer_by : (bytes : List ℕ) (b : Bool) (e : Fault)
     → ◌≡◌ {A = Outcome Command} (and_then (if b then binding (start_of (tokens bytes)) else top (start_of (tokens bytes))) ends) (Err e)
-    → EndsAViableFront (binding_or_other b 101) (tokens bytes) e → EndsAViableFront (binding_or_other b 100) (tokens bytes) e ⊎ EndsInDepth (tokens bytes) e
-    → LongestFront (binding_or_other b 101) (binding_or_other b 100) (tokens bytes) e
+    → EndsAViablePrefix (binding_or_other b 101) (tokens bytes) e → EndsAViablePrefix (binding_or_other b 100) (tokens bytes) e ⊎ EndsInDepth (tokens bytes) e
+    → LongestPrefix (binding_or_other b 101) (binding_or_other b 100) (tokens bytes) e
 outer_by bytes true e is viable deep = longest whole_binding (binding_line 101) (binding_line 100) binding_refused bindings_all_read bytes e is viable deep
 outer_by bytes false e is viable deep = longest whole_top (top_line 101) (top_line 100) top_refused others_all_read bytes e is viable deep
 
-pub outer_front : (bytes : List ℕ) (e : Fault) → outer_reader (start_of (tokens bytes)) ≡ Err e
-    → LongestFront (form_for 101 (tokens bytes)) (form_for 100 (tokens bytes)) (tokens bytes) e
+pub outer_prefix : (bytes : List ℕ) (e : Fault) → outer_reader (start_of (tokens bytes)) ≡ Err e
+    → LongestPrefix (form_for 101 (tokens bytes)) (form_for 100 (tokens bytes)) (tokens bytes) e
 unfolding line_of outer second_kind
-outer_front bytes e is = outer_by bytes (same_kind (first_of (drop 1 (tokens bytes))).kind k.Assign) e is (refuses_no_sooner bytes e is) (refuses_sooner_in_depth_alone bytes e is)
+outer_prefix bytes e is = outer_by bytes (same_kind (first_of (drop 1 (tokens bytes))).kind k.Assign) e is (refuses_no_sooner bytes e is) (refuses_sooner_in_depth_alone bytes e is)
 
-pub table_front : (bytes : List ℕ) (e : Fault) → table_reader (start_of (tokens bytes)) ≡ Err e → LongestFront tables.table_line tables.table_line (tokens bytes) e
+pub table_prefix : (bytes : List ℕ) (e : Fault) → table_reader (start_of (tokens bytes)) ≡ Err e → LongestPrefix tables.table_line tables.table_line (tokens bytes) e
 unfolding line_of
-table_front bytes e is = longest whole_table_line tables.table_line tables.table_line table_refused tables_all_read bytes e is (tables_refused bytes e is) (inl (tables_refused bytes e is))
+table_prefix bytes e is = longest whole_table_line tables.table_line tables.table_line table_refused tables_all_read bytes e is (tables_refused bytes e is) (inl (tables_refused bytes e is))
 
-pub class_front : (bytes : List ℕ) (e : Fault) → class_reader (start_of (tokens bytes)) ≡ Err e → LongestFront classes.class_line classes.class_line (tokens bytes) e
+pub class_prefix : (bytes : List ℕ) (e : Fault) → class_reader (start_of (tokens bytes)) ≡ Err e → LongestPrefix classes.class_line classes.class_line (tokens bytes) e
 unfolding line_of
-class_front bytes e is = longest whole_class_line classes.class_line classes.class_line class_refused classes_all_read bytes e is (classes_refused bytes e is) (inl (classes_refused bytes e is))
+class_prefix bytes e is = longest whole_class_line classes.class_line classes.class_line class_refused classes_all_read bytes e is (classes_refused bytes e is) (inl (classes_refused bytes e is))
