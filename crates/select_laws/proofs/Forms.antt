@@ -1,5 +1,5 @@
 -- What the words of the normal form make of an expression, by its level.
-use Rattle.std.proofs.Common.{◌≡◌, Bool, List, [], ◌∷◌, Option, Some, None, refl, sym, ap, ◌∙◌}
+use Rattle.std.proofs.Common.{◌≡◌, Bool, List, [], ◌∷◌, Some, refl, sym, ap, ◌∙◌}
 use Rattle.expr_types.specs.declared.expr.Func.{Func}
 use Rattle.expr_types.specs.declared.expr.Func.TheVariants.{Lower}
 use Rattle.expr_types.specs.declared.expr.Expr.{Expr, out-Expr, roll-Expr}

@@ -1,5 +1,5 @@
 -- The normal form of a typed select is plain.
-use Rattle.std.proofs.Common.{◌≡◌, ℕ, suc, Bool, true, false, not, ◌&&◌, ◌||◌, nat_lt, List, [], ◌∷◌, ◌++◌, length, map, Option, Some, None, Ok, Err, refl, sym, ap, subst, ◌∙◌, append-nil, append_assoc}
+use Rattle.std.proofs.Common.{◌≡◌, ℕ, suc, Bool, true, false, not, ◌&&◌, ◌||◌, nat_lt, List, [], ◌∷◌, ◌++◌, length, map, Option, Some, None, Ok, refl, sym, ap, subst, ◌∙◌}
 use Rattle.std.proofs.Math.Bool.{or-false}
 use Rattle.std.proofs.lemmas.List.Folds.{list_any-append}
 use Rattle.std.specs.List.{list_all, list_any, AllByRecursion}
@@ -8,7 +8,6 @@ use Rattle.std.specs.Result.{is_ok}
 use Rattle.base_core.specs.declared.value.Kind.{Kind}
 use Rattle.schema_core.specs.Catalog.{Catalog}
 use Rattle.expr_types.specs.declared.expr.Expr.{Expr}
-use Rattle.expr_types.specs.declared.expr.Expr.TheOpen.{Expr-F}
 use Rattle.expr_types.specs.declared.expr.Origin.{Origin}
 use Rattle.expr_types.specs.declared.select.Joined.{Joined}
 use Rattle.expr_types.specs.declared.select.Select.{Select}
@@ -144,7 +143,7 @@ groups_stand : (schema : Catalog) (sources : List Origin) (es : List Expr) → A
 groups_stand schema sources [] h = tt
 groups_stand schema sources (e ∷ es) h = (stands schema sources e h.0, groups_stand schema sources es h.1)
 
-groups_lack : (es : List Expr) → list_all lacks_aggregate (map normal es) ≡ list_all lacks_aggregate es
+pub groups_lack : (es : List Expr) → list_all lacks_aggregate (map normal es) ≡ list_all lacks_aggregate es
 groups_lack [] = refl
 groups_lack (e ∷ es) = ap (λ b. b && list_all lacks_aggregate (map normal es)) (lacks_kept e) ∙ ap (λ b. lacks_aggregate e && b) (groups_lack es)
 

@@ -9,12 +9,18 @@ pub mod KeptFolds
 pub mod KeptKinds
 pub mod KeptLists
 pub mod KeptPlain
+mod KeptTables
+mod LacksApart
 mod Lists
 pub mod Meaning
 mod Negations
 pub mod OneGroup
 mod OneList
 pub mod Ranks
+pub mod SameAnswers
+mod SameLists
+mod SameSources
+mod SameTrees
 mod SettledApart
 mod Several
 mod Truths

@@ -1,5 +1,5 @@
 -- An `and` of an `and`, and an `or` of an `or`, mean what one list means.
-use Rattle.std.proofs.Common.{◌≡◌, Bool, true, false, List, [], ◌∷◌, ◌++◌, map, Option, Some, None, Ok, Err, refl, sym, ap, ◌∙◌}
+use Rattle.std.proofs.Common.{◌≡◌, Bool, List, [], ◌∷◌, ◌++◌, map, Option, Ok, Err, refl, sym, ap, ◌∙◌}
 use Rattle.std.proofs.lemmas.List.{map-append, append_assoc, append-nil}
 use Rattle.base_core.specs.declared.value.Value.{Value}
 use Rattle.expr_types.specs.declared.expr.Expr.{Expr, out-Expr}

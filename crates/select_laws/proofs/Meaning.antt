@@ -3,7 +3,6 @@ use Rattle.std.proofs.Common.{◌≡◌, ℕ, length, Bool, true, false, not, �
 use Rattle.std.specs.List.{AllByRecursion}
 use Rattle.std.specs.Result.{is_ok}
 use Rattle.base_core.specs.declared.value.Value.TheVariants as value
-use Rattle.base_core.specs.declared.value.Kind.{Kind}
 use Rattle.base_core.specs.declared.value.Kind.TheVariants as kinds
 use Rattle.base_core.specs.declared.ids.TableId.{TableId}
 use Rattle.base_core.specs.declared.value.Value.{Value}
@@ -21,7 +20,7 @@ use Rattle.expr_types.specs.Normal.{normal, negated, negated_at, liked, like_by,
 use Rattle.expr_normal.proofs.Steps.{normal-Column, normal-Lit, normal-Compare, normal-IsNull, normal-And, normal-Or, normal-Not, normal-Arith, normal-Neg, normal-Concat, normal-Like, normal-Ilike, normal-InList, normal-Between, normal-Distinct, normal-Call, normal-CountAll, normal-Exists}
 use Rattle.expr_normal.proofs.Fixed.{not_below}
 use Rattle.schema_core.specs.Catalog.{Catalog}
-use Rattle.sql_semantics.specs.Kinds.{Scope, Judged, judged}
+use Rattle.sql_semantics.specs.Kinds.{Scope, judged}
 use Rattle.sql_semantics.specs.Plain.{fits}
 use Rattle.sql_semantics.specs.Checked.{Checked, ◌>>=◌}
 use Rattle.sql_semantics.specs.Truth.{truth_of, signed, passes, all3, any3}

@@ -3,10 +3,9 @@ use Rattle.std.proofs.Common.{◌≡◌, Bool, true, false, not, cond, ◌||◌,
 use Rattle.base_core.specs.declared.value.Value.{Value}
 use Rattle.expr_types.specs.declared.expr.CompareOp.{CompareOp}
 use Rattle.expr_types.specs.declared.expr.Origin.{Origin}
-use Rattle.expr_types.specs.declared.expr.Expr.{Expr, out-Expr, roll-Expr}
+use Rattle.expr_types.specs.declared.expr.Expr.{Expr, out-Expr}
 use Rattle.expr_types.specs.declared.expr.Expr.TheOpen.{Expr-F}
 use Rattle.expr_types.specs.declared.expr.Expr.TheVariants as expr
-use Rattle.expr_types.specs.declared.expr.Expr.TheViews.{roll-out-Expr}
 use Rattle.expr_types.specs.declared.expr.CompareOp.TheVariants.{Equal, NotEqual, Less, LessEqual, Greater, GreaterEqual}
 use Rattle.expr_types.specs.Normal.{opposite, negated_at}
 use Rattle.expr_types.proofs.Folds.{whole_is}

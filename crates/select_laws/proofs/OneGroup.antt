@@ -1,5 +1,5 @@
 -- Where all rows are one group, what a plain select has is what the laws for groups ask for.
-use Rattle.std.proofs.Common.{◌≡◌, ℕ, length, true, List, [], sym, ◌∙◌, arith}
+use Rattle.std.proofs.Common.{◌≡◌, length, true, List, [], sym, ◌∙◌, arith}
 use Rattle.std.specs.Result.{is_ok}
 use Rattle.schema_core.specs.Catalog.{Catalog}
 use Rattle.expr_types.specs.declared.expr.Expr.{Expr}

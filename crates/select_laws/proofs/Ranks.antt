@@ -8,7 +8,6 @@ use Rattle.std.specs.Ordering.{is_lt, nat_cmp, ordering_then, match_ordering}
 use Rattle.std.specs.Cmp.{IsTotalOrder, nat_cmp_is}
 use Rattle.std.specs.BTreeMap.{insert_entry}
 use Rattle.base_core.specs.declared.value.Value.{Value}
-use Rattle.sql_semantics.specs.declared.sort_key.SortKey.{SortKey}
 use Rattle.sql_semantics.specs.Order.{Rank, key_cmp_total, rank_cmp, ranked_from, in_order}
 use Rattle.select_laws.specs.Sorted.{KeyedRow, keys_cmp, IsSortedStably}
 use Rattle.select_laws.proofs.Insertion.{put, put_all, rises_all, rises_of, sorted_of, stable_all, permuted_all}

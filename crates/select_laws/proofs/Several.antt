@@ -1,5 +1,5 @@
 -- Several tests that hold, and each of several.
-use Rattle.std.proofs.Common.{◌≡◌, Bool, true, ◌&&◌, ap, ◌∙◌}
+use Rattle.std.proofs.Common.{◌≡◌, Bool, true, false, ◌&&◌, ◌||◌, refl, ap, ◌∙◌}
 use Rattle.std.proofs.lemmas.Bool.{and_parts}
 
 pub one_true : (a : Bool) → a ≡ true → (a && true) ≡ true
@@ -16,3 +16,11 @@ first_true a b h = (and_parts a b h).0
 
 pub rest_true : (a b : Bool) → (a && b) ≡ true → b ≡ true
 rest_true a b h = (and_parts a b h).1
+
+pub first_false : (a b : Bool) → (a || b) ≡ false → a ≡ false
+first_false false b h = refl
+first_false true b h = absurd (cc)
+
+pub rest_false : (a b : Bool) → (a || b) ≡ false → b ≡ false
+rest_false false b h = h
+rest_false true b h = absurd (cc)

@@ -16,7 +16,7 @@ use Rattle.expr_types.specs.declared.expr.Expr.TheVariants as expr
 use Rattle.expr_types.specs.declared.expr.Expr.TheFolds.{ind-Expr, map-Expr}
 use Rattle.expr_types.specs.declared.expr.Func.TheVariants.{Count, Sum, Min, Max, Lower, Upper, Length, Coalesce}
 use Rattle.schema_core.specs.Catalog.{Catalog, kind_of}
-use Rattle.sql_semantics.specs.Kinds.{Scope, Judged, judged, all_of, all_alike, called, in_scope, value_kind, column_in, kind_where}
+use Rattle.sql_semantics.specs.Kinds.{Scope, Judged, judged, all_of, called, in_scope, value_kind, column_in, kind_where}
 use Rattle.sql_semantics.specs.Plain.{fits, is_of_kind}
 use Rattle.sql_semantics.specs.Checked.{Checked, ◌>>=◌}
 use Rattle.sql_semantics.specs.Truth.{value_of}

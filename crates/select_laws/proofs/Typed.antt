@@ -15,7 +15,7 @@ use Rattle.expr_types.specs.declared.expr.Expr.TheVariants as expr
 use Rattle.expr_types.specs.declared.expr.Func.TheVariants.{Count, Sum, Min, Max, Lower, Upper, Length, Coalesce}
 use Rattle.expr_types.specs.Level.{is_aggregate_function}
 use Rattle.schema_core.specs.Catalog.{Catalog}
-use Rattle.sql_semantics.specs.Kinds.{Scope, Judged, judged, all_of, all_alike, called, in_scope, value_kind}
+use Rattle.sql_semantics.specs.Kinds.{Scope, judged, all_of, all_alike, called, in_scope, value_kind}
 use Rattle.sql_semantics.specs.Plain.{fits, fits_level}
 use Rattle.sql_semantics.specs.Eval.{Row}
 use Rattle.sql_semantics.proofs.Typed.{alike_each, alike_list, all_fits, gives_ok, of_list}

@@ -8,4 +8,4 @@ mod plain;
 
 pub use normal::{same_in_every_group, same_in_every_row, same_in_one_group, same_without_rows};
 pub use order::one_order;
-pub use plain::{apart_in_normal_form, plain_in_normal_form};
+pub use plain::{apart_in_normal_form, plain_in_normal_form, same_answer};
