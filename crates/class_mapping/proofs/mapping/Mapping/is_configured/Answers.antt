@@ -1,0 +1,6 @@
+use Rattle.class_mapping.proofs.MappingLemmas.{valid_mapping}
+use Rattle.class_mapping.proofs.mapping.Mapping.is_configured.Goals as goal
+
+pub returns-clause-valid : goal.returns-clause-valid
+returns-clause-valid c =
+    valid_mapping c.self.inside.schema c.self.inside.classes c.self.inside.configured c.args.self.now c.self.view_is c.self.invariant.orphans c.self.invariant.valid

@@ -1,0 +1,48 @@
+-- Which declarations are taken, and when a mapping is closed.
+use Rattle.std.specs.Prelude.{true, false, length, Option, None, Some, Result, Ok, Err}
+use Rattle.base_core.specs.declared.ids.ClassId.{ClassId}
+use Rattle.base_core.specs.declared.ids.TableId.{TableId}
+use Rattle.base_core.specs.declared.refusal.ArgumentKind.{ArgumentKind}
+use Rattle.base_core.specs.declared.refusal.Refusal.{Refusal}
+use Rattle.base_core.specs.declared.refusal.Refusal.TheVariants.{ArgumentError}
+use Rattle.schema_core.specs.declared.table.TableSpec.{TableSpec}
+use Rattle.schema_core.specs.Catalog.{Catalog}
+use Rattle.schema_core.specs.Declaration.{declare}
+use Rattle.hooks.specs.Rules.{Rules}
+use Rattle.mapper_types.specs.declared.declared.ClassSpec.{ClassSpec}
+use Rattle.class_layouts.specs.Hierarchy as hierarchy
+use Rattle.class_layouts.specs.Faults.{class_fault}
+use Rattle.class_mapping.specs.Mapped.{Mapped, fault_of}
+
+-- what the schema answers, with the mapping over its tables then, to be checked again
+abbrev pub over_tables : Mapped → Result (TableId × Catalog) Refusal → Result (TableId × Mapped) Refusal
+over_tables mapped (Ok (table, schema)) = Ok (table, record { schema = schema; classes = mapped.classes; configured = false })
+over_tables mapped (Err e) = Err e
+
+-- the answer to a declaration of a table: the schema's
+unfoldable pub declare_table : Mapped → TableSpec → Result (TableId × Mapped) Refusal
+declare_table mapped spec = over_tables mapped (declare mapped.schema spec)
+
+-- the mapping with one more class, to be checked again
+abbrev pub with_class : Mapped → ClassSpec → Mapped
+with_class mapped spec = record { schema = mapped.schema; classes = hierarchy.with_class mapped.classes spec; configured = false }
+
+abbrev pub class_unless : Option ArgumentKind → Mapped → ClassSpec → Result (ClassId × Mapped) Refusal
+class_unless (Some fault) mapped spec = Err (ArgumentError fault)
+class_unless None mapped spec = Ok (record { 0 = length mapped.classes.specs }, with_class mapped spec)
+
+-- the answer to a declaration of a class: the next number with the mapping then, or the first fault
+unfoldable pub declare_class : Rules → Mapped → ClassSpec → Result (ClassId × Mapped) Refusal
+declare_class rules mapped spec = class_unless (class_fault rules mapped.schema.tables mapped.classes spec) mapped spec
+
+-- the mapping with all checked
+abbrev pub closed : Mapped → Mapped
+closed mapped = record { schema = record { tables = mapped.schema.tables; resolved = true }; classes = mapped.classes; configured = true }
+
+abbrev pub closed_unless : Option ArgumentKind → Mapped → Result (Unit {0} × Mapped) Refusal
+closed_unless (Some fault) mapped = Err (ArgumentError fault)
+closed_unless None mapped = Ok (tt, closed mapped)
+
+-- the answer to the check of all declarations: the mapping is closed, or its first fault
+unfoldable pub configure : Mapped → Result (Unit {0} × Mapped) Refusal
+configure mapped = closed_unless (fault_of mapped) mapped
