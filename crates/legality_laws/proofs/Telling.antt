@@ -1,14 +1,14 @@
 -- What a keeper tells of its tables stays so after each call whose program keeps it, whatever the call answers.
 use Rattle.programs.specs.declared.target.Target.{Target}
 use Rattle.legality_laws.proofs.Dropped.{no_tables_ascend}
-use Rattle.std.proofs.Common.{◌≡◌, ℕ, Bool, true, false, cond, List, [], ◌∷◌, length, Option, None, Some, MatchBool, Result, Ok, Err, refl, sym, ap, ◌∙◌, subst, arith}
+use Rattle.std.proofs.Common.{◌≡◌, ℕ, Bool, true, false, cond, List, [], ◌∷◌, length, Option, None, Some, MatchBool, Result, Ok, Err, refl, sym, ap, ◌∙◌, subst, arith, IfErr, IfSome}
 use Rattle.std.specs.List.{AllByRecursion}
 use Rattle.base_core.specs.declared.refusal.Refusal.{Refusal}
 use Rattle.schema_core.specs.Tables.{AreAscending, Tables}
 use Rattle.programs.specs.declared.sent.Sent.{Sent}
 use Rattle.programs.specs.declared.target.Target.TheVariants as targets
 use Rattle.programs.specs.Programs.{Run, ends_early}
-use Rattle.programs.specs.Moment.{Moment, Told, parts}
+use Rattle.programs.specs.Moment.{AsTold, IsCutOff, IsRun, Moment, Runs, Told, parts}
 use Rattle.programs.specs.Store.{Store, committed_of, outermost}
 use Rattle.base_core.specs.Counts.{Rose}
 use Rattle.keeper_core.specs.Keeping.{IsAttached, IsCall, IsCoherent, IsCoherentTold, IsStatement, IsToldAnew, IsUndone, IsUnseen, new_store}
@@ -80,3 +80,19 @@ opened_ascends name told (Some n) is = record { tables = is.2; scopes = subst (A
 pub attached_ascends : (target : Target) (old new : Moment Store) → IsAttached old target (Ok tt) new → IfTold IsAscendingStore new.told
 attached_ascends targets.Memory old new attached = told_attached AreAscending old new no_tables_ascend attached
 attached_ascends (targets.File name) old new attached = opened_ascends name old.told new.told attached.told
+
+-- ---- any call and its program
+
+ran : {W A X : Type 0} (P : W → Type 0) (view : X → A) (m : W → Run W A) (told : Told W) (result : Result X Refusal) (now : Option (Told W)) → Keeps P m → P told.world → IfErr result (λ e. ends_early e ≡ false)
+    → AsTold view m (Some told) result now → IfSome now (λ n. P n.world)
+ran P view m told result None keeps held own did = tt
+ran P view m told (Ok x) (Some n) keeps held own did = subst P (sym did.world) (keeps.kept told.world held)
+ran P view m told (Err e) (Some n) keeps held own did =
+    let run : IsRun (m told.world) told.log (Err e) n = subst (λ b. MatchBool b (IsCutOff (m told.world) told.log n) (IsRun (m told.world) told.log (Err e) n)) own did in
+    subst P (sym run.world) (keeps.kept told.world held)
+
+-- a call that did not end early leaves what its program keeps, of a world that was told
+pub ran_kept : {W A X S : Type 0} (P : W → Type 0) (tell : S → Moment W) (view : X → A) (m : W → Run W A) (old new : S) (told : Told W) (result : Result X Refusal) → Keeps P m → (tell old).told ≡ Some told → P told.world
+    → IfErr result (λ e. ends_early e ≡ false) → Runs tell view m old result new → IfSome (tell new).told (λ n. P n.world)
+ran_kept {W = W} P tell view m old new told result keeps is held own did =
+    ran P view m told result (tell new).told keeps held own (subst (λ (o : Option (Told W)). AsTold view m o result (tell new).told) is (parts did).told)

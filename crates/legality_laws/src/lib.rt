@@ -14,4 +14,7 @@ pub use joined::{
     joined_programs_keep_legal, programs_beside_keep_legal, quiet_programs_keep_legal,
 };
 pub use rows::{a_legal_store_holds_legal_rows, scanned_rows_ascend};
-pub use told::{what_is_scanned_ascends, what_is_told_stays_ascending, what_is_told_stays_legal};
+pub use told::{
+    what_is_scanned_ascends, what_is_told_stays_ascending, what_is_told_stays_legal,
+    what_ran_leaves_legal,
+};

@@ -1,6 +1,6 @@
 //! What a keeper tells of its tables, whatever its calls answer.
 
-ghost use Rattle.std.specs.Prelude.{◌≡◌, ℕ, List, Ok, Result, Some, map};
+ghost use Rattle.std.specs.Prelude.{◌≡◌, ℕ, false, IfErr, IfSome, List, Ok, Result, Some, map};
 ghost use Rattle.std.specs.List.Sorted.{IsStrictlySortedBy};
 ghost use Rattle.base_core.specs.declared.ids.TableId.{TableId};
 ghost use Rattle.base_core.specs.declared.refusal.Refusal.{Refusal};
@@ -13,13 +13,13 @@ ghost use Rattle.schema_core.specs.declared.statement.RowStmt.{RowStmt};
 ghost use Rattle.expr_types.specs.declared.select.Bulk.{Bulk};
 ghost use Rattle.expr_types.specs.declared.select.Select.{Select};
 ghost use Rattle.sql_semantics.specs.Plain.{IsPlainBulk};
-ghost use Rattle.programs.specs.Moment.{Told};
-ghost use Rattle.programs.specs.Programs.{Run};
+ghost use Rattle.programs.specs.Moment.{Moment, Runs, Told};
+ghost use Rattle.programs.specs.Programs.{Run, ends_early};
 ghost use Rattle.programs.specs.Store.{Store};
 ghost use Rattle.programs.specs.declared.target.Target.{Target};
 ghost use Rattle.programs.specs.declared.target.Target.TheVariants as targets;
 ghost use Rattle.keeper_core.specs.Keeping.{IsAttached, IsBulk, IsCall, IsQuery, IsScan, IsWrite};
-ghost use Rattle.legality_laws.specs.Legality.{IfTold, IsAscendingStore, IsLegalStore, KeepsAscending, KeepsLegal};
+ghost use Rattle.legality_laws.specs.Legality.{IfTold, IsAscendingStore, IsLegalStore, KeepsAscending, KeepsLegal, KeepsLegalIn};
 
 use keeper_core::Keeper;
 
@@ -75,6 +75,17 @@ pub fn what_is_told_stays_ascending<K: Keeper, A>()
         → IfTold IsAscendingStore (K.moment old).told
         → IsQuery K.moment schema select old result new
         → IfTold IsAscendingStore (K.moment new).told }
+{}
+
+/// A call of anything that tells its world leaves a legal store in it legal where its program does, unless it ended early: as a call
+/// of a session, whose world is the store with the session beside it.
+pub fn what_ran_leaves_legal<S, W, A, X>()
+    ensures { (store_of : W → Store) (schema : Catalog) (tell : S → Moment W) (view : X → A)
+        (m : W → Run W A) (old new : S) (told : Told W) (result : Result X Refusal)
+        → KeepsLegalIn store_of schema m → (tell old).told ≡ Some told
+        → IsLegalStore schema (store_of told.world)
+        → IfErr result (λ e. ends_early e ≡ false) → Runs tell view m old result new
+        → IfSome (tell new).told (λ now. IsLegalStore schema (store_of now.world)) }
 {}
 
 /// Where a keeper tells a legal store, the rows that its `scan` answers ascend by their keys.
