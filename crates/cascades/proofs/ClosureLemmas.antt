@@ -5,7 +5,7 @@ use Rattle.std.specs.Ordering.{eq_by_cmp, nat_cmp}
 use Rattle.std.specs.Cmp.{unsigned_tied}
 use Rattle.std.specs.List.{All, AllByRecursion, list_all, list_any}
 use Rattle.std.specs.List.Sorted.{IsStrictlySortedBy}
-use Rattle.std.proofs.lemmas.Bool.{and_from, and_parts, cases_Bool, eqb-true, eq-eqb}
+use Rattle.std.proofs.lemmas.Bool.{and_from, and_parts, cases_Bool, eqb-true, eq-eqb, or_right}
 use Rattle.std.proofs.lemmas.Bool.Decides.{nat_tests}
 use Rattle.std.proofs.lemmas.List.Elements.{All-nil, All-cons, All-map}
 use Rattle.std.proofs.lemmas.Map.Views.{length-le_from_below}
@@ -149,14 +149,10 @@ reached_made flag mapped graph object skip keys waiting number fit within walk t
 own_key : (key : ℕ) (keys : List ℕ) → has (key ∷ keys) key ≡ true
 own_key key keys = ap (λ (b : Bool). b || has keys key) (unsigned_tied key key ∙ eq-eqb key key refl)
 
-later_key : (a b : Bool) → b ≡ true → (a || b) ≡ true
-later_key true b h = refl
-later_key false b h = h
-
 below : (count : ℕ) (keys : List ℕ) → ((number : ℕ) → has keys number ≡ true → number < count) → All (λ number. number < count) keys
 below count [] each = All-nil (λ number. number < count)
 below count (key ∷ keys) each =
-    All-cons (λ number. number < count) key keys (each key (own_key key keys)) (below count keys (λ number there. each number (later_key _ (has keys number) there)))
+    All-cons (λ number. number < count) key keys (each key (own_key key keys)) (below count keys (λ number there. each number (or_right _ (has keys number) there)))
 
 -- no more than there are objects
 pub reached_few : (flag : Flag) (mapped : Mapped) (graph : Graph) (object : ObjId) (skip : ObjId → Bool) (keys : List ℕ) (waiting : List ObjId) → IsFit mapped graph → IsObject graph object → IsStrictlySortedBy nat_cmp keys → IsWalk flag mapped graph object skip keys waiting → length keys ≤ length graph.objects + 1
@@ -210,7 +206,7 @@ walk_ended flag mapped graph object keys waiting set fit within ascending ended 
     all_objects [] each = All-nil (IsObject graph)
     all_objects (x ∷ objects) each =
         All-cons (IsObject graph) x objects (each x (ap (λ (b : Bool). b || is_among objects x) (eq-eqb x.0 x.0 refl)))
-        (all_objects objects (λ y among. each y (later_key (y.0 == x.0) (is_among objects y) among)))
+        (all_objects objects (λ y among. each y (or_right (y.0 == x.0) (is_among objects y) among)))
 
 -- ---- answers
 

@@ -18,7 +18,7 @@ unfolding classes_of
 classes_set graph new_graph object new class is =
     rw is (ap (λ (classes : List ClassId). (classes, graph.roots)) (map-set_same (λ (o : Object). o.class) graph.objects (place_of object) new no_object class))
 
-settled_class : (state : State) (object : Object) → (settled state object).class ≡ object.class
+pub settled_class : (state : State) (object : Object) → (settled state object).class ≡ object.class
 settled_class Transient object = refl
 settled_class Pending object = refl
 settled_class Persistent object = refl

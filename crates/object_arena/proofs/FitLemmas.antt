@@ -27,6 +27,7 @@ use Rattle.object_arena.specs.declared.object.Object.{Object}
 use Rattle.object_arena.specs.Graph.{Graph, IsCell, IsLink, IsObject, cell_in, cell_put, either_fault, empty_graph, expired, expired_cell, fresh_object, kept_identity, key_fault, kind_fault, no_object, null_cell, object_at, place_of, put_back_object, root_at, no_class_id, settled, settled_cell, settled_link, settled_value, value_fault, with_cell, with_fresh, with_link, with_marks, with_object, with_state, with_value}
 use Rattle.object_arena.specs.Identity.{registered}
 use Rattle.object_arena.specs.Fit.{IsFit, ObjectFits, cell_fits, identity_fits, is_of_kind, key_fits, link_fits, links_fit, no_relation, relation_of, value_fits}
+use Rattle.object_arena.proofs.ClassLemmas.{settled_class}
 use Rattle.object_arena.proofs.LinkLemmas.{links_expired, links_fresh, links_grown, links_same, links_settled}
 use Rattle.object_arena.proofs.PartLemmas.{pointwise_at, pointwise_made, pointwise_map, pointwise_set}
 
@@ -231,13 +232,6 @@ settled_links_fit mapped roots Pending object fits = fits
 settled_links_fit mapped roots Persistent object fits = fits
 settled_links_fit mapped roots Deleted object fits = fits
 settled_links_fit mapped roots Detached object fits = fits
-
-settled_class : (state : State) (object : Object) → (settled state object).class ≡ object.class
-settled_class Transient object = refl
-settled_class Pending object = refl
-settled_class Persistent object = refl
-settled_class Deleted object = refl
-settled_class Detached object = refl
 
 -- an object that is put back
 pub object_back : (mapped : Mapped) (object : Object) (state : State) (identity : Option (List Value)) → ObjectFits mapped object → identity_fits mapped object.class identity ≡ true → ObjectFits mapped (put_back_object object state identity)

@@ -1,18 +1,15 @@
 -- What holds of each entry of an association list, before and after an insert or a removal.
 use Rattle.std.proofs.Common.{◌≡◌, Bool, true, false, cond, ◌||◌, List, [], ◌∷◌, Option, None, Some, Ordering, refl, sym, ap, ◌∙◌, subst}
+use Rattle.std.proofs.lemmas.Bool.{or_parts}
 use Rattle.std.specs.declared.cmp.Ordering.TheVariants.{Less, Equal, Greater}
 use Rattle.std.specs.Ordering.{is_eq, match_ordering}
 use Rattle.std.specs.List.{AllByRecursion, list_any}
 use Rattle.std.specs.Map.{lookup, remove_entry}
 use Rattle.std.specs.BTreeMap.{insert_entry, is_at}
 
-or_false : (a b : Bool) → (a || b) ≡ false → (a ≡ false) × (b ≡ false)
-or_false true b e = cc
-or_false false b e = (refl, e)
-
 pub any_none : {A : Type 0} (p : A → Bool) (xs : List A) → list_any p xs ≡ false → AllByRecursion (λ x. p x ≡ false) xs
 any_none p [] e = tt
-any_none p (x ∷ xs) e = let both = or_false (p x) (list_any p xs) e in (both.0, any_none p xs both.1)
+any_none p (x ∷ xs) e = let both = or_parts (p x) (list_any p xs) e in (both.0, any_none p xs both.1)
 
 pub none_any : {A : Type 0} (p : A → Bool) (xs : List A) → AllByRecursion (λ x. p x ≡ false) xs → list_any p xs ≡ false
 none_any p [] all = refl

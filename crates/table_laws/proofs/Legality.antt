@@ -5,7 +5,7 @@ use Rattle.std.specs.BTreeMap.{is_at}
 use Rattle.std.specs.List.{AllByRecursion, count_by, list_all, list_any}
 use Rattle.std.specs.Cmp.Lexicographic.{pointwise}
 use Rattle.std.specs.Option.{option_and_then, option_map}
-use Rattle.std.proofs.lemmas.Bool.{eqb-true}
+use Rattle.std.proofs.lemmas.Bool.{eqb-true, or_parts}
 use Rattle.base_core.specs.declared.ids.TableId.{TableId}
 use Rattle.base_core.specs.declared.ids.ColumnNo.{ColumnNo}
 use Rattle.base_core.specs.declared.value.Kind.TheVariants as kinds
@@ -328,10 +328,6 @@ integers spec e =
 demands_true : (spec : TableSpec) (row : List Value) → has_generated_key spec ≡ true → lacks_value (is_demanded spec) spec.columns row ≡ lacks_value (demands true) spec.columns row
 demands_true spec row e = ap (λ g. lacks_value (demands g) spec.columns row) e
 
-pub or_false : (a b : Bool) → (a || b) ≡ false → (a ≡ false) × (b ≡ false)
-or_false true b e = cc
-or_false false b e = (refl, e)
-
 drawn_fits : (spec : TableSpec) (row keyed : List Value) (next : Option ℤ) → has_generated_key spec ≡ true → is_row spec row ≡ true → lacks_value (is_demanded spec) spec.columns row ≡ false
     → option_map (λ n. with_key spec.columns (Int n) row) next ≡ Some keyed → is_legal_row spec keyed ≡ true
 drawn_fits spec row keyed None g held full is = cc
@@ -363,7 +359,7 @@ entries_fit : (spec : TableSpec) (rows : Rows) (new : List (List Value)) (entrie
 entries_fit spec rows [] entries held full e = subst (AllByRecursion (IsEntry spec)) (same_ok [] entries e) tt
 entries_fit spec rows (row ∷ more) entries held full e =
     let hold = and_true (is_row spec row) (list_all (is_row spec) more) held in
-    let fill = or_false (lacks_value (is_demanded spec) spec.columns row) (list_any (lacks_value (is_demanded spec) spec.columns) more) full in
+    let fill = or_parts (lacks_value (is_demanded spec) spec.columns row) (list_any (lacks_value (is_demanded spec) spec.columns) more) full in
     let first = and_ok (entry_of spec rows (with_own_key spec rows row)) (λ entry. and_then (entries_of spec (with_row rows entry.0 entry.1) more) (λ es. Ok (entry ∷ es))) entries e in
     let rest = and_ok (entries_of spec (with_row rows first.0.0 first.0.1) more) (λ es. Ok (first.0 ∷ es)) entries first.2 in
     subst (AllByRecursion (IsEntry spec)) (same_ok (first.0 ∷ rest.0) entries rest.2)
@@ -413,7 +409,7 @@ update_legal schema tables table rows key cells (Some row) answer u legal found 
     change_legal schema tables answer.1 table rows ((key, with_cells row cells) ∷ []) legal found
     (λ full.
     let lacks : lacks_value (demands false) spec.columns w.out ≡ false =
-    ap (λ R. lacks_value R spec.columns w.out) (λ i c. plain_required c i) ∙ ap (lacks_value is_required spec.columns) (sym w.is) ∙ (or_false (lacks_value is_required spec.columns (with_cells row cells)) false full).0 in
+    ap (λ R. lacks_value R spec.columns w.out) (λ i c. plain_required c i) ∙ ap (lacks_value is_required spec.columns) (sym w.is) ∙ (or_parts (lacks_value is_required spec.columns (with_cells row cells)) false full).0 in
     ((ap (key_of spec) w.is ∙ w.key ∙ keyed, ap (is_legal_row spec) w.is ∙ plain_fits false spec.columns w.out w.held lacks refl), tt))
     (keys_ok (key ∷ []) (change_all schema tables table rows ((key, with_cells row cells) ∷ [])) answer e)
 

@@ -1,5 +1,6 @@
 -- Where the rows of an INSERT are accepted one by one, the INSERT is accepted as one statement, and does the same.
 use Rattle.std.proofs.Common.{◌≡◌, ◌⊎◌, inl, inr, ℕ, Bool, true, false, cond, ◌||◌, ◌<◌, List, [], ◌∷◌, ◌++◌, length, Option, None, Some, Ok, Err, if◌then◌else◌, is_some, refl, sym, ap, ◌∙◌, subst, arith}
+use Rattle.std.proofs.lemmas.Bool.{or_parts}
 use Rattle.std.specs.declared.cmp.Ordering.{Ordering}
 use Rattle.std.specs.declared.cmp.Ordering.TheVariants.{Less, Equal, Greater}
 use Rattle.std.specs.List.{list_any}
@@ -70,10 +71,6 @@ member_stays spec rows (row ∷ more) entries e is here =
     (member_stays spec (with_row rows first.0.0 first.0.1) more rest.0 e rest.1 (in_stays rows first.0.0 first.0.1 e (new_key spec rows row first.0 first.1) here))
 
 -- ---- one statement
-
-or_false : (a b : Bool) → (a || b) ≡ false → (a ≡ false) × (b ≡ false)
-or_false true b e = cc
-or_false false b e = (refl, e)
 
 -- What is known of rows that were accepted one by one: each has a value, they are entries of one statement that are accepted together.
 record Together (schema : Catalog) (tables : Tables) (table : TableId) (rows : Rows) (new : List (List Value)) (answer : List (List Value) × Tables) : Type 0 where
@@ -287,14 +284,14 @@ rest_together : (schema : Catalog) (tables : Tables) (table : TableId) (rows : R
     (entry : List Value × List Value) (entries : Rows) → entries_of (spec_of schema table) (with_row rows entry.0 entry.1) more ≡ Ok entries → entry ∷ entries ≡ t.entries
     → Together schema (with_rows tables table (with_row rows entry.0 entry.1)) table (with_row rows entry.0 entry.1) more (keys_of_entries entries, answer.1)
 rest_together schema tables table rows row more answer t entry entries are whole = record {
-  full = (or_false (lacks_value (is_demanded (spec_of schema table)) (spec_of schema table).columns row) (list_any (lacks_value (is_demanded (spec_of schema table)) (spec_of schema table).columns) more) t.full).1;
+  full = (or_parts (lacks_value (is_demanded (spec_of schema table)) (spec_of schema table).columns row) (list_any (lacks_value (is_demanded (spec_of schema table)) (spec_of schema table).columns) more) t.full).1;
   entries = entries;
   are = are;
   keys = refl;
   left = t.left ∙ ap (λ es. with_rows tables table (with_all rows es)) (sym whole) ∙ sym again;
-  alone = (or_false (repeats_unique (spec_of schema table) last entry.0 entry.1) (some_repeats (spec_of schema table) last entries) (ap (λ es. some_repeats (spec_of schema table) (with_all rows es) es) whole ∙ t.alone)).1;
+  alone = (or_parts (repeats_unique (spec_of schema table) last entry.0 entry.1) (some_repeats (spec_of schema table) last entries) (ap (λ es. some_repeats (spec_of schema table) (with_all rows es) es) whole ∙ t.alone)).1;
   bound = ap (λ ts. some_written_dangles schema ts (spec_of schema table) entries) again
-      ∙ (or_false (some_dangles schema (with_rows tables table last) (spec_of schema table) entry.1) (some_written_dangles schema (with_rows tables table last) (spec_of schema table) entries)
+      ∙ (or_parts (some_dangles schema (with_rows tables table last) (spec_of schema table) entry.1) (some_written_dangles schema (with_rows tables table last) (spec_of schema table) entries)
       (ap (λ es. some_written_dangles schema (with_rows tables table (with_all rows es)) (spec_of schema table) es) whole ∙ t.bound)).1;
 }
   where
@@ -313,7 +310,7 @@ first_alone schema tables table rows row more answer t entry entries are whole =
     let after : Rows = with_row rows entry.0 entry.1 in
     let last : Rows = with_all after entries in
     let one : repeats_unique spec last entry.0 entry.1 ≡ false =
-    (or_false (repeats_unique spec last entry.0 entry.1) (some_repeats spec last entries) (ap (λ es. some_repeats spec (with_all rows es) es) whole ∙ t.alone)).0 in
+    (or_parts (repeats_unique spec last entry.0 entry.1) (some_repeats spec last entries) (ap (λ es. some_repeats spec (with_all rows es) es) whole ∙ t.alone)).0 in
     alone_by spec after entry (λ u at o here. alone_at spec last entry one u at o (member_stays spec after more entries o are here))
 
 abbrev answered : List (List Value) → Tables → List (List Value) × Tables
@@ -341,7 +338,7 @@ step_back schema tables table rows row more answer found t again =
     let first = and_ok (entry_of spec rows (with_own_key spec rows row)) (λ entry. and_then (entries_of spec (with_row rows entry.0 entry.1) more) (λ es. Ok (entry ∷ es))) t.entries t.are in
     let others = and_ok (entries_of spec (with_row rows first.0.0 first.0.1) more) (λ es. Ok (first.0 ∷ es)) t.entries first.2 in
     let whole : first.0 ∷ others.0 ≡ t.entries = same_ok (first.0 ∷ others.0) t.entries others.2 in
-    let full : lacks_value (is_demanded spec) spec.columns row ≡ false = (or_false (lacks_value (is_demanded spec) spec.columns row) (list_any (lacks_value (is_demanded spec) spec.columns) more) t.full).0 in
+    let full : lacks_value (is_demanded spec) spec.columns row ≡ false = (or_parts (lacks_value (is_demanded spec) spec.columns row) (list_any (lacks_value (is_demanded spec) spec.columns) more) t.full).0 in
     let alone = first_alone schema tables table rows row more answer t first.0 others.0 others.1 whole in
     let rest = rest_together schema tables table rows row more answer t first.0 others.0 others.1 whole in
     let after : Tables = with_rows tables table (with_row rows first.0.0 first.0.1) in

@@ -1,6 +1,6 @@
 -- A row that a well-formed statement writes, and that lacks no value, fits its table.
 use Rattle.std.proofs.Common.{◌≡◌, ◌⊎◌, inl, inr, ℕ, ℤ, suc, ◌+◌, Bool, true, false, not, cond, ◌&&◌, ◌||◌, List, [], ◌∷◌, ◌++◌, length, set, eqb, ltb, refl, sym, ap, ◌∙◌, append_assoc, length-append, arith}
-use Rattle.std.proofs.lemmas.Bool.{eqb-true}
+use Rattle.std.proofs.lemmas.Bool.{eqb-true, or_parts}
 use Rattle.std.proofs.lemmas.List.Sums.{sum_by-cons}
 use Rattle.std.specs.List.{AllByRecursion, count_by, list_any}
 use Rattle.std.specs.Cmp.Lexicographic.{pointwise}
@@ -18,10 +18,6 @@ use Rattle.schema_core.specs.WellFormed.{are_cells, may_hold}
 pub and_true : (a b : Bool) → (a && b) ≡ true → (a ≡ true) × (b ≡ true)
 and_true true b e = (refl, e)
 and_true false b e = cc
-
-or_false : (a b : Bool) → (a || b) ≡ false → (a ≡ false) × (b ≡ false)
-or_false true b e = cc
-or_false false b e = (refl, e)
 
 open_cell : (a k g : Bool) → (((a || k) && not (k && g)) && true) ≡ false → (g && (k && true)) ≡ false → not (a || k) ≡ true
 open_cell true true true e f = cc
@@ -41,7 +37,7 @@ cell_fits g c (Bytes b) m l k = m
 
 key_split : (g k : Bool) (v : Value) (keys : List Value) → (g && has_null (cond k (v ∷ keys) keys)) ≡ false → ((g && (k && is_null v)) ≡ false) × ((g && has_null keys) ≡ false)
 key_split false k v keys e = (refl, refl)
-key_split true true v keys e = or_false (is_null v) (has_null keys) e
+key_split true true v keys e = or_parts (is_null v) (has_null keys) e
 key_split true false v keys e = (refl, e)
 
 -- a column that takes no NULL; where g, the key may be left open
@@ -54,7 +50,7 @@ plain_fits g [] (v ∷ row) m l k = cc
 plain_fits g (c ∷ cs) [] m l k = cc
 plain_fits g (c ∷ cs) (v ∷ row) m l k =
     let held = and_true (may_hold c v) (pointwise may_hold cs row) m in
-    let lacks = or_false (demands g c && is_null v) (lacks_value (demands g) cs row) l in
+    let lacks = or_parts (demands g c && is_null v) (lacks_value (demands g) cs row) l in
     let keys = key_split g c.key v (key_cells cs row) k in
     ap (λ b. b && pointwise fits cs row) (cell_fits g c v held.0 lacks.0 keys.0) ∙ plain_fits g cs row held.1 lacks.1 keys.1
 
@@ -73,7 +69,7 @@ filled_fits [] (v ∷ row) n int m l = cc
 filled_fits (c ∷ cs) [] n int m l = cc
 filled_fits (c ∷ cs) (v ∷ row) n int m l =
     let held = and_true (may_hold c v) (pointwise may_hold cs row) m in
-    let lacks = or_false (demands true c && is_null v) (lacks_value (demands true) cs row) l in
+    let lacks = or_parts (demands true c && is_null v) (lacks_value (demands true) cs row) l in
     ap (λ b. b && pointwise fits cs (with_key cs (Int n) row)) (key_fits c.key c v n refl int.0 held.0 lacks.0) ∙ filled_fits cs row n int.1 held.1 lacks.1
 
 count_step : (p : ColumnSpec → Bool) (c : ColumnSpec) (cs : List ColumnSpec) → count_by p (c ∷ cs) ≡ cond (p c) 1 0 + count_by p cs
