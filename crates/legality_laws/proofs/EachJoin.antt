@@ -1,5 +1,6 @@
 -- However programs are joined, they keep what each of them keeps.
 use Rattle.std.proofs.Common.{◌≡◌, List, [], ◌∷◌, Result, Ok, Err, refl}
+use Rattle.std.specs.List.{AllByRecursion}
 use Rattle.base_core.specs.declared.refusal.Refusal.{Refusal}
 use Rattle.programs.specs.Programs.{Event, Run, ◌>>=◌, asked, become, becomes, caught, change, each, followed, give, guarded, mended, quiet, recovered, refuse, rescued}
 use Rattle.programs.specs.Store.{Store}
@@ -33,26 +34,27 @@ keeps_becomes {W = W} P step stays = record { kept = λ w p. by w (step w) refl 
     by w (Ok now) is p = stays w now p is
     by w (Err e) is p = p
 
-pub keeps_then : {W A B : Type 0} (P : W → Type 0) (m : W → Run W A) (next : A → W → Run W B) → Keeps P m → ((a : A) → Keeps P (next a)) → Keeps P (m >>= next)
+-- what goes on need keep it only after an answer that the first gives of such a world
+pub keeps_then : {W A B : Type 0} (P : W → Type 0) (m : W → Run W A) (next : A → W → Run W B) → Keeps P m → ((w : W) (a : A) → P w → (m w).answer ≡ Ok a → Keeps P (next a)) → Keeps P (m >>= next)
 unfolding ◌>>=◌
-keeps_then {W = W} {A = A} P m next first rest = record { kept = λ w p. by (m w).events (m w).after (m w).answer (first.kept w p) }
+keeps_then {W = W} {A = A} P m next first rest = record { kept = λ w p. by w (m w).answer refl p }
   where
-    by : (events : List Event) (w : W) (r : Result A Refusal) → P w → P (followed events w r next).after
-    by events w (Ok a) p = (rest a).kept w p
-    by events w (Err e) p = p
+    by : (w : W) (r : Result A Refusal) → (m w).answer ≡ r → P w → P (followed (m w).events (m w).after r next).after
+    by w (Ok a) is p = (rest w a p is).kept (m w).after (first.kept w p)
+    by w (Err e) is p = first.kept w p
 
-pub keeps_each : {W A S : Type 0} (P : W → Type 0) (step : A → S → W → Run W S) (s : S) (xs : List A) → ((x : A) (s : S) → Keeps P (step x s)) → Keeps P (each step s xs)
+pub keeps_each : {W A S : Type 0} (P : W → Type 0) (step : A → S → W → Run W S) (s : S) (xs : List A) → AllByRecursion (λ x. (s : S) → Keeps P (step x s)) xs → Keeps P (each step s xs)
 unfolding each
 keeps_each P step s [] one = keeps_give P s
-keeps_each P step s (x ∷ xs) one = keeps_then P (step x s) (λ t. each step t xs) (one x s) (λ t. keeps_each P step t xs one)
+keeps_each P step s (x ∷ xs) one = keeps_then P (step x s) (λ t. each step t xs) (one.0 s) (λ w t p is. keeps_each P step t xs one.1)
 
-pub keeps_caught : {W A : Type 0} (P : W → Type 0) (instead : Refusal → W → Run W A) (m : W → Run W A) → Keeps P m → ((e : Refusal) → Keeps P (instead e)) → Keeps P (caught instead m)
+pub keeps_caught : {W A : Type 0} (P : W → Type 0) (instead : Refusal → W → Run W A) (m : W → Run W A) → Keeps P m → ((w : W) (e : Refusal) → P w → (m w).answer ≡ Err e → Keeps P (instead e)) → Keeps P (caught instead m)
 unfolding caught
-keeps_caught {W = W} {A = A} P instead m first rest = record { kept = λ w p. by (m w).events (m w).after (m w).answer (first.kept w p) }
+keeps_caught {W = W} {A = A} P instead m first rest = record { kept = λ w p. by w (m w).answer refl p }
   where
-    by : (events : List Event) (w : W) (r : Result A Refusal) → P w → P (recovered events w r instead).after
-    by events w (Ok a) p = p
-    by events w (Err e) p = (rest e).kept w p
+    by : (w : W) (r : Result A Refusal) → (m w).answer ≡ r → P w → P (recovered (m w).events (m w).after r instead).after
+    by w (Ok a) is p = first.kept w p
+    by w (Err e) is p = (rest w e p is).kept (m w).after (first.kept w p)
 
 pub keeps_guarded : {W A : Type 0} (P : W → Type 0) (m : W → Run W A) (undo : W → Run W (Unit {0})) → Keeps P m → Keeps P undo → Keeps P (guarded m undo)
 unfolding guarded
@@ -60,7 +62,7 @@ keeps_guarded {W = W} {A = A} P m undo first back = record { kept = λ w p. by (
   where
     by : (events : List Event) (w : W) (r : Result A Refusal) → P w → P (mended events w r undo).after
     by events w (Ok a) p = p
-    by events w (Err e) p = (keeps_then P undo (λ u. refuse {A = A} e) back (λ u. keeps_refuse P e)).kept w p
+    by events w (Err e) p = (keeps_then P undo (λ u. refuse {A = A} e) back (λ w u p is. keeps_refuse P e)).kept w p
 
 pub keeps_rescued : {W A : Type 0} (P : W → Type 0) (text : Refusal → A) (m : W → Run W A) → Keeps P m → Keeps P (rescued text m)
 unfolding rescued

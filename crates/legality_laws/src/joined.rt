@@ -1,6 +1,7 @@
 //! The ways in which programs are joined.
 
-ghost use Rattle.std.specs.Prelude.{◌≡◌, List, Result, Ok};
+ghost use Rattle.std.specs.Prelude.{◌≡◌, List, Result, Ok, Err};
+ghost use Rattle.std.specs.List.{AllByRecursion};
 ghost use Rattle.base_core.specs.declared.refusal.Refusal.{Refusal};
 ghost use Rattle.schema_core.specs.Catalog.{Catalog};
 ghost use Rattle.programs.specs.Beside.{Beside, by_own, changes, on_own, on_store};
@@ -28,18 +29,23 @@ pub fn quiet_programs_keep_legal<W, A>()
 {}
 
 #[tactic(auto, using(crate::proofs::EachJoin::keeps_then, crate::proofs::EachJoin::keeps_each, crate::proofs::EachJoin::keeps_caught, crate::proofs::EachJoin::keeps_guarded, crate::proofs::EachJoin::keeps_rescued))]
-/// Programs that are joined leave a legal store legal where each of them does, whatever they answer and wherever one refuses.
+/// Programs that are joined leave a legal store legal where each of them does, whatever they answer and wherever one refuses. What
+/// goes on from an answer, or from a refusal, need do so only where the first program gives it of a legal store, and the step
+/// that is done for each item only for the items of the list.
 pub fn joined_programs_keep_legal<W, A, B, S>()
     ensures then { (store_of : W → Store) (schema : Catalog) (m : W → Run W A)
         (next : A → W → Run W B) → KeepsLegalIn store_of schema m
-        → ((answer : A) → KeepsLegalIn store_of schema (next answer))
+        → ((w : W) (answer : A) → IsLegalStore schema (store_of w) → (m w).answer ≡ Ok answer
+        → KeepsLegalIn store_of schema (next answer))
         → KeepsLegalIn store_of schema (then_run m next) }
     ensures each { (store_of : W → Store) (schema : Catalog) (step : A → S → W → Run W S) (s : S)
-        (items : List A) → ((item : A) (s : S) → KeepsLegalIn store_of schema (step item s))
+        (items : List A)
+        → AllByRecursion (λ item. (s : S) → KeepsLegalIn store_of schema (step item s)) items
         → KeepsLegalIn store_of schema (each step s items) }
     ensures caught { (store_of : W → Store) (schema : Catalog) (instead : Refusal → W → Run W A)
         (m : W → Run W A) → KeepsLegalIn store_of schema m
-        → ((e : Refusal) → KeepsLegalIn store_of schema (instead e))
+        → ((w : W) (e : Refusal) → IsLegalStore schema (store_of w) → (m w).answer ≡ Err e
+        → KeepsLegalIn store_of schema (instead e))
         → KeepsLegalIn store_of schema (caught instead m) }
     ensures guarded { (store_of : W → Store) (schema : Catalog) (m : W → Run W A)
         (undo : W → Run W (Unit {0})) → KeepsLegalIn store_of schema m
