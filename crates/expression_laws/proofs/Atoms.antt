@@ -17,7 +17,7 @@ use Rattle.script_expr.specs.Expr as r
 use Rattle.script_forms.specs.Form.{Form, sequence, says, word, maybe, separated, ◌or◌}
 use Rattle.script_forms.specs.Basics as basic
 use Rattle.script_forms.specs.Expressions as form
-use Rattle.script_forms.specs.Expressions.{Place, Anywhere, BehindNot, BehindMinus}
+use Rattle.script_forms.specs.Expressions.{Place, Anywhere, BehindMinus}
 use Rattle.grammar_laws.proofs.Taking.{Mode, Inside, Budget, Took, Kept, Out, Whole, Sound, Inhabited}
 use Rattle.grammar_laws.proofs.Steps.{whole_rest, both, both_taken, both_refused, at, made, some_made, some_both, some_left, some_right, some_word, right_of, within_out, refused_here, expected, on_kind}
 use Rattle.grammar_laws.proofs.Options.{introduced}

@@ -10,7 +10,7 @@ use Rattle.script_expr.specs.declared.expression.Joint.{Joint}
 use Rattle.script_expr.specs.Expr as r
 use Rattle.script_forms.specs.Form.{Form, sequence, says, word, separated, ◌or◌}
 use Rattle.script_forms.specs.Expressions as form
-use Rattle.script_forms.specs.Expressions.{many, several, one_or_list}
+use Rattle.script_forms.specs.Expressions.{many, one_or_list}
 use Rattle.grammar_laws.proofs.Taking.{Inside, Took, Kept, Whole, Sound, Inhabited}
 use Rattle.grammar_laws.proofs.Steps.{budget_none, is_end, whole_next, both, both_taken, made, some_made, some_both, some_left, some_right, within_out, refused_here}
 use Rattle.grammar_laws.proofs.Options.{if_word}

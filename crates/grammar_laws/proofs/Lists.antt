@@ -1,5 +1,5 @@
 -- Items with a mark between are read as their form says.
-use Rattle.std.proofs.Common.{◌≡◌, ℕ, zero, suc, ◌+◌, Bool, true, false, if◌then◌else◌, List, [], ◌∷◌, ◌++◌, drop, length, Ok, Err, refl, ap, sym, subst, ◌∙◌, append-nil, append_assoc, arith}
+use Rattle.std.proofs.Common.{◌≡◌, ℕ, zero, suc, ◌+◌, Bool, true, false, if◌then◌else◌, List, [], ◌∷◌, ◌++◌, drop, length, Ok, Err, refl, ap, sym, subst, ◌∙◌, append_assoc}
 use Rattle.script_lex.specs.declared.kind.Kind.{Kind}
 use Rattle.script_lex.specs.declared.token.Token.{Token}
 use Rattle.script_lex.specs.Lex.{same_kind}

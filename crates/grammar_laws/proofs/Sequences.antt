@@ -1,5 +1,5 @@
 -- One form behind another: what is said of the second, and sequences put together in another way.
-use Rattle.std.proofs.Common.{◌≡◌, ℕ, ◌+◌, List, [], ◌++◌, refl, ap, sym, ◌∙◌, append-nil, append_assoc, arith}
+use Rattle.std.proofs.Common.{ℕ, ◌+◌, List, [], ◌++◌, refl, ap, sym, ◌∙◌, append-nil, append_assoc, arith}
 use Rattle.script_lex.specs.declared.token.Token.{Token}
 use Rattle.script_forms.specs.Form.{Form, Both, sequence, says}
 

@@ -1,5 +1,5 @@
 -- What the forms of selects, queries and bulk statements say is read, where that of expressions is.
-use Rattle.std.proofs.Common.{◌≡◌, ℕ, Bool, true, false, List, [], ◌∷◌, ◌++◌, length, Option, Some, None, refl, ap, sym, subst, ◌∙◌, arith}
+use Rattle.std.proofs.Common.{◌≡◌, ℕ, Bool, true, false, List, [], ◌∷◌, ◌++◌, Option, Some, None, refl, ap, sym, subst, ◌∙◌, arith}
 use Rattle.script_types.specs.declared.select.SynJoin.{SynJoin}
 use Rattle.script_types.specs.declared.expression.Syn.{Syn}
 use Rattle.script_types.specs.declared.expression.SynSource.{SynSource}

@@ -45,7 +45,7 @@ use Rattle.expression_laws.proofs.FillingLiterals.{literal_read, literal_solid}
 use Rattle.line_laws.proofs.SomeKinds.{false_true, among, other_than, not_this, end_within}
 use Rattle.line_laws.proofs.FillingParts.{instead, mapped, decided, unless_end, perhaps}
 use Rattle.line_laws.proofs.FillingValues as values
-use Rattle.line_laws.proofs.FillingValues.{begins_value, name_opens, term_opens, member_opens}
+use Rattle.line_laws.proofs.FillingValues.{begins_value, name_opens, term_opens}
 use Rattle.line_laws.proofs.FillingSelects.{ends, opening, behind_expression, select_read, query_read, bulk_read}
 use Rattle.line_laws.proofs.FillingHeads.{class_head}
 use Rattle.line_laws.proofs.Tops.{same_flat}

@@ -9,7 +9,7 @@ use Rattle.script_lex.specs.Lex.{same_kind}
 use Rattle.script_tokens.specs.Input.{Input, Reader, ◌>>=◌, ◌>>◌, pure, expect, clause, head, next}
 use Rattle.script_tokens.specs.Names.{is_no_name}
 use Rattle.script_tokens.specs.Literals as l
-use Rattle.script_tokens.specs.Literals.{begins_literal, literal_in}
+use Rattle.script_tokens.specs.Literals.{begins_literal}
 use Rattle.script_read.specs.Terms as r
 use Rattle.script_read.specs.Bindings as b
 use Rattle.script_forms.specs.Form.{sequence, says, word, maybe}

@@ -7,7 +7,7 @@ use Rattle.script_tokens.specs.Input.{Input, Outcome, Reader, ◌>>=◌, and_the
 use Rattle.script_forms.specs.Form.{Form, sequence, says, word, maybe, whether, separated, ◌or◌}
 use Rattle.grammar_laws.proofs.Taking.{Mode, Behind, TooDeep, Kept, Out, Whole, Sound, Inhabited}
 use Rattle.grammar_laws.proofs.Steps as step
-use Rattle.grammar_laws.proofs.Steps.{budget_none, both_taken, within_out, is_end, taken_by, whole_next}
+use Rattle.grammar_laws.proofs.Steps.{budget_none, within_out, is_end}
 use Rattle.expression_laws.proofs.Steps as expressions
 use Rattle.grammar_laws.proofs.Lists as lists
 use Rattle.grammar_laws.proofs.Options as options

@@ -2,7 +2,7 @@
 use Rattle.std.proofs.Common.{◌≡◌, ℕ, zero, suc, ◌+◌, List, [], ◌∷◌, ◌++◌, length, Option, Some, None, Ok, Err, refl, ap, sym, subst, ◌∙◌, append_assoc, append-nil, arith}
 use Rattle.script_lex.specs.declared.token.Token.{Token}
 use Rattle.script_tokens.specs.declared.fault.Fault.{Fault}
-use Rattle.script_tokens.specs.Input.{Input, Outcome, Reader, ◌>>=◌, and_then, pure}
+use Rattle.script_tokens.specs.Input.{Input, Outcome, Reader, and_then}
 use Rattle.script_tokens.specs.Many.{many_by, many_from}
 use Rattle.script_forms.specs.Form.{Form, maybe}
 use Rattle.script_forms.specs.Expressions.{many}

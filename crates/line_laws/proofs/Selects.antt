@@ -1,5 +1,5 @@
 -- Selects, queries and bulk statements are read as their forms say, where expressions are.
-use Rattle.std.proofs.Common.{◌≡◌, ℕ, Bool, true, false, List, [], length, Option, Some, None, refl, subst}
+use Rattle.std.proofs.Common.{◌≡◌, ℕ, Bool, true, false, List, [], Option, Some, None, refl, subst}
 use Rattle.script_types.specs.declared.select.SynBulk.TheVariants as bulk
 use Rattle.script_types.specs.declared.select.SynJoin.{SynJoin}
 use Rattle.script_types.specs.declared.expression.Syn.{Syn}

@@ -6,7 +6,7 @@ use Rattle.script_types.specs.declared.select.SynJoin.{SynJoin}
 use Rattle.script_types.specs.declared.select.SynSelect.{SynSelect}
 use Rattle.script_types.specs.declared.select.SynQuery.{SynQuery}
 use Rattle.script_lex.specs.declared.kind.Kind.TheVariants as k
-use Rattle.script_tokens.specs.Input.{Input, Reader, ◌>>=◌, ◌>>◌, and_then, pure, peek, eat, expect, clause, kind}
+use Rattle.script_tokens.specs.Input.{Input, Reader, ◌>>=◌, ◌>>◌, and_then, pure, eat, expect}
 use Rattle.script_tokens.specs.Names.{name}
 use Rattle.script_expr.specs.Expr.{source}
 use Rattle.script_select.specs.Select as s

@@ -1,5 +1,5 @@
 -- Lines are read steadily.
-use Rattle.std.proofs.Common.{◌≡◌, ℕ, ◌||◌, Bool, true, false, if◌then◌else◌, List, [], Option, Some, None, Ok, refl, ap, sym, ◌∙◌}
+use Rattle.std.proofs.Common.{◌≡◌, ℕ, ◌||◌, Bool, true, false, if◌then◌else◌, List, [], Some, None, Ok, refl, ap, sym, ◌∙◌}
 use Rattle.schema_core.specs.declared.table.ColumnKind.TheVariants as column
 use Rattle.mapper_types.specs.declared.declared.Cascade.{Cascade}
 use Rattle.script_types.specs.declared.command.Command.{Command}
@@ -11,7 +11,7 @@ use Rattle.script_lex.specs.declared.kind.Kind.{Kind}
 use Rattle.script_lex.specs.declared.kind.Kind.TheVariants as k
 use Rattle.script_lex.specs.declared.token.Content.{Content}
 use Rattle.script_lex.specs.Lex.{same_kind}
-use Rattle.script_tokens.specs.Input.{Input, Reader, ◌>>=◌, ◌<$>◌, pure, refuse, expect, sees, next, head, first_of}
+use Rattle.script_tokens.specs.Input.{Reader, ◌>>=◌, ◌<$>◌, pure, refuse, expect, sees, next, head}
 use Rattle.script_tokens.specs.Names.{name}
 use Rattle.script_tokens.specs.Literals.{begins_literal, int_by, value}
 use Rattle.script_read.specs.Terms as t
@@ -20,8 +20,8 @@ use Rattle.script_blocks.specs.Classes as l
 use Rattle.script_read.specs.Bindings as n
 use Rattle.script_read.specs.Top as o
 use Rattle.script_read.specs.Line.{ends}
-use Rattle.script_laws.specs.Steady.{closes, Settled, IsSteady}
-use Rattle.script_laws.proofs.Steps.{IsSteadyAt, both, both_there, made, mapped, on_head, on_token, on_kind, there, behind, refused, gone_past, chosen, chosen_at, eaten_by, eaten, expected_by, expected, introduced, false_true}
+use Rattle.script_laws.specs.Steady.{closes, IsSteady}
+use Rattle.script_laws.proofs.Steps.{IsSteadyAt, both, both_there, made, mapped, on_head, on_token, on_kind, there, behind, refused, chosen, chosen_at, eaten_by, eaten, expected_by, expected, introduced, false_true}
 use Rattle.script_laws.proofs.Marked.{IsBare, bare_first, listed, marked, some_none}
 use Rattle.script_laws.proofs.Reading.{comma_marks, name_steady, name_bare, names_steady, int_steady, literal_steady, literals_steady, value_steady, int_at}
 use Rattle.script_laws.proofs.Selects.{select_steady, query_steady, bulk_steady}

@@ -1,12 +1,12 @@
 -- Selects, queries and bulk statements are read steadily.
-use Rattle.std.proofs.Common.{◌≡◌, ℕ, suc, ◌≤◌, Bool, true, false, if◌then◌else◌, List, [], ◌∷◌, ◌++◌, length, Option, Some, None, Ok, Err, refl, ap, sym, ◌∙◌, arith}
+use Rattle.std.proofs.Common.{◌≡◌, ℕ, suc, ◌≤◌, Bool, true, false, if◌then◌else◌, List, [], ◌∷◌, length, Option, Some, None, Ok, refl, ap, sym, arith}
 use Rattle.script_types.specs.declared.select.SynJoin.{SynJoin}
 use Rattle.script_types.specs.declared.select.SynBulk.TheVariants.{Insert, Update, Delete}
 use Rattle.script_lex.specs.declared.kind.Kind.{Kind}
 use Rattle.script_lex.specs.declared.kind.Kind.TheVariants as k
 use Rattle.script_lex.specs.declared.token.Token.{Token}
 use Rattle.script_lex.specs.Lex.{same_kind}
-use Rattle.script_tokens.specs.Input.{Input, Reader, Outcome, and_then, ◌>>=◌, pure, expect, eat, clause, sees, after, next, head}
+use Rattle.script_tokens.specs.Input.{Input, and_then, ◌>>=◌, pure, expect, clause, sees, after, next, head}
 use Rattle.script_tokens.specs.Names.{name}
 use Rattle.script_expr.specs.Expr.{whole}
 use Rattle.script_select.specs.Select as s
