@@ -208,3 +208,11 @@ fn operand(
         }),
     }
 }
+
+/// Whether the answer is this refusal.
+pub(crate) fn is_refused<T: Drop>(answer: Result<T, Refusal>, wanted: &Refusal) -> bool {
+    match answer {
+        Ok(_) => false,
+        Err(refusal) => refusal == *wanted,
+    }
+}

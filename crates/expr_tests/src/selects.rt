@@ -1,4 +1,4 @@
-use crate::postfix::{expression, place, rows};
+use crate::postfix::{expression, is_refused, place, rows};
 use base_core::{ArithOp, ListOf, Name, Refusal, RowList, TableId};
 use expr_eval::TableRows;
 use expr_types::{Expr, Joined, Origin, Select};
@@ -99,29 +99,40 @@ const FIRST_ROWS: (&str, &str) = (
     "'ann' 2; 'bob' 1; 'cyd' 1; 'dee' 1;",
 );
 
-fn table(alloc: Global, name: &str, columns: [&str; 3]) -> Result<TableSpec, Refusal> {
-    let mut specs = ListOf::new(alloc);
-    for column in columns {
-        let key = specs.is_empty();
-        specs.push(ColumnSpec {
-            name: Name::new(String::from_str(alloc, column)?),
+fn columns(alloc: Global, names: [&str; 3]) -> Result<ListOf<ColumnSpec>, Refusal> {
+    let mut columns = ListOf::new(alloc);
+    for name in names {
+        let key = columns.is_empty();
+        columns.push(ColumnSpec {
+            name: Name::new(String::from_str(alloc, name)?),
             kind: ColumnKind::Integer,
             key,
             not_null: key,
         })?;
     }
+    Ok(columns)
+}
+
+fn table(alloc: Global, name: &str, names: [&str; 3]) -> Result<TableSpec, Refusal> {
+    let columns = columns(alloc, names)?;
+    let name = String::from_str(alloc, name)?;
     Ok(TableSpec {
-        name: Name::new(String::from_str(alloc, name)?),
-        columns: specs,
+        name: Name::new(name),
+        columns,
         uniques: ListOf::new(alloc),
         foreigns: ListOf::new(alloc),
     })
 }
 
 /// Declares a table where a number is left for it.
-fn declared(schema: &mut Schema, spec: TableSpec) -> Result<TableId, Refusal> {
+fn declare(
+    alloc: Global,
+    schema: &mut Schema,
+    name: &str,
+    names: [&str; 3],
+) -> Result<TableId, Refusal> {
     if schema.count() < u32::MAX {
-        schema.declare_table(spec)
+        schema.declare_table(table(alloc, name, names)?)
     } else {
         Err(Refusal::Memory)
     }
@@ -239,44 +250,52 @@ fn of_clauses(clauses: Clauses) -> Select {
     }
 }
 
-/// People and teams as they are declared, and their rows.
-fn people_and_teams(alloc: Global, people: &str) -> Result<(Schema, TableRows), Refusal> {
-    let mut schema = Schema::new(alloc);
-    let first = declared(&mut schema, table(alloc, "people", ["id", "name", "team"])?)?;
-    let second = declared(&mut schema, table(alloc, "teams", ["id", "title", "size"])?)?;
+/// Declares people and teams.
+fn declare_both(alloc: Global, schema: &mut Schema) -> Result<(), Refusal> {
+    declare(alloc, schema, "people", ["id", "name", "team"])?;
+    declare(alloc, schema, "teams", ["id", "title", "size"])?;
+    Ok(())
+}
+
+/// The rows of people and of teams.
+fn all_rows(alloc: Global, people: &str) -> Result<TableRows, Refusal> {
     let mut tables = ListOf::new(alloc);
-    tables.push((first, rows(alloc, people)?))?;
-    tables.push((second, rows(alloc, TEAMS)?))?;
-    Ok((schema, tables))
+    tables.push((TableId(0), rows(alloc, people)?))?;
+    tables.push((TableId(1), rows(alloc, TEAMS)?))?;
+    Ok(tables)
 }
 
 /// The rows of a select over people and teams.
 fn answer(alloc: Global, people: &str, text: &str) -> Result<RowList, Refusal> {
-    let select = select(alloc, text)?;
-    let (schema, tables) = people_and_teams(alloc, people)?;
+    let (select, tables) = (select(alloc, text)?, all_rows(alloc, people)?);
+    let mut schema = Schema::new(alloc);
+    declare_both(alloc, &mut schema)?;
     rows_of(alloc, &schema, &tables, select.get())
+}
+
+/// Whether the select has these rows.
+fn gives(alloc: Global, text: &str, wanted: &str) -> Result<bool, Refusal> {
+    let wanted = rows(alloc, wanted)?;
+    Ok(answer(alloc, PEOPLE, text)? == wanted)
 }
 
 #[test]
 fn rows_are_those_of_sqlite(rt: HostRuntime) -> Result<(), Fail> {
-    let alloc = rt.alloc();
     for (shows, text, wanted) in SELECTS {
-        let wanted = rows(alloc, wanted)?;
-        assert_eq!(rt; answer(alloc, PEOPLE, text), Ok(wanted), "{shows}");
+        assert!(rt; gives(rt.alloc(), text, wanted)?, "{shows}");
     }
-    let wanted = rows(alloc, FIRST_ROWS.1)?;
-    assert_eq!(rt; answer(alloc, PEOPLE, FIRST_ROWS.0), Ok(wanted));
+    assert!(rt; gives(rt.alloc(), FIRST_ROWS.0, FIRST_ROWS.1)?);
     Ok(())
 }
 
 #[test]
 fn the_first_refusal_is_told(rt: HostRuntime) -> Result<(), Fail> {
-    let alloc = rt.alloc();
     let people = "1 'ann' 9223372036854775807; 2 'bob' 1;";
-    let sum = answer(alloc, people, "item 0.2 sum;");
     let range = Refusal::DataError(ArithOp::Add, 9223372036854775807, 1);
-    assert_eq!(rt; sum, Err(range));
-    let missing = answer(alloc, people, "item 0.2 sum; join 7: 0.2 1 + 0 >;");
-    assert_eq!(rt; missing, Err(Refusal::OperationalError(TableId(7))));
+    let sum = answer(rt.alloc(), people, "item 0.2 sum;");
+    assert!(rt; is_refused(sum, &range));
+    let missing = Refusal::OperationalError(TableId(7));
+    let joined = answer(rt.alloc(), people, "item 0.2 sum; join 7: 0.2 1 + 0 >;");
+    assert!(rt; is_refused(joined, &missing));
     Ok(())
 }

@@ -38,14 +38,22 @@ fn kind(alloc: Global, schema: &Schema, text: &str) -> Result<Kind, Refusal> {
     type_of(alloc, schema, scope.as_slice(), e.get())
 }
 
+/// Whether this is the answer.
+fn is_told(answer: Result<Kind, Refusal>, wanted: Result<Kind, (Kind, Kind)>) -> bool {
+    match (answer, wanted) {
+        (Ok(kind), Ok(wanted)) => kind == wanted,
+        (Err(Refusal::TypeMismatch(a, b)), Err(wanted)) => (a, b) == wanted,
+        _ => false,
+    }
+}
+
 #[test]
 fn the_kind_or_the_first_mismatch_is_told(rt: HostRuntime) -> Result<(), Fail> {
     let alloc = rt.alloc();
     let mut schema = Schema::new(alloc);
     schema.declare_table(flags(alloc)?)?;
     for (text, wanted) in KINDS {
-        let wanted = wanted.map_err(|(wanted, found)| Refusal::TypeMismatch(wanted, found));
-        assert_eq!(rt; kind(alloc, &schema, text), wanted, "{text}");
+        assert!(rt; is_told(kind(alloc, &schema, text), wanted), "{text}");
     }
     Ok(())
 }

@@ -31,5 +31,6 @@ pub fn apart_in_normal_form(e: &Expr)
 pub fn same_answer(schema: &Schema, select: &Select)
     requires { IsTypedSelect schema.now select.now }
     ensures { (tables : Tables) → AreRows schema.now tables
-        → answer schema.now tables (normal_select select.now) ≡ answer schema.now tables select.now }
+        → answer schema.now tables (normal_select select.now)
+        ≡ answer schema.now tables select.now }
 {}
