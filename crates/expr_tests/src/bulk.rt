@@ -37,24 +37,35 @@ fn filter(alloc: Global, text: &str) -> Result<Boxed<Option<Expr>>, AllocError> 
     Boxed::new(alloc, Some(expression(alloc, text)?.into_inner()))
 }
 
+/// What is written into the second column.
+fn written_cells(
+    alloc: Global,
+    written: &str,
+) -> Result<ListOf<(ColumnNo, Option<Expr>)>, Refusal> {
+    let mut cells = ListOf::new(alloc);
+    cells.push((ColumnNo(1), Some(expression(alloc, written)?.into_inner())))?;
+    Ok(cells)
+}
+
 /// The rows that an UPDATE of the second column takes, as it writes them.
 fn update(
     alloc: Global,
     written: &str,
     condition: &str,
 ) -> Result<ListOf<(Key, RowValues)>, Refusal> {
-    let tables: TableRows = ListOf::new(alloc);
-    let mut cells = ListOf::new(alloc);
-    cells.push((ColumnNo(1), Some(expression(alloc, written)?.into_inner())))?;
+    let rows = keyed(alloc, ROWS)?;
     let filter = filter(alloc, condition)?;
-    updated(alloc, &tables, &cells, filter.get(), &keyed(alloc, ROWS)?)
+    let cells = written_cells(alloc, written)?;
+    let tables: TableRows = ListOf::new(alloc);
+    updated(alloc, &tables, &cells, filter.get(), &rows)
 }
 
 /// The keys of the rows that a DELETE takes.
 fn delete(alloc: Global, condition: &str) -> Result<ListOf<Key>, Refusal> {
-    let tables: TableRows = ListOf::new(alloc);
+    let rows = keyed(alloc, ROWS)?;
     let filter = filter(alloc, condition)?;
-    deleted(alloc, &tables, filter.get(), &keyed(alloc, ROWS)?)
+    let tables: TableRows = ListOf::new(alloc);
+    deleted(alloc, &tables, filter.get(), &rows)
 }
 
 /// Whether the UPDATE takes these rows.

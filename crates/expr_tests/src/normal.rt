@@ -4,6 +4,7 @@ use crate::postfix::expression;
 use base_core::Refusal;
 use expr_normal::{negate, normal};
 use expr_types::{CompareOp, Expr};
+use sqlite_items::Boxed;
 use std::alloc::Global;
 use std::test::Fail;
 
@@ -38,15 +39,20 @@ fn kind_of_head(e: &Expr) -> Head {
     }
 }
 
+/// The normal form of the expression or of its negation.
+fn formed(alloc: Global, e: Boxed<Expr>, negated: bool) -> Result<Expr, Refusal> {
+    if negated {
+        negate(alloc, e.into_inner())
+    } else {
+        normal(alloc, e.into_inner())
+    }
+}
+
 /// Whether the normal form, of the expression or of its negation, has this at its head.
 fn has_head(alloc: Global, text: &str, negated: bool, wanted: Head) -> Result<bool, Refusal> {
-    let e = expression(alloc, text)?.into_inner();
-    let form = if negated {
-        negate(alloc, e)?
-    } else {
-        normal(alloc, e)?
-    };
-    Ok(kind_of_head(&form) == wanted)
+    let form = formed(alloc, expression(alloc, text)?, negated)?;
+    let form = Boxed::new(alloc, form)?;
+    Ok(kind_of_head(form.get()) == wanted)
 }
 
 // `not (a < b)` is `a >= b`, `not not x` is x, `(x and y) and z` is one list, and `lower(a) like lower(b)` is `a ilike b`.
