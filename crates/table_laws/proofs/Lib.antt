@@ -2,7 +2,7 @@ pub mod Ascending
 pub mod Entries
 pub mod Legality
 pub mod Members
-mod OneByOne
+pub mod OneByOne
 pub mod OrderLemmas
 pub mod RowFits
 pub mod SameValues

@@ -220,7 +220,7 @@ together schema tables table rows [] answer found same e = record {
 }
 together schema tables table rows (row ∷ more) answer found same e = step schema tables table rows row more answer found e (λ ts rs f s ans is. together schema ts table rs more ans f s is)
 
-as_one : (schema : Catalog) (tables : Tables) (table : TableId) (new : List (List Value)) (answer : List (List Value) × Tables) → 0 < length new → one_by_one schema tables table new ≡ Ok answer
+pub as_one : (schema : Catalog) (tables : Tables) (table : TableId) (new : List (List Value)) (answer : List (List Value) × Tables) → 0 < length new → one_by_one schema tables table new ≡ Ok answer
     → apply schema tables (Insert table new) ≡ Ok answer
 as_one schema tables table [] answer some e = absurd (omega arith)
 as_one schema tables table (row ∷ more) answer some e = by (rows_in tables table) refl

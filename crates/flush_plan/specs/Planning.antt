@@ -1,0 +1,178 @@
+-- The statements of a flush in their order, in which keys of new rows may still stand open.
+use Rattle.std.specs.Prelude.{ℕ, suc, zero, Bool, true, false, cond, not, ◌&&◌, List, [], ◌∷◌, ◌++◌, map, length, slice_index_or, nat_eq, Result, Ok, Err}
+use Rattle.std.specs.List.{filter, flat_map, range_with_len}
+use Rattle.base_core.specs.declared.ids.ColumnNo.{ColumnNo}
+use Rattle.base_core.specs.declared.ids.TableId.{TableId}
+use Rattle.base_core.specs.declared.refusal.Refusal.{Refusal}
+use Rattle.base_core.specs.declared.refusal.Refusal.TheVariants.{CircularDependencyError}
+use Rattle.base_core.specs.declared.value.Value.{Value}
+use Rattle.base_core.specs.declared.value.Value.TheVariants.{Null}
+use Rattle.schema_core.specs.declared.changes.ChangedRow.{ChangedRow}
+use Rattle.schema_core.specs.declared.changes.GoneRow.{GoneRow}
+use Rattle.schema_core.specs.declared.changes.Planned.{Planned}
+use Rattle.schema_core.specs.declared.changes.Planned.TheVariants.{Insert, Update, Remove}
+use Rattle.schema_core.specs.declared.changes.RowCell.{RowCell}
+use Rattle.schema_core.specs.declared.changes.RowCell.TheVariants.{Given, KeyOf}
+use Rattle.schema_core.specs.declared.changes.RowChanges.{RowChanges}
+use Rattle.schema_core.specs.declared.table.ColumnKind.TheVariants.{Integer}
+use Rattle.schema_core.specs.declared.table.ColumnSpec.{ColumnSpec}
+use Rattle.schema_core.specs.Catalog.{Catalog, spec_of}
+use Rattle.schema_core.specs.DependencyOrder.{table_ids}
+use Rattle.schema_core.specs.Tables.{is_null}
+use Rattle.flush_plan.specs.Cells.{first_cells, is_late, key_parts, new_at, table_at}
+use Rattle.flush_plan.specs.Places.{order_or_cycle}
+use Rattle.flush_plan.specs.Refers.{gone_key, gone_refers, new_refers}
+use Rattle.flush_plan.specs.Runs.{is_nothing, runs}
+use Rattle.flush_plan.specs.Sorted.{Place, sorted_numbers}
+
+abbrev pub no_column : ColumnSpec
+no_column = record { name = []; kind = Integer; key = false; not_null = false }
+
+abbrev pub no_gone : GoneRow
+no_gone = record { name = record { table = record { 0 = 0 }; object = record { 0 = 0 } }; base = [] }
+
+-- ---- the two orders
+
+abbrev pub gone_at : List GoneRow → ℕ → GoneRow
+gone_at rows place = slice_index_or rows place no_gone
+
+abbrev pub place_of_gone : Catalog → GoneRow → Place
+place_of_gone schema row = (row.name.table, gone_key schema row)
+
+-- the deleted rows by table and key
+abbrev pub gone_rows : Catalog → RowChanges → List GoneRow
+gone_rows schema changes = map (gone_at changes.gone) (sorted_numbers (map (place_of_gone schema) changes.gone))
+
+-- the new rows by place, each after those to which it refers, or a cycle
+abbrev pub insert_order : Catalog → RowChanges → Result (List ℕ) (List ℕ)
+insert_order schema changes = order_or_cycle (new_refers schema changes) (length changes.fresh)
+
+-- the deleted rows by place in their sorted list, each after those that refer to it, or a cycle
+abbrev pub delete_order : Catalog → RowChanges → List GoneRow → Result (List ℕ) (List ℕ)
+delete_order schema changes rows = order_or_cycle (λ place other. gone_refers schema changes (gone_at rows place) (gone_at rows other)) (length rows)
+
+-- ---- the four phases
+
+-- the INSERT of a run, whose rows are all of one table
+abbrev pub insert_run : RowChanges → List ℕ → Planned
+insert_run changes [] = Insert (record { 0 = 0 }) []
+insert_run changes (place ∷ places) = Insert (table_at changes place) (place ∷ places)
+
+-- a row that is written under its table and key: these cells
+abbrev pub Writing : Type 0
+Writing = Place × List (ColumnNo × RowCell)
+
+abbrev pub writes_some : List (ColumnNo × RowCell) → Bool
+writes_some [] = false
+writes_some (cell ∷ cells) = true
+
+abbrev pub update_of : Writing → Planned
+update_of row = Update row.0.0 (map Given row.0.1) row.1
+
+abbrev pub column_of : Catalog → TableId → ColumnNo → ColumnSpec
+column_of schema table column = slice_index_or (spec_of schema table).columns column.0 no_column
+
+-- the column is written before, or after, all rows stand
+abbrev pub is_written_when : Catalog → RowChanges → Bool → TableId → ColumnNo → Bool
+is_written_when schema changes late table column = cond (is_late schema changes table (column_of schema table column)) late (not late)
+
+-- the cells of a changed row that are written before, or after, all rows stand
+abbrev pub cells_when : Catalog → RowChanges → Bool → ChangedRow → Writing
+cells_when schema changes late row = ((row.name.table, row.key), filter (λ cell. is_written_when schema changes late row.name.table cell.0) row.cells)
+
+abbrev pub no_changed : ChangedRow
+no_changed = record { name = record { table = record { 0 = 0 }; object = record { 0 = 0 } }; key = []; cells = [] }
+
+abbrev pub place_of_changed : ChangedRow → Place
+place_of_changed row = (row.name.table, row.key)
+
+abbrev pub changed_rows : RowChanges → List ChangedRow
+changed_rows changes = map (λ number. slice_index_or changes.changed number no_changed) (sorted_numbers (map place_of_changed changes.changed))
+
+abbrev pub writing_some : Writing → Bool
+writing_some row = writes_some row.1
+
+-- the UPDATEs of changed rows that have a cell to be written before all rows stand
+abbrev pub updates_to : Catalog → RowChanges → List ChangedRow → List Planned
+updates_to schema changes rows = map update_of (filter writing_some (map (cells_when schema changes false) rows))
+
+abbrev pub updates : Catalog → RowChanges → List Planned
+updates schema changes = updates_to schema changes (changed_rows changes)
+
+-- the cells other than NULL in the columns that pass, from this column's number on
+abbrev pub numbered : (ColumnSpec → Bool) → ℕ → List ColumnSpec → List RowCell → List (ColumnNo × RowCell)
+numbered test place [] cells = []
+numbered test place (column ∷ columns) [] = []
+numbered test place (column ∷ columns) (cell ∷ cells) = cond (test column && not (is_nothing cell)) ((record { 0 = place }, cell) ∷ numbered test (suc place) columns cells) (numbered test (suc place) columns cells)
+
+abbrev pub late_cells : Catalog → RowChanges → TableId → List RowCell → List (ColumnNo × RowCell)
+late_cells schema changes table cells = numbered (is_late schema changes table) 0 (spec_of schema table).columns cells
+
+-- the parts of a new row's key
+abbrev pub key_at : Catalog → RowChanges → ℕ → List RowCell
+key_at schema changes place = map (KeyOf place) (range_with_len 0 (length (key_parts (spec_of schema (table_at changes place)).columns (first_cells schema changes place))))
+
+abbrev pub late_new : Catalog → RowChanges → ℕ → List (ColumnNo × RowCell)
+late_new schema changes place = late_cells schema changes (table_at changes place) (new_at changes place).cells
+
+abbrev pub late_gone : Catalog → RowChanges → GoneRow → Writing
+late_gone schema changes row = ((row.name.table, gone_key schema row), map (λ cell. (cell.0, Given Null)) (late_cells schema changes row.name.table (map Given row.base)))
+
+abbrev pub no_writing : Writing
+no_writing = ((record { 0 = 0 }, []), [])
+
+abbrev pub late_writings : Catalog → RowChanges → List Writing
+late_writings schema changes = filter writing_some (map (cells_when schema changes true) changes.changed ++ map (late_gone schema changes) changes.gone)
+
+-- what is written, by table and key
+abbrev pub by_place : List Writing → List Writing
+by_place writings = map (λ number. slice_index_or writings number no_writing) (sorted_numbers (map (λ row. row.0) writings))
+
+-- the old rows that are written once all rows stand
+abbrev pub late_old : Catalog → RowChanges → List Writing
+late_old schema changes = by_place (late_writings schema changes)
+
+abbrev pub is_of : TableId → TableId → Bool
+is_of table other = nat_eq other.0 table.0
+
+-- what is written in new rows of one table once all rows stand
+abbrev pub late_updates_of : Catalog → RowChanges → TableId → List ℕ → List Planned
+late_updates_of schema changes table order =
+    map (λ place. Update table (key_at schema changes place) (late_new schema changes place)) (filter (λ place. is_of table (table_at changes place) && writes_some (late_new schema changes place)) order)
+
+-- what is written in one table once all rows stand
+abbrev pub late_in : Catalog → RowChanges → List ℕ → TableId → List Planned
+late_in schema changes order table =
+    late_updates_of schema changes table order
+    ++ map update_of (filter (λ row. is_of table row.0.0) (late_old schema changes))
+
+abbrev pub late_updates : Catalog → RowChanges → List ℕ → List Planned
+late_updates schema changes order = flat_map (late_in schema changes order) (table_ids schema)
+
+abbrev pub remove_of : Catalog → GoneRow → Planned
+remove_of schema row = Remove row.name.table (gone_key schema row)
+
+-- ---- the plan
+
+-- the DELETEs by the order of deleted rows
+abbrev pub removes : Catalog → RowChanges → List ℕ → List Planned
+removes schema changes gone_order = map (λ place. remove_of schema (gone_at (gone_rows schema changes) place)) gone_order
+
+abbrev pub statements : Catalog → RowChanges → List ℕ → List ℕ → List Planned
+statements schema changes new_order gone_order =
+    map (insert_run changes) (runs schema changes new_order)
+    ++ updates schema changes
+    ++ late_updates schema changes new_order
+    ++ removes schema changes gone_order
+
+abbrev pub unless_gone_cycle : Catalog → RowChanges → List ℕ → Result (List ℕ) (List ℕ) → Result (List Planned) Refusal
+unless_gone_cycle schema changes new_order (Err rows) = Err (CircularDependencyError (map (λ place. (gone_at (gone_rows schema changes) place).name) rows))
+unless_gone_cycle schema changes new_order (Ok gone_order) = Ok (statements schema changes new_order gone_order)
+
+abbrev pub unless_new_cycle : Catalog → RowChanges → Result (List ℕ) (List ℕ) → Result (List Planned) Refusal
+unless_new_cycle schema changes (Err rows) = Err (CircularDependencyError (map (λ place. (new_at changes place).name) rows))
+unless_new_cycle schema changes (Ok new_order) = unless_gone_cycle schema changes new_order (delete_order schema changes (gone_rows schema changes))
+
+-- the statements of a flush, or the rows of a cycle; new rows are tried first
+unfoldable pub plan : Catalog → RowChanges → Result (List Planned) Refusal
+plan schema changes = unless_new_cycle schema changes (insert_order schema changes)

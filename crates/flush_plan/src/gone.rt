@@ -1,0 +1,162 @@
+//! The deleted rows, by table and key.
+
+ghost use Rattle.std.specs.Prelude.{◌≡◌, ◌<◌, ◌++◌, [], ◌∷◌, map, length, IfOk, IfErr, OnOk};
+ghost use Rattle.std.specs.List.{All};
+ghost use Rattle.base_core.specs.declared.refusal.Refusal.TheVariants.{Memory};
+ghost use Rattle.base_core.specs.declared.value.Value.TheVariants.{Null};
+ghost use Rattle.schema_core.specs.Catalog.{IsTable};
+ghost use Rattle.flush_plan.specs.Planning.{gone_at, gone_rows, place_of_gone, remove_of, removes};
+ghost use Rattle.flush_plan.specs.Ready.{AreInRange, AreReadyGone, ready_gone};
+ghost use Rattle.flush_plan.specs.Refers.{last_base};
+
+use crate::cells::push_cleared;
+use crate::refers::{GoneRows, ReadyGone};
+use crate::sorted::sorted_numbers;
+use crate::writings::{Place, gone_key, place_of_gone};
+use base_core::{Copied, ListOf, Refusal, RowValues, Value};
+use schema_core::{GoneRow, Planned, RowChanges, Schema};
+use std::alloc::Global;
+
+/// A deleted row's base without what is cleared before it is deleted.
+fn last_base(
+    alloc: Global,
+    schema: &Schema,
+    changes: &RowChanges,
+    row: &GoneRow,
+) -> Result<RowValues, Refusal>
+    requires { IsTable schema.now row.now.name.table }
+    ensures last { IfOk result (λ last. last ≡ last_base schema.now changes.now row.now) }
+    ensures cause { IfErr result (λ e. e ≡ Memory) }
+{
+    let table = row.name.table;
+    let mut last = Vec::new(alloc);
+    push_cleared(
+        &mut last,
+        schema,
+        changes,
+        table,
+        &Value::Null,
+        schema.spec(table).columns.as_slice(),
+        row.base.as_slice(),
+    )?;
+    Ok(ListOf::from_vec(last))
+}
+
+/// A deleted row made ready.
+fn ready_gone(
+    alloc: Global,
+    schema: &Schema,
+    changes: &RowChanges,
+    row: &GoneRow,
+) -> Result<ReadyGone, Refusal>
+    requires { IsTable schema.now row.now.name.table }
+    ensures ready { IfOk result (λ ready. ready ≡ ready_gone schema.now changes.now row.now) }
+    ensures cause { IfErr result (λ e. e ≡ Memory) }
+{
+    Ok(ReadyGone {
+        name: row.name.copied()?,
+        last: last_base(alloc, schema, changes, row)?,
+        key: gone_key(alloc, schema, row)?,
+    })
+}
+
+/// The tables and keys of the deleted rows.
+fn gone_places(alloc: Global, schema: &Schema, changes: &RowChanges) -> Result<Vec<Place>, Refusal>
+    requires { AreInRange schema.now changes.now }
+    ensures places { IfOk result
+        (λ places. places.items ≡ map (place_of_gone schema.now) changes.now.gone) }
+    ensures cause { IfErr result (λ e. e ≡ Memory) }
+{
+    let mut places = Vec::new(alloc);
+    for row in changes.gone.as_slice() {
+        places.push(place_of_gone(alloc, schema, row)?)?;
+    }
+    Ok(places)
+}
+
+/// Puts a deleted row, made ready, behind others.
+fn push_ready(
+    out: &mut Vec<ReadyGone>,
+    alloc: Global,
+    schema: &Schema,
+    changes: &RowChanges,
+    row: &GoneRow,
+) -> Result<(), Refusal>
+    requires { IsTable schema.now row.now.name.table }
+    ensures ready { OnOk result
+        (out.new.items ≡ out.old.items ++ ready_gone schema.now changes.now row.now ∷ []) }
+    ensures cause { IfErr result (λ e. e ≡ Memory) }
+{
+    out.push(ready_gone(alloc, schema, changes, row)?)?;
+    Ok(())
+}
+
+#[tactic(auto, using(crate::proofs::UpdateSteps::gone_in))]
+/// The deleted rows of these numbers, made ready.
+fn ready_in_order(
+    alloc: Global,
+    schema: &Schema,
+    changes: &RowChanges,
+    numbers: &[u32],
+) -> Result<Vec<ReadyGone>, Refusal>
+    requires range { AreInRange schema.now changes.now }
+    requires within { All (λ number. number < length changes.now.gone) numbers.now }
+    ensures rows { IfOk result (λ rows. rows.items
+        ≡ map (ready_gone schema.now changes.now) (map (gone_at changes.now.gone) numbers.now)) }
+    ensures cause { IfErr result (λ e. e ≡ Memory) }
+{
+    let mut rows = Vec::new(alloc);
+    for number in numbers {
+        let row = changes.gone.at(*number as usize);
+        push_ready(&mut rows, alloc, schema, changes, row)?;
+    }
+    Ok(rows)
+}
+
+#[tactic(auto, using(crate::proofs::UpdateSteps::are_ready, crate::proofs::UpdateSteps::gone_sized))]
+/// The deleted rows by table and key, made ready. The only refusal is `Memory`.
+pub fn gone_rows(
+    alloc: Global,
+    schema: &Schema,
+    changes: &RowChanges,
+) -> Result<Vec<ReadyGone>, Refusal>
+    requires { AreInRange schema.now changes.now }
+    ensures rows { IfOk result (λ rows. AreReadyGone schema.now changes.now rows.items) }
+    ensures cause { IfErr result (λ e. e ≡ Memory) }
+{
+    let places = gone_places(alloc, schema, changes)?;
+    let numbers = sorted_numbers(alloc, places.as_slice())?;
+    ready_in_order(alloc, schema, changes, numbers.as_slice())
+}
+
+impl<'a> GoneRows<'a> {
+    /// The DELETE of a row.
+    fn remove_of(&self, place: u32) -> Result<Planned, Refusal>
+        requires ready { AreReadyGone self.now.schema.now self.now.changes.now self.now.rows.now }
+        requires within { place < length self.now.rows.now }
+        ensures remove { IfOk result (λ planned. planned ≡ remove_of self.now.schema.now
+            (gone_at (gone_rows self.now.schema.now self.now.changes.now) place)) }
+        ensures cause { IfErr result (λ e. e ≡ Memory) }
+    {
+        let row = self.at(place);
+        Ok(Planned::Remove {
+            table: row.name.table,
+            key: row.key.copied()?,
+        })
+    }
+
+    /// The DELETEs of rows in this order. The only refusal is `Memory`.
+    pub fn removes(&self, alloc: Global, order: &[u32]) -> Result<Vec<Planned>, Refusal>
+        requires ready { AreReadyGone self.now.schema.now self.now.changes.now self.now.rows.now }
+        requires within { All (λ place. place < length self.now.rows.now) order.now }
+        ensures removes { IfOk result (λ statements. statements.items
+            ≡ removes self.now.schema.now self.now.changes.now order.now) }
+        ensures cause { IfErr result (λ e. e ≡ Memory) }
+    {
+        let mut statements = Vec::new(alloc);
+        for place in order {
+            statements.push(self.remove_of(*place)?)?;
+        }
+        Ok(statements)
+    }
+}

@@ -1,0 +1,144 @@
+//! The plan of a flush.
+
+ghost use Rattle.std.specs.Prelude.{◌≡◌, ◌<◌, ◌++◌, [], ◌∷◌, length, map, IfOk, IfErr, OnOk};
+ghost use Rattle.std.specs.List.{All};
+ghost use Rattle.base_core.specs.Answers.{Gives};
+ghost use Rattle.base_core.specs.declared.refusal.Refusal.TheVariants.{Memory};
+ghost use Rattle.flush_plan.specs.Cells.{new_at};
+ghost use Rattle.flush_plan.specs.Planning.{gone_at, gone_rows, plan, statements};
+ghost use Rattle.flush_plan.specs.Ready.{AreInRange, AreReady, AreReadyGone};
+
+use crate::gone::gone_rows;
+use crate::places::{Ordered, order_or_cycle};
+use crate::ready::ready_rows;
+use crate::refers::{GoneRows, NewRows};
+use crate::updates::updates;
+use base_core::{Copied, ListOf, Refusal, RowName};
+use schema_core::{Plan, Planned, RowChanges, Schema};
+use std::alloc::Global;
+
+/// Puts the object and table of a row behind others.
+fn push_name(out: &mut ListOf<RowName>, name: &RowName) -> Result<(), Refusal>
+    ensures name { OnOk result (out.new ≡ out.old ++ name.now ∷ []) }
+    ensures cause { IfErr result (λ e. e ≡ Memory) }
+{
+    out.push(name.copied()?)?;
+    Ok(())
+}
+
+impl<'a> NewRows<'a> {
+    /// The objects and tables of new rows.
+    fn names(&self, alloc: Global, rows: &[u32]) -> Result<ListOf<RowName>, Refusal>
+        requires ready { AreReady self.now.schema.now self.now.changes.now self.now.rows.now }
+        requires within { All (λ row. row < length self.now.changes.now.fresh) rows.now }
+        ensures names { IfOk result
+            (λ names. names ≡ map (λ row. (new_at self.now.changes.now row).name) rows.now) }
+        ensures cause { IfErr result (λ e. e ≡ Memory) }
+    {
+        let mut names = ListOf::new(alloc);
+        for row in rows {
+            let new = self.changes.fresh.at(*row as usize);
+            push_name(&mut names, &new.name)?;
+        }
+        Ok(names)
+    }
+}
+
+impl<'a> GoneRows<'a> {
+    /// The objects and tables of deleted rows.
+    fn names(&self, alloc: Global, rows: &[u32]) -> Result<ListOf<RowName>, Refusal>
+        requires ready { AreReadyGone self.now.schema.now self.now.changes.now self.now.rows.now }
+        requires within { All (λ row. row < length self.now.rows.now) rows.now }
+        ensures names { IfOk result (λ names. names ≡ map
+            (λ row. (gone_at (gone_rows self.now.schema.now self.now.changes.now) row).name)
+            rows.now) }
+        ensures cause { IfErr result (λ e. e ≡ Memory) }
+    {
+        let mut names = ListOf::new(alloc);
+        for row in rows {
+            names.push(self.at(*row).name.copied()?)?;
+        }
+        Ok(names)
+    }
+}
+
+/// Puts statements behind others.
+fn push_all(out: &mut Vec<Planned>, more: Vec<Planned>) -> Result<(), Refusal>
+    ensures all { OnOk result (out.new.items ≡ out.old.items ++ more.items) }
+    ensures cause { IfErr result (λ e. e ≡ Memory) }
+{
+    let mut more = more;
+    out.append(&mut more)?;
+    Ok(())
+}
+
+/// The statements of a flush by the two orders.
+fn statements(
+    alloc: Global,
+    new: &NewRows,
+    new_order: &[u32],
+    gone: &GoneRows,
+    gone_order: &[u32],
+) -> Result<Plan, Refusal>
+    requires range { AreInRange new.now.schema.now new.now.changes.now }
+    requires new { AreReady new.now.schema.now new.now.changes.now new.now.rows.now }
+    requires new_order { All (λ row. row < length new.now.rows.now) new_order.now }
+    requires gone { AreReadyGone new.now.schema.now new.now.changes.now gone.now.rows.now }
+    requires gone_order { All (λ row. row < length gone.now.rows.now) gone_order.now }
+    requires schema { gone.now.schema.now ≡ new.now.schema.now }
+    requires changes { gone.now.changes.now ≡ new.now.changes.now }
+    ensures statements { IfOk result (λ plan. plan
+        ≡ statements new.now.schema.now new.now.changes.now new_order.now gone_order.now) }
+    ensures cause { IfErr result (λ e. e ≡ Memory) }
+{
+    let mut plan = new.inserts(alloc, new_order)?;
+    push_all(&mut plan, updates(alloc, new.schema, new.changes)?)?;
+    push_all(&mut plan, new.late_updates(alloc, new_order)?)?;
+    push_all(&mut plan, gone.removes(alloc, gone_order)?)?;
+    Ok(ListOf::from_vec(plan))
+}
+
+#[tactic(auto, unfolding(crate::specs::Planning::plan))]
+/// The statements of a flush in their order: INSERTs of new rows, each after those to which it refers, cut into runs as long as
+/// can be; UPDATEs of changed rows by table and key; what is written once all rows stand, by table; DELETEs, each after those
+/// that refer to it.
+///
+/// # Errors
+/// `CircularDependencyError` where new rows refer to one another, or else deleted ones, so that no order is left: the rows of
+/// a cycle, from the least row left each time to the least for which it waits. `Memory`.
+pub fn plan(alloc: Global, schema: &Schema, changes: &RowChanges) -> Result<Plan, Refusal>
+    requires { AreInRange schema.now changes.now }
+    ensures { Gives (λ plan. plan) result (plan schema.now changes.now) }
+{
+    let ready = ready_rows(alloc, schema, changes)?;
+    let new = NewRows {
+        schema,
+        changes,
+        rows: ready.as_slice(),
+    };
+    let new_order = match order_or_cycle(alloc, &new)? {
+        Ordered::Order(rows) => rows,
+        Ordered::Cycle(rows) => {
+            return Err(Refusal::CircularDependencyError(new.names(alloc, rows.as_slice())?));
+        }
+    };
+    let ready_gone = gone_rows(alloc, schema, changes)?;
+    let gone = GoneRows {
+        schema,
+        changes,
+        rows: ready_gone.as_slice(),
+    };
+    match order_or_cycle(alloc, &gone)? {
+        Ordered::Order(rows) => statements(
+            alloc,
+            &new,
+            new_order.as_slice(),
+            &gone,
+            rows.as_slice(),
+        ),
+        Ordered::Cycle(rows) => Err(Refusal::CircularDependencyError(gone.names(
+            alloc,
+            rows.as_slice(),
+        )?)),
+    }
+}

@@ -1,0 +1,202 @@
+-- The numbers of rows that are sorted by table and key: each once.
+use Rattle.std.proofs.Common.{◌≡◌, ◌⊎◌, inl, inr, ℕ, zero, suc, ◌+◌, ◌<◌, ◌≤◌, Bool, true, false, not, cond, ◌&&◌, ◌||◌, eqb, T, List, [], ◌∷◌, ◌++◌, map, length, get_or, Option, None, Some, Ordering, refl, sym, ap, ◌∙◌, subst, arith}
+use Rattle.std.proofs.lemmas.Bool.{eq-eqb, eqb-true}
+use Rattle.std.specs.declared.cmp.Ordering.TheVariants.{Less, Equal, Greater}
+use Rattle.std.specs.Ordering.{is_eq, is_lt, ordering_then}
+use Rattle.std.specs.Cmp.{IsTotalOrder, on_total, then_total, tied_itself}
+use Rattle.std.specs.List.{AllByRecursion, IsDistinct, list_any}
+use Rattle.std.specs.Map.{lookup, values_of}
+use Rattle.std.specs.BTreeMap.{insert_entry, is_at}
+use Rattle.std.specs.FinMap.Entries.{below_all, is_sorted}
+use Rattle.base_core.specs.declared.ids.TableId.{TableId}
+use Rattle.base_core.specs.declared.value.Value.{Value}
+use Rattle.base_core.specs.Order.{values_cmp}
+use Rattle.schema_core.specs.Declaration.{some_two}
+use Rattle.schema_core.specs.Tables.{table_cmp}
+use Rattle.table_laws.proofs.Entries.{all_insert}
+use Rattle.table_laws.proofs.SameValues.{same_key, same_table}
+use Rattle.flush_plan.specs.Places.{is_among}
+use Rattle.flush_plan.specs.Sorted.{Place, entered, place_cmp, same_place, sorted_numbers}
+use Rattle.plan_laws.proofs.At.{key_total, table_total}
+use Rattle.plan_laws.proofs.Lookups.{lookup_insert, sorted_insert}
+use Rattle.plan_laws.proofs.Newness.{or_false, place_same}
+
+true_false : true ≡ false → ⊥
+true_false e = cc
+
+none_some : {A : Type 0} (x : A) → None ≡ Some x → ⊥
+none_some x e = cc
+
+pub place_total : IsTotalOrder place_cmp
+place_total = then_total (on_total (λ (p : Place). p.0) table_total) (on_total (λ (p : Place). p.1) key_total)
+
+both_equal : (o p : Ordering) → ordering_then o p ≡ Equal → (o ≡ Equal) × (p ≡ Equal)
+both_equal Less p e = cc
+both_equal Equal p e = (refl, e)
+both_equal Greater p e = cc
+
+pub place_is : (p q : Place) → place_cmp p q ≡ Equal → p ≡ q
+place_is p q e =
+    let both = both_equal (table_cmp p.0 q.0) (values_cmp p.1 q.1) e in
+    λ i. (same_table p.0 q.0 both.0 i, same_key p.1 q.1 both.1 i)
+
+equal : (o : Ordering) → is_eq o ≡ true → o ≡ Equal
+equal Less e = cc
+equal Equal e = refl
+equal Greater e = cc
+
+other_place : (b : Bool) (p q : Place) → is_eq (place_cmp p q) ≡ b → (p ≡ q → ⊥) → b ≡ false
+other_place true p q e apart = absurd (apart (place_is p q (equal (place_cmp p q) e)))
+other_place false p q e apart = refl
+
+Entries : Type 0
+Entries = List (Place × ℕ)
+
+-- what holds of each place and number holds of each entry
+entered_all : (P : Place × ℕ → Type 0) (entries : List (Place × ℕ)) (number : ℕ) (places : List Place) (d : Place) → AllByRecursion P entries → ((k : ℕ) → k < length places → P (get_or places k d, number + k)) → AllByRecursion P (entered entries number places)
+entered_all P entries number [] d all each = all
+entered_all P entries number (p ∷ ps) d all each =
+    entered_all P (insert_entry place_cmp entries p number) (suc number) ps d
+    (all_insert place_cmp place_is P entries p number all (subst (λ n. P (p, n)) (plus_zero number) (each 0 (omega arith))))
+    (λ k h. subst (λ n. P (get_or ps k d, n)) (plus_suc number k) (each (suc k) (omega arith)))
+  where
+    plus_zero : (n : ℕ) → n + 0 ≡ n
+    plus_zero n = omega arith
+
+    plus_suc : (n k : ℕ) → n + suc k ≡ suc n + k
+    plus_suc n k = omega arith
+
+entered_sorted : (entries : List (Place × ℕ)) (number : ℕ) (places : List Place) → T (is_sorted place_cmp entries) → T (is_sorted place_cmp (entered entries number places))
+entered_sorted entries number [] sorted = sorted
+entered_sorted entries number (p ∷ ps) sorted = entered_sorted (insert_entry place_cmp entries p number) (suc number) ps (sorted_insert place_cmp place_total entries p number sorted)
+
+entered_keeps : (entries : List (Place × ℕ)) (number : ℕ) (places : List Place) (q d : Place) (n : ℕ) → lookup (is_at (place_cmp q)) entries ≡ Some n → ((k : ℕ) → k < length places → q ≡ get_or places k d → ⊥) → lookup (is_at (place_cmp q)) (entered entries number places) ≡ Some n
+entered_keeps entries number [] q d n e apart = e
+entered_keeps entries number (p ∷ ps) q d n e apart =
+    entered_keeps (insert_entry place_cmp entries p number) (suc number) ps q d n
+    (lookup_insert place_cmp place_total entries p number q
+    ∙ ap (λ b. cond b (Some number) (lookup (is_at (place_cmp q)) entries)) (other_place (is_eq (place_cmp q p)) q p refl (apart 0 (omega arith)))
+    ∙ e)
+    (λ k h. apart (suc k) (omega arith))
+
+abbrev pub AreOther : List Place → Place → Type 0
+AreOther places d = (i j : ℕ) → i < length places → j < length places → get_or places i d ≡ get_or places j d → i ≡ j
+
+entered_has : (entries : List (Place × ℕ)) (number : ℕ) (places : List Place) (d : Place) (k : ℕ) → k < length places → AreOther places d → lookup (is_at (place_cmp (get_or places k d))) (entered entries number places) ≡ Some (number + k)
+entered_has entries number [] d k h apart = absurd (omega arith)
+entered_has entries number (p ∷ ps) d zero h apart =
+    entered_keeps (insert_entry place_cmp entries p number) (suc number) ps p d (number + 0)
+    (lookup_insert place_cmp place_total entries p number p
+    ∙ ap (λ o. cond (is_eq o) (Some number) (lookup (is_at (place_cmp p)) entries)) (tied_itself place_total p)
+    ∙ ap Some (plus_zero number))
+    (λ k less same. absurd (zero_suc k (apart 0 (suc k) (omega arith) (omega arith) same)))
+  where
+    plus_zero : (n : ℕ) → n ≡ n + 0
+    plus_zero n = omega arith
+
+    zero_suc : (k : ℕ) → 0 ≡ suc k → ⊥
+    zero_suc k e = omega (arith, e)
+entered_has entries number (p ∷ ps) d (suc k) h apart =
+    entered_has (insert_entry place_cmp entries p number) (suc number) ps d k (omega arith) (λ i j less more same. omega (arith, apart (suc i) (suc j) (omega arith) (omega arith) same))
+    ∙ ap Some (plus_suc number k)
+  where
+    plus_suc : (n k : ℕ) → suc n + k ≡ n + suc k
+    plus_suc n k = omega arith
+
+-- ---- values
+
+value_step : (b : Bool) (v n : ℕ) (rest : Option ℕ) (vs : List ℕ) → (rest ≡ Some n → is_among vs n ≡ true) → cond b (Some v) rest ≡ Some n → (eqb n v || is_among vs n) ≡ true
+value_step true v n rest vs more e = ap (λ b. b || is_among vs n) (eq-eqb n v (sym (some_same v n e)))
+  where
+    some_same : (x y : ℕ) → Some x ≡ Some y → x ≡ y
+    some_same x y f = cc
+value_step false v n rest vs more e = right (eqb n v) (is_among vs n) (more e)
+  where
+    right : (a b : Bool) → b ≡ true → (a || b) ≡ true
+    right true b f = refl
+    right false b f = f
+
+value_among : (q : Place) (es : List (Place × ℕ)) (n : ℕ) → lookup (is_at (place_cmp q)) es ≡ Some n → is_among (values_of es) n ≡ true
+value_among q [] n e = absurd (none_some n e)
+value_among q (e ∷ es) n found = value_step (is_eq (place_cmp q e.0)) e.1 n (lookup (is_at (place_cmp q)) es) (values_of es) (value_among q es n) found
+
+or_cases : (a b : Bool) → (a || b) ≡ true → (a ≡ true) ⊎ (b ≡ true)
+or_cases true b e = inl refl
+or_cases false b e = inr e
+
+values_all : (P : ℕ → Type 0) (es : List (Place × ℕ)) (n : ℕ) → AllByRecursion (λ e. P e.1) es → is_among (values_of es) n ≡ true → P n
+values_all P [] n all among = absurd (true_false (sym among))
+values_all P (e ∷ es) n all among =
+    elim (or_cases (eqb n e.1) (is_among (values_of es) n) among) [
+      | inl here ↦ subst P (sym (eqb-true n e.1 here)) all.0
+      | inr more ↦ values_all P es n all.1 more
+    ]
+
+less : (o : Ordering) → T (is_lt o) → o ≡ Less
+less Less p = refl
+less Equal p = absurd p
+less Greater p = absurd p
+
+first : (a b : Bool) → T (a && b) → T a
+first true b p = tt
+first false b p = p
+
+second : (a b : Bool) → T (a && b) → T b
+second true b p = p
+second false b p = absurd p
+
+less_equal : Less ≡ Equal → ⊥
+less_equal e = cc
+
+number_apart : (b : Bool) (m n : ℕ) → eqb m n ≡ b → (m ≡ n → ⊥) → b ≡ false
+number_apart true m n e apart = absurd (apart (eqb-true m n e))
+number_apart false m n e apart = refl
+
+values_apart : (at : ℕ → Place) (e : Place × ℕ) (es : List (Place × ℕ)) → e.0 ≡ at e.1 → AllByRecursion (λ f. f.0 ≡ at f.1) es → T (below_all place_cmp e.0 es) → AllByRecursion (λ n. eqb e.1 n ≡ false) (values_of es)
+values_apart at e [] here all below = tt
+values_apart at e (f ∷ es) here all below = (
+  number_apart (eqb e.1 f.1) e.1 f.1 refl (λ same. less_equal (sym (less (place_cmp e.0 f.0) (first (is_lt (place_cmp e.0 f.0)) (below_all place_cmp e.0 es) below)) ∙ ap (λ q. place_cmp q f.0) (here ∙ ap at same ∙ sym all.0) ∙ tied_itself place_total f.0)),
+  values_apart at e es here all.1 (second (is_lt (place_cmp e.0 f.0)) (below_all place_cmp e.0 es) below),
+)
+
+values_distinct : (at : ℕ → Place) (es : List (Place × ℕ)) → AllByRecursion (λ e. e.0 ≡ at e.1) es → T (is_sorted place_cmp es) → IsDistinct eqb (values_of es)
+unfolding IsDistinct
+values_distinct at [] all sorted = tt
+values_distinct at (e ∷ es) all sorted = (
+  values_apart at e es all.0 all.1 (first (below_all place_cmp e.0 es) (is_sorted place_cmp es) sorted),
+  values_distinct at es all.1 (second (below_all place_cmp e.0 es) (is_sorted place_cmp es) sorted),
+)
+
+-- ---- the numbers
+
+zero_plus : (k : ℕ) → 0 + k ≡ k
+zero_plus k = omega arith
+
+pub numbers_have : (places : List Place) (d : Place) (k : ℕ) → k < length places → AreOther places d → is_among (sorted_numbers places) k ≡ true
+unfolding sorted_numbers
+numbers_have places d k h apart = value_among (get_or places k d) (entered [] 0 places) k (entered_has [] 0 places d k h apart ∙ ap Some (zero_plus k))
+
+pub numbers_within : (places : List Place) (d : Place) (n : ℕ) → is_among (sorted_numbers places) n ≡ true → n < length places
+unfolding sorted_numbers
+numbers_within places d n among = values_all (λ k. k < length places) (entered [] 0 places) n (entered_all (λ e. e.1 < length places) [] 0 places d tt (λ k h. omega arith)) among
+
+pub numbers_distinct : (places : List Place) (d : Place) → IsDistinct eqb (sorted_numbers places)
+unfolding sorted_numbers
+numbers_distinct places d =
+    values_distinct (λ n. get_or places n d) (entered [] 0 places)
+    (entered_all (λ e. e.0 ≡ get_or places e.1 d) [] 0 places d tt (λ k h. ap (λ n. get_or places n d) (sym (zero_plus k))))
+    (entered_sorted [] 0 places tt)
+
+-- ---- items by their number
+
+two_out : {A : Type 0} (place : A → Place) (xs : List A) (x : A) (j : ℕ) (d : A) → list_any (λ later. same_place (place later) (place x)) xs ≡ false → j < length xs → place (get_or xs j d) ≡ place x → ⊥
+two_out place [] x j d none h same = omega arith
+two_out place (y ∷ ys) x zero d none h same = true_false (sym (place_same (place y) (place x) same) ∙ (or_false (same_place (place y) (place x)) (list_any (λ later. same_place (place later) (place x)) ys) none).0)
+two_out place (y ∷ ys) x (suc j) d none h same = two_out place ys x j d (or_false (same_place (place y) (place x)) (list_any (λ later. same_place (place later) (place x)) ys) none).1 (omega arith) same
+
+pub two_at : {A : Type 0} (place : A → Place) (xs : List A) (d : A) (i j : ℕ) → some_two (λ one other. same_place (place one) (place other)) xs ≡ false → i < length xs → j < length xs → place (get_or xs i d) ≡ place (get_or xs j d) → i ≡ j
+two_at place [] d i j none h k same = absurd (omega arith)
+two_at place (x ∷ xs) d zero zero none h k same = refl
+two_at place (x ∷ xs) d zero (suc j) none h k same = absurd (two_out place xs x j d (or_false (list_any (λ later. same_place (place later) (place x)) xs) (some_two (λ one other. same_place (place one) (place other)) xs) none).0 (omega arith) (sym same))
+two_at place (x ∷ xs) d (suc i) zero none h k same = absurd (two_out place xs x i d (or_false (list_any (λ later. same_place (place later) (place x)) xs) (some_two (λ one other. same_place (place one) (place other)) xs) none).0 (omega arith) same)
+two_at place (x ∷ xs) d (suc i) (suc j) none h k same = ap suc (two_at place xs d i j (or_false (list_any (λ later. same_place (place later) (place x)) xs) (some_two (λ one other. same_place (place one) (place other)) xs) none).1 (omega arith) (omega arith) same)

@@ -1,0 +1,138 @@
+-- The laws of a plan.
+use Rattle.std.specs.Prelude.{◌≡◌, ◌⊎◌, ◌<◌, ℕ, suc, Bool, true, false, cond, not, ◌&&◌, ◌||◌, List, [], ◌∷◌, length, map, nat_eq, nat_lt, slice_index_or, take, Option, None, Some, Result, Ok, Err, is_some}
+use Rattle.std.specs.List.{AllByRecursion, list_all, list_any}
+use Rattle.base_core.specs.declared.ids.ColumnNo.{ColumnNo}
+use Rattle.base_core.specs.declared.ids.TableId.{TableId}
+use Rattle.base_core.specs.declared.value.Value.{Value}
+use Rattle.base_core.specs.declared.value.Value.TheVariants.{Null}
+use Rattle.schema_core.specs.declared.changes.ChangedRow.{ChangedRow}
+use Rattle.schema_core.specs.declared.changes.GoneRow.{GoneRow}
+use Rattle.schema_core.specs.declared.changes.NewRow.{NewRow}
+use Rattle.schema_core.specs.declared.changes.Planned.{Planned}
+use Rattle.schema_core.specs.declared.changes.RowCell.{RowCell}
+use Rattle.schema_core.specs.declared.changes.RowCell.TheVariants.{Given, KeyOf}
+use Rattle.schema_core.specs.declared.changes.RowChanges.{RowChanges}
+use Rattle.schema_core.specs.declared.table.ColumnSpec.{ColumnSpec}
+use Rattle.schema_core.specs.declared.table.ForeignSpec.{ForeignSpec}
+use Rattle.schema_core.specs.Catalog.{Catalog, has_name, same_name, spec_of, target_of}
+use Rattle.schema_core.specs.Declaration.{some_two}
+use Rattle.schema_core.specs.Tables.{Legal, Tables, cells_of, key_of}
+use Rattle.schema_core.specs.WellFormed.{is_row}
+use Rattle.flush_plan.specs.Cells.{key_parts, new_at, table_at}
+use Rattle.flush_plan.specs.Flushing.{Sofar, flushed}
+use Rattle.schema_core.specs.declared.changes.Planned.TheVariants.{Insert}
+use Rattle.flush_plan.specs.Planning.{insert_order, key_at, place_of_changed, place_of_gone, plan}
+use Rattle.flush_plan.specs.Refers.{gone_key}
+use Rattle.flush_plan.specs.Sorted.{Place, same_place}
+use Rattle.flush_plan.specs.Stating.{all_placed, given, guess, is_created, row_at, stated}
+use Rattle.plan_laws.specs.Premises.{IsClear, IsFit, IsSorted}
+
+-- the INSERT of one row
+abbrev pub insert_of : RowChanges → ℕ → Planned
+insert_of changes place = Insert (table_at changes place) (place ∷ [])
+
+abbrev pub before : Tables → Sofar
+before tables = record { tables = tables; keys = [] }
+
+-- the cell in the column of a name
+abbrev pub cell_named : List ColumnSpec → List RowCell → List ℕ → RowCell
+cell_named [] cells name = Given Null
+cell_named (column ∷ columns) [] name = Given Null
+cell_named (column ∷ columns) (cell ∷ cells) name = cond (same_name column.name name) cell (cell_named columns cells name)
+
+abbrev pub cells_named : Catalog → TableId → List RowCell → List (List ℕ) → List RowCell
+cells_named schema table cells names = map (cell_named (spec_of schema table).columns cells) names
+
+abbrev pub is_given : RowCell → Bool
+is_given (Given value) = true
+is_given (KeyOf place part) = false
+
+-- the cells are the parts of the key of one new row of the foreign key's target
+abbrev pub ComesFrom : Catalog → RowChanges → ForeignSpec → List RowCell → Type 0
+ComesFrom schema changes foreign cells = (place : ℕ) × (place < length changes.fresh) × (target_of schema foreign ≡ Some (table_at changes place)) × (cells ≡ key_at schema changes place)
+
+-- a foreign key is given as values, or comes from one new row of its target
+abbrev pub IsOneKind : Catalog → RowChanges → ForeignSpec → List RowCell → Type 0
+IsOneKind schema changes foreign cells = (list_all is_given cells ≡ true) ⊎ ComesFrom schema changes foreign cells
+
+-- a part of a key stands only in a column of a foreign key
+abbrev pub AreLoose : List ForeignSpec → List ColumnSpec → List RowCell → Type 0
+AreLoose foreigns [] cells = Unit {0}
+AreLoose foreigns (column ∷ columns) [] = Unit {0}
+AreLoose foreigns (column ∷ columns) (cell ∷ cells) = (list_any (λ foreign. has_name foreign.columns column.name) foreigns ≡ false → is_given cell ≡ true) × AreLoose foreigns columns cells
+
+-- cells are of columns from this place on, in order, each once, none of the key
+abbrev pub are_at : ℕ → List ColumnSpec → List (ColumnNo × RowCell) → Bool
+are_at place columns [] = true
+are_at place [] (cell ∷ cells) = false
+are_at place (column ∷ columns) (cell ∷ cells) = (nat_lt place cell.0.0 && are_at (suc place) columns (cell ∷ cells)) || (nat_eq place cell.0.0 && not column.key && are_at (suc place) columns cells)
+
+-- what the projection of a graph gives
+pub record IsProjected (schema : Catalog) (old : Tables) (changes : RowChanges) : Type 0 where
+  pub fit : IsFit schema changes
+  -- a new row has a cell for each column, and each foreign key is of one kind
+  pub new_cells : AllByRecursion (λ (row : NewRow). is_row (spec_of schema row.name.table) (map given row.cells) ≡ true) changes.fresh
+  pub new_loose : AllByRecursion (λ (row : NewRow). AreLoose (spec_of schema row.name.table).foreigns (spec_of schema row.name.table).columns row.cells) changes.fresh
+  pub new_keyed : AllByRecursion (λ (row : NewRow). list_any (λ column. column.key) (spec_of schema row.name.table).columns ≡ true) changes.fresh
+  pub new_foreigns : AllByRecursion (λ (row : NewRow). AllByRecursion (λ foreign. IsOneKind schema changes foreign (cells_named schema row.name.table row.cells foreign.columns)) (spec_of schema row.name.table).foreigns) changes.fresh
+  -- a changed row names columns in order, none of the key; no two have one table and key
+  pub changed_cells : AllByRecursion (λ (row : ChangedRow). are_at 0 (spec_of schema row.name.table).columns row.cells ≡ true) changes.changed
+  pub changed_once : some_two (λ one other. same_place (place_of_changed one) (place_of_changed other)) changes.changed ≡ false
+  -- a deleted row has a cell for each column, no two have one table and key, none is a changed one
+  pub gone_cells : AllByRecursion (λ (row : GoneRow). is_row (spec_of schema row.name.table) row.base ≡ true) changes.gone
+  pub gone_once : some_two (λ one other. same_place (place_of_gone schema one) (place_of_gone schema other)) changes.gone ≡ false
+  pub gone_apart : list_any (λ row. list_any (λ other. same_place (place_of_gone schema row) (place_of_changed other)) changes.changed) changes.gone ≡ false
+  -- the foreign keys of a deleted row are those of its base
+  pub gone_base : AllByRecursion (λ (row : GoneRow). (stands : List Value) → row_at old (place_of_gone schema row) ≡ Some stands → AllByRecursion (λ foreign. cells_of (spec_of schema row.name.table) stands foreign.columns ≡ cells_of (spec_of schema row.name.table) row.base foreign.columns) (spec_of schema row.name.table).foreigns) changes.gone
+
+-- what completeness asks
+pub record IsComplete (schema : Catalog) (old : Tables) (changes : RowChanges) (order : List ℕ) (placed : Sofar) (after : Tables) : Type 0 where
+  pub projected : IsProjected schema old changes
+  pub sorted : IsSorted old
+  pub legal : Legal schema old
+  pub ordered : insert_order schema changes ≡ Ok order
+  pub keys : all_placed schema changes old order ≡ Some placed
+  pub states : stated schema old changes order ≡ Some after
+  pub legal_after : Legal schema after
+  pub clear : IsClear schema old after
+  pub no_guess : guess schema old changes order placed.keys ≡ false
+
+-- every prefix of the INSERTs, one row each, is accepted and leaves legal tables
+abbrev pub InsertPrefixesAreLegal : Type 0
+InsertPrefixesAreLegal =
+    (schema : Catalog) (old : Tables) (changes : RowChanges) (order : List ℕ) (placed : Sofar) (after : Tables)
+    → IsComplete schema old changes order placed after
+    → (n : ℕ) → (sofar : Sofar) × (flushed schema changes (Ok (before old)) (take n (map (insert_of changes) order)) ≡ Ok sofar) × Legal schema sofar.tables
+
+-- all INSERTs leave the tables and keys that `Keys` tells
+abbrev pub InsertsLeaveKeys : Type 0
+InsertsLeaveKeys =
+    (schema : Catalog) (old : Tables) (changes : RowChanges) (order : List ℕ) (placed : Sofar) (after : Tables)
+    → IsComplete schema old changes order placed after
+    → flushed schema changes (Ok (before old)) (map (insert_of changes) order) ≡ Ok placed
+
+-- the same of a plan where no foreign key is written after all rows, and the whole leaves the stated tables
+abbrev pub PlainPrefixesAreLegal : Type 0
+PlainPrefixesAreLegal =
+    (schema : Catalog) (old : Tables) (changes : RowChanges) (order : List ℕ) (placed : Sofar) (after : Tables) (statements : List Planned)
+    → changes.post ≡ [] → IsComplete schema old changes order placed after → plan schema changes ≡ Ok statements
+    → (n : ℕ) → (sofar : Sofar) × (flushed schema changes (Ok (before old)) (take n statements) ≡ Ok sofar) × Legal schema sofar.tables
+
+abbrev pub PlainWholeIsStated : Type 0
+PlainWholeIsStated =
+    (schema : Catalog) (old : Tables) (changes : RowChanges) (order : List ℕ) (placed : Sofar) (after : Tables) (statements : List Planned)
+    → changes.post ≡ [] → IsComplete schema old changes order placed after → plan schema changes ≡ Ok statements
+    → (sofar : Sofar) × (flushed schema changes (Ok (before old)) statements ≡ Ok sofar) × (sofar.tables ≡ after)
+
+-- the same where rows are only new
+abbrev pub LatePrefixesAreLegal : Type 0
+LatePrefixesAreLegal =
+    (schema : Catalog) (old : Tables) (changes : RowChanges) (order : List ℕ) (placed : Sofar) (after : Tables) (statements : List Planned)
+    → changes.changed ≡ [] → changes.gone ≡ [] → IsComplete schema old changes order placed after → plan schema changes ≡ Ok statements
+    → (n : ℕ) → (sofar : Sofar) × (flushed schema changes (Ok (before old)) (take n statements) ≡ Ok sofar) × Legal schema sofar.tables
+
+abbrev pub LateWholeIsStated : Type 0
+LateWholeIsStated =
+    (schema : Catalog) (old : Tables) (changes : RowChanges) (order : List ℕ) (placed : Sofar) (after : Tables) (statements : List Planned)
+    → changes.changed ≡ [] → changes.gone ≡ [] → IsComplete schema old changes order placed after → plan schema changes ≡ Ok statements
+    → (sofar : Sofar) × (flushed schema changes (Ok (before old)) statements ≡ Ok sofar) × (sofar.tables ≡ after)

@@ -1,0 +1,12 @@
+//! What follows from the definitions of a flush's plan: each law is the contract of a function that does nothing.
+#![tactic(auto)]
+
+mod legal_prefixes;
+mod order;
+mod worked;
+
+pub use legal_prefixes::{
+    inserts_are_legal, late_plans_are_legal, plain_plans_are_legal, premises_are_met,
+};
+pub use order::order_or_cycle;
+pub use worked::{worked_cycles, worked_old, worked_plans, worked_runs};
