@@ -1,0 +1,81 @@
+-- The texts of bulk statements.
+use Rattle.std.specs.Prelude.{ℕ, ◌++◌, List, [], ◌∷◌, Option, Some, None, codes}
+use Rattle.base_core.specs.declared.ids.ColumnNo.{ColumnNo}
+use Rattle.base_core.specs.declared.ids.TableId.{TableId}
+use Rattle.base_core.specs.declared.value.Value.{Value}
+use Rattle.base_core.specs.declared.value.Value.TheVariants as cell
+use Rattle.schema_core.specs.Catalog.{Catalog, spec_of}
+use Rattle.expr_types.specs.declared.expr.Expr.{Expr}
+use Rattle.expr_types.specs.declared.select.Bulk.{Bulk}
+use Rattle.expr_types.specs.declared.select.Bulk.TheVariants as bulk
+use Rattle.sql_semantics.specs.Plain.{alone}
+use Rattle.sql_text.specs.declared.names.Quoting.{Quoting}
+use Rattle.sql_text.specs.declared.names.Quoting.TheVariants.{Sqlite, Postgresql, Mysql}
+use Rattle.sql_expressions.specs.Laid.{laid}
+use Rattle.sql_text.specs.Columns.{column_name}
+use Rattle.sql_statements.specs.Selects.{clause_pieces}
+use Rattle.sql_text.specs.Written.{Piece, words, name, value, joined}
+
+abbrev pub table_piece : Catalog → TableId → Piece
+table_piece schema table = name (spec_of schema table).name
+
+abbrev pub column_piece : Catalog → TableId → ColumnNo → Piece
+column_piece schema table column = name (column_name schema table column)
+
+-- a row without columns
+abbrev pub default_word : Quoting → List ℕ
+default_word Sqlite = codes " DEFAULT VALUES"
+default_word Postgresql = codes " DEFAULT VALUES"
+default_word Mysql = codes " () VALUES ()"
+
+abbrev pub columns_pieces : Catalog → TableId → List ColumnNo → List Piece
+columns_pieces schema table columns = joined (codes ", ") (λ column. column_piece schema table column ∷ []) columns
+
+-- a value for a column, under the column's name
+abbrev pub cell_piece : Catalog → TableId → ColumnNo → Value → Piece
+cell_piece schema table column v = value (column_name schema table column) v
+
+-- values for columns, each with the word before it, and a comma before all but the first
+abbrev pub cells_pieces : Catalog → TableId → List ℕ → List ColumnNo → List Value → List Piece
+cells_pieces schema table word columns [] = []
+cells_pieces schema table word [] (v ∷ values) = []
+cells_pieces schema table word (column ∷ columns) (v ∷ values) =
+    words word ∷ cell_piece schema table column v ∷ cells_pieces schema table (codes ", ") columns values
+
+-- the columns and their values
+abbrev pub lists_pieces : Catalog → TableId → List ColumnNo → List Value → List Piece
+lists_pieces schema table columns values =
+    words (codes " (") ∷ columns_pieces schema table columns
+    ++ (words (codes ") VALUES ") ∷ cells_pieces schema table (codes "(") columns values ++ words (codes ")") ∷ [])
+
+-- the values of a row, or rather that there are no columns
+abbrev pub values_pieces : Quoting → Catalog → TableId → List ColumnNo → List Value → List Piece
+values_pieces quoting schema table [] values = words (default_word quoting) ∷ []
+values_pieces quoting schema table (column ∷ columns) values = lists_pieces schema table (column ∷ columns) values
+
+abbrev pub filter_pieces : Quoting → Catalog → TableId → Option Expr → List Piece
+filter_pieces quoting schema table filter = clause_pieces quoting schema (alone table) (codes " WHERE ") filter
+
+-- what is set: an expression in which a literal that stands alone has the column's name, or NULL
+abbrev pub written_pieces : Quoting → Catalog → TableId → ColumnNo → Option Expr → List Piece
+written_pieces quoting schema table column None = cell_piece schema table column cell.Null ∷ []
+written_pieces quoting schema table column (Some e) = (laid quoting schema e).pieces (alone table) (column_name schema table column)
+
+abbrev pub set_pieces : Quoting → Catalog → TableId → ColumnNo × Option Expr → List Piece
+set_pieces quoting schema table set = column_piece schema table set.0 ∷ words (codes "=") ∷ written_pieces quoting schema table set.0 set.1
+
+abbrev pub insert_pieces : Quoting → Catalog → TableId → List ColumnNo → List Value → List Piece
+insert_pieces quoting schema table columns values = words (codes "INSERT INTO ") ∷ table_piece schema table ∷ values_pieces quoting schema table columns values
+
+abbrev pub delete_pieces : Quoting → Catalog → TableId → Option Expr → List Piece
+delete_pieces quoting schema table filter = words (codes "DELETE FROM ") ∷ table_piece schema table ∷ filter_pieces quoting schema table filter
+
+abbrev pub update_pieces : Quoting → Catalog → TableId → List (ColumnNo × Option Expr) → Option Expr → List Piece
+update_pieces quoting schema table cells filter =
+    words (codes "UPDATE ") ∷ table_piece schema table ∷ words (codes " SET ") ∷ joined (codes ", ") (set_pieces quoting schema table) cells
+    ++ filter_pieces quoting schema table filter
+
+unfoldable pub bulk_pieces : Quoting → Catalog → Bulk → List Piece
+bulk_pieces quoting schema (bulk.Insert table columns values) = insert_pieces quoting schema table columns values
+bulk_pieces quoting schema (bulk.Update table cells filter) = update_pieces quoting schema table cells filter
+bulk_pieces quoting schema (bulk.Delete table filter) = delete_pieces quoting schema table filter

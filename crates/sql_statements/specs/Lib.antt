@@ -1,0 +1,4 @@
+pub mod Bulks
+pub mod Rows
+pub mod Selects
+pub mod Texts

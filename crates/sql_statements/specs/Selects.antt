@@ -1,0 +1,115 @@
+-- The texts of selects.
+use Rattle.std.specs.Prelude.{ℕ, ◌<◌, ◌^◌, ◌++◌, Bool, true, false, List, [], ◌∷◌, map, Option, Some, None, codes, pos}
+use Rattle.base_core.specs.declared.value.Value.TheVariants as cell
+use Rattle.schema_core.specs.Catalog.{Catalog}
+use Rattle.expr_types.specs.declared.expr.Expr.{Expr}
+use Rattle.expr_types.specs.declared.expr.Origin.{Origin}
+use Rattle.expr_types.specs.declared.select.Joined.{Joined}
+use Rattle.expr_types.specs.declared.select.Select.{Select}
+use Rattle.sql_semantics.specs.Plain.{sources_of}
+use Rattle.sql_text.specs.declared.names.Quoting.{Quoting}
+use Rattle.sql_text.specs.declared.names.Quoting.TheVariants.{Sqlite, Postgresql, Mysql}
+use Rattle.sql_expressions.specs.Laid.{laid, param, parts, source_pieces}
+use Rattle.sql_text.specs.Written.{Piece, words, name, value, joined}
+
+-- an expression by itself
+abbrev pub whole : Quoting → Catalog → List Origin → Expr → List Piece
+whole quoting schema scope e = (laid quoting schema e).pieces scope param
+
+abbrev pub select_word : Bool → List ℕ
+select_word false = codes "SELECT "
+select_word true = codes "SELECT DISTINCT "
+
+abbrev pub named_pieces : Option (List ℕ) → List Piece
+named_pieces None = []
+named_pieces (Some shown) = words (codes " AS ") ∷ name shown ∷ []
+
+abbrev pub item_pieces : Quoting → Catalog → List Origin → Expr × Option (List ℕ) → List Piece
+item_pieces quoting schema scope item = whole quoting schema scope item.0 ++ named_pieces item.1
+
+abbrev pub join_word : Bool → List ℕ
+join_word false = codes " JOIN "
+join_word true = codes " LEFT OUTER JOIN "
+
+abbrev pub join_pieces : Quoting → Catalog → List Origin → Joined → List Piece
+join_pieces quoting schema scope join = words (join_word join.left) ∷ source_pieces schema join.origin ++ words (codes " ON ") ∷ whole quoting schema scope join.on
+
+-- each further source, with its condition under the sources up to it
+abbrev pub joins_pieces : Quoting → Catalog → List Origin → List Joined → List Piece
+joins_pieces quoting schema before [] = []
+joins_pieces quoting schema before (join ∷ joins) =
+    join_pieces quoting schema (before ++ join.origin ∷ []) join ++ joins_pieces quoting schema (before ++ join.origin ∷ []) joins
+
+-- a word with the condition behind it, where there is one
+abbrev pub clause_pieces : Quoting → Catalog → List Origin → List ℕ → Option Expr → List Piece
+clause_pieces quoting schema scope word None = []
+clause_pieces quoting schema scope word (Some e) = words word ∷ whole quoting schema scope e
+
+abbrev pub group_by_pieces : Quoting → Catalog → List Origin → List Expr → List Piece
+group_by_pieces quoting schema scope groups = words (codes " GROUP BY ") ∷ parts 1 (codes ", ") (map (laid quoting schema) groups) scope
+
+abbrev pub groups_pieces : Quoting → Catalog → List Origin → List Expr → List Piece
+groups_pieces quoting schema scope [] = []
+groups_pieces quoting schema scope (e ∷ groups) = group_by_pieces quoting schema scope (e ∷ groups)
+
+abbrev pub desc_pieces : Bool → List Piece
+desc_pieces false = []
+desc_pieces true = words (codes " DESC") ∷ []
+
+abbrev pub key_pieces : Quoting → Catalog → List Origin → Expr × Bool → List Piece
+key_pieces quoting schema scope key = whole quoting schema scope key.0 ++ desc_pieces key.1
+
+abbrev pub order_by_pieces : Quoting → Catalog → List Origin → List (Expr × Bool) → List Piece
+order_by_pieces quoting schema scope keys = words (codes " ORDER BY ") ∷ joined (codes ", ") (key_pieces quoting schema scope) keys
+
+abbrev pub order_pieces : Quoting → Catalog → List Origin → List (Expr × Bool) → List Piece
+order_pieces quoting schema scope [] = []
+order_pieces quoting schema scope (key ∷ keys) = order_by_pieces quoting schema scope (key ∷ keys)
+
+abbrev pub number_piece : ℕ → Piece
+number_piece n = value param (cell.Int (pos n))
+
+-- a number of rows is below 2 ^ 63
+abbrev pub IsCut : Option ℕ → Type 0
+IsCut None = Unit {0}
+IsCut (Some n) = n < 2 ^ 63
+
+abbrev pub counted : List ℕ → ℕ → List Piece
+counted word n = words word ∷ number_piece n ∷ []
+
+-- MySQL writes the offset first
+abbrev pub both_pieces : Quoting → ℕ → ℕ → List Piece
+both_pieces Sqlite l o = counted (codes " LIMIT ") l ++ counted (codes " OFFSET ") o
+both_pieces Postgresql l o = counted (codes " LIMIT ") l ++ counted (codes " OFFSET ") o
+both_pieces Mysql l o = counted (codes " LIMIT ") o ++ counted (codes ", ") l
+
+abbrev pub offset_pieces : Quoting → ℕ → List Piece
+offset_pieces Sqlite o = counted (codes " LIMIT -1 OFFSET ") o
+offset_pieces Postgresql o = counted (codes " LIMIT ALL OFFSET ") o
+offset_pieces Mysql o = counted (codes " LIMIT ") o ++ words (codes ", 18446744073709551615") ∷ []
+
+abbrev pub cut_pieces : Quoting → Option ℕ → Option ℕ → List Piece
+cut_pieces quoting None None = []
+cut_pieces quoting (Some l) None = counted (codes " LIMIT ") l
+cut_pieces quoting None (Some o) = offset_pieces quoting o
+cut_pieces quoting (Some l) (Some o) = both_pieces quoting l o
+
+-- what stands before FROM
+abbrev pub head_pieces : Quoting → Catalog → Select → List Piece
+head_pieces quoting schema s = words (select_word s.distinct) ∷ joined (codes ", ") (item_pieces quoting schema (sources_of s)) s.items
+
+-- the sources
+abbrev pub from_pieces : Quoting → Catalog → Select → List Piece
+from_pieces quoting schema s = words (codes " FROM ") ∷ source_pieces schema s.first ++ joins_pieces quoting schema (s.first ∷ []) s.joins
+
+-- the clauses behind the sources
+abbrev pub tail_pieces : Quoting → Catalog → List Origin → Select → List Piece
+tail_pieces quoting schema scope s =
+    clause_pieces quoting schema scope (codes " WHERE ") s.filter
+    ++ groups_pieces quoting schema scope s.groups
+    ++ clause_pieces quoting schema scope (codes " HAVING ") s.having
+    ++ order_pieces quoting schema scope s.order
+    ++ cut_pieces quoting s.limit s.offset
+
+unfoldable pub select_pieces : Quoting → Catalog → Select → List Piece
+select_pieces quoting schema s = head_pieces quoting schema s ++ from_pieces quoting schema s ++ tail_pieces quoting schema (sources_of s) s

@@ -1,0 +1,27 @@
+-- The text of a statement in a dialect.
+use Rattle.std.specs.Prelude.{List}
+use Rattle.schema_core.specs.Catalog.{Catalog}
+use Rattle.expr_types.specs.declared.select.Statement.{Statement}
+use Rattle.expr_types.specs.declared.select.Statement.TheVariants.{Select, Bulk, Row}
+use Rattle.sql_text.specs.declared.names.Quoting.{Quoting}
+use Rattle.sql_text.specs.declared.writer.Compiled.{Compiled}
+use Rattle.sql_statements.specs.Bulks.{bulk_pieces}
+use Rattle.sql_statements.specs.Rows.{row_pieces}
+use Rattle.sql_statements.specs.Selects.{select_pieces, IsCut}
+use Rattle.sql_text.specs.Written.{Piece, compiled, nothing, put_all}
+
+-- the pieces of a statement's text
+abbrev pub statement_pieces : Quoting → Catalog → Statement → List Piece
+statement_pieces quoting schema (Select select) = select_pieces quoting schema select
+statement_pieces quoting schema (Bulk bulk) = bulk_pieces quoting schema bulk
+statement_pieces quoting schema (Row row) = row_pieces quoting schema row
+
+-- a statement's text with the names of its marks and their values
+unfoldable pub text_of : Quoting → Catalog → Statement → Compiled
+text_of quoting schema statement = compiled (put_all (nothing quoting) (statement_pieces quoting schema statement))
+
+-- the numbers of a select's cut are below 2 ^ 63, as those of every plain select are
+abbrev pub HasCuts : Statement → Type 0
+HasCuts (Select select) = IsCut select.limit × IsCut select.offset
+HasCuts (Bulk bulk) = Unit {0}
+HasCuts (Row row) = Unit {0}

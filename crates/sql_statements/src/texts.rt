@@ -1,0 +1,55 @@
+//! The texts of statements.
+
+ghost use Rattle.std.specs.Prelude.{Ok, IsTrue, ◌↔◌};
+ghost use Rattle.base_core.specs.Answers.{Gives};
+ghost use Rattle.sql_statements.specs.Texts as spec;
+ghost use Rattle.sql_text.specs.Written.{Wrote};
+
+use crate::bulks::bulk;
+use crate::rows::row;
+use crate::selects::{self, select};
+use base_core::Refusal;
+use expr_types::Statement;
+use schema_core::Schema;
+use sql_text::{Compiled, Quoting, Writer};
+use std::alloc::Global;
+
+#[tactic(auto, using(sql_text::proofs::Steps::steps))]
+fn write(writer: &mut Writer, schema: &Schema, statement: &Statement) -> Result<(), Refusal>
+    requires { spec.HasCuts statement.now }
+    ensures { Wrote (spec.statement_pieces writer.old.quoting schema.now statement.now)
+        result writer.old writer.new }
+{
+    match statement {
+        Statement::Select(it) => select(writer, schema, it),
+        Statement::Bulk(it) => bulk(writer, schema, it),
+        Statement::Row(it) => row(writer, schema, it),
+    }
+}
+
+/// Whether the numbers of a select's cut are below 2 ^ 63, as those of every plain select are.
+pub fn has_cuts(statement: &Statement) -> bool
+    ensures { IsTrue result ↔ spec.HasCuts statement.now }
+{
+    match statement {
+        Statement::Select(it) => selects::has_cuts(it),
+        Statement::Bulk(_) | Statement::Row(_) => true,
+    }
+}
+
+/// A statement's text in a dialect, with the names of its marks and their values. The only refusal is that memory ran
+/// out.
+#[tactic(auto, unfolding(crate::specs::Texts::text_of))]
+pub fn compiled(
+    alloc: Global,
+    quoting: Quoting,
+    schema: &Schema,
+    statement: &Statement,
+) -> Result<Compiled, Refusal>
+    requires { spec.HasCuts statement.now }
+    ensures { Gives (λ it. it) result (Ok (spec.text_of quoting schema.now statement.now)) }
+{
+    let mut writer = Writer::new(alloc, quoting);
+    write(&mut writer, schema, statement)?;
+    Ok(writer.finish())
+}
