@@ -52,13 +52,13 @@ one_data : (tables : eval.Tables) (cells : List (ColumnNo × Option Expr)) (done
 one_data tables cells done entry true = bind_data (rewritten tables cells entry.1) (λ r. Ok (done ++ (entry.0, r) ∷ [])) (rewritten_data tables cells entry.1) (λ r. tt)
 one_data tables cells done entry false = tt
 
-updated_data : (tables : eval.Tables) (cells : List (ColumnNo × Option Expr)) (filter : Option Expr) (done rows : Rows) → OnlyData (updated_from tables cells filter done rows)
+pub updated_data : (tables : eval.Tables) (cells : List (ColumnNo × Option Expr)) (filter : Option Expr) (done rows : Rows) → OnlyData (updated_from tables cells filter done rows)
 updated_data tables cells filter done [] = tt
 updated_data tables cells filter done (entry ∷ rows) =
     bind_data (takes tables filter entry.1) (λ taken. one_more tables cells done entry taken >>= λ more. updated_from tables cells filter more rows) (takes_data tables filter entry.1)
     (λ taken. bind_data (one_more tables cells done entry taken) (λ more. updated_from tables cells filter more rows) (one_data tables cells done entry taken) (λ more. updated_data tables cells filter more rows))
 
-deleted_data : (tables : eval.Tables) (filter : Option Expr) (done : List (List Value)) (rows : Rows) → OnlyData (deleted_from tables filter done rows)
+pub deleted_data : (tables : eval.Tables) (filter : Option Expr) (done : List (List Value)) (rows : Rows) → OnlyData (deleted_from tables filter done rows)
 deleted_data tables filter done [] = tt
 deleted_data tables filter done (entry ∷ rows) =
     bind_data (takes tables filter entry.1) (λ taken. deleted_from tables filter (if taken then done ++ entry.0 ∷ [] else done) rows) (takes_data tables filter entry.1)

@@ -117,7 +117,7 @@ fn paired(
 }
 
 /// The row of so many columns that an INSERT puts in: the values in their columns, NULL in the others. The only error is
-/// want of memory.
+/// out of memory.
 pub fn inserted(
     alloc: Global,
     width: usize,

@@ -35,7 +35,7 @@ fn of_cells(cells: &[(ColumnNo, Option<Expr>)], found: &mut Vec<u32>) -> Result<
 /// and then of the condition.
 ///
 /// # Errors
-/// `OperationalError` with that table; want of memory.
+/// `OperationalError` with that table; out of memory.
 #[tactic(auto, using(crate::proofs::Behind::all_named))]
 pub fn all_created(
     alloc: Global,

@@ -70,7 +70,7 @@ fn updated_rows(
 ///
 /// # Errors
 /// `DataError` with the first result outside 64 bits: row by row in the order given, of each its condition and then its
-/// expressions in order; want of memory.
+/// expressions in order; out of memory.
 pub fn updated(
     alloc: Global,
     tables: &TableRows,
@@ -120,7 +120,7 @@ fn deleted_keys(
 /// The keys of the rows of the table that a DELETE takes.
 ///
 /// # Errors
-/// `DataError` with the first result outside 64 bits, row by row in the order given; want of memory.
+/// `DataError` with the first result outside 64 bits, row by row in the order given; out of memory.
 pub fn deleted(
     alloc: Global,
     tables: &TableRows,

@@ -168,7 +168,9 @@ impl<'a> Target<'a> {
         entries: &[(Key, RowValues)],
     ) -> Result<PlainTables, Unwritten>
         requires { IsTable self.now.schema.now self.now.table }
-        ensures { Told (write_all self.now.schema.now self.now.tables.now self.now.table self.now.rows.now entries.now) result }
+        ensures { Told
+            (write_all self.now.schema.now self.now.tables.now self.now.table
+            self.now.rows.now entries.now) result }
     {
         let spec = self.schema.spec(self.table);
         let rows = with_all(alloc, self.rows.as_slice(), entries)?;
@@ -190,7 +192,9 @@ impl<'a> Target<'a> {
         entries: &[(Key, RowValues)],
     ) -> Result<PlainTables, Unwritten>
         requires { IsTable self.now.schema.now self.now.table }
-        ensures { Told (change_all self.now.schema.now self.now.tables.now self.now.table self.now.rows.now entries.now) result }
+        ensures { Told
+            (change_all self.now.schema.now self.now.tables.now self.now.table
+            self.now.rows.now entries.now) result }
     {
         if some_lacks(self.schema.spec(self.table), entries) {
             return Err(Unwritten::Violates(Violation::NotNull));
@@ -201,7 +205,9 @@ impl<'a> Target<'a> {
     #[tactic(auto, using(schema_core::proofs::ApplySteps::remove_steps))]
     /// The tables without the rows of these keys, unless a row that is left refers to one of them.
     fn remove_all(&self, alloc: Global, keys: &[Key]) -> Result<PlainTables, Unwritten>
-        ensures { Told (remove_all self.now.schema.now self.now.tables.now self.now.table self.now.rows.now keys.now) result }
+        ensures { Told
+            (remove_all self.now.schema.now self.now.tables.now self.now.table
+            self.now.rows.now keys.now) result }
     {
         let rows = without_all(alloc, self.rows.as_slice(), keys)?;
         let tables = with_rows(alloc, self.tables, self.table, rows)?;
@@ -310,7 +316,9 @@ impl<'a> Target<'a> {
         new: &[RowValues],
     ) -> Result<(KeyList, PlainTables), Unwritten>
         requires { IsTable self.now.schema.now self.now.table }
-        ensures { Told (insert_rows self.now.schema.now self.now.tables.now self.now.table self.now.rows.now new.now) result }
+        ensures { Told
+            (insert_rows self.now.schema.now self.now.tables.now self.now.table
+            self.now.rows.now new.now) result }
     {
         if self.some_lacks_demanded(new) {
             return Err(Unwritten::Violates(Violation::NotNull));
@@ -329,7 +337,9 @@ impl<'a> Target<'a> {
         cells: &ListOf<(ColumnNo, Value)>,
     ) -> Result<(KeyList, PlainTables), Unwritten>
         requires { IsTable self.now.schema.now self.now.table }
-        ensures { Told (update_row self.now.schema.now self.now.tables.now self.now.table self.now.rows.now key.now cells.now) result }
+        ensures { Told
+            (update_row self.now.schema.now self.now.tables.now self.now.table
+            self.now.rows.now key.now cells.now) result }
     {
         let Some(row) = row_under(self.rows, key) else {
             return Err(Unwritten::Violates(Violation::Missing));
@@ -342,7 +352,9 @@ impl<'a> Target<'a> {
     #[tactic(auto, using(schema_core::proofs::ApplySteps::delete_steps))]
     /// The tables without the row of a key, which may be absent.
     fn delete_row(&self, alloc: Global, key: &Key) -> Result<(KeyList, PlainTables), Unwritten>
-        ensures { Told (delete_row self.now.schema.now self.now.tables.now self.now.table self.now.rows.now key.now) result }
+        ensures { Told
+            (delete_row self.now.schema.now self.now.tables.now self.now.table
+            self.now.rows.now key.now) result }
     {
         let keys = one_key(alloc, key)?;
         if row_under(self.rows, key).is_none() {

@@ -29,7 +29,8 @@ fn some_collides(
     row: &RowValues,
 ) -> bool
     ensures { result ≡ list_any
-        (λ other. not (same_values key.now other.0) && collide spec.now unique.now row.now other.1) rows.now }
+        (λ other. not (same_values key.now other.0)
+        && collide spec.now unique.now row.now other.1) rows.now }
 {
     rows.iter().any(|other| !key.cmp(&other.0).is_eq() && collide(spec, unique, row, &other.1))
 }

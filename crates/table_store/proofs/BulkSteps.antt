@@ -22,9 +22,10 @@ use Rattle.sql_semantics.specs.Kinds.{column_in}
 use Rattle.sql_semantics.specs.Plain.{IsPlainBulk, are_for, has_kind}
 use Rattle.sql_semantics.specs.Applied as spec
 use Rattle.sql_semantics.specs.Taken.{inserted}
-use Rattle.table_store.specs.Held.{Did, refusal_of, rows_at, stand}
-use Rattle.table_store.specs.Lost.{some_lost}
-use Rattle.table_store.specs.declared.judging.Before.TheVariants as before
+use Rattle.table_rows.specs.Rows.{rows_at}
+use Rattle.table_rows.specs.Lost.{some_lost}
+use Rattle.table_rows.specs.declared.judging.Before.TheVariants as before
+use Rattle.table_store.specs.Held.{Did, refusal_of, stand}
 use Rattle.table_store.proofs.WriteSteps.{stand_written, still_created}
 
 -- ---- what is left

@@ -1,9 +1,4 @@
 mod BulkSteps
-mod CellSteps
-mod Copies
-mod Entries
-mod Gone
-mod Laws
 mod Scopes
 mod Statements
 mod WriteSteps

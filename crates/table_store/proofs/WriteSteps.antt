@@ -18,12 +18,13 @@ use Rattle.schema_core.specs.Judged.{Judged, and_then, change_all, lacks_value, 
 use Rattle.schema_core.specs.Tables.{Rows, Tables, key_of, row_under, rows_in, with_row, with_rows, without_row}
 use Rattle.schema_core.specs.Told.{Told}
 use Rattle.schema_core.proofs.ApplySteps as steps
-use Rattle.table_store.specs.Held.{AreSorted, Did, is_violation, put_from, restored, rows_at, stand, taken_back, with_entry}
-use Rattle.table_store.specs.Lost.{some_lost}
-use Rattle.table_store.specs.declared.judging.Before.TheVariants as before
-use Rattle.table_store.proofs.Entries.{found_put, put_again}
-use Rattle.table_store.proofs.Laws.{put_undone, row_restored, rows_found, rows_restored, tables_total, taking_undone, values_total}
-use Rattle.table_store.proofs.Gone.{lost_alone}
+use Rattle.table_rows.specs.Rows.{AreSorted, restored, rows_at}
+use Rattle.table_rows.specs.Lost.{some_lost}
+use Rattle.table_rows.specs.declared.judging.Before.TheVariants as before
+use Rattle.table_store.specs.Held.{Did, is_violation, put_from, stand, taken_back, with_entry}
+use Rattle.table_rows.proofs.Entries.{found_put, put_again}
+use Rattle.table_rows.proofs.Laws.{put_undone, row_restored, rows_found, rows_restored, tables_total, taking_undone, values_total}
+use Rattle.table_rows.proofs.Gone.{lost_alone}
 
 -- a table whose rows were changed is still created
 pub still_created : (tables new : Tables) (table : TableId) (rows : Rows) → new ≡ with_rows tables table rows → is_some (rows_in new table) ≡ true
@@ -190,15 +191,13 @@ put_ended schema tables left after table done row more entry answer is sorted cr
     by (Err (Violates violation)) did = put_undone_again schema tables left table done row more entry (Err (Violates violation)) is refl sorted created did
     by (Err Memory) did = tt
 
-pub put_closed : (schema : Catalog) (tables mid left after : Tables) (table : TableId) (done both : Rows) (new : List (List Value)) (row : List Value) (more : List (List Value)) (entry : List Value × List Value) (key put_key put_row : List Value) (answer : Result (List (List Value)) Unwritten)
-    → new ≡ row ∷ more → new_entry schema tables table row ≡ Ok entry → key ≡ entry.0 → put_key ≡ entry.0 → put_row ≡ entry.1 → mid ≡ with_rows tables table (with_row (rows_at tables table) put_key put_row) → both ≡ done ++ entry ∷ []
+pub put_closed : (schema : Catalog) (tables mid left after : Tables) (table : TableId) (done both : Rows) (new : List (List Value)) (row : List Value) (more : List (List Value)) (entry : List Value × List Value) (key : List Value) (answer : Result (List (List Value)) Unwritten)
+    → new ≡ row ∷ more → new_entry schema tables table row ≡ Ok entry → key ≡ entry.0 → mid ≡ with_entry tables table entry → both ≡ done ++ entry ∷ []
     → AreSorted tables table → is_some (rows_in tables table) ≡ true → Did (put_from schema mid table both more) mid answer left → after ≡ taken_back answer left table key
     → Did (put_from schema tables table done new) tables answer after
-put_closed schema tables mid left after table done both new row more entry key put_key put_row answer is_new is is_key is_put_key is_put_row is_mid is_both sorted created did ended =
-    let middle : mid ≡ with_entry tables table entry =
-    is_mid ∙ ap (λ k. with_rows tables table (with_row (rows_at tables table) k put_row)) is_put_key ∙ ap (λ r. with_rows tables table (with_row (rows_at tables table) entry.0 r)) is_put_row in
+put_closed schema tables mid left after table done both new row more entry key answer is_new is is_key is_mid is_both sorted created did ended =
     let first : Did (put_from schema (with_entry tables table entry) table both more) (with_entry tables table entry) answer left =
-    subst (λ (ts : Tables). Did (put_from schema ts table both more) ts answer left) middle did in
+    subst (λ (ts : Tables). Did (put_from schema ts table both more) ts answer left) is_mid did in
     let second : Did (put_on schema tables table done more entry) (with_entry tables table entry) answer left =
     subst (λ (es : Rows). Did (put_from schema (with_entry tables table entry) table es more) (with_entry tables table entry) answer left) is_both first in
     subst (λ (rows : List (List Value)). Did (put_from schema tables table done rows) tables answer after) (sym is_new)

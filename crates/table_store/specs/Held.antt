@@ -1,15 +1,9 @@
--- Tables with one of them changed, and what a statement did to tables that are held.
-use Rattle.std.specs.Prelude.{◌≡◌, Bool, true, false, cond, if◌then◌else◌, List, [], ◌∷◌, ◌++◌, Option, None, Some, Result, Ok, Err}
-use Rattle.std.specs.Option.{unwrap_or}
-use Rattle.std.specs.Map.{keys_of, remove_entry, set_value}
-use Rattle.std.specs.BTreeMap.{is_at}
-use Rattle.std.specs.List.Sorted.{IsStrictlySortedBy}
+-- What a statement on rows did to tables that are held.
+use Rattle.std.specs.Prelude.{◌≡◌, Bool, true, false, if◌then◌else◌, List, [], ◌∷◌, ◌++◌, Result, Ok, Err}
 use Rattle.base_core.specs.declared.ids.TableId.{TableId}
 use Rattle.base_core.specs.declared.refusal.Refusal.{Refusal}
 use Rattle.base_core.specs.declared.refusal.Refusal.TheVariants as refusals
 use Rattle.base_core.specs.declared.value.Value.{Value}
-use Rattle.base_core.specs.Order.{values_cmp}
-use Rattle.schema_core.specs.declared.table.ColumnSpec.{ColumnSpec}
 use Rattle.schema_core.specs.declared.statement.Unwritten.{Unwritten}
 use Rattle.schema_core.specs.declared.statement.Unwritten.TheVariants.{Violates, Memory}
 use Rattle.schema_core.specs.declared.statement.Violation.TheVariants.{Unique, Foreign}
@@ -17,24 +11,8 @@ use Rattle.schema_core.specs.Apply.{Outcome, entry_of, keys_of_entries, with_own
 use Rattle.schema_core.specs.Catalog.{Catalog, spec_of}
 use Rattle.schema_core.specs.Judged.{Judged, and_then, some_repeats, some_written_dangles}
 use Rattle.schema_core.specs.Refusals.{violation_refusal}
-use Rattle.schema_core.specs.Tables.{Rows, Tables, rows_in, table_cmp, with_row, with_rows, without_row}
-
--- the rows of a table, none where it is not created
-abbrev pub rows_at : Tables → TableId → Rows
-rows_at tables table = unwrap_or (rows_in tables table) []
-
--- the rows with what stood under a key before
-abbrev pub restored : Rows → List Value → Option (List Value) → Rows
-restored rows key None = remove_entry (is_at (values_cmp key)) rows
-restored rows key (Some row) = set_value (is_at (values_cmp key)) rows row
-
--- a cell, or the key where the cell's column is of the key
-abbrev pub keyed : ColumnSpec → Value → Value → Value
-keyed column key cell = cond column.key key cell
-
--- tables are ascending by number, and the rows of one of them by key
-abbrev pub AreSorted : Tables → TableId → Type 0
-AreSorted tables table = IsStrictlySortedBy table_cmp (keys_of tables) × IsStrictlySortedBy values_cmp (keys_of (rows_at tables table))
+use Rattle.schema_core.specs.Tables.{Rows, Tables, with_row, with_rows, without_row}
+use Rattle.table_rows.specs.Rows.{rows_at}
 
 -- written rows may stand: none repeats a unique value of another row or refers to no row
 unfoldable pub stand : Catalog → Tables → TableId → Rows → Judged (Unit {0})

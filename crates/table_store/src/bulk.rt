@@ -9,18 +9,16 @@ ghost use Rattle.schema_core.specs.Told.{Told};
 ghost use Rattle.sql_semantics.specs.Applied as spec;
 ghost use Rattle.sql_semantics.specs.Checked.{Gives};
 ghost use Rattle.sql_semantics.specs.Plain.{IsPlainBulk};
-ghost use Rattle.table_store.specs.Held.{refusal_of, rows_at};
+ghost use Rattle.table_rows.specs.Rows.{rows_at};
+ghost use Rattle.table_store.specs.Held.{refusal_of};
 
-use crate::cells::lacks_value;
-use crate::judging::{Before, some_lost};
-use crate::rows::TableRows;
-use crate::tables::TableMap;
 use crate::writing::{insert_rows, stand};
 use base_core::{ColumnNo, Copied, Key, ListOf, Refusal, RowValues, TableId};
 use expr_types::{Bulk, Expr};
 use keeper_core::calls::table_of_bulk;
 use schema_core::{Schema, TableSpec, Unwritten, Violation};
 use std::alloc::{AllocError, Global};
+use table_rows::{Before, TableMap, TableRows, lacks_value, some_lost};
 
 /// The refusal of a statement on a table.
 fn refusal_of(table: TableId, unwritten: Unwritten) -> Refusal

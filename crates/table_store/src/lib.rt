@@ -2,11 +2,7 @@
 #![tactic(auto)]
 
 mod bulk;
-mod cells;
-mod judging;
-mod rows;
 mod store;
-mod tables;
 mod writing;
 
 pub use store::TableStore;

@@ -15,7 +15,6 @@ ghost use Rattle.programs.specs.Store.{created, dropped, is_created};
 ghost use Rattle.table_store.specs.Written.{Bulked, MayRefuse, Wrote, given_up};
 
 use crate::bulk::applied;
-use crate::tables::TableMap;
 use crate::writing::apply;
 use base_core::{Copied, KeyList, Refusal, RowList, TableId};
 use expr_types::{Bulk, Select};
@@ -23,6 +22,7 @@ use schema_core::{RowStmt, Schema, Unwritten};
 use select_rows::rows_of;
 use std::alloc::{AllocError, Global};
 use std::marker::Model;
+use table_rows::TableMap;
 
 /// Tables, and those at the start of each scope.
 #[derive(Drop)]

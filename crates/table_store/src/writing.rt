@@ -1,6 +1,6 @@
 //! A statement on rows, done on tables that are held.
 
-ghost use Rattle.std.specs.Prelude.{◌≡◌, ◌&&◌, ◌<◌, [], ◌∷◌, true, is_some, length, IfOk};
+ghost use Rattle.std.specs.Prelude.{◌≡◌, ◌&&◌, ◌<◌, [], ◌∷◌, ◌++◌, true, is_some, length, Ok, IfOk, OnOk};
 ghost use Rattle.std.specs.List.{list_any};
 ghost use Rattle.schema_core.specs.Apply.{apply, delete_row, entry_of, insert_rows, is_demanded, keys_of_entries, next_key, update_row, wants_key, with_own_key};
 ghost use Rattle.schema_core.specs.Catalog.{spec_of, IsTable};
@@ -8,15 +8,16 @@ ghost use Rattle.schema_core.specs.Judged.{lacks_value};
 ghost use Rattle.schema_core.specs.Tables.{row_under, rows_in};
 ghost use Rattle.schema_core.specs.Told.{Told};
 ghost use Rattle.schema_core.specs.WellFormed.{IsWellFormed};
-ghost use Rattle.table_store.specs.Held.{Did, is_violation, put_from, rows_at, stand, taken_back};
+ghost use Rattle.table_rows.specs.Rows.{AreSorted, rows_at};
+ghost use Rattle.table_store.specs.Held.{Did, is_violation, put_from, stand, taken_back, with_entry};
 
-use crate::cells::{has_null, key_of, lacks_given, lacks_value, with_cells, with_key};
-use crate::judging::{Before, some_lost, some_repeats, some_written_dangles};
-use crate::rows::TableRows;
-use crate::tables::TableMap;
 use base_core::{ColumnNo, Copied, Key, KeyList, ListOf, RowValues, TableId, Value};
 use schema_core::{RowStmt, Schema, Unwritten, Violation};
 use std::alloc::{AllocError, Global};
+use table_rows::{
+    Before, TableMap, TableRows, has_null, key_of, lacks_given, lacks_value, some_lost,
+    some_repeats, some_written_dangles, with_cells, with_key,
+};
 
 /// A copy of the row of a key.
 fn row_under(tables: &TableMap, table: TableId, key: &Key) -> Result<Option<RowValues>, AllocError>
@@ -131,7 +132,7 @@ fn entry_of(
     Ok((key, row))
 }
 
-#[tactic(auto, using(crate::proofs::Laws::rows_there))]
+#[tactic(auto, using(table_rows::proofs::Laws::rows_there))]
 /// A new row of a created table under its key.
 fn new_entry(
     alloc: Global,
@@ -150,6 +151,16 @@ fn new_entry(
     };
     let keyed = with_own_key(alloc, schema, table, rows, row)?;
     entry_of(alloc, schema, table, rows, keyed)
+}
+
+/// Both values, where both are there.
+fn both<A: Drop, B: Drop>(
+    one: Result<A, AllocError>,
+    other: Result<B, AllocError>,
+) -> Result<(A, B), AllocError>
+    ensures { IfOk result (λ it. (one ≡ Ok it.0) × (other ≡ Ok it.1)) }
+{
+    Ok((one?, other?))
 }
 
 /// The keys of rows.
@@ -190,6 +201,25 @@ fn take_back(tables: &mut TableMap, table: TableId, key: &Key, answer: &Result<K
     }
 }
 
+/// Puts a new row in behind those of the statement that are in, and gives its key.
+fn put_entry(
+    tables: &mut TableMap,
+    table: TableId,
+    done: &mut Vec<(Key, RowValues)>,
+    entry: (Key, RowValues),
+) -> Result<Key, AllocError>
+    requires { is_some (rows_in tables.old table) ≡ true }
+    ensures key { IfOk result (λ key. key ≡ entry.0) }
+    ensures tables { OnOk result (tables.new ≡ with_entry tables.old table entry) }
+    ensures done { OnOk result (done.new.items ≡ done.old.items ++ entry ∷ []) }
+    ensures sorted { OnOk result (AreSorted tables.old table) }
+{
+    let (key, (own, row)) = both(entry.0.copied(), both(entry.0.copied(), entry.1.copied()))?;
+    tables.put(table, own, row)?;
+    done.push(entry)?;
+    Ok(key)
+}
+
 #[tactic(auto, using(crate::proofs::WriteSteps::put_steps))]
 /// Puts new rows in behind those of the statement that are in, and judges them all once the last is in. A row is taken out
 /// again where a rule is violated behind it.
@@ -203,16 +233,15 @@ fn put_from(
 ) -> Result<KeyList, Unwritten>
     requires declared { IsTable schema.now table }
     requires created { is_some (rows_in tables.old table) ≡ true }
-    ensures { Did (put_from schema.now tables.old table done.old.items new.now) tables.old result tables.new }
+    ensures { Did (put_from schema.now tables.old table done.old.items new.now)
+        tables.old result tables.new }
 {
     let Some((row, more)) = new.split_first() else {
         stand(alloc, schema, tables, table, done.as_slice())?;
         return Ok(keys_of_entries(alloc, done.as_slice())?);
     };
     let entry = new_entry(alloc, schema, tables, table, row)?;
-    let key = entry.0.copied()?;
-    tables.put(table, entry.0.copied()?, entry.1.copied()?)?;
-    done.push(entry)?;
+    let key = put_entry(tables, table, done, entry)?;
     let answer = put_from(alloc, schema, tables, table, done, more);
     take_back(tables, table, &key, &answer);
     answer

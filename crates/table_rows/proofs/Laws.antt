@@ -1,0 +1,134 @@
+-- Keys and tables are in total orders that tell all of them apart, and what of that rows and tables need.
+use Rattle.std.proofs.lemmas.Bool.{true≢false}
+use Rattle.std.proofs.lemmas.Map.Steps.{set_value_same}
+use Rattle.std.specs.Option.{unwrap_or}
+use Rattle.std.proofs.Common.{◌≡◌, Bool, true, false, is_some, Result, Ok, Err, OnErr, List, [], Option, None, Some, refl, sym, ap, ◌∙◌}
+use Rattle.std.specs.declared.cmp.Ordering.TheVariants.{Equal}
+use Rattle.std.specs.Ordering.{bool_cmp}
+use Rattle.std.specs.Cmp.{IsTotalOrder, on_total, nat_cmp_total}
+use Rattle.std.specs.Cmp.Lexicographic.{lists_total}
+use Rattle.std.specs.BTreeMap.{is_at}
+use Rattle.std.specs.Map.{keys_of, set_value}
+use Rattle.std.specs.List.Sorted.{IsStrictlySortedBy}
+use Rattle.std.specs.FinMap.{slice_cmp-IsAntisymmetric}
+use Rattle.std.proofs.lemmas.Map.Lookups.{CmpEqualImpliesEq, exact_bytes, exact_signed}
+use Rattle.base_core.specs.declared.ids.TableId.{TableId}
+use Rattle.base_core.specs.declared.value.Value.{Value}
+use Rattle.base_core.specs.declared.value.Value.TheVariants.{Null, Int, Text, Bool as BoolValue, Bytes}
+use Rattle.base_core.specs.Order.{value_cmp, values_cmp}
+use Rattle.base_core.specs.OrderLaws.{value_cmp_total}
+use Rattle.schema_core.specs.Tables.{Rows, Tables, table_cmp, row_under, rows_in, with_row, with_rows, without_row}
+use Rattle.table_rows.specs.Rows.{AreSorted, restored, rows_at}
+use Rattle.table_rows.proofs.Entries.{put_in_place, put_again, put_old, take_new, put_taken, put_back, found_put}
+
+pub values_total : IsTotalOrder values_cmp
+values_total = lists_total value_cmp_total
+
+pub tables_total : IsTotalOrder table_cmp
+tables_total = on_total (λ table. table.0) nat_cmp_total
+
+exact_bool : (a b : Bool) → bool_cmp a b ≡ Equal → a ≡ b
+exact_bool true true e = refl
+exact_bool true false e = cc
+exact_bool false true e = cc
+exact_bool false false e = refl
+
+exact_value : (a b : Value) → value_cmp a b ≡ Equal → a ≡ b
+exact_value Null Null e = refl
+exact_value Null (BoolValue b) e = cc
+exact_value Null (Int b) e = cc
+exact_value Null (Text b) e = cc
+exact_value Null (Bytes b) e = cc
+exact_value (BoolValue a) Null e = cc
+exact_value (BoolValue a) (BoolValue b) e = ap BoolValue (exact_bool a b e)
+exact_value (BoolValue a) (Int b) e = cc
+exact_value (BoolValue a) (Text b) e = cc
+exact_value (BoolValue a) (Bytes b) e = cc
+exact_value (Int a) Null e = cc
+exact_value (Int a) (BoolValue b) e = cc
+exact_value (Int a) (Int b) e = ap Int (exact_signed a b e)
+exact_value (Int a) (Text b) e = cc
+exact_value (Int a) (Bytes b) e = cc
+exact_value (Text a) Null e = cc
+exact_value (Text a) (BoolValue b) e = cc
+exact_value (Text a) (Int b) e = cc
+exact_value (Text a) (Text b) e = ap Text (exact_bytes a b e)
+exact_value (Text a) (Bytes b) e = cc
+exact_value (Bytes a) Null e = cc
+exact_value (Bytes a) (BoolValue b) e = cc
+exact_value (Bytes a) (Int b) e = cc
+exact_value (Bytes a) (Text b) e = cc
+exact_value (Bytes a) (Bytes b) e = ap Bytes (exact_bytes a b e)
+
+pub exact_values : CmpEqualImpliesEq values_cmp
+exact_values = slice_cmp-IsAntisymmetric exact_value
+
+-- rows written in the place of a table's are the tables with these rows
+pub rows_written : (tables : Tables) (table : TableId) (old rows : Rows) → IsStrictlySortedBy table_cmp (keys_of tables) → rows_in tables table ≡ Some old
+    → set_value (is_at (table_cmp table)) tables rows ≡ with_rows tables table rows
+rows_written tables table old rows sorted found = put_in_place tables_total table old rows tables sorted found
+
+pub rows_there : (tables : Tables) (table : TableId) (rows : Rows) → rows_in tables table ≡ Some rows → rows_at tables table ≡ rows
+rows_there tables table rows found = ap (λ there. unwrap_or there []) found
+
+-- rows that are as they were leave the tables as they were
+pub rows_kept : (tables : Tables) (table : TableId) (old rows : Rows) → rows_in tables table ≡ Some old → rows ≡ old → set_value (is_at (table_cmp table)) tables rows ≡ tables
+rows_kept tables table old rows found same = ap (set_value (is_at (table_cmp table)) tables) same ∙ set_value_same (is_at (table_cmp table)) tables old found
+
+pub restored_written : (tables : Tables) (table : TableId) (old rows : Rows) (key : List Value) (before : Option (List Value)) → IsStrictlySortedBy table_cmp (keys_of tables)
+    → rows_in tables table ≡ Some old → rows ≡ restored old key before → set_value (is_at (table_cmp table)) tables rows ≡ with_rows tables table (restored (rows_at tables table) key before)
+restored_written tables table old rows key before sorted found is =
+    rows_written tables table old rows sorted found ∙ ap (with_rows tables table) (is ∙ ap (λ there. restored there key before) (sym (rows_there tables table old found)))
+
+pub ruleset writing_rows = (rows_written, rows_there, rows_kept, restored_written)
+
+pub rows_found : (tables : Tables) (table : TableId) (rows : Rows) → rows_at (with_rows tables table rows) table ≡ rows
+rows_found tables table rows = ap (λ found. unwrap_or found []) (found_put tables_total table rows tables)
+
+-- a row written under a key, and what stood there brought back
+pub row_restored : (rows : Rows) (key row : List Value) → IsStrictlySortedBy values_cmp (keys_of rows) → restored (with_row rows key row) key (row_under rows key) ≡ rows
+row_restored rows key row sorted = at (row_under rows key) refl
+  where
+    at : (before : Option (List Value)) → row_under rows key ≡ before → restored (with_row rows key row) key before ≡ rows
+    at None is = take_new values_total key row rows is
+    at (Some old) is = put_back values_total key old row rows sorted is
+
+-- a row that was taken out, put in again
+pub row_returned : (rows : Rows) (key row : List Value) → IsStrictlySortedBy values_cmp (keys_of rows) → row_under rows key ≡ Some row → with_row (without_row rows key) key row ≡ rows
+row_returned rows key row sorted found = put_taken values_total exact_values key row rows sorted found
+
+-- a table's rows changed, and then changed to what they were
+pub rows_restored : (tables : Tables) (table : TableId) (rows : Rows) → IsStrictlySortedBy table_cmp (keys_of tables) → is_some (rows_in tables table) ≡ true
+    → with_rows (with_rows tables table rows) table (rows_at tables table) ≡ tables
+rows_restored tables table rows sorted created = at (rows_in tables table) refl
+  where
+    at : (found : Option Rows) → rows_in tables table ≡ found → with_rows (with_rows tables table rows) table (rows_at tables table) ≡ tables
+    at None is = absurd (true≢false (sym created ∙ ap is_some is))
+    at (Some old) is =
+        rw is (put_again tables_total table rows old tables ∙ put_old tables_total table old tables sorted is)
+
+-- a row put in a table, and what stood under its key brought back
+pub put_undone : (tables : Tables) (table : TableId) (key row : List Value) → AreSorted tables table → is_some (rows_in tables table) ≡ true
+    → with_rows (with_rows tables table (with_row (rows_at tables table) key row)) table
+    (restored (rows_at (with_rows tables table (with_row (rows_at tables table) key row)) table) key (row_under (rows_at tables table) key)) ≡ tables
+put_undone tables table key row sorted created =
+    let rows : Rows = rows_at tables table in
+    let after : Rows = with_row rows key row in
+    ap (λ found. with_rows (with_rows tables table after) table (restored found key (row_under rows key))) (rows_found tables table after)
+    ∙ ap (λ back. with_rows (with_rows tables table after) table back) (row_restored rows key row sorted.1)
+    ∙ rows_restored tables table after sorted.0 created
+
+-- a row taken out of a table, and put in again
+pub taking_undone : (tables : Tables) (table : TableId) (key row : List Value) → AreSorted tables table → is_some (rows_in tables table) ≡ true → row_under (rows_at tables table) key ≡ Some row
+    → with_rows (with_rows tables table (without_row (rows_at tables table) key)) table
+    (with_row (rows_at (with_rows tables table (without_row (rows_at tables table) key)) table) key row) ≡ tables
+taking_undone tables table key row sorted created found =
+    let rows : Rows = rows_at tables table in
+    let after : Rows = without_row rows key in
+    ap (λ there. with_rows (with_rows tables table after) table (with_row there key row)) (rows_found tables table after)
+    ∙ ap (λ back. with_rows (with_rows tables table after) table back) (row_returned rows key row sorted.1 found)
+    ∙ rows_restored tables table after sorted.0 created
+
+pub on_err : {X E P Q : Type 0} (r : Result X E) → (P → Q) → OnErr r P → OnErr r Q
+on_err (Ok x) f p = tt
+on_err (Err e) f p = f p

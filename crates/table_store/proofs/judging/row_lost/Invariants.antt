@@ -1,8 +1,0 @@
-use Rattle.std.proofs.Common.{◌≡◌, drop}
-use Rattle.std.specs.List.{list_any}
-use Rattle.table_store.specs.Lost.{is_lost}
-use Rattle.table_store.proofs.judging.row_lost.Given as goal
-
-abbrev pub invariant-loop-foreign : goal.invariant-loop-foreign
-invariant-loop-foreign l =
-    list_any (is_lost l.schema l.before l.left l.spec l.row) (drop l.foreign-index l.spec.foreigns) ≡ list_any (is_lost l.schema l.before l.left l.spec l.row) l.spec.foreigns
