@@ -26,7 +26,7 @@ use Rattle.statement_log.specs.Logged.{start_of}
 use Rattle.table_store.specs.Written.{given_up}
 use Rattle.keeper_mem.specs.declared.keeper.Attachment.{Attachment}
 use Rattle.keeper_mem.specs.declared.keeper.Attachment.TheVariants.{Fresh, Taken, Untaken}
-use Rattle.keeper_mem.specs.Kept.{Does, IsNumbered, Kept, Stores, counted, depth_by, ended, failed, is_failing, is_faulted, is_taken, moment_of, refused_by, sent_by, target_of, taken_by, told_by, told_of, untaken_by}
+use Rattle.keeper_mem.specs.Kept.{Does, IsNumbered, Kept, counted, depth_by, ended, failed, is_failing, is_faulted, is_taken, moment_of, refused_by, sent_by, target_of, taken_by, told_by, told_of, untaken_by}
 
 -- ---- a keeper that took its target tells what it has
 

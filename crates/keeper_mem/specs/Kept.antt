@@ -4,17 +4,12 @@ use Rattle.std.specs.List.{list_any}
 use Rattle.base_core.specs.Counts.{one_more}
 use Rattle.base_core.specs.declared.refusal.Refusal.{Refusal}
 use Rattle.base_core.specs.declared.refusal.Refusal.TheVariants as from
-use Rattle.base_core.specs.declared.refusal.IntegrityKind.TheVariants as kinds
 use Rattle.programs.specs.declared.sent.Sent.{Sent}
 use Rattle.programs.specs.declared.target.Target.{Target}
 use Rattle.programs.specs.declared.target.Target.TheVariants as targets
 use Rattle.programs.specs.Moment.{Moment, Refused, Told}
 use Rattle.programs.specs.Programs.{Run, ends_early, is_fault}
 use Rattle.programs.specs.Store.{Store, committed_of}
-use Rattle.keeper_core.specs.declared.keeper.WriteRefusal.{WriteRefusal}
-use Rattle.keeper_core.specs.declared.keeper.WriteRefusal.TheVariants as refusals
-use Rattle.keeper_core.specs.declared.keeper.QueryRefusal.{QueryRefusal}
-use Rattle.keeper_core.specs.declared.keeper.QueryRefusal.TheVariants as queries
 use Rattle.keeper_core.specs.Calls.{sends}
 use Rattle.keeper_core.specs.Keeping.{IsCoherent, IsCoherentTold, new_store}
 use Rattle.table_store.specs.Written.{given_up}
@@ -137,36 +132,12 @@ untaken_by kept target = record kept { attachment = Untaken target }
 
 -- ---- statements
 
--- What a store did with a statement: its program, in the same scopes, or nothing. Where memory ran out only what it goes back to is
--- as it was.
-abbrev pub Stores : {A : Type 0} → (Store → Run Store A) → Sent → Store → Result A Refusal → Store → Type 0
-Stores m statement old (Ok x) new = (m old ≡ sends statement new (Ok x)) × (new.scopes ≡ old.scopes)
-Stores m statement old (Err e) new =
-    MatchBool (ends_early e) ((e ≡ from.Memory) × (given_up new ≡ given_up old)) ((m old ≡ sends statement old (Err e)) × (new ≡ old))
-
 -- What a keeper did with a statement: its program, with the statement sent, or refused; it gave up where memory ran out.
 abbrev pub Does : {A : Type 0} → (Store → Run Store A) → Sent → Kept → Result A Refusal → Kept → Type 0
 Does m statement old (Ok x) new =
     (m old.store ≡ sends statement new.store (Ok x)) × (new.store.scopes ≡ old.store.scopes) × (new ≡ sent_by old statement new.store)
 Does m statement old (Err e) new =
     MatchBool (ends_early e) ((e ≡ from.Memory) × (new ≡ ended old)) ((m old.store ≡ sends statement old.store (Err e)) × (new ≡ refused_by old statement e))
-
--- a store's refusal of a select in the words of a keeper
-abbrev pub asked_refusal : Refusal → QueryRefusal
-asked_refusal (from.OperationalError absent) = queries.NoTable absent
-asked_refusal (from.DataError op a b) = queries.Range op a b
-asked_refusal e = queries.Memory
-
--- a store's refusal of a bulk statement in the words of a keeper
-abbrev pub keeper_refusal : Refusal → WriteRefusal
-keeper_refusal (from.OperationalError absent) = refusals.NoTable absent
-keeper_refusal (from.DataError op a b) = refusals.Range op a b
-keeper_refusal (from.KeysSpent table) = refusals.KeysSpent
-keeper_refusal (from.IntegrityError kinds.NotNull table) = refusals.NotNull
-keeper_refusal (from.IntegrityError kinds.PrimaryKey table) = refusals.PrimaryKey
-keeper_refusal (from.IntegrityError kinds.Unique table) = refusals.Unique
-keeper_refusal (from.IntegrityError kinds.Foreign table) = refusals.Foreign
-keeper_refusal e = refusals.Memory
 
 -- ---- what is told fits the depth and the tables that were committed
 

@@ -20,13 +20,13 @@ ghost use Rattle.keeper_core.specs.Calls.{query_refusal, write_refusal};
 ghost use Rattle.keeper_core.specs.Keeping.{RefusesBulk, RefusesRow, RefusesSelect};
 ghost use Rattle.statement_log.specs.Logged.{start_of};
 ghost use Rattle.table_store.specs.Written.{given_up};
-ghost use Rattle.keeper_mem.specs.Kept.{Does, Stores, asked_refusal, counted, depth_by, ended, failed, is_failing, is_listed, is_taken, keeper_refusal, new_keeper, sent_by, taken_by, untaken_by};
+ghost use Rattle.keeper_mem.specs.Kept.{Does, counted, depth_by, ended, failed, is_failing, is_listed, is_taken, new_keeper, sent_by, taken_by, untaken_by};
 
-use base_core::{IntegrityKind, KeyList, Refusal, RowList, TableId};
+use base_core::{KeyList, Refusal, RowList, TableId};
 use expr_types::{Bulk, Select};
 use keeper_core::{KeeperStop, QueryRefusal, WriteRefusal};
 use programs::{Sent, Target};
-use schema_core::{RowStmt, Schema, Unwritten};
+use schema_core::{RowStmt, Schema};
 use statement_log::StatementLog;
 use std::alloc::{AllocError, Global};
 use std::marker::Model;
@@ -285,7 +285,7 @@ impl MemKeeper {
             (as_refusal (write_refusal (table_of statement.now)) result)
             (RefusesRow statement.now) }
     {
-        match store_write(&mut self.store, alloc, schema, statement) {
+        match self.store.write(alloc, schema, statement) {
             Ok(keys) => {
                 let Ok(()) = self.log.write(statement) else {
                     go_back(&mut self.store, &mut self.log);
@@ -323,7 +323,7 @@ impl MemKeeper {
             (as_refusal (write_refusal (bulk.table_of statement.now)) result)
             (RefusesBulk schema.now statement.now) }
     {
-        match store_bulk(&mut self.store, alloc, schema, statement) {
+        match self.store.bulk(alloc, schema, statement) {
             Ok(count) => {
                 let Ok(()) = self.log.bulk(alloc, statement) else {
                     go_back(&mut self.store, &mut self.log);
@@ -364,7 +364,7 @@ impl MemKeeper {
         ensures refuses { IfErr
             (as_refusal query_refusal result) (RefusesSelect schema.now select.now) }
     {
-        match store_query(&self.store, alloc, schema, select) {
+        match self.store.query(alloc, schema, select) {
             Ok(rows) => {
                 let Ok(()) = self.log.query(alloc, select) else {
                     go_back(&mut self.store, &mut self.log);
@@ -397,106 +397,10 @@ fn go_back(store: &mut TableStore, log: &mut StatementLog)
     log.close();
 }
 
-#[tactic(auto, using(crate::proofs::Stored::rows))]
-/// A statement on rows, done in the store.
-fn store_write(
-    store: &mut TableStore,
-    alloc: Global,
-    schema: &Schema,
-    statement: &RowStmt,
-) -> Result<KeyList, WriteRefusal>
-    requires fits { IsWellFormed schema.now statement.now }
-    requires inside { 0 < length store.old.scopes }
-    ensures step { Stores (call.write schema.now statement.now) (sent.Write statement.now) store.old
-        (as_refusal (write_refusal (table_of statement.now)) result) store.new }
-    ensures keys { IfOk result (λ keys. AreKeysFor schema.now statement.now keys) }
-    ensures refuses { IfErr
-        (as_refusal (write_refusal (table_of statement.now)) result) (RefusesRow statement.now) }
-{
-    match store.write(alloc, schema, statement) {
-        Ok(keys) => Ok(keys),
-        Err(Unwritten::Violates(violation)) => Err(WriteRefusal::from(violation)),
-        Err(Unwritten::Memory) => Err(WriteRefusal::Memory),
-    }
-}
-
-#[tactic(auto, using(crate::proofs::Stored::bulks))]
-/// A bulk statement, done in the store.
-fn store_bulk(
-    store: &mut TableStore,
-    alloc: Global,
-    schema: &Schema,
-    statement: &Bulk,
-) -> Result<u64, WriteRefusal>
-    requires plain { IsPlainBulk schema.now statement.now }
-    ensures step { Stores (call.bulk schema.now statement.now) (sent.Bulk statement.now) store.old
-        (as_refusal (write_refusal (bulk.table_of statement.now)) result) store.new }
-    ensures refuses { IfErr
-        (as_refusal (write_refusal (bulk.table_of statement.now)) result)
-        (RefusesBulk schema.now statement.now) }
-{
-    match store.bulk(alloc, schema, statement) {
-        Ok(count) => Ok(count),
-        Err(refusal) => Err(keeper_refusal(&refusal)),
-    }
-}
-
-#[tactic(auto, using(crate::proofs::Stored::selects))]
-/// A select, answered by the store.
-fn store_query(
-    store: &TableStore,
-    alloc: Global,
-    schema: &Schema,
-    select: &Select,
-) -> Result<RowList, QueryRefusal>
-    requires plain { IsPlainSelect schema.now select.now }
-    ensures step { Stores (call.query schema.now select.now) (sent.Query select.now) store.now
-        (as_refusal query_refusal result) store.now }
-    ensures wide { IfOk result (λ rows. AreWide select.now rows) }
-    ensures kinds { AreRows schema.now (bare store.now.tables)
-        → IfOk result (λ rows. AreOfItems schema.now select.now rows) }
-    ensures given { AreLegalRows schema.now (bare store.now.tables)
-        → IfOk result (λ rows. AreGiven schema.now select.now rows) }
-    ensures refuses { IfErr
-        (as_refusal query_refusal result) (RefusesSelect schema.now select.now) }
-{
-    match store.query(alloc, schema, select) {
-        Ok(rows) => Ok(rows),
-        Err(refusal) => Err(asked_refusal(&refusal)),
-    }
-}
-
 #[tactic(auto, unfolding(crate::specs::Kept::is_listed))]
 /// Whether a number is in the list.
 fn is_listed(number: u64, numbers: &[u64]) -> bool
     ensures { result ≡ is_listed number numbers.now }
 {
     numbers.iter().any(|other| *other == number)
-}
-
-/// A store's refusal of a select in the words of a keeper.
-fn asked_refusal(refusal: &Refusal) -> QueryRefusal
-    ensures { result ≡ asked_refusal refusal.now }
-{
-    match refusal {
-        Refusal::OperationalError(absent) => QueryRefusal::NoTable(*absent),
-        Refusal::DataError(op, a, b) => QueryRefusal::Range(*op, *a, *b),
-        _ => QueryRefusal::Memory,
-    }
-}
-
-/// A store's refusal of a bulk statement in the words of a keeper.
-fn keeper_refusal(refusal: &Refusal) -> WriteRefusal
-    ensures { result ≡ keeper_refusal refusal.now }
-{
-    match refusal {
-        Refusal::OperationalError(absent) => WriteRefusal::NoTable(*absent),
-        Refusal::DataError(op, a, b) => WriteRefusal::Range(*op, *a, *b),
-        Refusal::KeysSpent(_) => WriteRefusal::KeysSpent,
-        Refusal::IntegrityError(IntegrityKind::NotNull, _) => WriteRefusal::NotNull,
-        Refusal::IntegrityError(IntegrityKind::PrimaryKey, _) => WriteRefusal::PrimaryKey,
-        Refusal::IntegrityError(IntegrityKind::Unique, _) => WriteRefusal::Unique,
-        Refusal::IntegrityError(IntegrityKind::Foreign, _) => WriteRefusal::Foreign,
-        _ => WriteRefusal::Memory,
-    }
 }

@@ -4,7 +4,8 @@ use Rattle.std.proofs.Common.{◌≡◌, ◌≢◌, ℕ, suc, ◌&&◌, Bool, tr
 use Rattle.base_core.specs.declared.ids.ColumnNo.{ColumnNo}
 use Rattle.base_core.specs.declared.ids.TableId.{TableId}
 use Rattle.base_core.specs.declared.value.Value.{Value}
-use Rattle.base_core.specs.declared.refusal.Refusal.TheVariants.{OperationalError}
+use Rattle.base_core.specs.declared.refusal.Refusal.{Refusal}
+use Rattle.base_core.specs.declared.refusal.Refusal.TheVariants as refusals
 use Rattle.schema_core.specs.declared.statement.Unwritten.{Unwritten}
 use Rattle.schema_core.specs.declared.statement.Unwritten.TheVariants.{Violates, Memory}
 use Rattle.schema_core.specs.declared.statement.Violation.TheVariants as violations
@@ -13,7 +14,7 @@ use Rattle.schema_core.specs.Catalog.{Catalog, IsTable, spec_of}
 use Rattle.schema_core.specs.Judged.{Judged, and_then, change_all, remove_all, some_lacks, some_loses_row, with_all, without_all, write_all}
 use Rattle.schema_core.specs.Told.{Told}
 use Rattle.schema_core.proofs.ApplySteps.{change_full, change_lacks, remove_done, remove_loses, told_first}
-use Rattle.sql_semantics.specs.Checked.{◌>>=◌, Refuses}
+use Rattle.sql_semantics.specs.Checked.{Checked, ◌>>=◌, Refuses}
 use Rattle.schema_core.specs.Tables.{Rows, Tables, rows_in, with_rows}
 use Rattle.expr_types.specs.declared.expr.Expr.{Expr}
 use Rattle.expr_types.specs.declared.select.Bulk.{Bulk}
@@ -21,32 +22,40 @@ use Rattle.expr_types.specs.declared.select.Bulk.TheVariants as bulk
 use Rattle.sql_semantics.specs.Kinds.{column_in}
 use Rattle.sql_semantics.specs.Plain.{IsPlainBulk, are_for, has_kind}
 use Rattle.sql_semantics.specs.Applied as spec
-use Rattle.sql_semantics.specs.Taken.{inserted}
+use Rattle.sql_semantics.specs.Created.{bare}
+use Rattle.sql_semantics.specs.Rows.{created}
+use Rattle.sql_semantics.specs.Taken.{deleted_from, inserted, updated_from}
+use Rattle.keeper_core.specs.declared.keeper.WriteRefusal.{WriteRefusal}
+use Rattle.keeper_core.specs.Calls.{write_refusal}
 use Rattle.table_rows.specs.Rows.{rows_at}
 use Rattle.table_rows.specs.Lost.{some_lost}
 use Rattle.table_rows.specs.declared.judging.Before.TheVariants as before
-use Rattle.table_store.specs.Held.{Did, refusal_of, stand}
+use Rattle.table_store.specs.Held.{Did, stand}
+use Rattle.table_store.specs.Written.{deleted, unwritten_refusal, updated}
+use Rattle.table_store.proofs.Evaluated.{deletes_evaluated, updates_evaluated}
 use Rattle.table_store.proofs.WriteSteps.{stand_written, still_created}
 
 -- ---- what is left
 
-refused : (table : TableId) (e : Unwritten) (answer : Judged (ℕ × Tables)) → Told answer (Err e) → Refuses (refusal_of table e) (spec.of_judged table answer)
-refused table (Violates (violations.NoTable absent)) answer told = ap (spec.of_judged table) told
-refused table (Violates violations.Missing) answer told = ap (spec.of_judged table) told
-refused table (Violates violations.NotNull) answer told = ap (spec.of_judged table) told
-refused table (Violates violations.KeysSpent) answer told = ap (spec.of_judged table) told
-refused table (Violates violations.PrimaryKey) answer told = ap (spec.of_judged table) told
-refused table (Violates violations.Unique) answer told = ap (spec.of_judged table) told
-refused table (Violates violations.Foreign) answer told = ap (spec.of_judged table) told
-refused table Memory answer told = tt
+judged_refused : (table : TableId) (e : Unwritten) (answer : Judged (ℕ × Tables)) → Told answer (Err e) → Refuses (write_refusal table (unwritten_refusal e)) (spec.of_judged table answer)
+judged_refused table (Violates (violations.NoTable absent)) answer told = ap (spec.of_judged table) told
+judged_refused table (Violates violations.Missing) answer told = ap (spec.of_judged table) told
+judged_refused table (Violates violations.NotNull) answer told = ap (spec.of_judged table) told
+judged_refused table (Violates violations.KeysSpent) answer told = ap (spec.of_judged table) told
+judged_refused table (Violates violations.PrimaryKey) answer told = ap (spec.of_judged table) told
+judged_refused table (Violates violations.Unique) answer told = ap (spec.of_judged table) told
+judged_refused table (Violates violations.Foreign) answer told = ap (spec.of_judged table) told
+judged_refused table Memory answer told = tt
 
 then_counted : {A : Type 0} (table : TableId) (answer : Judged A) (next : A → ℕ × Tables) → spec.of_judged table (and_then answer (λ a. Ok (next a))) ≡ (spec.of_judged table answer >>= λ a. Ok (next a))
 then_counted table (Ok a) next = refl
 then_counted table (Err violation) next = refl
 
-pub left_refused : {A : Type 0} (table : TableId) (e : Unwritten) (answer : Judged A) (next : A → ℕ × Tables) → Told answer (Err e) → Refuses (refusal_of table e) (spec.of_judged table answer >>= λ a. Ok (next a))
-left_refused table e answer next told =
-    subst (Refuses (refusal_of table e)) (then_counted table answer next) (refused table e (and_then answer (λ a. Ok (next a))) (told_first answer (λ a. Ok (next a)) e told))
+pub left_refused : {A : Type 0} (table : TableId) (e : Unwritten) (r : WriteRefusal) (answer : Judged A) (next : A → ℕ × Tables) → Told answer (Err e) → r ≡ unwritten_refusal e
+    → Refuses (write_refusal table r) (spec.of_judged table answer >>= λ a. Ok (next a))
+left_refused table e r answer next told is =
+    subst (λ (w : WriteRefusal). Refuses (write_refusal table w) (spec.of_judged table answer >>= λ a. Ok (next a))) (sym is)
+    (subst (Refuses (write_refusal table (unwritten_refusal e))) (then_counted table answer next) (judged_refused table e (and_then answer (λ a. Ok (next a))) (told_first answer (λ a. Ok (next a)) e told)))
 
 pub change_stands : (schema : Catalog) (tables after : Tables) (table : TableId) (rows entries : Rows) → some_lacks (spec_of schema table) entries ≡ false → after ≡ with_rows tables table (with_all rows entries)
     → stand schema after table entries ≡ Ok tt → change_all schema tables table rows entries ≡ Ok after
@@ -99,10 +108,10 @@ pub updates_some : (schema : Catalog) (tables after : Tables) (table : TableId) 
 updates_some schema tables after table rows [] some is = absurd (some refl)
 updates_some schema tables after table rows (e ∷ es) some is = ap (spec.count_rows table (length (e ∷ es))) is
 
-pub updates_refused : (schema : Catalog) (tables : Tables) (table : TableId) (rows entries : Rows) (e : Unwritten) → length entries ≢ 0 → Told (change_all schema tables table rows entries) (Err e)
-    → Refuses (refusal_of table e) (spec.update_entries schema tables table rows entries)
-updates_refused schema tables table rows [] e some told = absurd (some refl)
-updates_refused schema tables table rows (x ∷ xs) e some told = left_refused table e (change_all schema tables table rows (x ∷ xs)) (λ ts. (length (x ∷ xs), ts)) told
+pub updates_refused : (schema : Catalog) (tables : Tables) (table : TableId) (rows entries : Rows) (e : Unwritten) (r : WriteRefusal) → length entries ≢ 0 → Told (change_all schema tables table rows entries) (Err e)
+    → r ≡ unwritten_refusal e → Refuses (write_refusal table r) (spec.update_entries schema tables table rows entries)
+updates_refused schema tables table rows [] e r some told is = absurd (some refl)
+updates_refused schema tables table rows (x ∷ xs) e r some told is = left_refused table e r (change_all schema tables table rows (x ∷ xs)) (λ ts. (length (x ∷ xs), ts)) told is
 
 pub ruleset update_steps = (updates_none, updates_some, updates_refused)
 
@@ -115,10 +124,10 @@ pub deletes_some : (schema : Catalog) (tables after : Tables) (table : TableId) 
 deletes_some schema tables after table rows [] some is = absurd (some refl)
 deletes_some schema tables after table rows (k ∷ ks) some is = ap (spec.count_rows table (length (k ∷ ks))) is
 
-pub deletes_refused : (schema : Catalog) (tables : Tables) (table : TableId) (rows : Rows) (keys : List (List Value)) (e : Unwritten) → length keys ≢ 0 → Told (remove_all schema tables table rows keys) (Err e)
-    → Refuses (refusal_of table e) (spec.delete_keys schema tables table rows keys)
-deletes_refused schema tables table rows [] e some told = absurd (some refl)
-deletes_refused schema tables table rows (k ∷ ks) e some told = left_refused table e (remove_all schema tables table rows (k ∷ ks)) (λ ts. (length (k ∷ ks), ts)) told
+pub deletes_refused : (schema : Catalog) (tables : Tables) (table : TableId) (rows : Rows) (keys : List (List Value)) (e : Unwritten) (r : WriteRefusal) → length keys ≢ 0 → Told (remove_all schema tables table rows keys) (Err e)
+    → r ≡ unwritten_refusal e → Refuses (write_refusal table r) (spec.delete_keys schema tables table rows keys)
+deletes_refused schema tables table rows [] e r some told is = absurd (some refl)
+deletes_refused schema tables table rows (k ∷ ks) e r some told is = left_refused table e r (remove_all schema tables table rows (k ∷ ks)) (λ ts. (length (k ∷ ks), ts)) told is
 
 pub ruleset delete_steps = (deletes_none, deletes_some, deletes_refused)
 
@@ -132,12 +141,50 @@ did_told : {A : Type 0} (told : Judged (A × Tables)) (old new : Tables) (e : Un
 did_told told old new (Violates violation) did = did.0
 did_told told old new Memory did = tt
 
-pub row_refused : (schema : Catalog) (tables after : Tables) (table : TableId) (r : List Value) (e : Unwritten) → Did (row.insert_rows schema tables table (rows_at tables table) (r ∷ [])) tables (Err e) after
-    → Refuses (refusal_of table e) (spec.of_row table (row.insert_rows schema tables table (rows_at tables table) (r ∷ [])))
-row_refused schema tables after table r e did =
-    left_refused table e (row.insert_rows schema tables table (rows_at tables table) (r ∷ [])) (λ done. (1, done.1)) (did_told (row.insert_rows schema tables table (rows_at tables table) (r ∷ [])) tables after e did)
+pub row_refused : (schema : Catalog) (tables after : Tables) (table : TableId) (new : List Value) (e : Unwritten) (r : WriteRefusal) → Did (row.insert_rows schema tables table (rows_at tables table) (new ∷ [])) tables (Err e) after
+    → r ≡ unwritten_refusal e → Refuses (write_refusal table r) (spec.of_row table (row.insert_rows schema tables table (rows_at tables table) (new ∷ [])))
+row_refused schema tables after table new e r did is =
+    left_refused table e r (row.insert_rows schema tables table (rows_at tables table) (new ∷ [])) (λ done. (1, done.1)) (did_told (row.insert_rows schema tables table (rows_at tables table) (new ∷ [])) tables after e did) is
 
 pub ruleset row_steps = (row_put, row_refused)
+
+-- ---- the rows that are taken
+
+then_next : {A B C : Type 0} (first : Checked A) (rows : Checked B) (next : B → Checked C) → (first >>= λ _. rows >>= next) ≡ ((first >>= λ _. rows) >>= next)
+then_next (Ok a) rows next = refl
+then_next (Err e) rows next = refl
+
+first_refused : {A B : Type 0} (first : Checked A) (next : A → Checked B) (e : Refusal) → Refuses e first → Refuses e (first >>= next)
+first_refused first next refusals.Memory told = tt
+first_refused first next e told = ap (λ r. r >>= next) told
+
+pub updated_rows : (schema : Catalog) (tables : Tables) (table : TableId) (cells : List (ColumnNo × Option Expr)) (filter : Option Expr) (rows entries : Rows) → updated tables cells filter rows ≡ Ok entries
+    → spec.update schema tables table cells filter rows ≡ spec.update_entries schema tables table rows entries
+updated_rows schema tables table cells filter rows entries is =
+    then_next (created (bare tables) (spec.named_in cells filter)) (updated_from (bare tables) cells filter [] rows) (spec.update_entries schema tables table rows)
+    ∙ ap (λ r. r >>= spec.update_entries schema tables table rows) is
+
+pub update_refused : (schema : Catalog) (tables : Tables) (table : TableId) (cells : List (ColumnNo × Option Expr)) (filter : Option Expr) (rows : Rows) (e : Refusal) (r : WriteRefusal) → Refuses e (updated tables cells filter rows)
+    → write_refusal table r ≡ e → Refuses (write_refusal table r) (spec.update schema tables table cells filter rows)
+update_refused schema tables table cells filter rows e r told is =
+    subst (λ (d : Refusal). Refuses d (spec.update schema tables table cells filter rows)) (sym is)
+    (subst (Refuses e) (sym (then_next (created (bare tables) (spec.named_in cells filter)) (updated_from (bare tables) cells filter [] rows) (spec.update_entries schema tables table rows)))
+    (first_refused (updated tables cells filter rows) (spec.update_entries schema tables table rows) e told))
+
+pub deleted_rows : (schema : Catalog) (tables : Tables) (table : TableId) (filter : Option Expr) (rows : Rows) (keys : List (List Value)) → deleted tables filter rows ≡ Ok keys
+    → spec.delete schema tables table filter rows ≡ spec.delete_keys schema tables table rows keys
+deleted_rows schema tables table filter rows keys is =
+    then_next (created (bare tables) (spec.named_in [] filter)) (deleted_from (bare tables) filter [] rows) (spec.delete_keys schema tables table rows)
+    ∙ ap (λ r. r >>= spec.delete_keys schema tables table rows) is
+
+pub delete_refused : (schema : Catalog) (tables : Tables) (table : TableId) (filter : Option Expr) (rows : Rows) (e : Refusal) (r : WriteRefusal) → Refuses e (deleted tables filter rows)
+    → write_refusal table r ≡ e → Refuses (write_refusal table r) (spec.delete schema tables table filter rows)
+delete_refused schema tables table filter rows e r told is =
+    subst (λ (d : Refusal). Refuses d (spec.delete schema tables table filter rows)) (sym is)
+    (subst (Refuses e) (sym (then_next (created (bare tables) (spec.named_in [] filter)) (deleted_from (bare tables) filter [] rows) (spec.delete_keys schema tables table rows)))
+    (first_refused (deleted tables filter rows) (spec.delete_keys schema tables table rows) e told))
+
+pub ruleset taking_steps = (updates_evaluated, updated_rows, update_refused, deletes_evaluated, deleted_rows, delete_refused)
 
 -- ---- the statement
 
@@ -162,7 +209,7 @@ of_table schema (bulk.Insert table columns values) plain = plain.0
 of_table schema (bulk.Update table cells filter) plain = plain.0
 of_table schema (bulk.Delete table filter) plain = plain.0
 
-pub nowhere : (schema : Catalog) (tables : Tables) (statement : Bulk) → rows_in tables (spec.table_of statement) ≡ None → spec.applied schema tables statement ≡ Err (OperationalError (spec.table_of statement))
+pub nowhere : (schema : Catalog) (tables : Tables) (statement : Bulk) → rows_in tables (spec.table_of statement) ≡ None → spec.applied schema tables statement ≡ Err (refusals.OperationalError (spec.table_of statement))
 unfolding spec.applied
 nowhere schema tables (bulk.Insert table columns values) is = rw is refl
 nowhere schema tables (bulk.Update table cells filter) is = rw is refl

@@ -1,4 +1,5 @@
 mod BulkSteps
+mod Evaluated
 mod Scopes
-mod Statements
+mod Stored
 mod WriteSteps

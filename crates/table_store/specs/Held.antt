@@ -1,8 +1,6 @@
 -- What a statement on rows did to tables that are held.
 use Rattle.std.specs.Prelude.{◌≡◌, Bool, true, false, if◌then◌else◌, List, [], ◌∷◌, ◌++◌, Result, Ok, Err}
 use Rattle.base_core.specs.declared.ids.TableId.{TableId}
-use Rattle.base_core.specs.declared.refusal.Refusal.{Refusal}
-use Rattle.base_core.specs.declared.refusal.Refusal.TheVariants as refusals
 use Rattle.base_core.specs.declared.value.Value.{Value}
 use Rattle.schema_core.specs.declared.statement.Unwritten.{Unwritten}
 use Rattle.schema_core.specs.declared.statement.Unwritten.TheVariants.{Violates, Memory}
@@ -10,7 +8,6 @@ use Rattle.schema_core.specs.declared.statement.Violation.TheVariants.{Unique, F
 use Rattle.schema_core.specs.Apply.{Outcome, entry_of, keys_of_entries, with_own_key}
 use Rattle.schema_core.specs.Catalog.{Catalog, spec_of}
 use Rattle.schema_core.specs.Judged.{Judged, and_then, some_repeats, some_written_dangles}
-use Rattle.schema_core.specs.Refusals.{violation_refusal}
 use Rattle.schema_core.specs.Tables.{Rows, Tables, with_row, with_rows, without_row}
 use Rattle.table_rows.specs.Rows.{rows_at}
 
@@ -48,8 +45,3 @@ abbrev pub Did : {A : Type 0} → Judged (A × Tables) → Tables → Result A U
 Did told old (Ok answer) new = told ≡ Ok (answer, new)
 Did told old (Err (Violates violation)) new = (told ≡ Err violation) × (new ≡ old)
 Did told old (Err Memory) new = Unit {0}
-
--- the refusal of a statement on a table that was not done
-abbrev pub refusal_of : TableId → Unwritten → Refusal
-refusal_of table (Violates violation) = violation_refusal table violation
-refusal_of table Memory = refusals.Memory

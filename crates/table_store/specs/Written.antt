@@ -1,35 +1,61 @@
--- What a statement on rows did to tables with scopes, and what may refuse it.
-use Rattle.std.specs.Prelude.{◌≡◌, ℕ, List, [], Result, Ok, Err}
+-- What a statement did to tables with scopes, in the words of a keeper.
+use Rattle.std.specs.Prelude.{◌≡◌, List, [], MatchBool, Option, Result, Ok, Err}
+use Rattle.base_core.specs.declared.ids.ColumnNo.{ColumnNo}
+use Rattle.base_core.specs.declared.ids.TableId.{TableId}
 use Rattle.base_core.specs.declared.refusal.Refusal.{Refusal}
+use Rattle.base_core.specs.declared.refusal.Refusal.TheVariants as refusals
 use Rattle.base_core.specs.declared.value.Value.{Value}
-use Rattle.schema_core.specs.declared.statement.RowStmt.{RowStmt}
-use Rattle.schema_core.specs.Apply.{apply}
-use Rattle.schema_core.specs.Catalog.{Catalog}
-use Rattle.schema_core.specs.WellFormed.{MayViolate}
-use Rattle.expr_types.specs.declared.select.Bulk.{Bulk}
-use Rattle.sql_semantics.specs.Checked.{Refuses}
-use Rattle.sql_semantics.specs.Applied.{applied}
-use Rattle.programs.specs.Store.{Store, committed_of}
 use Rattle.schema_core.specs.declared.statement.Unwritten.{Unwritten}
 use Rattle.schema_core.specs.declared.statement.Unwritten.TheVariants.{Violates, Memory}
+use Rattle.schema_core.specs.Tables.{Rows, Tables}
+use Rattle.expr_types.specs.declared.expr.Expr.{Expr}
+use Rattle.sql_semantics.specs.Applied.{named_in}
+use Rattle.sql_semantics.specs.Checked.{Checked, Gives, ◌>>=◌}
+use Rattle.sql_semantics.specs.Created.{bare}
+use Rattle.sql_semantics.specs.Rows.{created}
+use Rattle.sql_semantics.specs.Taken.{deleted_from, updated_from}
+use Rattle.programs.specs.declared.sent.Sent.{Sent}
+use Rattle.programs.specs.Programs.{Run, as_refusal, ends_early}
+use Rattle.programs.specs.Store.{Store, committed_of}
+use Rattle.keeper_core.specs.declared.keeper.WriteRefusal.{WriteRefusal}
+use Rattle.keeper_core.specs.declared.keeper.WriteRefusal.TheVariants as writes
+use Rattle.keeper_core.specs.Calls.{refusal_by, sends, write_refusal}
 
 -- the tables at the start of the outermost scope, and no scope
 abbrev pub given_up : Store → Store
 given_up store = record { tables = committed_of store; scopes = [] }
 
--- What a statement did to a store, beside what its definition tells of the tables: a refused one changes nothing, and
--- where memory ran out, all scopes are given up.
-abbrev pub Wrote : Catalog → RowStmt → Store → Result (List (List Value)) Unwritten → Store → Type 0
-Wrote schema statement old (Ok keys) new = (apply schema old.tables statement ≡ Ok (keys, new.tables)) × (new.scopes ≡ old.scopes)
-Wrote schema statement old (Err (Violates violation)) new = (apply schema old.tables statement ≡ Err violation) × (new ≡ old)
-Wrote schema statement old (Err Memory) new = new ≡ given_up old
+-- What a store did with a statement: its program, in the same scopes, or nothing. Where memory ran out only what it goes back to is
+-- as it was.
+abbrev pub Stores : {A : Type 0} → (Store → Run Store A) → Sent → Store → Result A Refusal → Store → Type 0
+Stores m statement old (Ok x) new = (m old ≡ sends statement new (Ok x)) × (new.scopes ≡ old.scopes)
+Stores m statement old (Err e) new =
+    MatchBool (ends_early e) ((e ≡ refusals.Memory) × (given_up new ≡ given_up old)) ((m old ≡ sends statement old (Err e)) × (new ≡ old))
 
--- What a bulk statement did to a store: a refused one changes nothing, nor does one that finds no memory.
-abbrev pub Bulked : Catalog → Bulk → Store → Result ℕ Refusal → Store → Type 0
-Bulked schema statement old (Ok count) new = (applied schema old.tables statement ≡ Ok (count, new.tables)) × (new.scopes ≡ old.scopes)
-Bulked schema statement old (Err e) new = Refuses e (applied schema old.tables statement) × (new ≡ old)
+-- ---- refusals
 
--- what may refuse a statement is of its kind; memory may run out in any
-abbrev pub MayRefuse : RowStmt → Unwritten → Type 0
-MayRefuse statement (Violates violation) = MayViolate statement violation
-MayRefuse statement Memory = Unit {0}
+-- what refuses an evaluation: a table that is not created, a result outside 64 bits, or memory that ran out
+abbrev pub IsOfEvaluation : Refusal → Type 0
+IsOfEvaluation (refusals.OperationalError absent) = Unit {0}
+IsOfEvaluation (refusals.DataError op a b) = Unit {0}
+IsOfEvaluation refusals.Memory = Unit {0}
+IsOfEvaluation e = ⊥
+
+-- why rows were not written
+abbrev pub unwritten_refusal : Unwritten → WriteRefusal
+unwritten_refusal (Violates violation) = refusal_by violation
+unwritten_refusal Memory = writes.Memory
+
+-- what a bulk statement on a table answers, beside what its definition tells: the same, unless memory ran out
+abbrev pub Answers : {A : Type 0} → TableId → Result A WriteRefusal → Checked A → Type 0
+Answers table result told = Gives (λ x. x) (as_refusal (write_refusal table) result) told
+
+-- ---- the rows of a bulk statement
+
+-- the rows that an UPDATE writes, each under its key
+abbrev pub updated : Tables → List (ColumnNo × Option Expr) → Option Expr → Rows → Checked Rows
+updated tables cells filter rows = created (bare tables) (named_in cells filter) >>= λ _. updated_from (bare tables) cells filter [] rows
+
+-- the keys of the rows that a DELETE takes out
+abbrev pub deleted : Tables → Option Expr → Rows → Checked (List (List Value))
+deleted tables filter rows = created (bare tables) (named_in [] filter) >>= λ _. deleted_from (bare tables) filter [] rows

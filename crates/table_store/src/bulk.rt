@@ -10,25 +10,17 @@ ghost use Rattle.sql_semantics.specs.Applied as spec;
 ghost use Rattle.sql_semantics.specs.Checked.{Gives};
 ghost use Rattle.sql_semantics.specs.Plain.{IsPlainBulk};
 ghost use Rattle.table_rows.specs.Rows.{rows_at};
-ghost use Rattle.table_store.specs.Held.{refusal_of};
+ghost use Rattle.table_store.specs.Written.{Answers, deleted, updated};
 
+use crate::refusals::{taking_refusal, unwritten_refusal};
 use crate::writing::{insert_rows, stand};
 use base_core::{ColumnNo, Copied, Key, ListOf, Refusal, RowValues, TableId};
 use expr_types::{Bulk, Expr};
+use keeper_core::WriteRefusal;
 use keeper_core::calls::table_of_bulk;
 use schema_core::{Schema, TableSpec, Unwritten, Violation};
 use std::alloc::{AllocError, Global};
 use table_rows::{Before, TableMap, TableRows, lacks_value, some_lost};
-
-/// The refusal of a statement on a table.
-fn refusal_of(table: TableId, unwritten: Unwritten) -> Refusal
-    ensures { result ≡ refusal_of table unwritten }
-{
-    match unwritten {
-        Unwritten::Violates(violation) => violation.refusal(table),
-        Unwritten::Memory => Refusal::Memory,
-    }
-}
 
 /// The rows with these written, each under its key.
 fn with_all(rows: &TableRows, entries: &[(Key, RowValues)]) -> Result<TableRows, AllocError>
@@ -114,17 +106,20 @@ fn update_entries(
     table: TableId,
     rows: &TableRows,
     entries: &[(Key, RowValues)],
-) -> Result<(u64, TableMap), Refusal>
+) -> Result<(u64, TableMap), WriteRefusal>
     requires { IsTable schema.now table }
-    ensures { Gives (λ x. x) result
+    ensures { Answers table result
         (spec.update_entries schema.now tables.now table rows.now entries.now) }
 {
     if entries.len() == 0 {
-        return Ok((0, tables.copied()?));
+        let Ok(same) = tables.copied() else {
+            return Err(WriteRefusal::Memory);
+        };
+        return Ok((0, same));
     }
     match change_all(alloc, schema, tables, table, rows, entries) {
         Ok(after) => Ok((entries.len() as u64, after)),
-        Err(unwritten) => Err(refusal_of(table, unwritten)),
+        Err(unwritten) => Err(unwritten_refusal(unwritten)),
     }
 }
 
@@ -137,16 +132,19 @@ fn delete_keys(
     table: TableId,
     rows: &TableRows,
     keys: &[Key],
-) -> Result<(u64, TableMap), Refusal>
-    ensures { Gives (λ x. x) result
+) -> Result<(u64, TableMap), WriteRefusal>
+    ensures { Answers table result
         (spec.delete_keys schema.now tables.now table rows.now keys.now) }
 {
     if keys.len() == 0 {
-        return Ok((0, tables.copied()?));
+        let Ok(same) = tables.copied() else {
+            return Err(WriteRefusal::Memory);
+        };
+        return Ok((0, same));
     }
     match remove_all(alloc, schema, tables, table, rows, keys) {
         Ok(after) => Ok((keys.len() as u64, after)),
-        Err(unwritten) => Err(refusal_of(table, unwritten)),
+        Err(unwritten) => Err(unwritten_refusal(unwritten)),
     }
 }
 
@@ -158,20 +156,52 @@ fn insert(
     tables: &TableMap,
     table: TableId,
     row: RowValues,
-) -> Result<(u64, TableMap), Refusal>
+) -> Result<(u64, TableMap), WriteRefusal>
     requires declared { IsTable schema.now table }
     requires created { is_some (rows_in tables.now table) ≡ true }
-    ensures { Gives (λ x. x) result
+    ensures { Answers table result
         (spec.of_row table (insert_rows schema.now tables.now table (rows_at tables.now table)
         (row ∷ []))) }
 {
-    let mut after = tables.copied()?;
+    let Ok(mut after) = tables.copied() else {
+        return Err(WriteRefusal::Memory);
+    };
     match insert_rows(alloc, schema, &mut after, table, &[row]) {
         Ok(_keys) => Ok((1, after)),
-        Err(unwritten) => Err(refusal_of(table, unwritten)),
+        Err(unwritten) => Err(unwritten_refusal(unwritten)),
     }
 }
 
+/// The rows that an UPDATE writes, each under its key.
+fn updated(
+    alloc: Global,
+    tables: &TableMap,
+    rows: &TableRows,
+    cells: &ListOf<(ColumnNo, Option<Expr>)>,
+    filter: &Option<Expr>,
+) -> Result<ListOf<(Key, RowValues)>, Refusal>
+    ensures { Gives (λ x. x) result (updated tables.now cells.now filter.now rows.now) }
+{
+    let seen = tables.bare(alloc)?;
+    bulk_rows::all_created(alloc, &seen, cells.as_slice(), filter)?;
+    bulk_rows::updated(alloc, &seen, cells, filter, &rows.pairs(alloc)?)
+}
+
+/// The keys of the rows that a DELETE takes out.
+fn deleted(
+    alloc: Global,
+    tables: &TableMap,
+    rows: &TableRows,
+    filter: &Option<Expr>,
+) -> Result<ListOf<Key>, Refusal>
+    ensures { Gives (λ x. x) result (deleted tables.now filter.now rows.now) }
+{
+    let seen = tables.bare(alloc)?;
+    bulk_rows::all_created(alloc, &seen, &[], filter)?;
+    bulk_rows::deleted(alloc, &seen, filter, &rows.pairs(alloc)?)
+}
+
+#[tactic(auto, using(crate::proofs::BulkSteps::taking_steps))]
 /// The cells that an UPDATE writes, at the rows for which its condition is true.
 fn update(
     alloc: Global,
@@ -181,17 +211,18 @@ fn update(
     rows: &TableRows,
     cells: &ListOf<(ColumnNo, Option<Expr>)>,
     filter: &Option<Expr>,
-) -> Result<(u64, TableMap), Refusal>
+) -> Result<(u64, TableMap), WriteRefusal>
     requires { IsTable schema.now table }
-    ensures { Gives (λ x. x) result
+    ensures { Answers table result
         (spec.update schema.now tables.now table cells.now filter.now rows.now) }
 {
-    let seen = tables.bare(alloc)?;
-    bulk_rows::all_created(alloc, &seen, cells.as_slice(), filter)?;
-    let entries = bulk_rows::updated(alloc, &seen, cells, filter, &rows.pairs(alloc)?)?;
-    update_entries(alloc, schema, tables, table, rows, entries.as_slice())
+    match updated(alloc, tables, rows, cells, filter) {
+        Ok(entries) => update_entries(alloc, schema, tables, table, rows, entries.as_slice()),
+        Err(refusal) => Err(taking_refusal(&refusal)),
+    }
 }
 
+#[tactic(auto, using(crate::proofs::BulkSteps::taking_steps))]
 /// Takes out the rows for which a condition is true.
 fn delete(
     alloc: Global,
@@ -200,13 +231,14 @@ fn delete(
     table: TableId,
     rows: &TableRows,
     filter: &Option<Expr>,
-) -> Result<(u64, TableMap), Refusal>
-    ensures { Gives (λ x. x) result (spec.delete schema.now tables.now table filter.now rows.now) }
+) -> Result<(u64, TableMap), WriteRefusal>
+    ensures { Answers table result
+        (spec.delete schema.now tables.now table filter.now rows.now) }
 {
-    let seen = tables.bare(alloc)?;
-    bulk_rows::all_created(alloc, &seen, &[], filter)?;
-    let keys = bulk_rows::deleted(alloc, &seen, filter, &rows.pairs(alloc)?)?;
-    delete_keys(alloc, schema, tables, table, rows, keys.as_slice())
+    match deleted(alloc, tables, rows, filter) {
+        Ok(keys) => delete_keys(alloc, schema, tables, table, rows, keys.as_slice()),
+        Err(refusal) => Err(taking_refusal(&refusal)),
+    }
 }
 
 #[tactic(auto, using(crate::proofs::BulkSteps::applied_steps))]
@@ -216,13 +248,14 @@ pub(crate) fn applied(
     schema: &Schema,
     tables: &TableMap,
     statement: &Bulk,
-) -> Result<(u64, TableMap), Refusal>
+) -> Result<(u64, TableMap), WriteRefusal>
     requires { IsPlainBulk schema.now statement.now }
-    ensures { Gives (λ x. x) result (spec.applied schema.now tables.now statement.now) }
+    ensures { Answers (spec.table_of statement.now) result
+        (spec.applied schema.now tables.now statement.now) }
 {
     let table = table_of_bulk(statement);
     let Some(rows) = tables.get(table) else {
-        return Err(Refusal::OperationalError(table));
+        return Err(WriteRefusal::NoTable(table));
     };
     match statement {
         Bulk::Insert {
@@ -231,7 +264,9 @@ pub(crate) fn applied(
             ..
         } => {
             let width = schema.spec(table).columns.len();
-            let row = bulk_rows::inserted(alloc, width, columns, values)?;
+            let Ok(row) = bulk_rows::inserted(alloc, width, columns, values) else {
+                return Err(WriteRefusal::Memory);
+            };
             insert(alloc, schema, tables, table, row)
         }
         Bulk::Update { cells, filter, .. } => {

@@ -2,6 +2,7 @@
 #![tactic(auto)]
 
 mod bulk;
+mod refusals;
 mod store;
 mod writing;
 

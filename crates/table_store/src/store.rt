@@ -1,23 +1,28 @@
 //! Tables with scopes.
 
 ghost use Rattle.std.specs.Prelude.{◌≡◌, ◌-◌, ◌<◌, [], ◌∷◌, length, map, drop, slice_index_or, IfOk, IfErr, OnOk, OnErr};
-ghost use Rattle.std.specs.Option.{option_map, option_copied};
-ghost use Rattle.base_core.specs.Answers.{Gives};
+ghost use Rattle.std.specs.Option.{option_map};
+ghost use Rattle.schema_core.specs.Apply.{table_of};
 ghost use Rattle.schema_core.specs.Tables.{rows_in};
-ghost use Rattle.sql_semantics.specs.Plain.{IsPlainBulk, IsPlainSelect};
-ghost use Rattle.sql_semantics.specs.BulkRefusals as bulk;
-ghost use Rattle.sql_semantics.specs.Created.{bare};
-ghost use Rattle.sql_semantics.specs.SelectRefusals.{CanRefuse};
-ghost use Rattle.sql_semantics.specs.Rows.{answer};
-ghost use Rattle.sql_semantics.specs.Shapes.{AreGiven, AreLegalRows, AreOfItems, AreRows, AreWide};
 ghost use Rattle.schema_core.specs.WellFormed.{AreKeysFor, IsWellFormed};
+ghost use Rattle.sql_semantics.specs.Applied as bulk;
+ghost use Rattle.sql_semantics.specs.Plain.{IsPlainBulk, IsPlainSelect};
+ghost use Rattle.sql_semantics.specs.Created.{bare};
+ghost use Rattle.sql_semantics.specs.Shapes.{AreGiven, AreLegalRows, AreOfItems, AreRows, AreWide};
+ghost use Rattle.programs.specs.declared.sent.Sent.TheVariants as sent;
+ghost use Rattle.programs.specs.Programs.{as_refusal};
 ghost use Rattle.programs.specs.Store.{created, dropped, is_created};
-ghost use Rattle.table_store.specs.Written.{Bulked, MayRefuse, Wrote, given_up};
+ghost use Rattle.keeper_core.specs.Calls as call;
+ghost use Rattle.keeper_core.specs.Calls.{query_refusal, write_refusal};
+ghost use Rattle.keeper_core.specs.Keeping.{RefusesBulk, RefusesRow, RefusesSelect};
+ghost use Rattle.table_store.specs.Written.{Stores, given_up};
 
 use crate::bulk::applied;
+use crate::refusals::evaluation_refusal;
 use crate::writing::apply;
-use base_core::{Copied, KeyList, Refusal, RowList, TableId};
+use base_core::{Copied, KeyList, RowList, TableId};
 use expr_types::{Bulk, Select};
+use keeper_core::{QueryRefusal, WriteRefusal};
 use schema_core::{RowStmt, Schema, Unwritten};
 use select_rows::rows_of;
 use std::alloc::{AllocError, Global};
@@ -146,43 +151,58 @@ impl TableStore {
         self.tables = self.scopes.remove(0);
     }
 
-    #[tactic(auto, using(crate::proofs::Statements::statements))]
-    /// Does a statement on rows, and answers their keys. A refused one changes nothing; memory that runs out ends all scopes, and leaves the tables
-    /// at the start of the outermost.
+    #[tactic(auto, using(crate::proofs::Stored::rows))]
+    /// Does a statement on rows, and answers their keys. A refused one changes nothing.
+    ///
+    /// # Errors
+    /// The first rule that the statement violates, and `Memory`, which ends all scopes and leaves the tables at the start of
+    /// the outermost.
     pub fn write(
         &mut self,
         alloc: Global,
         schema: &Schema,
         statement: &RowStmt,
-    ) -> Result<KeyList, Unwritten>
+    ) -> Result<KeyList, WriteRefusal>
         requires fits { IsWellFormed schema.now statement.now }
         requires inside { 0 < length self.old.scopes }
-        ensures step { Wrote schema.now statement.now self.old result self.new }
+        ensures step { Stores (call.write schema.now statement.now) (sent.Write statement.now)
+            self.old (as_refusal (write_refusal (table_of statement.now)) result) self.new }
         ensures keys { IfOk result (λ keys. AreKeysFor schema.now statement.now keys) }
-        ensures refuses { IfErr result (λ e. MayRefuse statement.now e) }
+        ensures refuses { IfErr
+            (as_refusal (write_refusal (table_of statement.now)) result)
+            (RefusesRow statement.now) }
     {
         match apply(alloc, schema, &mut self.tables, statement) {
             Ok(keys) => Ok(keys),
-            Err(Unwritten::Violates(violation)) => Err(Unwritten::Violates(violation)),
+            Err(Unwritten::Violates(violation)) => Err(WriteRefusal::from(violation)),
             Err(Unwritten::Memory) => {
                 self.go_back();
-                Err(Unwritten::Memory)
+                Err(WriteRefusal::Memory)
             }
         }
     }
 
-    /// Does a bulk statement, and answers the number of its rows. A refused one changes nothing.
+    /// Does a bulk statement, and answers the number of its rows. A refused one changes nothing, nor does one that finds no
+    /// memory.
     ///
     /// # Errors
-    /// The first that holds: `OperationalError` with the first table of the statement's text that is not created,
-    /// `DataError` with the first result outside 64 bits, `IntegrityError` where a NULL is written into a column that takes
-    /// none, `KeysSpent`, and `IntegrityError` for a key that is there, a unique value that stands twice, and a foreign key
-    /// that names no row; memory that runs out.
-    #[tactic(auto, using(bulk_rows::proofs::Refused::refused))]
-    pub fn bulk(&mut self, alloc: Global, schema: &Schema, statement: &Bulk) -> Result<u64, Refusal>
+    /// The first that holds: `NoTable` with the first table of the statement's text that is not created, `Range` with the
+    /// first result outside 64 bits, `NotNull` where a NULL is written into a column that takes none, `KeysSpent`,
+    /// `PrimaryKey` for a key that is there, `Unique` for a unique value that stands twice, and `Foreign` for a foreign key
+    /// that names no row; `Memory`.
+    #[tactic(auto, using(crate::proofs::Stored::bulks))]
+    pub fn bulk(
+        &mut self,
+        alloc: Global,
+        schema: &Schema,
+        statement: &Bulk,
+    ) -> Result<u64, WriteRefusal>
         requires plain { IsPlainBulk schema.now statement.now }
-        ensures step { Bulked schema.now statement.now self.old result self.new }
-        ensures refuses { IfErr result (λ e. bulk.CanRefuse statement.now e) }
+        ensures step { Stores (call.bulk schema.now statement.now) (sent.Bulk statement.now)
+            self.old (as_refusal (write_refusal (bulk.table_of statement.now)) result) self.new }
+        ensures refuses { IfErr
+            (as_refusal (write_refusal (bulk.table_of statement.now)) result)
+            (RefusesBulk schema.now statement.now) }
     {
         match applied(alloc, schema, &self.tables, statement) {
             Ok((count, after)) => {
@@ -196,21 +216,33 @@ impl TableStore {
     /// The rows of a select over the tables.
     ///
     /// # Errors
-    /// `OperationalError` with the first table of the select's text that is not created, or `DataError` with the first
-    /// result outside 64 bits; memory that runs out.
-    pub fn query(&self, alloc: Global, schema: &Schema, select: &Select) -> Result<RowList, Refusal>
-        ensures rows { Gives (λ x. x) result (answer schema.now (bare self.now.tables) select.now) }
-        ensures refuses { IfErr result (λ e. CanRefuse select.now e) }
+    /// `NoTable` with the first table of the select's text that is not created, or `Range` with the first result outside 64
+    /// bits; `Memory`.
+    #[tactic(auto, using(crate::proofs::Stored::selects))]
+    pub fn query(
+        &self,
+        alloc: Global,
+        schema: &Schema,
+        select: &Select,
+    ) -> Result<RowList, QueryRefusal>
+        requires plain { IsPlainSelect schema.now select.now }
+        ensures step { Stores (call.query schema.now select.now) (sent.Query select.now) self.now
+            (as_refusal query_refusal result) self.now }
         ensures wide { IfOk result (λ rows. AreWide select.now rows) }
-        ensures kinds { IsPlainSelect schema.now select.now
-            → AreRows schema.now (bare self.now.tables)
+        ensures kinds { AreRows schema.now (bare self.now.tables)
             → IfOk result (λ rows. AreOfItems schema.now select.now rows) }
-        ensures given { IsPlainSelect schema.now select.now
-            → AreLegalRows schema.now (bare self.now.tables)
+        ensures given { AreLegalRows schema.now (bare self.now.tables)
             → IfOk result (λ rows. AreGiven schema.now select.now rows) }
+        ensures refuses { IfErr
+            (as_refusal query_refusal result) (RefusesSelect schema.now select.now) }
     {
-        let tables = self.tables.bare(alloc)?;
-        rows_of(alloc, schema, &tables, select)
+        let Ok(tables) = self.tables.bare(alloc) else {
+            return Err(QueryRefusal::Memory);
+        };
+        match rows_of(alloc, schema, &tables, select) {
+            Ok(rows) => Ok(rows),
+            Err(refusal) => Err(evaluation_refusal(&refusal)),
+        }
     }
 
     /// The rows of a table, ascending by key, or none where it is not created.

@@ -1,0 +1,162 @@
+-- What a store does with a statement is the statement's program.
+use Rattle.std.proofs.Common.{◌≡◌, ℕ, ◌<◌, Bool, true, false, List, [], ◌∷◌, length, Result, Ok, Err, MatchBool, refl, sym, ap, ◌∙◌, subst, arith}
+use Rattle.base_core.specs.declared.refusal.Refusal.{Refusal}
+use Rattle.base_core.specs.declared.refusal.Refusal.TheVariants as refusal
+use Rattle.base_core.specs.declared.ids.TableId.{TableId}
+use Rattle.base_core.specs.declared.value.Value.{Value}
+use Rattle.base_core.specs.Answers.{Refuses}
+use Rattle.schema_core.specs.declared.statement.Violation.{Violation}
+use Rattle.schema_core.specs.declared.statement.Violation.TheVariants as violations
+use Rattle.schema_core.specs.declared.statement.RowStmt.{RowStmt}
+use Rattle.schema_core.specs.Apply.{apply, table_of}
+use Rattle.schema_core.specs.Catalog.{Catalog}
+use Rattle.schema_core.specs.Refusals.{violation_refusal}
+use Rattle.schema_core.specs.Tables.{Tables}
+use Rattle.schema_core.specs.WellFormed.{MayViolate}
+use Rattle.schema_core.proofs.NewKeys.{keys_for}
+use Rattle.schema_core.proofs.Violations.{may_violate}
+use Rattle.expr_types.specs.declared.select.Bulk.{Bulk}
+use Rattle.expr_types.specs.declared.select.Select.{Select}
+use Rattle.sql_semantics.specs.Applied as spec
+use Rattle.sql_semantics.specs.BulkRefusals as bulk
+use Rattle.sql_semantics.specs.Created.{bare}
+use Rattle.sql_semantics.specs.Plain.{IsPlainBulk, IsPlainSelect}
+use Rattle.sql_semantics.specs.Rows.{answer}
+use Rattle.sql_semantics.specs.SelectRefusals as select
+use Rattle.bulk_rows.proofs.Declared.{declared_bulk}
+use Rattle.bulk_rows.proofs.Refused.{refused}
+use Rattle.select_rows.proofs.Declared.{declared_select}
+use Rattle.programs.specs.declared.sent.Sent.{Sent}
+use Rattle.programs.specs.declared.sent.Sent.TheVariants as sent
+use Rattle.programs.specs.Programs.{Run, ends_early}
+use Rattle.programs.specs.Store.{Store, outermost}
+use Rattle.keeper_core.specs.declared.keeper.WriteRefusal.{WriteRefusal}
+use Rattle.keeper_core.specs.declared.keeper.QueryRefusal.{QueryRefusal}
+use Rattle.keeper_core.specs.Calls as call
+use Rattle.keeper_core.specs.Calls.{bulked, query_refusal, refusal_by, sends, write_refusal, written}
+use Rattle.keeper_core.specs.Keeping.{RefusesBulk, RefusesRow, RefusesSelect}
+use Rattle.table_store.specs.Written.{IsOfEvaluation, Stores, given_up}
+
+-- ---- a statement on rows
+
+pub stored_row : (schema : Catalog) (s : RowStmt) (keys : List (List Value)) (old new : Store) → apply schema old.tables s ≡ Ok (keys, new.tables) → new.scopes ≡ old.scopes → Stores (call.write schema s) (sent.Write s) old (Ok keys) new
+unfolding call.write
+stored_row schema s keys old new did same =
+    (ap (λ outcome. written s outcome old) did ∙ ap (λ scopes. sends (sent.Write s) (record { tables = new.tables; scopes = scopes }) (Ok keys)) (sym same), same)
+
+refusal_is : (table : TableId) (violation : Violation) → violation_refusal table violation ≡ write_refusal table (refusal_by violation)
+refusal_is table (violations.NoTable absent) = refl
+refusal_is table violations.Missing = refl
+refusal_is table violations.NotNull = refl
+refusal_is table violations.KeysSpent = refl
+refusal_is table violations.PrimaryKey = refl
+refusal_is table violations.Unique = refl
+refusal_is table violations.Foreign = refl
+
+own_violation : (table : TableId) (violation : Violation) → ends_early (write_refusal table (refusal_by violation)) ≡ false
+own_violation table (violations.NoTable absent) = refl
+own_violation table violations.Missing = refl
+own_violation table violations.NotNull = refl
+own_violation table violations.KeysSpent = refl
+own_violation table violations.PrimaryKey = refl
+own_violation table violations.Unique = refl
+own_violation table violations.Foreign = refl
+
+-- a refusal that ends no run early, and changes nothing
+stored_own : {A : Type 0} (m : Store → Run Store A) (statement : Sent) (e : Refusal) (old new : Store) → ends_early e ≡ false
+    → m old ≡ sends statement old (Err e) → new ≡ old → Stores m statement old (Err e) new
+stored_own m statement e old new own ran same =
+    subst (λ b. MatchBool b ((e ≡ refusal.Memory) × (given_up new ≡ given_up old)) ((m old ≡ sends statement old (Err e)) × (new ≡ old))) (sym own) (ran, same)
+
+pub stored_violation : (schema : Catalog) (s : RowStmt) (violation : Violation) (r : WriteRefusal) (old new : Store) → apply schema old.tables s ≡ Err violation → new ≡ old → r ≡ refusal_by violation
+    → Stores (call.write schema s) (sent.Write s) old (Err (write_refusal (table_of s) r)) new
+unfolding call.write
+stored_violation schema s violation r old new did same is =
+    subst (λ (q : WriteRefusal). Stores (call.write schema s) (sent.Write s) old (Err (write_refusal (table_of s) q)) new) (sym is)
+    (stored_own (call.write schema s) (sent.Write s) (write_refusal (table_of s) (refusal_by violation)) old new (own_violation (table_of s) violation)
+    (ap (λ outcome. written s outcome old) did ∙ ap (λ e. sends (sent.Write s) old (Err e)) (refusal_is (table_of s) violation)) same)
+
+-- whatever became of the tables, the outermost scope has those that were there at its start
+outermost_any : (a b : Tables) (scopes : List Tables) → 0 < length scopes → outermost a scopes ≡ outermost b scopes
+outermost_any a b [] inside = absurd (omega arith)
+outermost_any a b (s ∷ scopes) inside = refl
+
+pub gone_back : (mid old new : Store) → 0 < length old.scopes → mid.scopes ≡ old.scopes → new ≡ given_up mid → given_up new ≡ given_up old
+gone_back mid old new inside same is =
+    ap given_up is ∙ ap (λ scopes. given_up (record { tables = mid.tables; scopes = scopes })) same
+    ∙ ap (λ tables. record { tables = tables; scopes = [] }) (outermost_any mid.tables old.tables old.scopes inside)
+
+pub violation_refuses : (s : RowStmt) (violation : Violation) (r : WriteRefusal) → MayViolate s violation → r ≡ refusal_by violation → RefusesRow s (write_refusal (table_of s) r)
+violation_refuses s violation r may is = subst (λ (q : WriteRefusal). RefusesRow s (write_refusal (table_of s) q)) (sym is) (by s violation may)
+  where
+    by : (s : RowStmt) (v : Violation) → MayViolate s v → RefusesRow s (write_refusal (table_of s) (refusal_by v))
+    by s (violations.NoTable table) may = (violations.NoTable table, refl, may)
+    by s violations.Missing may = (violations.Missing, refl, may)
+    by s violations.NotNull may = (violations.NotNull, refl, may)
+    by s violations.KeysSpent may = (violations.KeysSpent, refl, may)
+    by s violations.PrimaryKey may = (violations.PrimaryKey, refl, may)
+    by s violations.Unique may = (violations.Unique, refl, may)
+    by s violations.Foreign may = (violations.Foreign, refl, may)
+
+pub ruleset rows = (stored_row, stored_violation, gone_back, violation_refuses, may_violate, keys_for)
+
+-- ---- a bulk statement
+
+pub stored_bulk : (schema : Catalog) (s : Bulk) (count : ℕ) (old new : Store) → spec.applied schema old.tables s ≡ Ok (count, new.tables) → new.scopes ≡ old.scopes → Stores (call.bulk schema s) (sent.Bulk s) old (Ok count) new
+unfolding call.bulk
+stored_bulk schema s count old new did same =
+    (ap (λ outcome. bulked s outcome old) did ∙ ap (λ scopes. sends (sent.Bulk s) (record { tables = new.tables; scopes = scopes }) (Ok count)) (sym same), same)
+
+bulk_stops : (schema : Catalog) (s : Bulk) (e : Refusal) (old new : Store) → bulk.CanRefuse s e → Refuses e (spec.applied schema old.tables s) → new ≡ old → Stores (call.bulk schema s) (sent.Bulk s) old (Err e) new
+unfolding call.bulk
+bulk_stops schema s refusal.Memory old new can told same = (refl, ap given_up same)
+bulk_stops schema s (refusal.OperationalError absent) old new can told same = (ap (λ outcome. bulked s outcome old) told, same)
+bulk_stops schema s (refusal.DataError op a b) old new can told same = (ap (λ outcome. bulked s outcome old) told, same)
+bulk_stops schema s (refusal.KeysSpent table) old new can told same = (ap (λ outcome. bulked s outcome old) told, same)
+bulk_stops schema s (refusal.IntegrityError kind table) old new can told same = (ap (λ outcome. bulked s outcome old) told, same)
+bulk_stops schema s e old new can told same = absurd can
+
+pub stored_bulk_err : (schema : Catalog) (s : Bulk) (e : Refusal) (old new : Store) → Refuses e (spec.applied schema old.tables s) → new ≡ old → Stores (call.bulk schema s) (sent.Bulk s) old (Err e) new
+stored_bulk_err schema s e old new told same = bulk_stops schema s e old new (refused schema old.tables s e told) told same
+
+bulk_may : (schema : Catalog) (s : Bulk) (e : Refusal) → IsPlainBulk schema s → bulk.CanRefuse s e → RefusesBulk schema s e
+bulk_may schema s refusal.KeeperFault plain can = absurd can
+bulk_may schema s e plain can = (can, declared_bulk schema s e plain can)
+
+pub bulk_refuses : (schema : Catalog) (tables : Tables) (s : Bulk) (e : Refusal) → IsPlainBulk schema s → Refuses e (spec.applied schema tables s) → RefusesBulk schema s e
+bulk_refuses schema tables s e plain told = bulk_may schema s e plain (refused schema tables s e told)
+
+pub ruleset bulks = (stored_bulk, stored_bulk_err, bulk_refuses)
+
+-- ---- a select
+
+pub stored_query : (schema : Catalog) (s : Select) (rows : List (List Value)) (store : Store) → answer schema (bare store.tables) s ≡ Ok rows → Stores (call.query schema s) (sent.Query s) store (Ok rows) store
+unfolding call.query
+stored_query schema s rows store is = (ap (sends (sent.Query s) store) is, refl)
+
+query_stops : (schema : Catalog) (s : Select) (e : Refusal) (store : Store) → select.CanRefuse s e → Refuses e (answer schema (bare store.tables) s) → Stores (call.query schema s) (sent.Query s) store (Err e) store
+unfolding call.query
+query_stops schema s refusal.Memory store can is = (refl, refl)
+query_stops schema s (refusal.OperationalError absent) store can is = (ap (sends (sent.Query s) store) is, refl)
+query_stops schema s (refusal.DataError op a b) store can is = (ap (sends (sent.Query s) store) is, refl)
+query_stops schema s e store can is = absurd can
+
+pub select_evaluated : (s : Select) (e : Refusal) → select.CanRefuse s e → IsOfEvaluation e
+select_evaluated s (refusal.OperationalError absent) can = tt
+select_evaluated s (refusal.DataError op a b) can = tt
+select_evaluated s refusal.Memory can = tt
+select_evaluated s e can = absurd can
+
+pub stored_query_err : (schema : Catalog) (s : Select) (e : Refusal) (r : QueryRefusal) (store : Store) → select.CanRefuse s e → Refuses e (answer schema (bare store.tables) s) → query_refusal r ≡ e
+    → Stores (call.query schema s) (sent.Query s) store (Err (query_refusal r)) store
+stored_query_err schema s e r store can told is =
+    subst (λ (d : Refusal). Stores (call.query schema s) (sent.Query s) store (Err d) store) (sym is) (query_stops schema s e store can told)
+
+query_may : (schema : Catalog) (s : Select) (e : Refusal) → IsPlainSelect schema s → select.CanRefuse s e → RefusesSelect schema s e
+query_may schema s refusal.KeeperFault plain can = absurd can
+query_may schema s e plain can = (can, declared_select schema s e plain can)
+
+pub query_refuses : (schema : Catalog) (s : Select) (e : Refusal) (r : QueryRefusal) → IsPlainSelect schema s → select.CanRefuse s e → query_refusal r ≡ e → RefusesSelect schema s (query_refusal r)
+query_refuses schema s e r plain can is = subst (RefusesSelect schema s) (sym is) (query_may schema s e plain can)
+
+pub ruleset selects = (select_evaluated, stored_query, stored_query_err, query_refuses)
