@@ -1,5 +1,5 @@
 -- What may refuse a select: a table of its text that was not created, and a result outside 64 bits.
-use Rattle.std.proofs.Common.{◌≡◌, ℕ, ◌+◌, Bool, true, false, ◌||◌, ◌==◌, if◌then◌else◌, List, [], ◌∷◌, ◌++◌, map, Option, Some, None, Result, Ok, Err, IfErr, IsTrue, refl, subst}
+use Rattle.std.proofs.Common.{ℕ, ◌+◌, Bool, true, false, ◌==◌, if◌then◌else◌, List, [], ◌∷◌, ◌++◌, map, Option, Some, None, Result, Ok, Err, IfErr, IsTrue, subst}
 use Rattle.std.proofs.lemmas.Cmp.{nat_eq_equiv}
 use Rattle.std.specs.List.{list_any}
 use Rattle.base_core.proofs.Tests.{or_first, or_then}

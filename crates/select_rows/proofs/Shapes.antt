@@ -22,7 +22,7 @@ use Rattle.sql_semantics.specs.Order.{Rank, rank_cmp, ranked_from, in_order, sam
 use Rattle.sql_semantics.specs.Shapes.{AreWide}
 use Rattle.select_sources.proofs.Sure.{Sure, always, bind_sure, every_more, kept_sure, mapped_sure}
 use Rattle.select_rows.proofs.Firsts.{same_row_equiv}
-use Rattle.sql_semantics.specs.Rows.{Frame, Keyed, kept_from, mapped_from, at, at_basis, sources, passed, keyed, groups, first_row, grouped, bases, having, firsts_from, rows_with, keys_from, values, output, distinct, cut_off, limited, answered, of_rows, tables_of, created, answer}
+use Rattle.sql_semantics.specs.Rows.{Frame, Keyed, mapped_from, at, at_basis, sources, passed, keyed, groups, first_row, grouped, bases, having, firsts_from, rows_with, keys_from, values, output, distinct, cut_off, limited, answered, of_rows, tables_of, created, answer}
 
 -- ---- lists
 
