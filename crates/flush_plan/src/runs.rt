@@ -115,7 +115,8 @@ impl<'a> NewRows<'a> {
         requires ready { AreReady self.now.schema.now self.now.changes.now self.now.rows.now }
         requires run { All (λ other. other < length self.now.rows.now) run.now }
         requires row { row < length self.now.rows.now }
-        ensures { result ≡ list_all (goes_with self.now.schema.now self.now.changes.now row) run.now }
+        ensures { result
+            ≡ list_all (goes_with self.now.schema.now self.now.changes.now row) run.now }
     {
         for other in run {
             if !self.goes_with(row, *other) {
@@ -153,7 +154,8 @@ impl<'a> NewRows<'a> {
             (cut self.now.schema.now self.now.changes.now run.new.items rest)
             ≡ statements.old.items ++ map (insert_run self.now.changes.now)
             (cut self.now.schema.now self.now.changes.now run.old.items (row ∷ rest))) }
-        ensures within { OnOk result (All (λ other. other < length self.now.rows.now) run.new.items) }
+        ensures within { OnOk result
+            (All (λ other. other < length self.now.rows.now) run.new.items) }
         ensures cause { IfErr result (λ e. e ≡ Memory) }
     {
         if !self.joins(run.as_slice(), row) {

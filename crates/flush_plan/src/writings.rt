@@ -154,7 +154,8 @@ fn push_gone(
     requires declared { IsTable schema.now table }
     requires narrow { number + length columns.now ≤ 4294967295 }
     ensures late { OnOk result (out.new ≡ out.old ++ map (λ cell. (cell.0, Given Null))
-        (numbered (is_late schema.now changes.now table) number columns.now (map Given cells.now))) }
+        (numbered (is_late schema.now changes.now table) number columns.now
+        (map Given cells.now))) }
     ensures cause { IfErr result (λ e. e ≡ Memory) }
 {
     if let (Some((column, columns)), Some((cell, cells))) = (

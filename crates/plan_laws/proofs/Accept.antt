@@ -1,29 +1,24 @@
 -- A statement on one row is accepted where the tables that it leaves are legal.
-use Rattle.std.proofs.Common.{◌≡◌, ◌⊎◌, inl, inr, ℕ, ℤ, Bool, true, false, not, cond, ◌&&◌, ◌||◌, List, [], ◌∷◌, Option, None, Some, Result, Ok, Err, refl, sym, ap, ◌∙◌, subst}
+use Rattle.std.proofs.Common.{◌≡◌, Bool, true, false, cond, ◌&&◌, ◌||◌, List, [], ◌∷◌, Option, None, Some, Ok, Err, refl, sym, ap, ◌∙◌, subst}
 use Rattle.std.specs.Ordering.{is_eq}
 use Rattle.std.specs.Cmp.{tied_itself}
-use Rattle.std.specs.List.{AllByRecursion, list_any}
-use Rattle.std.specs.Option.{is_some, option_and_then, option_map}
-use Rattle.std.specs.Cmp.Lexicographic.{pointwise}
+use Rattle.std.specs.List.{list_any}
+use Rattle.std.specs.Option.{is_some}
 use Rattle.base_core.specs.declared.ids.ColumnNo.{ColumnNo}
 use Rattle.base_core.specs.declared.ids.TableId.{TableId}
 use Rattle.base_core.specs.declared.value.Value.{Value}
-use Rattle.base_core.specs.declared.value.Value.TheVariants.{Int}
 use Rattle.schema_core.specs.declared.statement.Violation.TheVariants.{Foreign, NotNull, PrimaryKey, Unique}
-use Rattle.schema_core.specs.declared.statement.RowStmt.{RowStmt}
 use Rattle.schema_core.specs.declared.statement.RowStmt.TheVariants.{Insert, Update, Delete}
-use Rattle.schema_core.specs.Apply.{Outcome, answer_keys, apply, apply_found, delete_found, delete_row, entries_of, entry_of, insert_rows, is_demanded, keys_of_entries, update_found, update_row, with_cells, with_key, with_own_key}
-use Rattle.schema_core.specs.Judged.{Judged, and_then, change_all, lacks_value, loses_row, remove_all, some_loses_row, some_repeats, some_written_dangles, with_all, without_all, write_all}
+use Rattle.schema_core.specs.Apply.{answer_keys, apply, apply_found, delete_found, delete_row, entries_of, entry_of, insert_rows, is_demanded, keys_of_entries, update_found, update_row, with_cells, with_own_key}
+use Rattle.schema_core.specs.Judged.{and_then, change_all, lacks_value, loses_row, remove_all, some_loses_row, some_written_dangles, write_all}
 use Rattle.schema_core.specs.Catalog.{Catalog, is_required, spec_of}
 use Rattle.table_laws.proofs.Entries.{all_map, any_none, none_any}
-use Rattle.schema_core.specs.declared.table.ForeignSpec.{ForeignSpec}
 use Rattle.schema_core.specs.declared.table.TableSpec.{TableSpec}
 use Rattle.schema_core.specs.Tables.{Legal, Rows, Tables, dangles, has_dangling, is_legal_row, key_of, repeats_unique, row_under, rows_in, some_dangles, with_row, with_rows, without_row}
-use Rattle.flush_plan.specs.Sorted.{Place}
 use Rattle.flush_plan.specs.Stating.{edited}
 use Rattle.plan_laws.specs.Premises.{IsSorted}
 use Rattle.plan_laws.proofs.At.{at_edit, edit_is, in_edited, key_total, row_found, rows_sorted, table_total, under_edited}
-use Rattle.plan_laws.proofs.Between.{at_found, legal_bound}
+use Rattle.plan_laws.proofs.Between.{legal_bound}
 use Rattle.plan_laws.proofs.Blend.{legal_lacks_none}
 
 -- a row that stands in legal tables repeats no unique value

@@ -1,17 +1,16 @@
 -- What stands under a table and key, before and after an edit.
-use Rattle.std.proofs.Common.{◌≡◌, ◌⊎◌, inl, inr, ℕ, Bool, true, false, cond, T, List, [], ◌∷◌, Option, None, Some, Ordering, refl, sym, ap, ◌∙◌, subst}
+use Rattle.std.proofs.Common.{◌≡◌, ◌⊎◌, inl, inr, Bool, true, false, cond, T, List, Option, None, Some, Ordering, refl, sym, ap, ◌∙◌, subst}
 use Rattle.std.specs.declared.cmp.Ordering.TheVariants.{Less, Equal, Greater}
-use Rattle.std.specs.Ordering.{is_eq, nat_cmp}
+use Rattle.std.specs.Ordering.{is_eq}
 use Rattle.std.specs.Cmp.{IsTotalOrder, on_total, nat_cmp_total, tied_itself}
 use Rattle.std.specs.Cmp.Lexicographic.{lists_total}
 use Rattle.std.specs.List.{AllByRecursion}
-use Rattle.std.specs.Map.{lookup}
 use Rattle.std.specs.BTreeMap.{is_at}
 use Rattle.std.specs.Option.{is_some, option_and_then}
 use Rattle.std.specs.FinMap.Entries.{is_sorted}
 use Rattle.base_core.specs.declared.ids.TableId.{TableId}
 use Rattle.base_core.specs.declared.value.Value.{Value}
-use Rattle.base_core.specs.Order.{value_cmp, values_cmp}
+use Rattle.base_core.specs.Order.{values_cmp}
 use Rattle.base_core.specs.OrderLaws.{value_cmp_total}
 use Rattle.schema_core.specs.Tables.{Rows, Tables, row_under, rows_in, table_cmp, with_rows}
 use Rattle.table_laws.proofs.Entries.{all_insert, all_lookup}
@@ -20,6 +19,7 @@ use Rattle.flush_plan.specs.Sorted.{Place}
 use Rattle.flush_plan.specs.Stating.{Edit, edited, edited_in, edited_rows, is_created, row_at}
 use Rattle.plan_laws.specs.Premises.{IsSorted}
 use Rattle.plan_laws.proofs.Lookups.{all_found, lookup_insert, lookup_remove, same_lists, sorted_insert, sorted_remove}
+use Rattle.plan_laws.proofs.Facts.{some_or_none, true_false}
 
 pub table_total : IsTotalOrder table_cmp
 table_total = on_total (λ t. t.0) nat_cmp_total
@@ -37,10 +37,6 @@ edited_sorted_rows rows key (Some row) sorted = sorted_insert values_cmp key_tot
 pub under_edited : (rows : Rows) (key : List Value) (row : Option (List Value)) (q : List Value) → T (is_sorted values_cmp rows) → row_under (edited_rows rows key row) q ≡ cond (is_eq (values_cmp q key)) row (row_under rows q)
 under_edited rows key None q sorted = lookup_remove values_cmp key_total same_key rows key q sorted
 under_edited rows key (Some row) q sorted = lookup_insert values_cmp key_total rows key row q
-
-some_or_none : {A : Type 0} (o : Option A) → ((x : A) × (o ≡ Some x)) ⊎ (o ≡ None)
-some_or_none None = inr refl
-some_or_none (Some x) = inl (x, refl)
 
 pub edit_is : (tables : Tables) (edit : Edit) (rows : Rows) → rows_in tables edit.0.0 ≡ Some rows → edited tables edit ≡ with_rows tables edit.0.0 (edited_rows rows edit.0.1 edit.1)
 unfolding edited
@@ -122,9 +118,6 @@ at_other tables edit q sorted apart =
     ]
 
 -- ---- two places are one, or not
-
-true_false : true ≡ false → ⊥
-true_false e = cc
 
 key_cases : (b : Bool) (k q : List Value) → is_eq (values_cmp k q) ≡ b → (k ≡ q) ⊎ (k ≡ q → ⊥)
 key_cases true k q e = inl (same_key k q (equal (values_cmp k q) e))

@@ -1,9 +1,7 @@
 -- Tables between the old ones and the stated ones: each row has the columns that are written early of an old or a stated row, and those that are written late too, or NULL. They are legal where their foreign keys name rows.
-use Rattle.std.proofs.Common.{◌≡◌, ◌⊎◌, inl, inr, ℕ, Bool, true, false, not, cond, ◌&&◌, ◌||◌, T, List, [], ◌∷◌, map, Option, None, Some, refl, sym, ap, ◌∙◌, subst}
-use Rattle.std.specs.Ordering.{is_eq}
+use Rattle.std.proofs.Common.{◌≡◌, ◌⊎◌, inl, inr, ℕ, Bool, true, false, not, ◌&&◌, List, [], ◌∷◌, Option, None, Some, refl, sym, ap, ◌∙◌, subst}
 use Rattle.std.specs.List.{AllByRecursion, list_all, list_any}
 use Rattle.std.specs.Option.{is_some, option_and_then}
-use Rattle.std.specs.Cmp.Lexicographic.{pointwise}
 use Rattle.base_core.specs.declared.ids.TableId.{TableId}
 use Rattle.base_core.specs.declared.value.Value.{Value}
 use Rattle.base_core.specs.Order.{values_cmp}
@@ -11,17 +9,18 @@ use Rattle.schema_core.specs.declared.changes.RowChanges.{RowChanges}
 use Rattle.schema_core.specs.declared.table.ColumnSpec.{ColumnSpec}
 use Rattle.schema_core.specs.declared.table.ForeignSpec.{ForeignSpec}
 use Rattle.schema_core.specs.declared.table.TableSpec.{TableSpec}
-use Rattle.schema_core.specs.Catalog.{Catalog, IsTable, is_required, spec_of, target_of}
-use Rattle.schema_core.specs.Tables.{Legal, Rows, Tables, cell_of, cells_of, collide, dangles, fits, has_dangling, has_null, has_row, is_legal_row, key_of, repeats_unique, row_under, rows_in, same_values, some_dangles, table_cmp}
+use Rattle.schema_core.specs.Catalog.{Catalog, IsTable, spec_of, target_of}
+use Rattle.schema_core.specs.Tables.{Legal, Rows, Tables, cells_of, collide, dangles, has_null, has_row, is_legal_row, key_of, repeats_unique, row_under, rows_in, same_values, some_dangles, table_cmp}
 use Rattle.table_laws.proofs.Entries.{all_both, all_lookup, all_map, any_none, none_any}
 use Rattle.table_laws.proofs.SameValues.{same_key, same_table, same_turned, values_turned}
 use Rattle.flush_plan.specs.Cells.{is_late, late_name}
 use Rattle.flush_plan.specs.Sorted.{Place}
 use Rattle.flush_plan.specs.Stating.{blend, is_created, is_present, row_at}
-use Rattle.plan_laws.specs.Premises.{Ends, IsFit, IsSorted}
+use Rattle.plan_laws.specs.Premises.{Ends, IsSorted}
 use Rattle.plan_laws.proofs.At.{each_row, key_total, row_found, rows_sorted, table_total}
 use Rattle.plan_laws.proofs.Blend.{FitsLate, Long, blend_early, blend_fits, blend_key, blend_late, legal_fits_late, legal_is_long, nulls, nulls_are_long, nulls_fit_late, nulls_null}
 use Rattle.plan_laws.proofs.Lookups.{all_found}
+use Rattle.plan_laws.proofs.Facts.{none_some, true_false}
 
 -- ---- a row that is found
 
@@ -29,9 +28,6 @@ pub record Found (tables : Tables) (place : Place) (row : List Value) : Type 0 w
   pub rows : Rows
   pub table : rows_in tables place.0 ≡ Some rows
   pub under : row_under rows place.1 ≡ Some row
-
-none_some : {A : Type 0} (x : A) → None ≡ Some x → ⊥
-none_some x e = cc
 
 found_in : (tables : Tables) (place : Place) (row : List Value) (o : Option Rows) → rows_in tables place.0 ≡ o → option_and_then (λ rows. row_under rows place.1) o ≡ Some row → Found tables place row
 found_in tables place row None e at = absurd (none_some row at)
@@ -88,9 +84,6 @@ has_row_at key (Some rows) = refl
 
 dangles_by : Catalog → Tables → List Value → Option TableId → Bool
 dangles_by schema tables key target = not (has_null key) && not (has_row key (option_and_then (rows_in tables) target))
-
-true_false : true ≡ false → ⊥
-true_false e = cc
 
 move_step : (schema : Catalog) (from to : Tables) (key : List Value) (target : Option TableId) (b : Bool) → has_null key ≡ b → (not b && not (has_row key (option_and_then (rows_in from) target))) ≡ false → ((t : TableId) → target ≡ Some t → has_null key ≡ false → is_present from (t, key) ≡ true → is_present to (t, key) ≡ true) → (not b && not (has_row key (option_and_then (rows_in to) target))) ≡ false
 move_step schema from to key target true e d move = refl

@@ -1,10 +1,9 @@
 -- What is known of the new rows, under completeness's premises.
-use Rattle.std.proofs.Common.{◌≡◌, ◌⊎◌, inl, inr, ℕ, ℤ, zero, suc, ◌<◌, Bool, true, false, not, cond, ◌&&◌, ◌||◌, eqb, List, [], ◌∷◌, ◌++◌, map, length, get_or, Option, None, Some, Result, Ok, Err, refl, sym, ap, ◌∙◌, subst, arith}
+use Rattle.std.proofs.Common.{◌≡◌, inl, inr, ℕ, ℤ, zero, suc, ◌<◌, Bool, true, false, cond, ◌&&◌, ◌||◌, eqb, List, [], ◌∷◌, ◌++◌, map, length, get_or, Option, None, Some, refl, sym, ap, ◌∙◌, subst, arith}
 use Rattle.std.proofs.lemmas.Bool.{eq-eqb}
-use Rattle.std.specs.List.{AllByRecursion, IsDistinct, filter, list_all, list_any}
-use Rattle.std.specs.Option.{is_some, option_and_then, unwrap_or}
+use Rattle.std.specs.List.{AllByRecursion, IsDistinct, filter, list_all}
+use Rattle.std.specs.Option.{unwrap_or}
 use Rattle.std.specs.Cmp.Lexicographic.{pointwise}
-use Rattle.base_core.specs.declared.ids.TableId.{TableId}
 use Rattle.base_core.specs.declared.value.Value.{Value}
 use Rattle.base_core.specs.declared.value.Value.TheVariants.{Null, Int}
 use Rattle.schema_core.specs.declared.changes.ChangedRow.{ChangedRow}
@@ -16,36 +15,30 @@ use Rattle.schema_core.specs.declared.table.ColumnSpec.{ColumnSpec}
 use Rattle.schema_core.specs.declared.table.TableSpec.{TableSpec}
 use Rattle.schema_core.specs.Apply.{next_key, wants_key, with_key}
 use Rattle.schema_core.specs.Catalog.{Catalog, spec_of}
-use Rattle.schema_core.specs.Tables.{Rows, Tables, key_of}
+use Rattle.schema_core.specs.Tables.{Rows, Tables}
 use Rattle.schema_core.specs.WellFormed.{is_row, may_hold}
 use Rattle.table_laws.proofs.RowFits.{and_true}
 use Rattle.flush_plan.specs.Cells.{cleared, first_cells, is_late, late_name, new_at, no_row, table_at}
 use Rattle.flush_plan.specs.Flushing.{Keys, Sofar, put}
 use Rattle.flush_plan.specs.Places.{is_among}
 use Rattle.flush_plan.specs.Refers.{new_refers}
-use Rattle.flush_plan.specs.Planning.{place_of_changed, place_of_gone, writes_some}
-use Rattle.flush_plan.specs.Sorted.{Place}
-use Rattle.flush_plan.specs.Stating.{Edit, all_placed, blend, edit_changed, edit_gone, edit_new, edits, given, is_created, place_of_new, row_at, tables_stand, written_rows}
+use Rattle.flush_plan.specs.Planning.{writes_some}
+use Rattle.flush_plan.specs.Stating.{Edit, all_placed, blend, edit_changed, edit_gone, edit_new, edits, given, is_created, row_at, written_rows}
 use Rattle.plan_laws.proofs.Drawn.{drawn_under}
 use Rattle.plan_laws.specs.Laws.{IsComplete, before}
-use Rattle.plan_laws.specs.Premises.{Ends, IsSorted}
-use Rattle.plan_laws.proofs.Blend.{Long, blend_again, nulls, nulls_are_long, test}
+use Rattle.plan_laws.specs.Premises.{Ends}
+use Rattle.plan_laws.proofs.Blend.{Long, blend_again, nulls, nulls_are_long}
 use Rattle.plan_laws.proofs.Editing.{AreApart, IsEdit}
 use Rattle.plan_laws.proofs.Inserting.{First, News, new_place}
 use Rattle.plan_laws.proofs.Newness.{Facts, facts, new_apart, new_free, new_fresh}
 use Rattle.plan_laws.proofs.Orders.{order_distinct, order_within}
-use Rattle.plan_laws.proofs.Placing.{Leads, Placed, Step, placed_step}
+use Rattle.plan_laws.proofs.Placing.{Leads, Placed, placed_step}
 use Rattle.plan_laws.proofs.Rowing.{NullLate, drawn_null, drawn_whole, null_blend, null_first}
-use Rattle.plan_laws.proofs.Stated.{all_from, edits_apart, stated_cover, stated_created, stated_new, stated_sorted}
+use Rattle.plan_laws.proofs.Stated.{all_from, edits_apart, stated_cover, stated_new, stated_sorted}
+use Rattle.plan_laws.proofs.Facts.{none_some, same_some}
 
 false_true : false ≡ true → ⊥
 false_true e = cc
-
-none_some : {A : Type 0} (x : A) → None ≡ Some x → ⊥
-none_some x e = cc
-
-same_some : (x y : List Value) → Some x ≡ Some y → x ≡ y
-same_some x y e = cc
 
 -- ---- lengths
 

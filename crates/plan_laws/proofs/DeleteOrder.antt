@@ -1,10 +1,9 @@
 -- Each deleted row goes once no row left refers to it, under completeness's premises.
-use Rattle.std.proofs.Common.{◌≡◌, ◌⊎◌, inl, inr, ℕ, zero, suc, ◌<◌, ◌≤◌, Bool, true, false, not, cond, ◌&&◌, ◌||◌, eqb, List, [], ◌∷◌, ◌++◌, map, length, take, get_or, Option, None, Some, Result, Ok, Err, refl, sym, ap, ◌∙◌, subst, append_assoc, arith}
+use Rattle.std.proofs.Common.{◌≡◌, ◌⊎◌, inl, inr, ℕ, zero, suc, ◌<◌, Bool, true, false, not, cond, ◌&&◌, ◌||◌, eqb, List, [], ◌∷◌, ◌++◌, map, length, take, get_or, None, Some, Ok, refl, sym, ap, ◌∙◌, subst, append_assoc, arith}
 use Rattle.std.proofs.lemmas.Bool.{eq-eqb, eqb-true}
 use Rattle.std.proofs.lemmas.List.Folds.{list_any-append}
-use Rattle.std.specs.Prelude.{slice_index_or}
 use Rattle.std.specs.List.{AllByRecursion, IsDistinct, list_all, list_any, slice_get}
-use Rattle.std.specs.Option.{is_some, option_and_then}
+use Rattle.std.specs.Option.{is_some}
 use Rattle.base_core.specs.declared.ids.TableId.{TableId}
 use Rattle.base_core.specs.declared.value.Value.{Value}
 use Rattle.base_core.specs.declared.value.Value.TheVariants.{Null}
@@ -14,44 +13,30 @@ use Rattle.schema_core.specs.declared.table.ColumnSpec.{ColumnSpec}
 use Rattle.schema_core.specs.declared.table.ForeignSpec.{ForeignSpec}
 use Rattle.schema_core.specs.Catalog.{Catalog, spec_of, target_of}
 use Rattle.schema_core.specs.Tables.{Tables, cells_of, has_null, same_values}
-use Rattle.schema_core.specs.WellFormed.{is_row, may_hold}
-use Rattle.table_laws.proofs.Entries.{all_both, all_map, any_none}
+use Rattle.schema_core.specs.WellFormed.{is_row}
+use Rattle.table_laws.proofs.Entries.{all_both, any_none}
 use Rattle.flush_plan.specs.Cells.{cleared, is_late, late_name}
 use Rattle.flush_plan.specs.Flushing.{Sofar}
 use Rattle.flush_plan.specs.Places.{IsOrder, is_among, next_place}
-use Rattle.flush_plan.specs.Planning.{delete_order, gone_at, gone_rows, no_gone, place_of_changed, place_of_gone}
-use Rattle.flush_plan.specs.Refers.{gone_key, gone_refers, last_base, names, refers_to}
-use Rattle.flush_plan.specs.Sorted.{Place, same_place, sorted_numbers}
-use Rattle.flush_plan.specs.Stating.{Edit, blend, edit_changed, edit_gone, edit_new, edits, is_created, is_present, row_at, written_rows}
+use Rattle.flush_plan.specs.Planning.{delete_order, gone_at, gone_rows, no_gone, place_of_gone}
+use Rattle.flush_plan.specs.Refers.{gone_key, gone_refers, last_base, names}
+use Rattle.flush_plan.specs.Sorted.{Place, sorted_numbers}
+use Rattle.flush_plan.specs.Stating.{Edit, blend, edit_changed, edit_gone, edit_new, edits, is_present, row_at, written_rows}
 use Rattle.plan_laws.specs.Laws.{IsComplete}
 use Rattle.plan_laws.specs.Premises.{Ends}
 use Rattle.plan_laws.proofs.Between.{all_forall, legal_cells}
-use Rattle.plan_laws.proofs.Blend.{Long, blend_early, blend_late, legal_is_long, nulls, nulls_are_long, test}
+use Rattle.plan_laws.proofs.Blend.{Long, blend_early, blend_late, legal_is_long, nulls, nulls_are_long}
 use Rattle.plan_laws.proofs.Complete.{all_at, all_created, apart, ends, held_is_long, known_facts}
 use Rattle.plan_laws.proofs.Deleting.{Closed, Last, Member, NamesAmong, Ordered}
-use Rattle.plan_laws.proofs.Editing.{AreApart, IsEdit, NoEdit, at_edits, edit_cases, edit_left, edit_split, mapped_edit}
+use Rattle.plan_laws.proofs.Editing.{IsEdit, at_edits, edit_cases, edit_left, edit_split, mapped_edit}
 use Rattle.plan_laws.proofs.InsertOrder.{get_seam, length_seam, out_before, take_prefix}
-use Rattle.plan_laws.proofs.Newness.{Facts, or_false, place_same}
 use Rattle.plan_laws.proofs.Numbers.{AreOther, numbers_distinct, numbers_have, numbers_within, two_at}
 use Rattle.plan_laws.proofs.Ordering.{waits_not}
 use Rattle.plan_laws.proofs.Orders.{order_distinct, order_is, order_within}
 use Rattle.plan_laws.proofs.Placing.{distinct_out}
 use Rattle.plan_laws.proofs.Referring.{key_same, table_is}
 use Rattle.plan_laws.proofs.Stated.{stated_other}
-
-true_false : true ≡ false → ⊥
-true_false e = cc
-
-none_some : {A : Type 0} (x : A) → None ≡ Some x → ⊥
-none_some x e = cc
-
-or_cases : (a b : Bool) → (a || b) ≡ true → (a ≡ true) ⊎ (b ≡ true)
-or_cases true b e = inl refl
-or_cases false b e = inr e
-
-or_right : (a b : Bool) → b ≡ true → (a || b) ≡ true
-or_right true b e = refl
-or_right false b e = e
+use Rattle.plan_laws.proofs.Facts.{or_cases, or_right, true_false}
 
 -- ---- lists by number
 

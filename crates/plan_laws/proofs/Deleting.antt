@@ -1,11 +1,11 @@
 -- The DELETEs of a plan: a row goes once no row left refers to it.
-use Rattle.std.proofs.Common.{◌≡◌, ◌⊎◌, inl, inr, ℕ, Bool, true, false, not, cond, List, [], ◌∷◌, ◌++◌, map, Option, None, Some, Result, Ok, Err, refl, sym, ap, ◌∙◌, subst}
+use Rattle.std.proofs.Common.{◌≡◌, ◌⊎◌, inl, inr, true, false, List, [], ◌∷◌, map, Option, None, Some, Ok, refl, sym, ap, ◌∙◌, subst}
 use Rattle.std.specs.List.{AllByRecursion}
 use Rattle.std.specs.Option.{is_some, option_and_then}
 use Rattle.base_core.specs.declared.ids.TableId.{TableId}
 use Rattle.base_core.specs.declared.value.Value.{Value}
 use Rattle.schema_core.specs.declared.changes.Planned.{Planned}
-use Rattle.schema_core.specs.declared.changes.Planned.TheVariants.{Insert, Update, Remove}
+use Rattle.schema_core.specs.declared.changes.Planned.TheVariants.{Remove}
 use Rattle.schema_core.specs.declared.changes.RowChanges.{RowChanges}
 use Rattle.schema_core.specs.declared.statement.RowStmt.TheVariants as statement
 use Rattle.schema_core.specs.declared.table.ForeignSpec.{ForeignSpec}
@@ -14,24 +14,16 @@ use Rattle.schema_core.specs.Catalog.{Catalog, spec_of, target_of}
 use Rattle.schema_core.specs.Tables.{Legal, Rows, Tables, cells_of, dangles, has_null, row_under, rows_in}
 use Rattle.table_laws.proofs.Entries.{all_both, all_map}
 use Rattle.flush_plan.specs.Cells.{is_late, late_name}
-use Rattle.flush_plan.specs.Flushing.{Keys, Sofar, accepted, send}
+use Rattle.flush_plan.specs.Flushing.{Sofar, accepted, send}
 use Rattle.flush_plan.specs.Sorted.{Place}
 use Rattle.flush_plan.specs.Stating.{blend, edited, is_created, is_present, row_at}
 use Rattle.plan_laws.specs.Premises.{Ends, IsSorted}
 use Rattle.plan_laws.proofs.Accept.{delete_accepted}
 use Rattle.plan_laws.proofs.At.{at_edit, at_other, edited_created, edited_sorted, place_cases, same_tables}
-use Rattle.plan_laws.proofs.Between.{Between, Comes, FromRow, Good, IsBound, at_found, between_legal, columns, comes_legal, comes_long, good_foreigns, legal_bound, moved, null_bound}
+use Rattle.plan_laws.proofs.Between.{Between, FromRow, Good, between_legal, columns, comes_long, good_foreigns, legal_bound, moved, null_bound}
 use Rattle.plan_laws.proofs.Blend.{blend_self, nulls}
 use Rattle.plan_laws.proofs.Prefixes.{Goes}
-
-none_some : {A : Type 0} (x : A) → None ≡ Some x → ⊥
-none_some x e = cc
-
-same_some : (x y : List Value) → Some x ≡ Some y → x ≡ y
-same_some x y e = cc
-
-true_false : true ≡ false → ⊥
-true_false e = cc
+use Rattle.plan_laws.proofs.Facts.{none_some, true_false}
 
 some_present : (o : Option (List Value)) → is_some o ≡ true → (row : List Value) × (o ≡ Some row)
 some_present None f = absurd (true_false (sym f))

@@ -1,8 +1,8 @@
 -- A key as it is drawn, and the foreign keys of a row that is drawn.
-use Rattle.std.proofs.Common.{◌≡◌, ◌⊎◌, inl, inr, ℕ, ℤ, zero, suc, ◌+◌, ◌<◌, Bool, true, false, not, cond, ◌&&◌, ◌||◌, eqb, List, [], ◌∷◌, map, length, Option, None, Some, refl, sym, ap, ◌∙◌, subst, arith}
+use Rattle.std.proofs.Common.{◌≡◌, inl, inr, ℕ, ℤ, ◌+◌, Bool, true, false, not, cond, ◌&&◌, ◌||◌, eqb, List, [], ◌∷◌, map, length, Option, None, Some, refl, sym, ap, ◌∙◌, subst, arith}
 use Rattle.std.proofs.lemmas.Bool.{eq-eqb, eqb-true}
 use Rattle.std.proofs.lemmas.List.Sums.{sum_by-cons}
-use Rattle.std.specs.List.{AllByRecursion, count_by, list_all, list_any}
+use Rattle.std.specs.List.{AllByRecursion, count_by, list_any}
 use Rattle.base_core.specs.declared.value.Value.{Value}
 use Rattle.base_core.specs.declared.value.Value.TheVariants.{Null, Int}
 use Rattle.schema_core.specs.declared.changes.RowCell.{RowCell}
@@ -14,35 +14,19 @@ use Rattle.schema_core.specs.Apply.{next_key, wants_key, with_key, with_own_key}
 use Rattle.schema_core.specs.Catalog.{has_generated_key, has_name, is_free_integer, kind_of, same_kind, same_name}
 use Rattle.base_core.specs.declared.value.Kind.TheVariants as kinds
 use Rattle.schema_core.specs.Tables.{Rows, cell_of, cells_of, has_null, is_null, key_cells, key_of}
-use Rattle.table_laws.proofs.Entries.{all_map, any_none}
+use Rattle.table_laws.proofs.Entries.{all_map}
 use Rattle.table_laws.proofs.RowFits.{and_true, only_key}
 use Rattle.flush_plan.specs.Cells.{cleared, key_parts}
 use Rattle.flush_plan.specs.Flushing.{Keys, put}
 use Rattle.plan_laws.proofs.Drawn.{drawn_under}
 use Rattle.plan_laws.specs.Laws.{AreLoose, cell_named, is_given}
-use Rattle.plan_laws.proofs.Blend.{Long, same_names, test}
+use Rattle.plan_laws.proofs.Blend.{same_names}
 use Rattle.plan_laws.proofs.Referring.{Drawn, all_named, key_map, null_is}
-
-true_false : true ≡ false → ⊥
-true_false e = cc
-
-none_some : {A : Type 0} (x : A) → None ≡ Some x → ⊥
-none_some x e = cc
-
-same_some : (x y : List Value) → Some x ≡ Some y → x ≡ y
-same_some x y e = cc
-
-or_false : (a b : Bool) → (a || b) ≡ false → (a ≡ false) × (b ≡ false)
-or_false true b e = cc
-or_false false b e = (refl, e)
+use Rattle.plan_laws.proofs.Facts.{none_some, not_true, or_false, same_some, true_false}
 
 or_none_right : (a : Bool) → (a || false) ≡ a
 or_none_right true = refl
 or_none_right false = refl
-
-not_true : (b : Bool) → not b ≡ true → b ≡ false
-not_true true e = cc
-not_true false e = refl
 
 -- cells as long as the columns
 abbrev pub LongCells : List ColumnSpec → List RowCell → Type 0

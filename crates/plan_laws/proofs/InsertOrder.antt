@@ -1,11 +1,9 @@
 -- Each new row names none that is left after it, under completeness's premises.
-use Rattle.std.proofs.Common.{◌≡◌, ◌⊎◌, inl, inr, ℕ, zero, suc, ◌<◌, ◌≤◌, Bool, true, false, not, cond, ◌&&◌, ◌||◌, eqb, List, [], ◌∷◌, ◌++◌, map, length, take, get_or, Option, None, Some, Result, Ok, Err, refl, sym, ap, ◌∙◌, subst, append_assoc, arith}
+use Rattle.std.proofs.Common.{◌≡◌, ◌⊎◌, inl, inr, ℕ, zero, suc, ◌<◌, ◌≤◌, Bool, true, false, cond, ◌&&◌, ◌||◌, eqb, List, [], ◌∷◌, ◌++◌, map, length, take, get_or, Some, refl, sym, ap, ◌∙◌, subst, append_assoc, arith}
 use Rattle.std.proofs.lemmas.Bool.{cases_lt, eq-eqb, eqb-true}
 use Rattle.std.proofs.lemmas.List.Folds.{list_any-append}
 use Rattle.std.specs.Prelude.{slice_index_or}
 use Rattle.std.specs.List.{AllByRecursion, IsDistinct, list_all, list_any, slice_get}
-use Rattle.std.specs.Option.{option_and_then}
-use Rattle.base_core.specs.declared.ids.TableId.{TableId}
 use Rattle.base_core.specs.declared.value.Value.{Value}
 use Rattle.base_core.specs.declared.value.Value.TheVariants.{Null}
 use Rattle.schema_core.specs.declared.changes.NewRow.{NewRow}
@@ -14,9 +12,9 @@ use Rattle.schema_core.specs.declared.changes.RowCell.TheVariants.{Given, KeyOf}
 use Rattle.schema_core.specs.declared.changes.RowChanges.{RowChanges}
 use Rattle.schema_core.specs.declared.table.ColumnSpec.{ColumnSpec}
 use Rattle.schema_core.specs.declared.table.ForeignSpec.{ForeignSpec}
-use Rattle.schema_core.specs.Catalog.{Catalog, same_name, spec_of, target_of}
-use Rattle.schema_core.specs.Tables.{Rows, Tables, cells_of, has_null, key_of}
-use Rattle.table_laws.proofs.Entries.{all_both, all_map, any_none, none_any}
+use Rattle.schema_core.specs.Catalog.{Catalog, same_name, spec_of}
+use Rattle.schema_core.specs.Tables.{Tables, cells_of, has_null, key_of}
+use Rattle.table_laws.proofs.Entries.{all_map, any_none, none_any}
 use Rattle.flush_plan.specs.Cells.{cleared, first_cells, is_late, key_parts, known_row, late_name, new_at, no_row, table_at}
 use Rattle.flush_plan.specs.Flushing.{Keys, Sofar, key_of_new, put}
 use Rattle.flush_plan.specs.Places.{IsOrder, is_among, next_place}
@@ -31,21 +29,12 @@ use Rattle.plan_laws.proofs.Blend.{Long, blend_late, nulls, nulls_are_long, null
 use Rattle.plan_laws.proofs.Complete.{all_at, ends, found_placed, leads, new_long, news, once, stands, within}
 use Rattle.plan_laws.proofs.Drawing.{LongCells, foreign_drawn, key_drawn, long_cleared, loose_cleared}
 use Rattle.plan_laws.proofs.Inserting.{First, InOrder, NamesNot, new_place}
-use Rattle.plan_laws.proofs.Newness.{any_among, or_false, or_none}
+use Rattle.plan_laws.proofs.Newness.{any_among, or_none}
 use Rattle.plan_laws.proofs.Ordering.{waits_not}
-use Rattle.plan_laws.proofs.Orders.{order_is, order_within}
-use Rattle.plan_laws.proofs.Placing.{Leads, Placed, keys_kept}
-use Rattle.plan_laws.proofs.Referring.{AllDrawn, Drawn, IsSafe, all_named, names_not}
-
-true_false : true ≡ false → ⊥
-true_false e = cc
-
-same_some : (x y : List Value) → Some x ≡ Some y → x ≡ y
-same_some x y e = cc
-
-bool_cases : (b : Bool) → (b ≡ true) ⊎ (b ≡ false)
-bool_cases true = inl refl
-bool_cases false = inr refl
+use Rattle.plan_laws.proofs.Orders.{order_is}
+use Rattle.plan_laws.proofs.Placing.{Placed, keys_kept}
+use Rattle.plan_laws.proofs.Referring.{AllDrawn, Drawn, all_named, names_not}
+use Rattle.plan_laws.proofs.Facts.{bool_cases, or_false, or_right, same_some, true_false}
 
 -- ---- lists
 
@@ -159,10 +148,6 @@ drawn_nil keys (cell ∷ parts) (v ∷ key) e d = absurd (value_nil v key e)
 all_zip : {A : Type 0} (P Q : A → Type 0) (xs : List A) → AllByRecursion P xs → AllByRecursion Q xs → AllByRecursion (λ x. P x × Q x) xs
 all_zip P Q [] p q = tt
 all_zip P Q (x ∷ xs) p q = ((p.0, q.0), all_zip P Q xs p.1 q.1)
-
-or_right : (a b : Bool) → b ≡ true → (a || b) ≡ true
-or_right true b e = refl
-or_right false b e = e
 
 module _ (schema : Catalog) (old : Tables) (changes : RowChanges) (order : List ℕ) (placed : Sofar) (after : Tables) (complete : IsComplete schema old changes order placed after) where
   abbrev columns_at : ℕ → List ColumnSpec

@@ -1,5 +1,5 @@
 -- Every prefix of the INSERTs is accepted and leaves legal tables.
-use Rattle.std.proofs.Common.{◌≡◌, ℕ, List, map, Ok}
+use Rattle.std.proofs.Common.{ℕ, List, map}
 use Rattle.schema_core.specs.declared.changes.RowChanges.{RowChanges}
 use Rattle.schema_core.specs.Catalog.{Catalog}
 use Rattle.schema_core.specs.Tables.{Tables}

@@ -1,11 +1,10 @@
 -- The INSERTs of a plan: a row comes once every new row to which it refers stands.
-use Rattle.std.proofs.Common.{◌≡◌, ◌⊎◌, inl, inr, ℕ, Bool, true, false, not, cond, ◌&&◌, ◌||◌, eqb, List, [], ◌∷◌, ◌++◌, map, Option, None, Some, Result, Ok, Err, refl, sym, ap, ◌∙◌, subst}
+use Rattle.std.proofs.Common.{◌≡◌, ◌⊎◌, inl, inr, ℕ, Bool, true, false, cond, ◌||◌, eqb, List, [], ◌∷◌, map, Option, None, Some, Ok, Err, refl, sym, ap, ◌∙◌, subst}
 use Rattle.std.proofs.lemmas.Bool.{eq-eqb, eqb-true}
-use Rattle.std.specs.List.{AllByRecursion, IsDistinct, list_any}
-use Rattle.std.specs.Option.{is_some, option_and_then, unwrap_or}
+use Rattle.std.specs.List.{AllByRecursion, IsDistinct}
+use Rattle.std.specs.Option.{is_some, option_and_then}
 use Rattle.base_core.specs.declared.ids.TableId.{TableId}
 use Rattle.base_core.specs.declared.value.Value.{Value}
-use Rattle.schema_core.specs.declared.changes.Planned.{Planned}
 use Rattle.schema_core.specs.declared.changes.RowChanges.{RowChanges}
 use Rattle.schema_core.specs.declared.statement.Violation.TheVariants.{Missing}
 use Rattle.schema_core.specs.declared.statement.RowStmt.TheVariants as statement
@@ -15,7 +14,7 @@ use Rattle.schema_core.specs.Judged.{lacks_value}
 use Rattle.schema_core.specs.Catalog.{Catalog, spec_of, target_of}
 use Rattle.schema_core.specs.Tables.{Legal, Rows, Tables, cells_of, dangles, has_null, is_legal_row, key_of, row_under, rows_in}
 use Rattle.table_laws.proofs.Entries.{all_both, all_map}
-use Rattle.flush_plan.specs.Cells.{first_cells, is_late, late_name, new_at, table_at}
+use Rattle.flush_plan.specs.Cells.{first_cells, is_late, late_name, table_at}
 use Rattle.flush_plan.specs.Flushing.{Keys, Sofar, accepted, is_stale, key_of_new, put, send}
 use Rattle.flush_plan.specs.Places.{is_among}
 use Rattle.flush_plan.specs.Sorted.{Place}
@@ -24,23 +23,11 @@ use Rattle.plan_laws.specs.Premises.{Ends, IsSorted}
 use Rattle.plan_laws.specs.Laws.{insert_of}
 use Rattle.plan_laws.proofs.Accept.{insert_accepted}
 use Rattle.plan_laws.proofs.At.{at_edit, at_other, edited_created, edited_sorted, place_cases}
-use Rattle.plan_laws.proofs.Between.{Between, Comes, FromRow, Good, IsBound, all_forall, at_found, between_legal, columns, comes_legal, comes_long, good_foreigns, good_legal, legal_bound, moved, null_bound}
-use Rattle.plan_laws.proofs.Blend.{blend_again, blend_self, nulls, nulls_are_long}
+use Rattle.plan_laws.proofs.Between.{Between, FromRow, Good, IsBound, all_forall, between_legal, columns, comes_long, good_foreigns, good_legal, legal_bound, moved, null_bound}
+use Rattle.plan_laws.proofs.Blend.{blend_self, nulls}
 use Rattle.plan_laws.proofs.Prefixes.{Goes}
-use Rattle.plan_laws.proofs.Placing.{Leads, Step, distinct_out, distinct_rest, keys_kept, leads_step, rows_kept, step_key}
-
-none_some : {A : Type 0} (x : A) → None ≡ Some x → ⊥
-none_some x e = cc
-
-same_some : (x y : List Value) → Some x ≡ Some y → x ≡ y
-same_some x y e = cc
-
-true_false : true ≡ false → ⊥
-true_false e = cc
-
-some_or_none : {A : Type 0} (o : Option A) → ((x : A) × (o ≡ Some x)) ⊎ (o ≡ None)
-some_or_none None = inr refl
-some_or_none (Some x) = inl (x, refl)
+use Rattle.plan_laws.proofs.Placing.{Leads, Step, distinct_out, distinct_rest, leads_step, rows_kept, step_key}
+use Rattle.plan_laws.proofs.Facts.{none_some, same_some, some_or_none, true_false}
 
 or_true : (a b : Bool) → (a || b) ≡ true → (a ≡ true) ⊎ (b ≡ true)
 or_true true b e = inl refl

@@ -1,25 +1,18 @@
 -- The cells that the late UPDATEs write.
-use Rattle.std.proofs.Common.{◌≡◌, ◌⊎◌, inl, inr, ℕ, zero, suc, ◌+◌, ◌<◌, ◌≤◌, Bool, true, false, not, cond, ◌&&◌, ◌||◌, eqb, List, [], ◌∷◌, map, length, get_or, Option, None, Some, refl, sym, ap, ◌∙◌, subst, arith}
+use Rattle.std.proofs.Common.{◌≡◌, ℕ, suc, ◌+◌, ◌<◌, Bool, true, false, not, cond, ◌&&◌, eqb, List, [], ◌∷◌, map, length, get_or, Option, None, Some, refl, sym, ap, ◌∙◌, arith}
 use Rattle.std.proofs.lemmas.Bool.{eq-eqb, eqb-true}
 use Rattle.std.specs.List.{filter}
 use Rattle.std.specs.Option.{unwrap_or}
 use Rattle.base_core.specs.declared.ids.ColumnNo.{ColumnNo}
 use Rattle.base_core.specs.declared.value.Value.{Value}
-use Rattle.base_core.specs.declared.value.Value.TheVariants.{Null, Int, Text, Bool as BoolValue, Bytes}
 use Rattle.schema_core.specs.declared.changes.RowCell.{RowCell}
-use Rattle.schema_core.specs.declared.changes.RowCell.TheVariants.{Given, KeyOf}
 use Rattle.schema_core.specs.declared.table.ColumnSpec.{ColumnSpec}
-use Rattle.schema_core.specs.Tables.{is_null}
 use Rattle.flush_plan.specs.Planning.{numbered}
 use Rattle.flush_plan.specs.Runs.{is_nothing}
 use Rattle.flush_plan.specs.Stating.{blend, put_cells}
-use Rattle.plan_laws.proofs.Blend.{Long, nulls, test}
-use Rattle.plan_laws.proofs.Referring.{null_is}
+use Rattle.plan_laws.proofs.Blend.{Long, test}
 use Rattle.schema_core.specs.Apply.{with_cells}
 use Rattle.plan_laws.proofs.Writing.{Agrees, IsOnce, cell_at, cell_filter, early_written, late_written, with_written, written}
-
-true_false : true ≡ false → ⊥
-true_false e = cc
 
 -- ---- filters
 

@@ -1,5 +1,5 @@
 -- The laws where rows are only new, with foreign keys that are written after all rows.
-use Rattle.std.proofs.Common.{◌≡◌, ℕ, Bool, true, false, ◌&&◌, List, [], ◌∷◌, ◌++◌, map, Ok, refl, sym, ap, ◌∙◌, subst, append_assoc}
+use Rattle.std.proofs.Common.{◌≡◌, ℕ, true, false, ◌&&◌, List, [], ◌∷◌, ◌++◌, map, Ok, refl, sym, ap, ◌∙◌, subst, append_assoc}
 use Rattle.std.specs.Prelude.{slice_index_or}
 use Rattle.std.specs.List.{filter, flat_map}
 use Rattle.base_core.specs.declared.ids.TableId.{TableId}
@@ -15,7 +15,7 @@ use Rattle.flush_plan.specs.Flushing.{Sofar}
 use Rattle.flush_plan.specs.Runs.{runs}
 use Rattle.flush_plan.specs.Planning.{insert_run, Writing, cells_when, gone_at, gone_rows, is_of, key_at, late_gone, late_in, late_new, late_old, late_updates, late_writings, no_changed, no_writing, place_of_changed, plan, remove_of, update_of, updates, writes_some}
 use Rattle.flush_plan.specs.Sorted.{sorted_numbers}
-use Rattle.plan_laws.specs.Laws.{IsComplete, LatePrefixesAreLegal, LateWholeIsStated, before, insert_of}
+use Rattle.plan_laws.specs.Laws.{IsComplete, LatePrefixesAreLegal, LateWholeIsStated, before}
 use Rattle.plan_laws.proofs.Complete.{ends, known_facts, leads, news}
 use Rattle.plan_laws.proofs.Deleting.{remove_at}
 use Rattle.plan_laws.proofs.DeleteOrder.{gone_closed, gone_covered, gone_ordered, pl}

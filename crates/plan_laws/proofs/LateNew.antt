@@ -1,14 +1,13 @@
 -- The late UPDATEs of new rows, under completeness's premises, where no row is changed or deleted.
-use Rattle.std.proofs.Common.{◌≡◌, ◌⊎◌, inl, inr, ℕ, zero, suc, ◌+◌, ◌<◌, ◌≤◌, Bool, true, false, not, cond, ◌&&◌, ◌||◌, eqb, List, [], ◌∷◌, ◌++◌, map, length, get_or, Option, None, Some, refl, sym, ap, ◌∙◌, subst, arith}
+use Rattle.std.proofs.Common.{◌≡◌, ◌⊎◌, inl, inr, ℕ, zero, suc, ◌+◌, ◌<◌, ◌≤◌, Bool, true, false, cond, ◌&&◌, ◌||◌, eqb, List, [], ◌∷◌, ◌++◌, map, length, Option, None, Some, refl, sym, ap, ◌∙◌, subst, arith}
 use Rattle.std.proofs.lemmas.Bool.{cases_lt, eq-eqb, eqb-true}
 use Rattle.std.specs.List.{AllByRecursion, filter, flat_map, range_with_len}
-use Rattle.std.specs.Option.{is_some, option_and_then, unwrap_or}
+use Rattle.std.specs.Option.{is_some, unwrap_or}
 use Rattle.base_core.specs.declared.ids.ColumnNo.{ColumnNo}
 use Rattle.base_core.specs.declared.ids.TableId.{TableId}
 use Rattle.base_core.specs.declared.value.Value.{Value}
-use Rattle.base_core.specs.declared.value.Value.TheVariants.{Null, Int, Text, Bool as BoolValue, Bytes}
+use Rattle.base_core.specs.declared.value.Value.TheVariants.{Null}
 use Rattle.schema_core.specs.declared.changes.ChangedRow.{ChangedRow}
-use Rattle.schema_core.specs.declared.changes.GoneRow.{GoneRow}
 use Rattle.schema_core.specs.declared.changes.RowCell.{RowCell}
 use Rattle.schema_core.specs.declared.changes.RowCell.TheVariants.{Given, KeyOf}
 use Rattle.schema_core.specs.declared.changes.RowChanges.{RowChanges}
@@ -25,7 +24,7 @@ use Rattle.flush_plan.specs.Places.{is_among}
 use Rattle.flush_plan.specs.Runs.{is_nothing}
 use Rattle.flush_plan.specs.Planning.{is_of, key_at, late_new, writes_some}
 use Rattle.flush_plan.specs.Sorted.{Place}
-use Rattle.flush_plan.specs.Stating.{Edit, blend, edit_changed, edit_gone, edit_new, edits, is_created, is_present, put_cells, row_at, written_rows}
+use Rattle.flush_plan.specs.Stating.{Edit, blend, edit_changed, edit_gone, edit_new, edits, put_cells, row_at, written_rows}
 use Rattle.plan_laws.specs.Laws.{IsComplete}
 use Rattle.plan_laws.specs.Premises.{Ends}
 use Rattle.plan_laws.proofs.Between.{comes_long}
@@ -40,31 +39,8 @@ use Rattle.plan_laws.proofs.Referring.{null_is, put_key}
 use Rattle.plan_laws.proofs.Stated.{stated_new, stated_other}
 use Rattle.plan_laws.proofs.Updating.{After, IsStep, OnWay, Step, ToCome, step_place}
 use Rattle.plan_laws.proofs.Whole.{Comes_up}
-
-true_false : true ≡ false → ⊥
-true_false e = cc
-
-none_some : {A : Type 0} (x : A) → None ≡ Some x → ⊥
-none_some x e = cc
-
-same_some : (x y : List Value) → Some x ≡ Some y → x ≡ y
-same_some x y e = cc
-
-and_true : (a b : Bool) → (a && b) ≡ true → (a ≡ true) × (b ≡ true)
-and_true true b e = (refl, e)
-and_true false b e = cc
-
-or_cases : (a b : Bool) → (a || b) ≡ true → (a ≡ true) ⊎ (b ≡ true)
-or_cases true b e = inl refl
-or_cases false b e = inr e
-
-or_right : (a b : Bool) → b ≡ true → (a || b) ≡ true
-or_right true b e = refl
-or_right false b e = e
-
-bool_cases : (b : Bool) → (b ≡ true) ⊎ (b ≡ false)
-bool_cases true = inl refl
-bool_cases false = inr refl
+use Rattle.table_laws.proofs.RowFits.{and_true}
+use Rattle.plan_laws.proofs.Facts.{bool_cases, none_some, or_cases, or_right, same_some, true_false}
 
 -- ---- lists
 

@@ -29,5 +29,6 @@ pub mod PlainUpdates
 pub mod PlainLaw
 pub mod LateCells
 pub mod Example
+pub mod Facts
 pub mod LateNew
 pub mod LateLaw

@@ -1,5 +1,5 @@
 -- The numbers of rows that are sorted by table and key: each once.
-use Rattle.std.proofs.Common.{◌≡◌, ◌⊎◌, inl, inr, ℕ, zero, suc, ◌+◌, ◌<◌, ◌≤◌, Bool, true, false, not, cond, ◌&&◌, ◌||◌, eqb, T, List, [], ◌∷◌, ◌++◌, map, length, get_or, Option, None, Some, Ordering, refl, sym, ap, ◌∙◌, subst, arith}
+use Rattle.std.proofs.Common.{◌≡◌, inl, inr, ℕ, zero, suc, ◌+◌, ◌<◌, Bool, true, false, cond, ◌&&◌, ◌||◌, eqb, T, List, [], ◌∷◌, length, get_or, Option, Some, Ordering, refl, sym, ap, ◌∙◌, subst, arith}
 use Rattle.std.proofs.lemmas.Bool.{eq-eqb, eqb-true}
 use Rattle.std.specs.declared.cmp.Ordering.TheVariants.{Less, Equal, Greater}
 use Rattle.std.specs.Ordering.{is_eq, is_lt, ordering_then}
@@ -8,8 +8,6 @@ use Rattle.std.specs.List.{AllByRecursion, IsDistinct, list_any}
 use Rattle.std.specs.Map.{lookup, values_of}
 use Rattle.std.specs.BTreeMap.{insert_entry, is_at}
 use Rattle.std.specs.FinMap.Entries.{below_all, is_sorted}
-use Rattle.base_core.specs.declared.ids.TableId.{TableId}
-use Rattle.base_core.specs.declared.value.Value.{Value}
 use Rattle.base_core.specs.Order.{values_cmp}
 use Rattle.schema_core.specs.Declaration.{some_two}
 use Rattle.schema_core.specs.Tables.{table_cmp}
@@ -19,13 +17,8 @@ use Rattle.flush_plan.specs.Places.{is_among}
 use Rattle.flush_plan.specs.Sorted.{Place, entered, place_cmp, same_place, sorted_numbers}
 use Rattle.plan_laws.proofs.At.{key_total, table_total}
 use Rattle.plan_laws.proofs.Lookups.{lookup_insert, sorted_insert}
-use Rattle.plan_laws.proofs.Newness.{or_false, place_same}
-
-true_false : true ≡ false → ⊥
-true_false e = cc
-
-none_some : {A : Type 0} (x : A) → None ≡ Some x → ⊥
-none_some x e = cc
+use Rattle.plan_laws.proofs.Newness.{place_same}
+use Rattle.plan_laws.proofs.Facts.{none_some, or_cases, or_false, true_false}
 
 pub place_total : IsTotalOrder place_cmp
 place_total = then_total (on_total (λ (p : Place). p.0) table_total) (on_total (λ (p : Place). p.1) key_total)
@@ -119,10 +112,6 @@ value_step false v n rest vs more e = right (eqb n v) (is_among vs n) (more e)
 value_among : (q : Place) (es : List (Place × ℕ)) (n : ℕ) → lookup (is_at (place_cmp q)) es ≡ Some n → is_among (values_of es) n ≡ true
 value_among q [] n e = absurd (none_some n e)
 value_among q (e ∷ es) n found = value_step (is_eq (place_cmp q e.0)) e.1 n (lookup (is_at (place_cmp q)) es) (values_of es) (value_among q es n) found
-
-or_cases : (a b : Bool) → (a || b) ≡ true → (a ≡ true) ⊎ (b ≡ true)
-or_cases true b e = inl refl
-or_cases false b e = inr e
 
 values_all : (P : ℕ → Type 0) (es : List (Place × ℕ)) (n : ℕ) → AllByRecursion (λ e. P e.1) es → is_among (values_of es) n ≡ true → P n
 values_all P [] n all among = absurd (true_false (sym among))

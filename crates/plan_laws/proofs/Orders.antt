@@ -1,5 +1,5 @@
 -- Either the order has every row, or there is a cycle.
-use Rattle.std.proofs.Common.{◌≡◌, ℕ, zero, suc, ◌+◌, ◌<◌, ◌≤◌, Bool, true, false, cond, not, ◌&&◌, ◌||◌, List, [], ◌∷◌, ◌++◌, ◌⊎◌, inl, inr, length, get_or, take, eqb, Option, None, Some, Result, Ok, Err, refl, sym, ap, ◌∙◌, subst, add-one, length-append, append_assoc, arith}
+use Rattle.std.proofs.Common.{◌≡◌, ℕ, zero, suc, ◌+◌, ◌<◌, ◌≤◌, Bool, true, false, cond, not, ◌&&◌, ◌||◌, List, [], ◌∷◌, ◌++◌, ◌⊎◌, inl, inr, length, get_or, take, eqb, Option, None, Some, Result, Ok, Err, refl, sym, ap, ◌∙◌, subst, length-append, arith}
 use Rattle.std.proofs.lemmas.Bool.{cases_lt, eqb-true}
 use Rattle.std.proofs.lemmas.List.{get_or-take, take_all, take-append-le}
 use Rattle.std.proofs.lemmas.List.Folds.{list_any-append}
@@ -11,6 +11,8 @@ use Rattle.std.specs.Cmp.{nat_eq_equiv}
 use Rattle.std.specs.List.{IsDistinct, find, list_any, range_with_len, slice_get}
 use Rattle.std.specs.Option.{option_to_list, unwrap_or}
 use Rattle.flush_plan.specs.Places.{IsCycle, IsOrder, IsRing, cycle_from, first_places, from_row, holds_up, is_among, is_ready, least_left, next_blocker, next_place, order, order_or_cycle, trail, unless_left}
+use Rattle.table_laws.proofs.RowFits.{and_true}
+use Rattle.plan_laws.proofs.Facts.{none_some, not_true, some_or_none, true_false}
 
 -- ---- what a search finds
 
@@ -24,9 +26,6 @@ cond_some false x y o e = inr (refl, e)
 cond_none : {A : Type 0} (b : Bool) (x : A) (o : Option A) → cond b (Some x) o ≡ None → (b ≡ false) × (o ≡ None)
 cond_none true x o e = cc
 cond_none false x o e = (refl, e)
-
-none_some : {A : Type 0} (x : A) → None ≡ Some x → ⊥
-none_some x e = cc
 
 pub find_passes : {A : Type 0} (p : A → Bool) (xs : List A) (x : A) → find p xs ≡ Some x → p x ≡ true
 find_passes p [] x e = absurd (none_some x e)
@@ -53,18 +52,6 @@ find_fails p a (suc n) x e h k =
       | inr here ↦ let same : a ≡ x = omega arith in subst (λ z. p z ≡ false) same both.0
     ]
 
-some_or_none : {A : Type 0} (o : Option A) → ((x : A) × (o ≡ Some x)) ⊎ (o ≡ None)
-some_or_none None = inr refl
-some_or_none (Some x) = inl (x, refl)
-
-and_true : (a b : Bool) → (a && b) ≡ true → (a ≡ true) × (b ≡ true)
-and_true true b e = (refl, e)
-and_true false b e = cc
-
-not_true : (b : Bool) → not b ≡ true → b ≡ false
-not_true true e = cc
-not_true false e = refl
-
 not_false : (b : Bool) → not b ≡ false → b ≡ true
 not_false true e = refl
 not_false false e = cc
@@ -72,9 +59,6 @@ not_false false e = cc
 or_true : (a b : Bool) → (a || b) ≡ true → (a ≡ true) ⊎ (b ≡ true)
 or_true true b e = inl refl
 or_true false b e = inr e
-
-true_false : true ≡ false → ⊥
-true_false e = cc
 
 any_here : (p : ℕ → Bool) (x : ℕ) (xs : List ℕ) (b : Bool) → (list_any p xs ≡ true → (y : ℕ) × (find p xs ≡ Some y)) → (b || list_any p xs) ≡ true → (y : ℕ) × (cond b (Some x) (find p xs) ≡ Some y)
 any_here p x xs true more e = (x, refl)

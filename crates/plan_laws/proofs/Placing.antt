@@ -1,16 +1,14 @@
 -- What the keys of new rows are, step by step.
-use Rattle.std.proofs.Common.{◌≡◌, ◌⊎◌, inl, inr, ℕ, ℤ, Bool, true, false, not, cond, ◌&&◌, ◌||◌, eqb, List, [], ◌∷◌, ◌++◌, map, Option, None, Some, refl, sym, ap, ◌∙◌, subst}
+use Rattle.std.proofs.Common.{◌≡◌, ◌⊎◌, inl, inr, ℕ, Bool, true, false, cond, ◌||◌, eqb, List, [], ◌∷◌, ◌++◌, map, Option, None, Some, refl, sym, ap, ◌∙◌, subst}
 use Rattle.std.proofs.lemmas.Bool.{eq-eqb, eqb-true}
-use Rattle.std.specs.List.{AllByRecursion, IsDistinct, fold, list_any}
+use Rattle.std.specs.List.{IsDistinct, fold}
 use Rattle.std.specs.Map.{lookup}
-use Rattle.std.specs.Option.{is_some, option_and_then, unwrap_or}
-use Rattle.base_core.specs.declared.ids.TableId.{TableId}
+use Rattle.std.specs.Option.{unwrap_or}
 use Rattle.base_core.specs.declared.value.Value.{Value}
 use Rattle.schema_core.specs.declared.changes.RowChanges.{RowChanges}
-use Rattle.schema_core.specs.declared.table.TableSpec.{TableSpec}
 use Rattle.schema_core.specs.Apply.{with_own_key}
 use Rattle.schema_core.specs.Catalog.{Catalog, spec_of}
-use Rattle.schema_core.specs.Tables.{Rows, Tables, key_of, rows_in, with_row, with_rows}
+use Rattle.schema_core.specs.Tables.{Rows, key_of, rows_in, with_row, with_rows}
 use Rattle.table_laws.proofs.Entries.{none_any}
 use Rattle.flush_plan.specs.Cells.{first_cells, table_at}
 use Rattle.flush_plan.specs.Flushing.{Keys, Sofar, key_of_new, put}
@@ -19,9 +17,7 @@ use Rattle.flush_plan.specs.Sorted.{Place}
 use Rattle.flush_plan.specs.Stating.{edited, place_new, place_of_new, place_on, placed_in, placed_under, row_at}
 use Rattle.plan_laws.specs.Premises.{IsSorted}
 use Rattle.plan_laws.proofs.At.{at_edit, at_other, edit_is, edited_sorted}
-
-none_some : {A : Type 0} (x : A) → None ≡ Some x → ⊥
-none_some x e = cc
+use Rattle.plan_laws.proofs.Facts.{none_some}
 
 same_some : (x y : Sofar) → Some x ≡ Some y → x ≡ y
 same_some x y e = cc

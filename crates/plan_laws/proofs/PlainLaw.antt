@@ -1,5 +1,5 @@
 -- The laws where no foreign key is written after all rows.
-use Rattle.std.proofs.Common.{◌≡◌, ◌⊎◌, inl, inr, ℕ, zero, suc, Bool, true, false, not, cond, ◌&&◌, List, [], ◌∷◌, ◌++◌, map, Result, Ok, Err, refl, sym, ap, ◌∙◌, subst, append_assoc}
+use Rattle.std.proofs.Common.{◌≡◌, ℕ, suc, Bool, true, false, not, cond, ◌&&◌, List, [], ◌∷◌, ◌++◌, map, Result, Ok, Err, refl, sym, ap, ◌∙◌, subst, append_assoc}
 use Rattle.std.specs.Prelude.{slice_index_or}
 use Rattle.base_core.specs.declared.value.Value.TheVariants.{Null}
 use Rattle.schema_core.specs.declared.changes.Planned.TheVariants.{Update}
@@ -17,12 +17,12 @@ use Rattle.schema_core.specs.declared.table.ColumnSpec.{ColumnSpec}
 use Rattle.schema_core.specs.Catalog.{Catalog, spec_of}
 use Rattle.schema_core.specs.DependencyOrder.{table_ids}
 use Rattle.schema_core.specs.Tables.{Tables}
-use Rattle.flush_plan.specs.Cells.{is_in, is_late, late_name, new_at, table_at}
+use Rattle.flush_plan.specs.Cells.{is_in, is_late, new_at, table_at}
 use Rattle.flush_plan.specs.Flushing.{Sofar}
 use Rattle.flush_plan.specs.Runs.{is_nothing, runs}
-use Rattle.flush_plan.specs.Planning.{insert_run, Writing, cells_when, column_of, delete_order, gone_at, gone_rows, insert_order, is_of, key_at, late_gone, late_in, late_new, late_old, late_updates, late_writings, no_writing, numbered, plan, remove_of, statements, unless_gone_cycle, unless_new_cycle, update_of, updates, writes_some}
+use Rattle.flush_plan.specs.Planning.{insert_run, Writing, cells_when, column_of, delete_order, gone_at, gone_rows, insert_order, is_of, key_at, late_gone, late_in, late_new, late_old, late_updates, late_writings, no_writing, numbered, plan, remove_of, statements, unless_gone_cycle, unless_new_cycle, update_of, writes_some}
 use Rattle.flush_plan.specs.Sorted.{sorted_numbers}
-use Rattle.plan_laws.specs.Laws.{IsComplete, PlainPrefixesAreLegal, PlainWholeIsStated, before, insert_of}
+use Rattle.plan_laws.specs.Laws.{IsComplete, PlainPrefixesAreLegal, PlainWholeIsStated, before}
 use Rattle.plan_laws.proofs.Complete.{ends, leads, news}
 use Rattle.plan_laws.proofs.Deleting.{remove_at}
 use Rattle.plan_laws.proofs.DeleteOrder.{gone_closed, gone_covered, gone_ordered, pl}
@@ -34,9 +34,7 @@ use Rattle.plan_laws.proofs.Complete.{known_facts}
 use Rattle.plan_laws.proofs.Updating.{planned_of}
 use Rattle.plan_laws.proofs.Runs.{runs_go}
 use Rattle.plan_laws.proofs.Whole.{plan_goes}
-
-true_false : true ≡ false → ⊥
-true_false e = cc
+use Rattle.plan_laws.proofs.Facts.{true_false}
 
 -- ---- nothing is written late
 

@@ -1,12 +1,11 @@
 -- The UPDATEs of changes in which nothing is written late, under completeness's premises.
-use Rattle.std.proofs.Common.{◌≡◌, ◌⊎◌, inl, inr, ℕ, zero, suc, ◌<◌, Bool, true, false, not, cond, ◌&&◌, ◌||◌, eqb, ltb, List, [], ◌∷◌, ◌++◌, map, length, get_or, Option, None, Some, refl, sym, ap, ◌∙◌, subst, arith}
-use Rattle.std.proofs.lemmas.Bool.{eq-eqb, eqb-true, ltb-true}
+use Rattle.std.proofs.Common.{◌≡◌, ◌⊎◌, inl, inr, ℕ, zero, suc, ◌<◌, Bool, true, false, not, cond, ◌&&◌, ◌||◌, eqb, ltb, List, [], ◌∷◌, ◌++◌, map, length, get_or, None, Some, refl, sym, ap, ◌∙◌, subst, arith}
+use Rattle.std.proofs.lemmas.Bool.{eq-eqb, eqb-true}
 use Rattle.std.specs.List.{AllByRecursion, filter, list_all, list_any}
-use Rattle.std.specs.Option.{is_some, option_and_then, unwrap_or}
+use Rattle.std.specs.Option.{unwrap_or}
 use Rattle.base_core.specs.declared.ids.ColumnNo.{ColumnNo}
 use Rattle.base_core.specs.declared.value.Value.{Value}
 use Rattle.schema_core.specs.declared.changes.ChangedRow.{ChangedRow}
-use Rattle.schema_core.specs.declared.changes.Planned.{Planned}
 use Rattle.schema_core.specs.declared.changes.RowCell.{RowCell}
 use Rattle.schema_core.specs.declared.changes.RowCell.TheVariants.{Given}
 use Rattle.schema_core.specs.declared.changes.RowChanges.{RowChanges}
@@ -15,10 +14,10 @@ use Rattle.schema_core.specs.Apply.{with_cells}
 use Rattle.schema_core.specs.Catalog.{Catalog, spec_of}
 use Rattle.schema_core.specs.Tables.{Tables}
 use Rattle.table_laws.proofs.RowFits.{and_true}
-use Rattle.flush_plan.specs.Cells.{is_in, is_late, late_name, table_at}
+use Rattle.flush_plan.specs.Cells.{is_in, is_late, late_name}
 use Rattle.flush_plan.specs.Flushing.{Keys, Sofar, put}
 use Rattle.flush_plan.specs.Places.{is_among}
-use Rattle.flush_plan.specs.Planning.{Writing, cells_when, changed_rows, column_of, late_gone, no_changed, place_of_changed, place_of_gone, update_of, updates, writes_some}
+use Rattle.flush_plan.specs.Planning.{Writing, cells_when, column_of, late_gone, no_changed, place_of_changed, place_of_gone, update_of, updates, writes_some}
 use Rattle.flush_plan.specs.Sorted.{Place, sorted_numbers}
 use Rattle.flush_plan.specs.Stating.{Edit, blend, edit_changed, edit_gone, edit_new, edits, is_present, old_row, put_cells, row_at, written_rows}
 use Rattle.plan_laws.specs.Laws.{IsComplete, are_at}
@@ -28,29 +27,12 @@ use Rattle.plan_laws.proofs.Blend.{Long, nulls, nulls_are_long, test}
 use Rattle.plan_laws.proofs.Complete.{all_at, all_created, apart, ends, known_facts, news}
 use Rattle.plan_laws.proofs.Editing.{IsEdit, at_edits, edit_cases, edit_left, edit_right, edit_split, mapped_edit}
 use Rattle.plan_laws.proofs.Inserting.{First, new_place}
-use Rattle.plan_laws.proofs.Newness.{or_false}
 use Rattle.plan_laws.proofs.Numbers.{AreOther, numbers_have, numbers_within, two_at}
 use Rattle.plan_laws.proofs.Stated.{stated_other}
 use Rattle.plan_laws.proofs.Updating.{After, IsStep, OnWay, Step, ToCome, planned_of, step_place}
 use Rattle.plan_laws.proofs.Whole.{Comes_up}
 use Rattle.plan_laws.proofs.Writing.{IsOnce, cell_at, with_written, written, written_twice}
-
-true_false : true ≡ false → ⊥
-true_false e = cc
-
-none_some : {A : Type 0} (x : A) → None ≡ Some x → ⊥
-none_some x e = cc
-
-same_some : (x y : List Value) → Some x ≡ Some y → x ≡ y
-same_some x y e = cc
-
-or_cases : (a b : Bool) → (a || b) ≡ true → (a ≡ true) ⊎ (b ≡ true)
-or_cases true b e = inl refl
-or_cases false b e = inr e
-
-or_right : (a b : Bool) → b ≡ true → (a || b) ≡ true
-or_right true b e = refl
-or_right false b e = e
+use Rattle.plan_laws.proofs.Facts.{none_some, or_cases, or_right, same_some, true_false}
 
 -- ---- nothing is late
 

@@ -1,10 +1,10 @@
 -- Plans of which every prefix is accepted and leaves legal tables.
-use Rattle.std.proofs.Common.{◌≡◌, ℕ, zero, suc, Bool, true, false, List, [], ◌∷◌, ◌++◌, take, Result, Ok, Err, refl, sym, ap, ◌∙◌, subst}
+use Rattle.std.proofs.Common.{◌≡◌, ℕ, zero, suc, List, [], ◌∷◌, ◌++◌, take, Ok, refl, sym, ap, ◌∙◌, subst}
 use Rattle.schema_core.specs.declared.changes.Planned.{Planned}
 use Rattle.schema_core.specs.declared.changes.RowChanges.{RowChanges}
 use Rattle.schema_core.specs.Catalog.{Catalog}
 use Rattle.schema_core.specs.Tables.{Legal}
-use Rattle.flush_plan.specs.Flushing.{Sofar, flushed, send, send_on}
+use Rattle.flush_plan.specs.Flushing.{Sofar, flushed, send}
 
 module _ (schema : Catalog) (changes : RowChanges) where
   -- each statement is accepted, and the tables before it, and at the end, are legal

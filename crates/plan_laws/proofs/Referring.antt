@@ -1,14 +1,13 @@
 -- A foreign key of a new row that names a new row refers to it, where no value is guessed.
-use Rattle.std.proofs.Common.{◌≡◌, ◌⊎◌, inl, inr, ℕ, zero, suc, ◌+◌, ◌<◌, Bool, true, false, not, cond, ◌&&◌, ◌||◌, eqb, List, [], ◌∷◌, map, length, get_or, Option, None, Some, refl, sym, ap, ◌∙◌, subst, arith}
-use Rattle.std.proofs.lemmas.Bool.{eq-eqb, eqb-true}
+use Rattle.std.proofs.Common.{◌≡◌, ◌⊎◌, inl, inr, ℕ, zero, suc, ◌+◌, ◌<◌, Bool, true, false, not, cond, ◌&&◌, ◌||◌, List, [], ◌∷◌, map, length, Option, Some, refl, sym, ap, ◌∙◌, arith}
+use Rattle.std.proofs.lemmas.Bool.{eq-eqb}
 use Rattle.std.specs.Prelude.{slice_index_or}
 use Rattle.std.specs.Cmp.{tied_itself}
-use Rattle.std.specs.Ordering.{is_eq, nat_cmp}
-use Rattle.std.specs.List.{AllByRecursion, list_all, list_any, range_with_len}
+use Rattle.std.specs.Ordering.{is_eq}
+use Rattle.std.specs.List.{list_all, list_any, range_with_len}
 use Rattle.base_core.specs.declared.ids.TableId.{TableId}
 use Rattle.base_core.specs.declared.value.Value.{Value}
 use Rattle.base_core.specs.declared.value.Value.TheVariants.{Null, Int, Text, Bool as BoolValue, Bytes}
-use Rattle.base_core.specs.Order.{values_cmp}
 use Rattle.schema_core.specs.declared.changes.RowCell.{RowCell}
 use Rattle.schema_core.specs.declared.changes.RowCell.TheVariants.{Given, KeyOf}
 use Rattle.schema_core.specs.declared.changes.RowChanges.{RowChanges}
@@ -16,29 +15,18 @@ use Rattle.schema_core.specs.declared.table.ColumnSpec.{ColumnSpec}
 use Rattle.schema_core.specs.declared.table.ForeignSpec.{ForeignSpec}
 use Rattle.schema_core.specs.Catalog.{Catalog, same_name, spec_of, target_of}
 use Rattle.schema_core.specs.Tables.{cell_of, cells_of, has_null, is_null, key_cells, key_of, same_values}
-use Rattle.table_laws.proofs.Entries.{all_both, all_map, any_none}
-use Rattle.flush_plan.specs.Cells.{first_cells, key_parts, known, known_row, new_at, part_at, table_at}
+use Rattle.flush_plan.specs.Cells.{first_cells, key_parts, known, known_row, part_at, table_at}
 use Rattle.flush_plan.specs.Flushing.{Keys, key_of_new, put}
 use Rattle.flush_plan.specs.Planning.{key_at}
-use Rattle.flush_plan.specs.Refers.{comes_from, is_table, names, new_refers, refers_to}
+use Rattle.flush_plan.specs.Refers.{comes_from, is_table, names}
 use Rattle.flush_plan.specs.Stating.{given, is_open}
-use Rattle.plan_laws.specs.Laws.{ComesFrom, IsOneKind, cell_named, cells_named, is_given}
+use Rattle.plan_laws.specs.Laws.{IsOneKind, cell_named, cells_named, is_given}
 use Rattle.plan_laws.proofs.At.{key_total}
-
-true_false : true ≡ false → ⊥
-true_false e = cc
-
-or_false : (a b : Bool) → (a || b) ≡ false → (a ≡ false) × (b ≡ false)
-or_false true b e = cc
-or_false false b e = (refl, e)
+use Rattle.plan_laws.proofs.Facts.{or_false, true_false}
 
 or_none : (a b : Bool) → a ≡ false → b ≡ false → (a || b) ≡ false
 or_none true b e f = e
 or_none false b e f = f
-
-and_true : (a b : Bool) → (a && b) ≡ true → (a ≡ true) × (b ≡ true)
-and_true true b e = (refl, e)
-and_true false b e = cc
 
 pub null_is : (v : Value) → is_null v ≡ true → v ≡ Null
 null_is Null e = refl

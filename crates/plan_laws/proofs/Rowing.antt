@@ -1,33 +1,23 @@
 -- The row that an INSERT writes: what is written late is NULL in it, and it lacks nothing.
-use Rattle.std.proofs.Common.{◌≡◌, ◌⊎◌, inl, inr, ℕ, ℤ, Bool, true, false, not, cond, ◌&&◌, ◌||◌, List, [], ◌∷◌, map, Option, None, Some, refl, sym, ap, ◌∙◌, subst}
-use Rattle.std.specs.List.{AllByRecursion, list_any}
-use Rattle.std.specs.Cmp.Lexicographic.{pointwise}
+use Rattle.std.proofs.Common.{◌≡◌, ℕ, ℤ, Bool, true, false, not, cond, ◌&&◌, ◌||◌, List, [], ◌∷◌, map, Option, None, Some, refl, sym, ap, ◌∙◌, subst}
+use Rattle.std.specs.List.{AllByRecursion}
 use Rattle.base_core.specs.declared.value.Value.{Value}
 use Rattle.base_core.specs.declared.value.Value.TheVariants.{Null, Int}
 use Rattle.schema_core.specs.declared.changes.RowCell.{RowCell}
-use Rattle.schema_core.specs.declared.changes.RowCell.TheVariants.{Given, KeyOf}
+use Rattle.schema_core.specs.declared.changes.RowCell.TheVariants.{Given}
 use Rattle.schema_core.specs.declared.table.ColumnSpec.{ColumnSpec}
 use Rattle.schema_core.specs.declared.table.TableSpec.{TableSpec}
 use Rattle.schema_core.specs.Apply.{is_demanded, next_key, wants_key, with_key, with_own_key}
 use Rattle.schema_core.specs.Judged.{lacks_value}
 use Rattle.plan_laws.proofs.Drawn.{drawn_under}
 use Rattle.schema_core.specs.Catalog.{has_generated_key, is_required}
-use Rattle.schema_core.specs.Tables.{Rows, fits, has_null, is_legal_row, is_null, key_cells, key_of}
+use Rattle.schema_core.specs.Tables.{Rows, has_null, is_legal_row, is_null, key_of}
 use Rattle.table_laws.proofs.RowFits.{and_true}
-use Rattle.flush_plan.specs.Cells.{cleared, key_parts}
+use Rattle.flush_plan.specs.Cells.{cleared}
 use Rattle.flush_plan.specs.Flushing.{Keys, put}
 use Rattle.flush_plan.specs.Stating.{blend}
 use Rattle.plan_laws.proofs.Blend.{Long, legal_lacks_none, nulls, test}
-use Rattle.plan_laws.proofs.Referring.{Drawn, key_map}
-
-none_some : {A : Type 0} (x : A) → None ≡ Some x → ⊥
-none_some x e = cc
-
-same_some : (x y : List Value) → Some x ≡ Some y → x ≡ y
-same_some x y e = cc
-
-true_false : true ≡ false → ⊥
-true_false e = cc
+use Rattle.plan_laws.proofs.Facts.{none_some, or_false, same_some, true_false}
 
 module _ (late : List ℕ → Bool) where
   -- NULL in each column that is written late
@@ -78,10 +68,6 @@ module _ (late : List ℕ → Bool) where
   drawn_null spec rows row placed free null e = drawn_by spec rows row placed (wants_key spec row) free null e
 
 -- ---- nothing is lacked
-
-or_false : (a b : Bool) → (a || b) ≡ false → (a ≡ false) × (b ≡ false)
-or_false true b e = cc
-or_false false b e = (refl, e)
 
 less_step : (r k g n : Bool) → (r && n) ≡ false → ((r && not (k && g)) && n) ≡ false
 less_step true true true n e = refl

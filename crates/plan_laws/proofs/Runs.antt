@@ -1,5 +1,5 @@
 -- INSERTs of one row each, gathered into runs.
-use Rattle.std.proofs.Common.{◌≡◌, ℕ, zero, suc, ◌<◌, Bool, true, false, cond, not, ◌&&◌, ◌||◌, List, [], ◌∷◌, ◌++◌, length, map, Option, None, Some, Result, Ok, Err, refl, sym, ap, ◌∙◌, subst, append_assoc, arith}
+use Rattle.std.proofs.Common.{◌≡◌, ℕ, ◌<◌, Bool, true, false, cond, not, ◌&&◌, ◌||◌, List, [], ◌∷◌, ◌++◌, length, map, Option, None, Some, Result, Ok, Err, refl, sym, ap, ◌∙◌, subst, append_assoc, arith}
 use Rattle.std.proofs.lemmas.Bool.{eqb-true}
 use Rattle.std.proofs.lemmas.List.{map-append}
 use Rattle.std.specs.Prelude.{nat_eq}
@@ -18,19 +18,19 @@ use Rattle.schema_core.specs.declared.statement.RowStmt.TheVariants.{Insert}
 use Rattle.schema_core.specs.Apply.{Outcome, answer_keys, apply, apply_found, entries_of, entry_of, insert_rows, is_demanded, keys_of_entries, with_own_key}
 use Rattle.schema_core.specs.Catalog.{Catalog, spec_of}
 use Rattle.schema_core.specs.Judged.{Judged, and_then, lacks_value, write_all}
-use Rattle.schema_core.specs.Tables.{Legal, Rows, Tables, rows_in, with_row}
+use Rattle.schema_core.specs.Tables.{Legal, Rows, Tables, rows_in}
 use Rattle.table_laws.specs.OneByOne.{one_by_one}
 use Rattle.table_laws.proofs.Entries.{all_both}
 use Rattle.table_laws.proofs.OneByOne.{as_one}
 use Rattle.table_laws.proofs.RowFits.{and_true}
 use Rattle.flush_plan.specs.Cells.{first_cells, table_at}
-use Rattle.flush_plan.specs.Flushing.{Keys, Sofar, accepted, is_stale, key_of_new, put, row_sent, send, with_keys}
+use Rattle.flush_plan.specs.Flushing.{Keys, Sofar, accepted, is_stale, put, row_sent, send, with_keys}
 use Rattle.flush_plan.specs.Planning.{insert_run}
-use Rattle.flush_plan.specs.Refers.{comes_from, new_refers, refers_to}
+use Rattle.flush_plan.specs.Refers.{comes_from, new_refers}
 use Rattle.flush_plan.specs.Runs.{cut, ended, goes_with, joins, leaves_key, runs}
 use Rattle.plan_laws.specs.Laws.{insert_of}
-use Rattle.plan_laws.proofs.Newness.{or_false}
 use Rattle.plan_laws.proofs.Prefixes.{Goes, goes_on}
+use Rattle.plan_laws.proofs.Facts.{not_true, or_false}
 
 err_ok : {A B : Type 0} (e : B) (x : A) → Err e ≡ Ok x → ⊥
 err_ok e x f = cc
@@ -191,10 +191,6 @@ module _ (schema : Catalog) (changes : RowChanges) where
   run_goes (place ∷ places) sofar end is goes = (goes.0, (end, run_sent place places sofar end is goes, (refl, goes_end sofar end (map (insert_of changes) (place ∷ places)) goes)))
 
   -- ---- a row that joins a run
-
-  not_true : (b : Bool) → not b ≡ true → b ≡ false
-  not_true true e = cc
-  not_true false e = refl
 
   all_pass : (p : ℕ → Bool) (xs : List ℕ) → list_all p xs ≡ true → AllByRecursion (λ x. p x ≡ true) xs
   all_pass p [] e = tt

@@ -1,32 +1,25 @@
 -- What the stated tables hold under the place of each row of the changes.
-use Rattle.std.proofs.Common.{◌≡◌, ◌⊎◌, inl, inr, ℕ, Bool, true, false, not, cond, ◌&&◌, ◌||◌, eqb, List, [], ◌∷◌, ◌++◌, map, Option, None, Some, refl, sym, ap, ◌∙◌, subst}
+use Rattle.std.proofs.Common.{◌≡◌, ◌⊎◌, inl, inr, ℕ, Bool, true, false, not, cond, ◌||◌, eqb, List, [], ◌∷◌, ◌++◌, map, None, refl, sym, ap, ◌∙◌, subst}
 use Rattle.std.proofs.lemmas.Bool.{eq-eqb, eqb-true}
-use Rattle.std.specs.List.{AllByRecursion, IsDistinct, filter, fold, list_all, list_any}
-use Rattle.std.specs.Option.{is_some, option_and_then, unwrap_or}
+use Rattle.std.specs.List.{AllByRecursion, filter, list_all, list_any}
+use Rattle.std.specs.Option.{is_some}
 use Rattle.base_core.specs.declared.ids.TableId.{TableId}
-use Rattle.base_core.specs.declared.value.Value.{Value}
 use Rattle.schema_core.specs.declared.changes.ChangedRow.{ChangedRow}
-use Rattle.schema_core.specs.declared.changes.GoneRow.{GoneRow}
 use Rattle.schema_core.specs.declared.changes.RowChanges.{RowChanges}
-use Rattle.schema_core.specs.Catalog.{Catalog, spec_of}
+use Rattle.schema_core.specs.Catalog.{Catalog}
 use Rattle.schema_core.specs.Declaration.{some_two}
 use Rattle.schema_core.specs.Tables.{Tables}
-use Rattle.table_laws.proofs.Entries.{all_map, all_swap, any_none, none_any}
+use Rattle.table_laws.proofs.Entries.{all_map, all_swap, any_none}
 use Rattle.table_laws.proofs.RowFits.{and_true}
-use Rattle.flush_plan.specs.Flushing.{Sofar, put}
+use Rattle.flush_plan.specs.Flushing.{Sofar}
 use Rattle.flush_plan.specs.Places.{is_among}
 use Rattle.flush_plan.specs.Planning.{late_gone, place_of_changed, place_of_gone, writes_some}
 use Rattle.flush_plan.specs.Sorted.{Place, same_place}
-use Rattle.flush_plan.specs.Stating.{Edit, edit_changed, edit_gone, edit_new, edited, edits, is_created, is_present, place_of_new, row_at, tables_stand, written_rows}
+use Rattle.flush_plan.specs.Stating.{Edit, edit_changed, edit_gone, edit_new, edits, is_created, is_present, place_of_new, row_at, written_rows}
 use Rattle.plan_laws.specs.Premises.{IsSorted}
-use Rattle.plan_laws.proofs.Editing.{AreApart, IsEdit, NoEdit, at_edits, edit_cases, edit_left, edit_right, edit_split, fold_created, fold_sorted, mapped_edit, not_edited}
-use Rattle.plan_laws.proofs.Newness.{Facts, any_among, new_free, or_false, or_none, place_same}
-
-true_false : true ≡ false → ⊥
-true_false e = cc
-
-none_some : {A : Type 0} (x : A) → None ≡ Some x → ⊥
-none_some x e = cc
+use Rattle.plan_laws.proofs.Editing.{AreApart, IsEdit, NoEdit, at_edits, edit_cases, edit_right, edit_split, fold_created, fold_sorted, mapped_edit, not_edited}
+use Rattle.plan_laws.proofs.Newness.{Facts, new_free, or_none, place_same}
+use Rattle.plan_laws.proofs.Facts.{or_false, true_false}
 
 -- ---- edits of lists, apart
 

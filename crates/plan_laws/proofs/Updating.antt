@@ -1,38 +1,29 @@
 -- The UPDATEs of a plan, early and late ones: each row has the stated cells, or an UPDATE of it is still to come.
-use Rattle.std.proofs.Common.{◌≡◌, ◌⊎◌, inl, inr, ℕ, Bool, true, false, not, cond, List, [], ◌∷◌, ◌++◌, map, Option, None, Some, Result, Ok, Err, refl, sym, ap, ◌∙◌, subst}
+use Rattle.std.proofs.Common.{◌≡◌, ◌⊎◌, inl, inr, Bool, true, false, List, [], ◌∷◌, map, Option, None, Some, Ok, refl, sym, ap, ◌∙◌, subst}
 use Rattle.std.specs.List.{AllByRecursion}
-use Rattle.std.specs.Option.{is_some, option_and_then}
+use Rattle.std.specs.Option.{is_some}
 use Rattle.base_core.specs.declared.ids.ColumnNo.{ColumnNo}
 use Rattle.base_core.specs.declared.ids.TableId.{TableId}
 use Rattle.base_core.specs.declared.value.Value.{Value}
 use Rattle.schema_core.specs.declared.changes.Planned.{Planned}
-use Rattle.schema_core.specs.declared.changes.Planned.TheVariants.{Insert, Update, Remove}
+use Rattle.schema_core.specs.declared.changes.Planned.TheVariants.{Update}
 use Rattle.schema_core.specs.declared.changes.RowCell.{RowCell}
 use Rattle.schema_core.specs.declared.changes.RowChanges.{RowChanges}
 use Rattle.schema_core.specs.declared.statement.RowStmt.TheVariants as statement
 use Rattle.schema_core.specs.Apply.{apply, with_cells}
-use Rattle.schema_core.specs.Catalog.{Catalog, spec_of}
-use Rattle.schema_core.specs.Tables.{Legal, Rows, Tables, row_under, rows_in}
-use Rattle.flush_plan.specs.Cells.{is_late, late_name}
+use Rattle.schema_core.specs.Catalog.{Catalog}
+use Rattle.schema_core.specs.Tables.{Legal, Rows, Tables, rows_in}
+use Rattle.flush_plan.specs.Cells.{is_late}
 use Rattle.flush_plan.specs.Flushing.{Keys, Sofar, accepted, put, send}
 use Rattle.flush_plan.specs.Sorted.{Place}
 use Rattle.flush_plan.specs.Stating.{blend, edited, is_created, is_present, put_cells, row_at}
 use Rattle.plan_laws.specs.Premises.{Ends, IsSorted}
 use Rattle.plan_laws.proofs.Accept.{update_accepted}
 use Rattle.plan_laws.proofs.At.{at_edit, at_other, edited_created, edited_sorted, place_cases}
-use Rattle.plan_laws.proofs.Between.{Between, Comes, Found, Good, IsBound, all_bound, at_found, between_legal, columns, found, good_legal}
+use Rattle.plan_laws.proofs.Between.{Between, Comes, Good, all_bound, between_legal, columns, found, good_legal}
 use Rattle.plan_laws.proofs.Blend.{nulls}
 use Rattle.plan_laws.proofs.Prefixes.{Goes}
-
-some_or_none : {A : Type 0} (o : Option A) → ((x : A) × (o ≡ Some x)) ⊎ (o ≡ None)
-some_or_none None = inr refl
-some_or_none (Some x) = inl (x, refl)
-
-true_false : true ≡ false → ⊥
-true_false e = cc
-
-same_some : (x y : List Value) → Some x ≡ Some y → x ≡ y
-same_some x y e = cc
+use Rattle.plan_laws.proofs.Facts.{same_some, true_false}
 
 -- an UPDATE that is still to come: whether it is a late one, and where
 abbrev pub Step : Type 0

@@ -1,14 +1,14 @@
 -- The phases one after the other: every prefix of the plan is accepted and leaves legal tables, and the whole leaves the stated ones.
-use Rattle.std.proofs.Common.{◌≡◌, ◌⊎◌, inl, inr, ℕ, Bool, true, false, cond, ◌||◌, eqb, List, [], ◌∷◌, ◌++◌, map, Option, None, Some, refl, sym, ap, ◌∙◌, subst}
-use Rattle.std.specs.List.{AllByRecursion, IsDistinct}
+use Rattle.std.proofs.Common.{◌≡◌, inl, inr, ℕ, true, List, [], ◌++◌, map, Option, None, Some, refl, sym, ap, ◌∙◌, subst}
+use Rattle.std.specs.List.{AllByRecursion}
 use Rattle.std.specs.Option.{is_some}
 use Rattle.base_core.specs.declared.ids.TableId.{TableId}
 use Rattle.base_core.specs.declared.value.Value.{Value}
 use Rattle.schema_core.specs.declared.changes.RowChanges.{RowChanges}
 use Rattle.schema_core.specs.Catalog.{Catalog}
 use Rattle.schema_core.specs.Tables.{Tables}
-use Rattle.flush_plan.specs.Cells.{is_late, late_name}
-use Rattle.flush_plan.specs.Flushing.{Keys, Sofar}
+use Rattle.flush_plan.specs.Cells.{late_name}
+use Rattle.flush_plan.specs.Flushing.{Sofar}
 use Rattle.flush_plan.specs.Places.{is_among}
 use Rattle.flush_plan.specs.Sorted.{Place}
 use Rattle.flush_plan.specs.Stating.{is_created, is_present, row_at}
@@ -20,20 +20,8 @@ use Rattle.plan_laws.proofs.Deleting.{Closed, Going, Last, Member, Ordered, dele
 use Rattle.plan_laws.proofs.Prefixes.{Goes, goes_on}
 use Rattle.plan_laws.proofs.Inserting.{First, InOrder, News, Putting, inserts_go, new_place}
 use Rattle.plan_laws.proofs.Placing.{Leads}
-use Rattle.plan_laws.proofs.Updating.{Blend, IsFirst, IsLast, IsStep, Middle, OnWay, Step, ToCome, planned_of, updates_go}
-
-none_some : {A : Type 0} (x : A) → None ≡ Some x → ⊥
-none_some x e = cc
-
-same_some : (x y : List Value) → Some x ≡ Some y → x ≡ y
-same_some x y e = cc
-
-true_false : true ≡ false → ⊥
-true_false e = cc
-
-some_or_none : {A : Type 0} (o : Option A) → ((x : A) × (o ≡ Some x)) ⊎ (o ≡ None)
-some_or_none None = inr refl
-some_or_none (Some x) = inl (x, refl)
+use Rattle.plan_laws.proofs.Updating.{Blend, IsStep, Middle, OnWay, Step, planned_of, updates_go}
+use Rattle.plan_laws.proofs.Facts.{none_some, same_some, some_or_none, true_false}
 
 some_present : (o : Option (List Value)) → is_some o ≡ true → (row : List Value) × (o ≡ Some row)
 some_present None f = absurd (true_false (sym f))

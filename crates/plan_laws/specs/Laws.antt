@@ -1,5 +1,5 @@
 -- The laws of a plan.
-use Rattle.std.specs.Prelude.{◌≡◌, ◌⊎◌, ◌<◌, ℕ, suc, Bool, true, false, cond, not, ◌&&◌, ◌||◌, List, [], ◌∷◌, length, map, nat_eq, nat_lt, slice_index_or, take, Option, None, Some, Result, Ok, Err, is_some}
+use Rattle.std.specs.Prelude.{◌≡◌, ◌⊎◌, ◌<◌, ℕ, suc, Bool, true, false, cond, not, ◌&&◌, ◌||◌, List, [], ◌∷◌, length, map, nat_eq, nat_lt, take, Some, Ok}
 use Rattle.std.specs.List.{AllByRecursion, list_all, list_any}
 use Rattle.base_core.specs.declared.ids.ColumnNo.{ColumnNo}
 use Rattle.base_core.specs.declared.ids.TableId.{TableId}
@@ -16,15 +16,14 @@ use Rattle.schema_core.specs.declared.table.ColumnSpec.{ColumnSpec}
 use Rattle.schema_core.specs.declared.table.ForeignSpec.{ForeignSpec}
 use Rattle.schema_core.specs.Catalog.{Catalog, has_name, same_name, spec_of, target_of}
 use Rattle.schema_core.specs.Declaration.{some_two}
-use Rattle.schema_core.specs.Tables.{Legal, Tables, cells_of, key_of}
+use Rattle.schema_core.specs.Tables.{Legal, Tables, cells_of}
 use Rattle.schema_core.specs.WellFormed.{is_row}
-use Rattle.flush_plan.specs.Cells.{key_parts, new_at, table_at}
+use Rattle.flush_plan.specs.Cells.{table_at}
 use Rattle.flush_plan.specs.Flushing.{Sofar, flushed}
 use Rattle.schema_core.specs.declared.changes.Planned.TheVariants.{Insert}
 use Rattle.flush_plan.specs.Planning.{insert_order, key_at, place_of_changed, place_of_gone, plan}
-use Rattle.flush_plan.specs.Refers.{gone_key}
-use Rattle.flush_plan.specs.Sorted.{Place, same_place}
-use Rattle.flush_plan.specs.Stating.{all_placed, given, guess, is_created, row_at, stated}
+use Rattle.flush_plan.specs.Sorted.{same_place}
+use Rattle.flush_plan.specs.Stating.{all_placed, given, guess, row_at, stated}
 use Rattle.plan_laws.specs.Premises.{IsClear, IsFit, IsSorted}
 
 -- the INSERT of one row
