@@ -1,5 +1,5 @@
 -- What an evaluation of a bulk statement may be refused by.
-use Rattle.std.proofs.Common.{ℕ, List, [], Option, Result, Ok, Err, subst}
+use Rattle.std.proofs.Common.{ℕ, List, [], Option, Ok, Err, subst}
 use Rattle.base_core.specs.declared.ids.ColumnNo.{ColumnNo}
 use Rattle.base_core.specs.declared.refusal.Refusal.{Refusal}
 use Rattle.base_core.specs.declared.refusal.Refusal.TheVariants as refusals

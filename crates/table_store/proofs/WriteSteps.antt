@@ -1,26 +1,22 @@
 -- Steps of a statement on rows, done on tables that are held.
-use Rattle.std.proofs.Common.{◌≡◌, ℕ, ℤ, ◌<◌, Bool, true, false, not, ◌&&◌, ◌||◌, List, [], ◌∷◌, ◌++◌, length, Option, None, Some, is_some, Result, Ok, Err, if◌then◌else◌, refl, sym, ap, subst, ◌∙◌, append-nil, append_assoc, arith}
+use Rattle.std.proofs.Common.{◌≡◌, ◌<◌, Bool, true, false, ◌||◌, List, [], ◌∷◌, ◌++◌, length, Option, None, Some, is_some, Result, Ok, Err, if◌then◌else◌, refl, sym, ap, subst, ◌∙◌, append-nil, append_assoc, arith}
 use Rattle.std.specs.List.{list_any}
 use Rattle.std.specs.Option.{unwrap_or}
 use Rattle.base_core.specs.declared.ids.ColumnNo.{ColumnNo}
 use Rattle.base_core.specs.declared.ids.TableId.{TableId}
 use Rattle.base_core.specs.declared.value.Value.{Value}
-use Rattle.schema_core.specs.declared.statement.RowStmt.{RowStmt}
 use Rattle.schema_core.specs.declared.statement.RowStmt.TheVariants.{Insert, Update, Delete}
 use Rattle.schema_core.specs.declared.statement.Unwritten.{Unwritten}
 use Rattle.schema_core.specs.declared.statement.Unwritten.TheVariants.{Violates, Memory}
-use Rattle.schema_core.specs.declared.statement.Violation.{Violation}
-use Rattle.schema_core.specs.declared.statement.Violation.TheVariants.{Unique, Foreign, PrimaryKey, NotNull, KeysSpent, Missing, NoTable}
+use Rattle.schema_core.specs.declared.statement.Violation.TheVariants.{Unique, Foreign, PrimaryKey, NotNull}
 use Rattle.schema_core.specs.declared.table.TableSpec.{TableSpec}
-use Rattle.schema_core.specs.Apply.{Outcome, answer_keys, apply, apply_found, delete_row, entries_of, entry_of, insert_rows, is_demanded, keys_of_entries, table_of, update_row, with_cells, with_own_key}
+use Rattle.schema_core.specs.Apply.{Outcome, answer_keys, apply, delete_row, entries_of, entry_of, insert_rows, is_demanded, keys_of_entries, update_row, with_cells, with_own_key}
 use Rattle.schema_core.specs.Catalog.{Catalog, is_required, spec_of}
-use Rattle.schema_core.specs.Judged.{Judged, and_then, change_all, lacks_value, remove_all, some_lacks, some_loses_row, some_repeats, some_written_dangles, with_all, write_all}
+use Rattle.schema_core.specs.Judged.{Judged, and_then, lacks_value, some_loses_row, some_repeats, some_written_dangles, with_all, write_all}
 use Rattle.schema_core.specs.Tables.{Rows, Tables, key_of, row_under, rows_in, with_row, with_rows, without_row}
 use Rattle.schema_core.specs.Told.{Told}
 use Rattle.schema_core.proofs.ApplySteps as steps
 use Rattle.table_rows.specs.Rows.{AreSorted, restored, rows_at}
-use Rattle.table_rows.specs.Lost.{some_lost}
-use Rattle.table_rows.specs.declared.judging.Before.TheVariants as before
 use Rattle.table_store.specs.Held.{Did, is_violation, put_from, stand, taken_back, with_entry}
 use Rattle.table_rows.proofs.Entries.{found_put, put_again}
 use Rattle.table_rows.proofs.Laws.{put_undone, row_restored, rows_found, rows_restored, tables_total, taking_undone, values_total}
