@@ -17,6 +17,7 @@ pub mod Editing
 pub mod Ordering
 pub mod Rowing
 pub mod Runs
+pub mod RunsWhole
 pub mod Newness
 pub mod Stated
 pub mod Complete

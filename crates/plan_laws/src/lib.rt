@@ -8,5 +8,5 @@ mod worked;
 pub use legal_prefixes::{
     inserts_are_legal, late_plans_are_legal, plain_plans_are_legal, premises_are_met,
 };
-pub use order::order_or_cycle;
+pub use order::{order_or_cycle, runs_are_whole};
 pub use worked::{worked_cycles, worked_old, worked_plans, worked_runs};
