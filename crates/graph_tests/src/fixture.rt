@@ -4,7 +4,7 @@ ghost use Rattle.std.specs.Prelude.{IsTrue};
 ghost use Rattle.object_arena.specs.Graph.{IsObject};
 
 use base_core::{Key, ListOf, Name, ObjId, Refusal, Value};
-use mapper_core::{ClassSpec, Mapping};
+use mapper_core::{ClassSpec, Mapping, is_plain_root};
 use object_arena::Arena;
 use schema_core::{ColumnKind, ColumnSpec, TableSpec};
 use std::alloc::{AllocError, Global};
@@ -55,8 +55,9 @@ pub(crate) fn declared(
     if mapping.schema().count() < u32::MAX {
         mapping.declare_table(users(alloc, columns)?)?;
     }
-    if mapping.count() < u32::MAX {
-        mapping.declare_class(over_users(alloc)?)?;
+    let class = over_users(alloc)?;
+    if mapping.count() < u32::MAX && is_plain_root(&class) {
+        mapping.declare_class(class)?;
     }
     Ok(mapping)
 }

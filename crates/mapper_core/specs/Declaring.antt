@@ -3,9 +3,10 @@ use Rattle.std.specs.Prelude.{ℕ, Bool, true, false, not, ◌&&◌, ◌||◌, L
 use Rattle.std.specs.List.{list_any}
 use Rattle.base_core.specs.declared.ids.TableId.{TableId}
 use Rattle.base_core.specs.declared.ids.ClassId.{ClassId}
+use Rattle.base_core.specs.declared.refusal.ArgumentKind.{ArgumentKind}
 use Rattle.base_core.specs.declared.refusal.ArgumentKind.TheVariants.{DuplicateName, BadClass, BadTarget}
 use Rattle.base_core.specs.declared.refusal.Refusal.{Refusal}
-use Rattle.base_core.specs.declared.refusal.Refusal.TheVariants.{ArgumentError, NotBuilt}
+use Rattle.base_core.specs.declared.refusal.Refusal.TheVariants.{ArgumentError}
 use Rattle.schema_core.specs.declared.table.TableSpec.{TableSpec}
 use Rattle.schema_core.specs.Catalog.{Catalog, same_name}
 use Rattle.schema_core.specs.Declaration.{declare, has_targets, with_table as with_one_table}
@@ -35,20 +36,19 @@ maps_name classes (Some name) = list_any (λ spec. is_named spec.table name) cla
 abbrev pub has_table : List TableSpec → ClassSpec → Bool
 has_table tables spec = is_some (named_table tables spec.table)
 
--- why a declaration of a class is not taken beside the declarations before it
-unfoldable pub class_fault : List TableSpec → List ClassSpec → ClassSpec → Option Refusal
+-- why a root class is not taken beside the declarations before it
+unfoldable pub class_fault : List TableSpec → List ClassSpec → ClassSpec → Option ArgumentKind
 class_fault tables classes spec =
-    if not (is_plain_root spec) then Some NotBuilt
-    else if is_some (find_class classes spec.name) then Some (ArgumentError DuplicateName)
-    else if not (has_table tables spec) || maps_name classes spec.table then Some (ArgumentError BadClass)
+    if is_some (find_class classes spec.name) then Some DuplicateName
+    else if not (has_table tables spec) || maps_name classes spec.table then Some BadClass
     else None
 
 -- the mapping with one more class, to be checked again
 abbrev pub with_class : Mapped → ClassSpec → Mapped
 with_class mapped spec = record { schema = mapped.schema; classes = mapped.classes ++ spec ∷ []; configured = false }
 
-abbrev pub class_unless : Option Refusal → Mapped → ClassSpec → Result (ClassId × Mapped) Refusal
-class_unless (Some fault) mapped spec = Err fault
+abbrev pub class_unless : Option ArgumentKind → Mapped → ClassSpec → Result (ClassId × Mapped) Refusal
+class_unless (Some fault) mapped spec = Err (ArgumentError fault)
 class_unless None mapped spec = Ok (record { 0 = length mapped.classes }, with_class mapped spec)
 
 -- the answer to a declaration of a class: the next number with the mapping then, or why it is not taken

@@ -5,4 +5,4 @@ mod layout;
 mod mapping;
 
 pub use mapper_types::{Attribute, Cascade, ClassSpec, Relation, RelationSpec};
-pub use mapping::Mapping;
+pub use mapping::{Mapping, is_plain_root};

@@ -198,20 +198,22 @@ impl Mapping {
     }
 
     #[tactic(auto, unfolding(crate::specs::Declaring::declare_class))]
-    /// Declares a class, by the next number. The mapping is then to be configured again.
+    /// Declares a root class, by the next number. The mapping is then to be configured again.
     ///
     /// # Errors
-    /// `NotBuilt` for a class that is no root, or has a discriminator or lines; then `ArgumentError` with
-    /// `DuplicateName` (a class of this name is declared) or `BadClass` (its table is not declared, or a class maps it
-    /// already). A refusal changes nothing.
+    /// `ArgumentError` with `DuplicateName` (a class of this name is declared) or `BadClass` (its table is not declared,
+    /// or a class maps it already); `Memory` where none of these holds. A refusal changes nothing.
     pub fn declare_class(&mut self, spec: ClassSpec) -> Result<ClassId, Refusal>
-        requires { length self.old.classes < 4294967295 }
+        requires room { length self.old.classes < 4294967295 }
+        requires plain { is_plain_root spec ≡ true }
         ensures step { Takes (λ class. class)
             (declare_class self.old spec) self.old result self.new }
         ensures taken { OnOk result (self.new ≡ with_class self.old spec) }
+        ensures sound { result ≡ Err Memory
+            → class_fault self.old.schema.tables self.old.classes spec ≡ None }
     {
         match class_fault(&self.schema, self.classes.as_slice(), &spec) {
-            Some(fault) => Err(fault),
+            Some(fault) => Err(Refusal::ArgumentError(fault)),
             None => {
                 let class = ClassId(self.classes.len() as u32);
                 self.classes.push(spec)?;
@@ -263,7 +265,7 @@ fn find_class(classes: &[ClassSpec], name: &Name) -> Option<ClassId>
 }
 
 /// Whether the declaration is a root class over a table, without a discriminator and without lines.
-fn is_plain_root(spec: &ClassSpec) -> bool
+pub fn is_plain_root(spec: &ClassSpec) -> bool
     ensures { result ≡ is_plain_root spec.now }
 {
     spec.base.is_none()
@@ -303,19 +305,16 @@ fn maps_name(classes: &[ClassSpec], name: &Option<Name>) -> bool
 }
 
 #[tactic(auto, unfolding(crate::specs::Declaring::class_fault))]
-/// Why a declaration of a class is not taken.
-fn class_fault(schema: &Schema, classes: &[ClassSpec], spec: &ClassSpec) -> Option<Refusal>
+/// Why a root class is not taken.
+fn class_fault(schema: &Schema, classes: &[ClassSpec], spec: &ClassSpec) -> Option<ArgumentKind>
     requires { length classes.now ≤ 4294967295 }
     ensures { result ≡ class_fault schema.now.tables classes.now spec.now }
 {
-    if !is_plain_root(spec) {
-        return Some(Refusal::NotBuilt);
-    }
     if find_class(classes, &spec.name).is_some() {
-        return Some(Refusal::ArgumentError(ArgumentKind::DuplicateName));
+        return Some(ArgumentKind::DuplicateName);
     }
     if named_table(schema, &spec.table).is_none() || maps_name(classes, &spec.table) {
-        return Some(Refusal::ArgumentError(ArgumentKind::BadClass));
+        return Some(ArgumentKind::BadClass);
     }
     None
 }

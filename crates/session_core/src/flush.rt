@@ -49,7 +49,7 @@ impl Session {
         self.settle_all(written)
     }
 
-    /// The pending objects in the order in which they were added. The only refusal is want of memory.
+    /// The pending objects in the order in which they were added. The only refusal is `Memory`.
     #[tactic(auto, unfolding(crate::specs::Flush::pending_in_order))]
     fn pending_in_order(&self) -> Result<ListOf<ObjId>, Refusal>
         ensures order { IfOk result (λ objects. objects ≡ spec.pending_in_order self.now.graph) }
@@ -73,7 +73,7 @@ impl Session {
         Ok(queue)
     }
 
-    /// An object goes to its place in the queue, where it is pending. The only refusal is want of memory.
+    /// An object goes to its place in the queue, where it is pending. The only refusal is `Memory`.
     fn put_in_queue(&self, queue: &mut Queue, object: ObjId) -> Result<(), Refusal>
         requires { IsObject self.now.graph object }
         ensures put { OnOk result
@@ -251,7 +251,7 @@ impl Session {
     }
 
     #[tactic(auto, using(crate::proofs::OneRow::one_row))]
-    /// The INSERT of an object's row alone. The only refusal is want of memory.
+    /// The INSERT of an object's row alone. The only refusal is `Memory`.
     fn insert_of(&self, object: ObjId) -> Result<RowStmt, Refusal>
         requires object { IsObject self.now.graph object }
         ensures statement { IfOk result
@@ -271,7 +271,7 @@ impl Session {
         Ok(RowStmt::Insert { table, rows })
     }
 
-    /// The objects whose rows were written are persistent under their keys. The only refusal is want of memory.
+    /// The objects whose rows were written are persistent under their keys. The only refusal is `Memory`.
     fn settle_all(&mut self, written: Written) -> Result<(), Refusal>
         requires keys { All (spec.IsUnderKey self.old.mapping self.old.graph) written }
         ensures ok { OnOk result (self.new ≡ steps.session_flushed written self.old) }
@@ -285,7 +285,7 @@ impl Session {
         Ok(())
     }
 
-    /// An object whose row was written is persistent under its key. The only refusal is want of memory.
+    /// An object whose row was written is persistent under its key. The only refusal is `Memory`.
     fn settle_one(&mut self, object: ObjId, key: Key) -> Result<(), Refusal>
         requires key { spec.IsUnderKey self.old.mapping self.old.graph (object, key) }
         ensures ok { OnOk result (self.new ≡ steps.session_settled (object, key) self.old) }

@@ -40,7 +40,7 @@ fn mismatch_at(attributes: &[Attribute], attr: AttrNo, value: &Value) -> Option<
     Some((wanted, found))
 }
 
-/// A copy of values for attributes. The only refusal is that memory ran out.
+/// A copy of values for attributes. The only refusal is `Memory`.
 pub(crate) fn values_of(alloc: Global, cells: &[(AttrNo, Value)]) -> Result<Values, Refusal>
     ensures values { IfOk result (λ values. values.items ≡ cells.now) }
     ensures cause { IfErr result (λ e. e ≡ Refusal.Memory) }

@@ -17,7 +17,7 @@ pub(crate) fn value_or_null(cell: &Cell) -> Result<Value, AllocError>
     }
 }
 
-/// The row that cells make. The only refusal is want of memory.
+/// The row that cells make. The only refusal is `Memory`.
 pub(crate) fn row_of(alloc: Global, cells: &[Cell]) -> Result<RowValues, Refusal>
     ensures row { IfOk result (λ row. row ≡ map (λ cell. value_or_null cell.value) cells.now) }
     ensures cause { IfErr result (λ e. e ≡ Refusal.Memory) }

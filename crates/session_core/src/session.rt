@@ -166,7 +166,7 @@ impl Session {
     /// Ends the transaction without its rows. Pending objects become transient, persistent and deleted ones detached.
     ///
     /// # Errors
-    /// `KeeperFault` and want of memory alone.
+    /// `KeeperFault` and `Memory` alone.
     #[tactic(auto, using(programs::proofs::Sequence::sequence, programs::proofs::Lifting::lifting), unfolding(crate::specs::Steps::close))]
     pub fn close<K: Keeper>(&mut self, keeper: &mut K) -> Result<(), Refusal>
         requires in_step { IsInStep self.old (K.moment keeper.old) }
@@ -201,7 +201,7 @@ impl Session {
         self.begin_scope()
     }
 
-    /// The transaction's scope starts with the objects as they stand now. The only refusal is want of memory.
+    /// The transaction's scope starts with the objects as they stand now. The only refusal is `Memory`.
     fn begin_scope(&mut self) -> Result<(), Refusal>
         requires outside { self.old.scopes ≡ [] }
         ensures ok { OnOk result (self.new ≡ steps.session_begun self.old) }
@@ -289,7 +289,7 @@ impl Session {
         commit_all(&mut self.arena)
     }
 
-    /// No transaction is in progress, and every object leaves the session. The only refusal is want of memory.
+    /// No transaction is in progress, and every object leaves the session. The only refusal is `Memory`.
     fn let_go(&mut self) -> Result<(), Refusal>
         ensures ok { OnOk result (self.new ≡ steps.session_closed self.old) }
         ensures cause { IfErr result (λ e. e ≡ Refusal.Memory) }

@@ -17,7 +17,7 @@ use object_arena::{Arena, Cell, State};
 use std::alloc::AllocError;
 
 /// The object whose row was written is persistent under its key, and its cells hold what was written. An object that
-/// stood for the key until now is detached. The only refusal is want of memory.
+/// stood for the key until now is detached. The only refusal is `Memory`.
 pub(crate) fn settle(
     arena: &mut Arena,
     mapping: &Mapping,
@@ -60,7 +60,7 @@ fn put_under_key(
     arena.register(object, key)
 }
 
-/// An object that stands for a key is detached. The only refusal is want of memory.
+/// An object that stands for a key is detached. The only refusal is `Memory`.
 fn free(arena: &mut Arena, mapping: &Mapping, object: ObjId, key: &Key) -> Result<(), Refusal>
     requires fit { IsFit mapping.now arena.old }
     requires object { IsObject arena.old object }
@@ -81,7 +81,7 @@ fn free(arena: &mut Arena, mapping: &Mapping, object: ObjId, key: &Key) -> Resul
 }
 
 #[tactic(auto, using(crate::proofs::CellLemmas::cells))]
-/// The cells of an object hold what was written under a key. The only refusal is want of memory.
+/// The cells of an object hold what was written under a key. The only refusal is `Memory`.
 fn write_cells(
     arena: &mut Arena,
     mapping: &Mapping,
@@ -108,7 +108,7 @@ fn write_cells(
     Ok(())
 }
 
-/// A cell of an object holds what was written. The only refusal is want of memory.
+/// A cell of an object holds what was written. The only refusal is `Memory`.
 fn write_cell(
     arena: &mut Arena,
     mapping: &Mapping,
@@ -181,7 +181,7 @@ fn value_under(key: &Key, found: Option<usize>, cell: &Cell) -> Result<Value, Al
     }
 }
 
-/// A delete mark is taken away. The only refusal is want of memory.
+/// A delete mark is taken away. The only refusal is `Memory`.
 pub(crate) fn unmark(arena: &mut Arena, object: ObjId) -> Result<(), Refusal>
     requires { IsObject arena.old object }
     ensures ok { OnOk result (arena.new
@@ -199,7 +199,7 @@ pub(crate) fn unmark(arena: &mut Arena, object: ObjId) -> Result<(), Refusal>
 }
 
 #[tactic(auto, using(object_arena::proofs::TurnLemmas::turns))]
-/// Every object is as it is after a commit. The only refusal is want of memory.
+/// Every object is as it is after a commit. The only refusal is `Memory`.
 pub(crate) fn commit_all(arena: &mut Arena) -> Result<(), Refusal>
     ensures ok { OnOk result (arena.new ≡ each_object spec.object_committed arena.old) }
     ensures cause { IfErr result (λ e. e ≡ Refusal.Memory) }
@@ -232,7 +232,7 @@ fn commit_one(arena: &mut Arena, object: ObjId) -> Result<(), Refusal>
 }
 
 #[tactic(auto, using(object_arena::proofs::TurnLemmas::turns))]
-/// Every object leaves the session. The only refusal is want of memory.
+/// Every object leaves the session. The only refusal is `Memory`.
 pub(crate) fn let_go_all(arena: &mut Arena) -> Result<(), Refusal>
     ensures ok { OnOk result (arena.new ≡ each_object spec.object_left arena.old) }
     ensures cause { IfErr result (λ e. e ≡ Refusal.Memory) }
@@ -268,7 +268,7 @@ fn left_state(state: State) -> State
     }
 }
 
-/// A transient object becomes pending under an add number. The only refusal is want of memory.
+/// A transient object becomes pending under an add number. The only refusal is `Memory`.
 pub(crate) fn put_pending(arena: &mut Arena, object: ObjId, added: u64) -> Result<(), Refusal>
     requires { IsObject arena.old object }
     ensures ok { OnOk result (arena.new

@@ -1,10 +1,9 @@
 -- What a declaration is refused with.
-use Rattle.std.proofs.Common.{Bool, true, false, Option, None, Some, Result, IfErr, if◌then◌else◌, subst}
+use Rattle.std.proofs.Common.{Option, None, Some, Result, IfErr, subst}
 use Rattle.base_core.specs.Answers.{Refuses}
 use Rattle.base_core.specs.declared.refusal.ArgumentKind.{ArgumentKind}
-use Rattle.base_core.specs.declared.refusal.ArgumentKind.TheVariants.{DuplicateName, BadClass}
 use Rattle.base_core.specs.declared.refusal.Refusal.{Refusal}
-use Rattle.base_core.specs.declared.refusal.Refusal.TheVariants.{Memory, ArgumentError, NotBuilt}
+use Rattle.base_core.specs.declared.refusal.Refusal.TheVariants.{Memory}
 use Rattle.schema_core.specs.declared.table.TableSpec.{TableSpec}
 use Rattle.schema_core.specs.Declaration.{declare, declared_unless, declaration_fault}
 use Rattle.mapper_types.specs.declared.declared.ClassSpec.{ClassSpec}
@@ -12,7 +11,7 @@ use Rattle.mapper_core.specs.Mapped.{Mapped}
 use Rattle.mapper_core.specs.Declaring.{class_fault, class_unless, declare_class, declare_table, over_tables}
 use Rattle.shell_parts.specs.Blocks.{IsOfDeclaring}
 
--- a refusal that is what is told is of the told kind, or want of memory
+-- a refusal that is what is told is of the told kind, or `Memory`
 of_told : {A : Type 0} (told : Result A Refusal) → IfErr told IsOfDeclaring → (e : Refusal) → Refuses e told → IsOfDeclaring e
 of_told told h Memory r = tt
 of_told told h e r = subst (λ t. IfErr t IsOfDeclaring) r h
@@ -26,14 +25,11 @@ pub table_refused : (mapped : Mapped) (spec : TableSpec) (e : Refusal) → Refus
 unfolding declare_table declare
 table_refused mapped spec e r = of_told (over_tables mapped (declare mapped.schema spec)) (table_told mapped spec (declaration_fault mapped.schema.tables spec)) e r
 
-class_told : (mapped : Mapped) (spec : ClassSpec) (unbuilt twice bad : Bool)
-    → IfErr (class_unless (if unbuilt then Some NotBuilt else if twice then Some (ArgumentError DuplicateName) else if bad then Some (ArgumentError BadClass) else None) mapped spec) IsOfDeclaring
-class_told mapped spec true twice bad = tt
-class_told mapped spec false true bad = tt
-class_told mapped spec false false true = tt
-class_told mapped spec false false false = tt
+class_told : (mapped : Mapped) (spec : ClassSpec) (fault : Option ArgumentKind) → IfErr (class_unless fault mapped spec) IsOfDeclaring
+class_told mapped spec None = tt
+class_told mapped spec (Some fault) = tt
 
 -- a declaration of a class is refused with a fault of its own
 pub class_refused : (mapped : Mapped) (spec : ClassSpec) (e : Refusal) → Refuses e (declare_class mapped spec) → IsOfDeclaring e
-unfolding declare_class class_fault
-class_refused mapped spec e r = of_told (declare_class mapped spec) (class_told mapped spec _ _ _) e r
+unfolding declare_class
+class_refused mapped spec e r = of_told (declare_class mapped spec) (class_told mapped spec (class_fault mapped.schema.tables mapped.classes spec)) e r

@@ -78,9 +78,8 @@ abbrev pub declare : Declared → Mapped → Result (Unit {0} × Mapped) Refusal
 declare (Table spec) mapped = without_number (declare_table mapped spec)
 declare (Class spec) mapped = without_number (declare_class mapped spec)
 
--- a refusal of a declaration, or want of memory
+-- a refusal of a declaration, or `Memory`
 abbrev pub IsOfDeclaring : Refusal → Type 0
 IsOfDeclaring Memory = Unit {0}
 IsOfDeclaring (ArgumentError kind) = Unit {0}
-IsOfDeclaring NotBuilt = Unit {0}
 IsOfDeclaring e = ⊥

@@ -32,7 +32,7 @@ abbrev pub is_end : List ℕ → Bool
 is_end [] = false
 is_end (b ∷ rest) = if is_blank b then is_end rest else is_end_text (b ∷ rest)
 
--- a fault of the script, or want of memory
+-- a fault of the script, or `Memory`
 abbrev pub IsOfReading : Refusal → Type 0
 IsOfReading Memory = Unit {0}
 IsOfReading (ScriptError line column) = Unit {0}

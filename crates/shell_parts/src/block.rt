@@ -7,7 +7,7 @@ ghost use Rattle.mapper_core.specs.Declaring.{declare_class as classes_then, dec
 ghost use Rattle.shell_parts.specs.Blocks.{IsOfDeclaring, block_of, declare, forms_of, has_one_integer_key, is_built_block, is_integer, with_class_line, with_line, with_table_line, without_number};
 
 use base_core::{ListOf, Refusal};
-use mapper_core::Mapping;
+use mapper_core::{Mapping, is_plain_root};
 use mapper_types::ClassSpec;
 use schema_core::{ColumnKind, ColumnSpec, TableSpec};
 use script_types::{Command, Inside};
@@ -106,7 +106,7 @@ impl Block {
         self.skipping = true;
     }
 
-    /// Takes a line of the block. The only refusal is want of memory, and it leaves the block as it was.
+    /// Takes a line of the block. The only refusal is `Memory`, and it leaves the block as it was.
     pub fn take(&mut self, line: Command) -> Result<(), Refusal>
         ensures ok { OnOk result
             (self.new ≡ record self.old { declared = with_line self.old.declared line }) }
@@ -138,6 +138,7 @@ impl Block {
     /// # Errors
     /// The declaration's own refusals. A refused block declares nothing.
     pub fn declare(self, mapping: &mut Mapping) -> Result<(), Refusal>
+        requires built { is_built_block self.declared ≡ true }
         ensures step { Takes (λ _. tt)
             (declare self.declared mapping.old) mapping.old result mapping.new }
         ensures cause { IfErr result IsOfDeclaring }
@@ -149,7 +150,7 @@ impl Block {
     }
 }
 
-/// Takes a line of a table's block. The only refusal is want of memory, and it leaves the table as it was.
+/// Takes a line of a table's block. The only refusal is `Memory`, and it leaves the table as it was.
 fn take_table_line(spec: &mut TableSpec, line: Command) -> Result<(), Refusal>
     ensures ok { OnOk result (spec.new ≡ with_table_line spec.old line) }
     ensures err { OnErr result (spec.new ≡ spec.old) }
@@ -166,7 +167,7 @@ fn take_table_line(spec: &mut TableSpec, line: Command) -> Result<(), Refusal>
     }
 }
 
-/// Takes a line of a class's block. The only refusal is want of memory, and it leaves the class as it was.
+/// Takes a line of a class's block. The only refusal is `Memory`, and it leaves the class as it was.
 fn take_class_line(spec: &mut ClassSpec, line: Command) -> Result<(), Refusal>
     ensures ok { OnOk result (spec.new ≡ with_class_line spec.old line) }
     ensures err { OnErr result (spec.new ≡ spec.old) }
@@ -206,6 +207,7 @@ fn declare_table(spec: TableSpec, mapping: &mut Mapping) -> Result<(), Refusal>
 
 /// Declares a class in a mapping.
 fn declare_class(spec: ClassSpec, mapping: &mut Mapping) -> Result<(), Refusal>
+    requires plain { is_plain_root spec ≡ true }
     ensures step { Takes (λ _. tt)
         (without_number (classes_then mapping.old spec)) mapping.old result mapping.new }
     ensures cause { IfErr result IsOfDeclaring }
@@ -249,17 +251,4 @@ fn has_one_integer_key(columns: &[ColumnSpec]) -> bool
     ensures { result ≡ has_one_integer_key columns.now }
 {
     count_keys(columns) == 1 && some_integer_key(columns)
-}
-
-/// Whether a class is a root over a table, without a discriminator and without lines.
-fn is_plain_root(spec: &ClassSpec) -> bool
-    ensures { result ≡ is_plain_root spec.now }
-{
-    spec.base.is_none()
-        && spec.table.is_some()
-        && spec.discriminator.is_none()
-        && spec.identity.is_none()
-        && spec.owned.is_empty()
-        && spec.relations.is_empty()
-        && spec.validators.is_empty()
 }

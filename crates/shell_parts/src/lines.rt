@@ -15,7 +15,7 @@ use std::alloc::Global;
 /// What the line of this number says, by the block in which it stands. A blank line or a comment is skipped.
 ///
 /// # Errors
-/// `ScriptError` with the line's number and the column at which no line of the forms goes on, and want of memory.
+/// `ScriptError` with the line's number and the column at which no line of the forms goes on, and `Memory`.
 pub fn read(alloc: Global, line: &[u8], number: u32, inside: Inside) -> Result<Command, Refusal>
     ensures command { Gives (λ command. command) result (said_by line.now number inside) }
     ensures cause { IfErr result IsOfReading }

@@ -49,7 +49,7 @@ impl Names {
     }
 
     #[tactic(auto, using(crate::proofs::BindingLemmas::entry_bound))]
-    /// Binds a name in place of an earlier binding. The only refusal is want of memory, and it leaves the names as they were.
+    /// Binds a name in place of an earlier binding. The only refusal is `Memory`, and it leaves the names as they were.
     pub fn bind(&mut self, name: &Name, bound: Bound) -> Result<(), Refusal>
         ensures ok { OnOk result (self.new ≡ bind self.old name.now bound) }
         ensures err { OnErr result (self.new ≡ self.old) }

@@ -45,7 +45,7 @@ impl Reply {
         self.text.as_bytes()
     }
 
-    /// The text goes behind the reply. The only refusal is want of memory.
+    /// The text goes behind the reply. The only refusal is `Memory`.
     fn put(&mut self, text: &str) -> Result<(), Refusal>
         ensures ok { OnOk result (self.new ≡ self.old ++ text.now) }
         ensures cause { IfErr result (λ e. e ≡ Refusal.Memory) }
@@ -54,8 +54,8 @@ impl Reply {
         Ok(())
     }
 
-    /// The line that names a table and its columns, and one for each of its rows, go behind the reply. The only refusal is want of
-    /// memory.
+    /// The line that names a table and its columns, and one for each of its rows, go behind the reply. The only refusal is
+    /// `Memory`.
     pub fn put_table(&mut self, spec: &TableSpec, rows: &RowList) -> Result<(), Refusal>
         ensures ok { OnOk result (self.new ≡ self.old ++ table_text spec.now rows.now) }
         ensures cause { IfErr result (λ e. e ≡ Refusal.Memory) }
@@ -132,8 +132,8 @@ impl Reply {
         Ok(())
     }
 
-    /// The line that says why the line of this number is refused, in place of what the reply had. The only refusal is want of
-    /// memory.
+    /// The line that says why the line of this number is refused, in place of what the reply had. The only refusal is
+    /// `Memory`.
     pub fn put_error(
         &mut self,
         line: u32,

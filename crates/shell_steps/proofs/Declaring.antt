@@ -43,7 +43,6 @@ declares_at : (block : Block) (mapping now : Mapped) (r : Result (Unit {0}) Refu
 declares_at block mapping now (Ok u) p cause = Turned (ap declaring_on p)
 declares_at block mapping now (Err Memory) p cause = Turned tt
 declares_at block mapping now (Err (ArgumentError kind)) p cause = Turned (ap declaring_on p.1, ap Declaring p.0, (refl, refl))
-declares_at block mapping now (Err NotBuilt) p cause = Turned (ap declaring_on p.1, ap Declaring p.0, (refl, refl))
 declares_at block mapping now (Err e) p cause = absurd cause
 
 pub declares : (block : Block) {stage after : Stage} {mapping now : Mapped} {r : Result (Unit {0}) Refusal}

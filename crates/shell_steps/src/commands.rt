@@ -353,7 +353,7 @@ fn dump_one<K: Keeper>(
     with_rows(schema, table, rows, reply)
 }
 
-/// The reply with a table and its rows behind it, where there are some. The only refusal is that memory ran out.
+/// The reply with a table and its rows behind it, where there are some. The only refusal is `Memory`.
 fn with_rows(
     schema: &Schema,
     table: TableId,

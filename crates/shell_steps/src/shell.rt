@@ -104,7 +104,7 @@ impl Shell {
         }
     }
 
-    /// The reply that says why the line of this number is refused. The only refusal is that memory ran out.
+    /// The reply that says why the line of this number is refused. The only refusal is `Memory`.
     #[tactic(auto, using(crate::proofs::Shells::acting))]
     fn tell(&mut self, number: u32, refusal: &Refusal) -> Result<Reply, Refusal>
         ensures step { Runs alone
@@ -118,7 +118,7 @@ impl Shell {
         Ok(reply)
     }
 
-    /// The script has ended: a block that is open is refused at its first line. The only refusal is that memory ran out.
+    /// The script has ended: a block that is open is refused at its first line. The only refusal is `Memory`.
     #[tactic(auto, using(programs::proofs::AloneLemmas::answering_alone), unfolding(crate::specs::Step::end_reply))]
     pub fn answer_end<K: Keeper>(&mut self, keeper: &K) -> Result<Reply, Refusal>
         ensures step { Runs (moment_answering K.moment)

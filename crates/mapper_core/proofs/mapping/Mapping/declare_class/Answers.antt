@@ -8,7 +8,7 @@ use Rattle.mapper_core.proofs.mapping.Mapping.declare_class.Goals as goal
 pub invariant_of-self-in-None : goal.invariant_of-self-in-None
 invariant_of-self-in-None c = record {
   few =
-      let less : length c.self.inside.classes < 4294967295 = rw (ap (λ (m : Mapped). m.classes) c.self.view_is) c.requires in
+      let less : length c.self.inside.classes < 4294967295 = rw (ap (λ (m : Mapped). m.classes) c.self.view_is) c.requires.room in
       rw (c.in_ok-push-in-None.ensures.ok) (omega (arith, length-append {A = ClassSpec}));
   named =
       rw (c.in_ok-push-in-None.ensures.ok)
