@@ -491,11 +491,40 @@ fn without_places(alloc: Global, schema: &Schema) -> Result<bool, Refusal> {
     Ok(answer(alloc, schema, &created, &statement) == Some(wanted))
 }
 
+/// A table whose only column is its key, which is generated.
+fn numbers(alloc: Global) -> Result<TableSpec, Refusal> {
+    let mut columns = ListOf::new(alloc);
+    columns.push(column(alloc, "id", ColumnKind::Integer, true, true)?)?;
+    Ok(TableSpec {
+        name: name(alloc, "number")?,
+        columns,
+        uniques: ListOf::new(alloc),
+        foreigns: ListOf::new(alloc),
+    })
+}
+
+/// Whether one row of a table that has nothing but its generated key gets the key 1.
+fn draws_a_key_alone(alloc: Global) -> Result<bool, Refusal> {
+    let mut schema = Schema::new(alloc);
+    declare(&mut schema, numbers(alloc)?)?;
+    let mut created: PlainTables = ListOf::new(alloc);
+    created.push((TableId(0), ListOf::new(alloc)))?;
+    let mut row = ListOf::new(alloc);
+    row.push(Value::Null)?;
+    let statement = insert(alloc, TableId(0), row)?;
+    let mut rows = ListOf::new(alloc);
+    rows.push((key(alloc, 1)?, key(alloc, 1)?))?;
+    let mut after: PlainTables = ListOf::new(alloc);
+    after.push((TableId(0), rows))?;
+    Ok(leaves(answer(alloc, &schema, &created, &statement), &[1], &after))
+}
+
 #[test]
 fn statements_do_what_sql_says_of_them(rt: HostRuntime) -> Result<(), Fail> {
     let alloc = rt.alloc();
     let schema = schema(alloc)?;
     assert_eq!(rt; first_wrong(alloc, &schema, &CASES)?, None);
     assert!(rt; without_places(alloc, &schema)?);
+    assert!(rt; draws_a_key_alone(alloc)?);
     Ok(())
 }
