@@ -18,7 +18,7 @@ use Rattle.table_laws.proofs.SameValues.{same_key, same_table}
 use Rattle.flush_plan.specs.Sorted.{Place}
 use Rattle.flush_plan.specs.Stating.{Edit, edited, edited_in, edited_rows, is_created, row_at}
 use Rattle.plan_laws.specs.Premises.{IsSorted}
-use Rattle.plan_laws.proofs.Lookups.{all_found, lookup_insert, lookup_remove, same_lists, sorted_insert, sorted_remove}
+use Rattle.plan_laws.proofs.Lookups.{all_found, lookup_insert, lookup_remove, same_lists, sorted_insert, sorted_remove, equal}
 use Rattle.plan_laws.proofs.Facts.{some_or_none, true_false}
 
 pub table_total : IsTotalOrder table_cmp
@@ -63,11 +63,6 @@ edited_sorted tables edit sorted =
 created_step : (b : Bool) (rows : Rows) (o p : Option Rows) → o ≡ Some rows → (b ≡ true → p ≡ o) → is_some (cond b (Some rows) p) ≡ is_some p
 created_step true rows o p e same = sym (ap is_some (same refl ∙ e))
 created_step false rows o p e same = refl
-
-equal : (o : Ordering) → is_eq o ≡ true → o ≡ Equal
-equal Less e = cc
-equal Equal e = refl
-equal Greater e = cc
 
 still : (b : Bool) (rows edited : Rows) (o p : Option Rows) → o ≡ Some rows → (b ≡ true → p ≡ o) → is_some (cond b (Some edited) p) ≡ is_some p
 still true rows edited o p e same = sym (ap is_some (same refl ∙ e))

@@ -27,11 +27,7 @@ use Rattle.plan_laws.proofs.Between.{Between, FromRow, Good, IsBound, all_forall
 use Rattle.plan_laws.proofs.Blend.{blend_self, nulls}
 use Rattle.plan_laws.proofs.Prefixes.{Goes}
 use Rattle.plan_laws.proofs.Placing.{Leads, Step, distinct_out, distinct_rest, leads_step, rows_kept, step_key}
-use Rattle.plan_laws.proofs.Facts.{none_some, same_some, some_or_none, true_false}
-
-or_true : (a b : Bool) → (a || b) ≡ true → (a ≡ true) ⊎ (b ≡ true)
-or_true true b e = inl refl
-or_true false b e = inr e
+use Rattle.plan_laws.proofs.Facts.{none_some, same_some, some_or_none, true_false, or_cases}
 
 module _ (schema : Catalog) (changes : RowChanges) (old stated : Tables) (ends : Ends schema changes old stated) (placed : Sofar) where
   abbrev pub new_place : ℕ → Place
@@ -194,7 +190,7 @@ module _ (schema : Catalog) (changes : RowChanges) (old stated : Tables) (ends :
           ∙ putting.olds q row was;
       done = λ other is.
           elim (putting.done other is) [
-            | inl left ↦ elim (or_true (eqb other place) (is_among rest other) left) [
+            | inl left ↦ elim (or_cases (eqb other place) (is_among rest other) left) [
               | inl same ↦ inr (ap (λ n. is_present then (new_place n)) (eqb-true other place same) ∙ ap is_some (at_edit sofar.tables (new_place place, Some (First (new_place place) written)) rows putting.sorted table))
               | inr more ↦ inl more
             ]

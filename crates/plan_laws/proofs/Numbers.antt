@@ -12,31 +12,21 @@ use Rattle.base_core.specs.Order.{values_cmp}
 use Rattle.schema_core.specs.Declaration.{some_two}
 use Rattle.schema_core.specs.Tables.{table_cmp}
 use Rattle.table_laws.proofs.Entries.{all_insert}
-use Rattle.table_laws.proofs.SameValues.{same_key, same_table}
+use Rattle.table_laws.proofs.SameValues.{same_key, same_table, both_equal}
 use Rattle.flush_plan.specs.Places.{is_among}
 use Rattle.flush_plan.specs.Sorted.{Place, entered, place_cmp, same_place, sorted_numbers}
 use Rattle.plan_laws.proofs.At.{key_total, table_total}
-use Rattle.plan_laws.proofs.Lookups.{lookup_insert, sorted_insert}
+use Rattle.plan_laws.proofs.Lookups.{lookup_insert, sorted_insert, equal, less, first, second}
 use Rattle.plan_laws.proofs.Newness.{place_same}
 use Rattle.plan_laws.proofs.Facts.{none_some, or_cases, or_false, true_false}
 
 pub place_total : IsTotalOrder place_cmp
 place_total = then_total (on_total (λ (p : Place). p.0) table_total) (on_total (λ (p : Place). p.1) key_total)
 
-both_equal : (o p : Ordering) → ordering_then o p ≡ Equal → (o ≡ Equal) × (p ≡ Equal)
-both_equal Less p e = cc
-both_equal Equal p e = (refl, e)
-both_equal Greater p e = cc
-
 pub place_is : (p q : Place) → place_cmp p q ≡ Equal → p ≡ q
 place_is p q e =
     let both = both_equal (table_cmp p.0 q.0) (values_cmp p.1 q.1) e in
     λ i. (same_table p.0 q.0 both.0 i, same_key p.1 q.1 both.1 i)
-
-equal : (o : Ordering) → is_eq o ≡ true → o ≡ Equal
-equal Less e = cc
-equal Equal e = refl
-equal Greater e = cc
 
 other_place : (b : Bool) (p q : Place) → is_eq (place_cmp p q) ≡ b → (p ≡ q → ⊥) → b ≡ false
 other_place true p q e apart = absurd (apart (place_is p q (equal (place_cmp p q) e)))
@@ -120,19 +110,6 @@ values_all P (e ∷ es) n all among =
       | inl here ↦ subst P (sym (eqb-true n e.1 here)) all.0
       | inr more ↦ values_all P es n all.1 more
     ]
-
-less : (o : Ordering) → T (is_lt o) → o ≡ Less
-less Less p = refl
-less Equal p = absurd p
-less Greater p = absurd p
-
-first : (a b : Bool) → T (a && b) → T a
-first true b p = tt
-first false b p = p
-
-second : (a b : Bool) → T (a && b) → T b
-second true b p = p
-second false b p = absurd p
 
 less_equal : Less ≡ Equal → ⊥
 less_equal e = cc

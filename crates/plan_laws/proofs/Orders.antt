@@ -12,7 +12,8 @@ use Rattle.std.specs.List.{IsDistinct, find, list_any, range_with_len, slice_get
 use Rattle.std.specs.Option.{option_to_list, unwrap_or}
 use Rattle.flush_plan.specs.Places.{IsCycle, IsOrder, IsRing, cycle_from, first_places, from_row, holds_up, is_among, is_ready, least_left, next_blocker, next_place, order, order_or_cycle, trail, unless_left}
 use Rattle.table_laws.proofs.RowFits.{and_true}
-use Rattle.plan_laws.proofs.Facts.{none_some, not_true, some_or_none, true_false}
+use Rattle.plan_laws.proofs.Facts.{none_some, not_true, some_or_none, true_false, or_cases}
+use Rattle.table_laws.proofs.OrderLemmas.{cond_none}
 
 -- ---- what a search finds
 
@@ -22,10 +23,6 @@ cond_some true x y o e = inl (refl, some e)
     some : Some x ≡ Some y → x ≡ y
     some f = cc
 cond_some false x y o e = inr (refl, e)
-
-cond_none : {A : Type 0} (b : Bool) (x : A) (o : Option A) → cond b (Some x) o ≡ None → (b ≡ false) × (o ≡ None)
-cond_none true x o e = cc
-cond_none false x o e = (refl, e)
 
 pub find_passes : {A : Type 0} (p : A → Bool) (xs : List A) (x : A) → find p xs ≡ Some x → p x ≡ true
 find_passes p [] x e = absurd (none_some x e)
@@ -56,10 +53,6 @@ not_false : (b : Bool) → not b ≡ false → b ≡ true
 not_false true e = refl
 not_false false e = cc
 
-or_true : (a b : Bool) → (a || b) ≡ true → (a ≡ true) ⊎ (b ≡ true)
-or_true true b e = inl refl
-or_true false b e = inr e
-
 any_here : (p : ℕ → Bool) (x : ℕ) (xs : List ℕ) (b : Bool) → (list_any p xs ≡ true → (y : ℕ) × (find p xs ≡ Some y)) → (b || list_any p xs) ≡ true → (y : ℕ) × (cond b (Some x) (find p xs) ≡ Some y)
 any_here p x xs true more e = (x, refl)
 any_here p x xs false more e = more e
@@ -72,9 +65,9 @@ any_find p (x ∷ xs) e = any_here p x xs (p x) (any_find p xs) e
 
 among_push : (rows : List ℕ) (row q : ℕ) → is_among (rows ++ row ∷ []) q ≡ true → (is_among rows q ≡ true) ⊎ (q ≡ row)
 among_push rows row q e =
-    elim (or_true (is_among rows q) (eqb q row || false) (sym (list_any-append (eqb q) rows (row ∷ [])) ∙ e)) [
+    elim (or_cases (is_among rows q) (eqb q row || false) (sym (list_any-append (eqb q) rows (row ∷ [])) ∙ e)) [
       | inl before ↦ inl before
-      | inr last ↦ elim (or_true (eqb q row) false last) [
+      | inr last ↦ elim (or_cases (eqb q row) false last) [
         | inl same ↦ inr (eqb-true q row same)
         | inr none ↦ absurd (true_false (sym none))
       ]

@@ -32,7 +32,7 @@ pub all_swap : {A B : Type 0} (R : A → B → Type 0) (xs : List A) (ys : List 
 all_swap R [] ys all = all_of (λ y. AllByRecursion (λ x. R x y) []) (λ y. tt) ys
 all_swap R (x ∷ xs) ys all = all_both (R x) (λ y. AllByRecursion (λ z. R z y) xs) (λ y. AllByRecursion (λ z. R z y) (x ∷ xs)) (λ y p q. (p, q)) ys all.0 (all_swap R xs ys all.1)
 
-some_same : {A : Type 0} (x y : A) → Some x ≡ Some y → x ≡ y
+pub some_same : {A : Type 0} (x y : A) → Some x ≡ Some y → x ≡ y
 some_same x y e = cc
 
 none_some : {A : Type 0} (x : A) → None ≡ Some x → ⊥

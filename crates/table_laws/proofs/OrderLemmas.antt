@@ -17,7 +17,7 @@ numbers_among : (placed : List TableId) (q : ℕ) → list_any (eqb q) (map (λ 
 numbers_among [] q = refl
 numbers_among (t ∷ ts) q = λ i. nat_eq_equiv.symm q t.0 i || numbers_among ts q i
 
-cond_none : {A : Type 0} (b : Bool) (x : A) (o : Option A) → cond b (Some x) o ≡ None → (b ≡ false) × (o ≡ None)
+pub cond_none : {A : Type 0} (b : Bool) (x : A) (o : Option A) → cond b (Some x) o ≡ None → (b ≡ false) × (o ≡ None)
 cond_none true x o e = cc
 cond_none false x o e = (refl, e)
 

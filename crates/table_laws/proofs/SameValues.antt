@@ -64,7 +64,7 @@ same_value (Bytes a) (Int b) e = cc
 same_value (Bytes a) (Text b) e = cc
 same_value (Bytes a) (Bytes b) e = ap Bytes (same_bytes a b e)
 
-both_equal : (o p : Ordering) → ordering_then o p ≡ Equal → (o ≡ Equal) × (p ≡ Equal)
+pub both_equal : (o p : Ordering) → ordering_then o p ≡ Equal → (o ≡ Equal) × (p ≡ Equal)
 both_equal Less p e = cc
 both_equal Equal p e = (refl, e)
 both_equal Greater p e = cc
