@@ -1,18 +1,22 @@
 -- What every session keeps, as its objects change and its scopes start and end.
-use Rattle.std.proofs.Common.{◌≡◌, ◌<◌, ◌≤◌, true, List, [], ◌∷◌, length, Result, Ok, Err, OnOk, refl, ap, ◌∙◌, arith}
+use Rattle.std.proofs.Common.{◌≡◌, ◌<◌, ◌≤◌, true, List, [], ◌∷◌, length, Result, Ok, Err, OnOk, refl, sym, ap, ◌∙◌, subst, arith}
+use Rattle.std.proofs.lemmas.List.{get_or_append_left, length-append}
 use Rattle.std.specs.List.{All}
 use Rattle.std.proofs.lemmas.List.Elements.{All-nil}
 use Rattle.base_core.specs.Answers.{Takes}
 use Rattle.base_core.specs.declared.ids.ClassId.{ClassId}
+use Rattle.base_core.specs.declared.ids.ObjId.{ObjId}
 use Rattle.base_core.specs.declared.refusal.Refusal.{Refusal}
 use Rattle.mapper_core.specs.Mapped.{Mapped}
-use Rattle.object_arena.specs.Graph.{Graph, object_limit, with_fresh}
+use Rattle.object_arena.specs.declared.object.Object.{Object}
+use Rattle.object_arena.specs.Graph.{Graph, IsObject, fresh_object, no_object, object_at, object_limit, place_of, with_fresh}
 use Rattle.object_arena.specs.Fit.{IsFit}
 use Rattle.object_arena.specs.Every.{classes_of}
 use Rattle.savepoints.specs.declared.scope.Scope.{Scope}
 use Rattle.savepoints.specs.Scopes.{Framed, HasKeys, begun_at, push}
-use Rattle.savepoints.proofs.KeyLemmas.{all_kept, all_made}
-use Rattle.session_core.specs.SessionState.{IsSession, has_scope}
+use Rattle.object_arena.proofs.ClassLemmas.{classes_long}
+use Rattle.savepoints.proofs.KeyLemmas.{all_kept, all_made, class_at}
+use Rattle.session_core.specs.SessionState.{IsOfClass, IsSession, ObjectsStay, Stay, has_scope}
 
 -- objects that change, each in its class
 pub session_kept : (mapped : Mapped) (old new : Graph) (frames : Framed) → IsFit mapped new → classes_of new ≡ classes_of old → IsSession mapped old frames.scopes → IsSession mapped new frames.scopes
@@ -63,3 +67,41 @@ pub alone : (scopes : List Scope) → length scopes ≤ 1 → 0 < length scopes 
 alone scopes few some = omega arith
 
 pub ruleset scopes = (inside, outside, alone)
+
+-- ---- objects that stay
+
+-- each in its class
+pub stay_changed : (old new : Graph) → classes_of new ≡ classes_of old → ObjectsStay old new
+stay_changed old new same = Stay (λ object made. (
+  (made.0, rw (classes_long old new same) made.1),
+  class_at old new (place_of object) same (omega (arith, made.0, made.1)),
+))
+
+pub stay_same : (old new : Graph) → new ≡ old → ObjectsStay old new
+stay_same old new is = stay_changed old new (ap classes_of is)
+
+fresh_stays : (mapped : Mapped) (old mid : Graph) (class : ClassId) (object : ObjId) → mid ≡ with_fresh old mapped class → IsObject old object → IsOfClass mid object (object_at old object).class
+fresh_stays mapped old mid class object is made =
+    let fresh : Object = fresh_object mapped class in
+    subst (λ (g : Graph). IsOfClass g object (object_at old object).class) (sym is) (
+      (made.0, rw (length-append old.objects (fresh ∷ [])) (omega (arith, made.1))),
+      ap (λ (o : Object). o.class) (get_or_append_left old.objects (fresh ∷ []) no_object (place_of object) (omega (arith, made.0, made.1))),
+    )
+
+-- beside one that is made
+pub stay_made : (mapped : Mapped) (old mid new : Graph) (class : ClassId) → mid ≡ with_fresh old mapped class → classes_of new ≡ classes_of mid → ObjectsStay old new
+stay_made mapped old mid new class is same = Stay (λ object made.
+    let first = fresh_stays mapped old mid class object is made in
+    let less : place_of object < length mid.objects = omega (arith, first.0.0, first.0.1) in (
+      (made.0, rw (classes_long mid new same) first.0.1),
+      class_at mid new (place_of object) same less ∙ first.1,
+    ))
+
+-- the one that was made is of its class
+pub made_of : (mapped : Mapped) (mid new : Graph) (object : ObjId) (class : ClassId) → classes_of new ≡ classes_of mid → IsObject mid object → object_at mid object ≡ fresh_object mapped class → IsOfClass new object class
+made_of mapped mid new object class same made is = (
+  (made.0, rw (classes_long mid new same) made.1),
+  class_at mid new (place_of object) same (omega (arith, made.0, made.1)) ∙ ap (λ (o : Object). o.class) is,
+)
+
+pub ruleset stays = (stay_same, stay_made, made_of)

@@ -2,8 +2,11 @@
 use Rattle.std.specs.Prelude.{◌≡◌, ℕ, ◌+◌, ◌≤◌, Bool, true, false, List, [], ◌∷◌, length, Result, Ok, Err, if◌then◌else◌}
 use Rattle.std.specs.List.{All}
 use Rattle.base_core.specs.declared.refusal.Refusal.{Refusal}
+use Rattle.base_core.specs.declared.ids.ClassId.{ClassId}
+use Rattle.base_core.specs.declared.ids.ObjId.{ObjId}
 use Rattle.mapper_core.specs.Mapped.{Mapped}
-use Rattle.object_arena.specs.Graph.{Graph, empty_graph}
+use Rattle.object_arena.specs.Every.{classes_of}
+use Rattle.object_arena.specs.Graph.{Graph, IsObject, empty_graph, object_at}
 use Rattle.object_arena.specs.Fit.{IsFit}
 use Rattle.savepoints.specs.declared.scope.Scope.{Scope}
 use Rattle.savepoints.specs.declared.traces.Trace.{Trace}
@@ -58,6 +61,20 @@ abbrev pub StaysInStep : {A W : Type 0} → Result A Refusal → SessionState �
 StaysInStep (Ok x) session moment = IsInStep session moment
 StaysInStep (Err e) session moment = ends_early e ≡ false → IsInStep session moment
 
--- the same mapping, and as many objects
-abbrev pub SameObjects : SessionState → SessionState → Type 0
-SameObjects old new = (new.mapping ≡ old.mapping) × (length new.graph.objects ≡ length old.graph.objects)
+-- the same mapping and the same objects, each of its class
+pub record SameObjects (old new : SessionState) : Type 0 where
+  pub mapping : new.mapping ≡ old.mapping
+  pub classes : classes_of new.graph ≡ classes_of old.graph
+
+-- what a call keeps: the mapping and the objects, and the keeper in step, unless memory or the store ended it early
+pub record IsKept {A W : Type 0} (result : Result A Refusal) (old new : SessionState) (moment : Moment W) : Type 0 where
+  pub same : SameObjects old new
+  pub in_step : StaysInStep result new moment
+
+-- the object has been made, and is of the class
+abbrev pub IsOfClass : Graph → ObjId → ClassId → Type 0
+IsOfClass graph object class = IsObject graph object × ((object_at graph object).class ≡ class)
+
+-- each object is there still, of its class
+pub data ObjectsStay (old new : Graph) : Type 0 where
+  Stay : ((object : ObjId) → IsObject old object → IsOfClass new object (object_at old object).class) → ObjectsStay old new

@@ -8,7 +8,7 @@ ghost use Rattle.object_arena.specs.Graph.{IsObject, object_at};
 ghost use Rattle.programs.specs.Programs.{ends_early};
 ghost use Rattle.programs.specs.Beside.{moment_beside, on_store, unnoted, unnoted, by_own};
 ghost use Rattle.programs.specs.Moment.{Runs};
-ghost use Rattle.session_core.specs.SessionState.{IsInStep, StaysInStep, SameObjects};
+ghost use Rattle.session_core.specs.SessionState.{IsInStep, IsKept, StaysInStep, SameObjects};
 ghost use Rattle.keeper_core.specs.Calls as call;
 ghost use Rattle.object_arena.specs.Fit.{key_fits};
 ghost use Rattle.std.specs.List.{All, enumerate_from};
@@ -40,9 +40,8 @@ impl Session {
         requires inside { length self.old.scopes ≡ 1 }
         ensures step { Runs (moment_beside K.moment)
             (λ u. u) steps.flush (self.old, keeper.old) result (self.new, keeper.new) }
-        ensures in_step { StaysInStep result self.new (K.moment keeper.new) }
+        ensures kept { IsKept result self.old self.new (K.moment keeper.new) }
         ensures inside { OnOk result (length self.new.scopes ≡ 1) }
-        ensures same { SameObjects self.old self.new }
     {
         let pending = self.pending_in_order()?;
         let written = self.write_pending(keeper, &pending)?;
@@ -105,9 +104,8 @@ impl Session {
             (λ written. written) (steps.write_pending objects.now) (self.old, keeper.old) result
             (self.new, keeper.new) }
         ensures keys { IfOk result (All (spec.IsUnderKey self.new.mapping self.new.graph)) }
-        ensures in_step { StaysInStep result self.new (K.moment keeper.new) }
+        ensures kept { IsKept result self.old self.new (K.moment keeper.new) }
         ensures inside { OnOk result (length self.new.scopes ≡ 1) }
-        ensures same { SameObjects self.old self.new }
     {
         match self.write_all(keeper, objects) {
             Ok(written) => Ok(written),
@@ -128,8 +126,7 @@ impl Session {
         requires inside { length self.old.scopes ≡ 1 }
         ensures step { Runs (moment_beside K.moment)
             (λ u. u) steps.give_up (self.old, keeper.old) result (self.new, keeper.new) }
-        ensures in_step { StaysInStep result self.new (K.moment keeper.new) }
-        ensures same { SameObjects self.old self.new }
+        ensures kept { IsKept result self.old self.new (K.moment keeper.new) }
         ensures stops { IfErr result (λ e. ends_early e ≡ true) }
     {
         self.roll_back(keeper)?;

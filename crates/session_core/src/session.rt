@@ -7,7 +7,7 @@ ghost use Rattle.programs.specs.Programs.{ends_early};
 ghost use Rattle.programs.specs.Beside.{moment_beside, on_store, unnoted, unnoted};
 ghost use Rattle.keeper_core.specs.Calls as call;
 ghost use Rattle.programs.specs.Moment.{Runs};
-ghost use Rattle.session_core.specs.SessionState.{IsInStep, StaysInStep, SameObjects, depth_of, in_transaction, new_session};
+ghost use Rattle.session_core.specs.SessionState.{IsInStep, IsKept, IsOfClass, ObjectsStay, SameObjects, depth_of, in_transaction, new_session};
 ghost use Rattle.session_core.specs.Making as making;
 ghost use Rattle.programs.specs.Alone.{IsQuiet};
 ghost use Rattle.session_core.specs.Steps as steps;
@@ -105,12 +105,13 @@ impl Session {
     /// # Errors
     /// `TypeMismatch` for the first value of another kind than its attribute's, then `LimitReached(Objects)`, and memory that
     /// ran out. A refusal changes nothing.
-    #[tactic(auto, unfolding(crate::specs::Making::object_made, object_arena::specs::Graph::make))]
+    #[tactic(auto, using(crate::proofs::SessionLemmas::stays), unfolding(crate::specs::Making::object_made, object_arena::specs::Graph::make))]
     pub fn make(&mut self, class: ClassId, cells: &[(AttrNo, Value)]) -> Result<ObjId, Refusal>
         requires class { IsClass self.old.mapping class }
         ensures step { IsQuiet
             (λ object. object) (making.object_made class cells.now self.old) result self.new }
-        ensures exists { IfOk result (λ object. IsObject self.new.graph object) }
+        ensures made { IfOk result (λ object. IsOfClass self.new.graph object class) }
+        ensures stay { ObjectsStay self.old.graph self.new.graph }
         ensures err { OnErr result (self.new ≡ self.old) }
         ensures scopes { self.new.scopes ≡ self.old.scopes }
         ensures mapping { self.new.mapping ≡ self.old.mapping }
@@ -137,8 +138,7 @@ impl Session {
         requires in_step { IsInStep self.old (K.moment keeper.old) }
         ensures step { Runs (moment_beside K.moment)
             (λ u. u) (steps.add object) (self.old, keeper.old) result (self.new, keeper.new) }
-        ensures in_step { StaysInStep result self.new (K.moment keeper.new) }
-        ensures same { SameObjects self.old self.new }
+        ensures kept { IsKept result self.old self.new (K.moment keeper.new) }
     {
         self.enter(keeper)?;
         self.take_in(object)
@@ -154,8 +154,7 @@ impl Session {
         requires in_step { IsInStep self.old (K.moment keeper.old) }
         ensures step { Runs (moment_beside K.moment)
             (λ u. u) steps.commit (self.old, keeper.old) result (self.new, keeper.new) }
-        ensures in_step { StaysInStep result self.new (K.moment keeper.new) }
-        ensures same { SameObjects self.old self.new }
+        ensures kept { IsKept result self.old self.new (K.moment keeper.new) }
     {
         self.enter(keeper)?;
         self.flush(keeper)?;
@@ -172,8 +171,7 @@ impl Session {
         requires in_step { IsInStep self.old (K.moment keeper.old) }
         ensures step { Runs (moment_beside K.moment)
             (λ u. u) steps.close (self.old, keeper.old) result (self.new, keeper.new) }
-        ensures in_step { StaysInStep result self.new (K.moment keeper.new) }
-        ensures same { SameObjects self.old self.new }
+        ensures kept { IsKept result self.old self.new (K.moment keeper.new) }
         ensures outside { OnOk result (self.new.scopes ≡ []) }
         ensures stops { IfErr result (λ e. ends_early e ≡ true) }
     {
@@ -187,9 +185,8 @@ impl Session {
         requires in_step { IsInStep self.old (K.moment keeper.old) }
         ensures step { Runs (moment_beside K.moment)
             (λ u. u) steps.enter (self.old, keeper.old) result (self.new, keeper.new) }
-        ensures in_step { StaysInStep result self.new (K.moment keeper.new) }
+        ensures kept { IsKept result self.old self.new (K.moment keeper.new) }
         ensures entered { OnOk result (length self.new.scopes ≡ 1) }
-        ensures same { SameObjects self.old self.new }
     {
         if self.failed {
             return Err(Refusal::PendingRollbackError);

@@ -205,6 +205,7 @@ pub(crate) fn commit_all(arena: &mut Arena) -> Result<(), Refusal>
     ensures cause { IfErr result (λ e. e ≡ Refusal.Memory) }
     ensures fits { (mapped : Mapped) → IsFit mapped arena.old → IsFit mapped arena.new }
     ensures same { length arena.new.objects ≡ length arena.old.objects }
+    ensures classes { classes_of arena.new ≡ classes_of arena.old }
 {
     for number in 0..arena.count() {
         commit_one(arena, ObjId(number + 1))?;
@@ -220,6 +221,7 @@ fn commit_one(arena: &mut Arena, object: ObjId) -> Result<(), Refusal>
     ensures cause { IfErr result (λ e. e ≡ Refusal.Memory) }
     ensures fits { (mapped : Mapped) → IsFit mapped arena.old → IsFit mapped arena.new }
     ensures same { length arena.new.objects ≡ length arena.old.objects }
+    ensures classes { classes_of arena.new ≡ classes_of arena.old }
 {
     match arena.object(object).state {
         State::Persistent => {
@@ -238,6 +240,7 @@ pub(crate) fn let_go_all(arena: &mut Arena) -> Result<(), Refusal>
     ensures cause { IfErr result (λ e. e ≡ Refusal.Memory) }
     ensures fits { (mapped : Mapped) → IsFit mapped arena.old → IsFit mapped arena.new }
     ensures same { length arena.new.objects ≡ length arena.old.objects }
+    ensures classes { classes_of arena.new ≡ classes_of arena.old }
 {
     for number in 0..arena.count() {
         let_go(arena, ObjId(number + 1))?;
@@ -253,6 +256,7 @@ fn let_go(arena: &mut Arena, object: ObjId) -> Result<(), Refusal>
     ensures cause { IfErr result (λ e. e ≡ Refusal.Memory) }
     ensures fits { (mapped : Mapped) → IsFit mapped arena.old → IsFit mapped arena.new }
     ensures same { length arena.new.objects ≡ length arena.old.objects }
+    ensures classes { classes_of arena.new ≡ classes_of arena.old }
 {
     unmark(arena, object)?;
     arena.put_state(object, left_state(arena.object(object).state))

@@ -15,7 +15,9 @@ use Rattle.shell_steps.specs.declared.stage.Stage.TheVariants.{Declaring}
 use Rattle.programs.specs.Alone.{alone, Turns, Turned}
 use Rattle.programs.specs.Programs.{asked}
 use Rattle.shell_steps.specs.ShellState.{ShellState}
-use Rattle.shell_steps.specs.Step.{declared, declared_at, declaring_on, opened_here}
+use Rattle.session_core.proofs.SessionLemmas.{stay_same}
+use Rattle.shell_steps.proofs.Bindings.{kept_same}
+use Rattle.shell_steps.specs.Step.{declared_stage, declared_stage_at, stage_over, block_opened}
 use Rattle.programs.proofs.AloneLemmas.{asked_ok, asked_err, alone_lost, turns_ok, turns_err, turns_lost}
 
 -- a line was read
@@ -31,27 +33,27 @@ block_refused (ClassHead name base table discriminator identity owned) first e i
 block_refused head first e is = cc
 
 -- a head was tried
-pub opens : (head : Command) {own : ShellState} {r : Result Block Refusal} → r ≡ block_of head own.line → Runs alone (λ (block : Block). block) (asked (opened_here head)) own r own
-opens head {r = Ok x} p = asked_ok (opened_here head) (sym p)
+pub opens : (head : Command) {own : ShellState} {r : Result Block Refusal} → r ≡ block_of head own.line → Runs alone (λ (block : Block). block) (asked (block_opened head)) own r own
+opens head {r = Ok x} p = asked_ok (block_opened head) (sym p)
 opens head {own = own} {r = Err e} p =
     let is = block_refused head own.line e (sym p) in
-    subst (λ (d : Refusal). Runs alone (λ (block : Block). block) (asked (opened_here head)) own (Err d) own) (sym is) (asked_err (opened_here head) refl refl (sym p ∙ ap Err is))
+    subst (λ (d : Refusal). Runs alone (λ (block : Block). block) (asked (block_opened head)) own (Err d) own) (sym is) (asked_err (block_opened head) refl refl (sym p ∙ ap Err is))
 
 -- the mapping took the declaration of a block, or refused it
 declares_at : (block : Block) (mapping now : Mapped) (r : Result (Unit {0}) Refusal)
-    → Takes (λ (u : Unit {0}). tt) (declare block.declared mapping) mapping r now → IfErr r IsOfDeclaring → Turns (declared_at block (Declaring mapping)) (Declaring mapping) r (Declaring now)
-declares_at block mapping now (Ok u) p cause = Turned (ap declaring_on p)
+    → Takes (λ (u : Unit {0}). tt) (declare block.declared mapping) mapping r now → IfErr r IsOfDeclaring → Turns (declared_stage_at block (Declaring mapping)) (Declaring mapping) r (Declaring now)
+declares_at block mapping now (Ok u) p cause = Turned (ap stage_over p)
 declares_at block mapping now (Err Memory) p cause = Turned tt
-declares_at block mapping now (Err (ArgumentError kind)) p cause = Turned (ap declaring_on p.1, ap Declaring p.0, (refl, refl))
+declares_at block mapping now (Err (ArgumentError kind)) p cause = Turned (ap stage_over p.1, ap Declaring p.0, (refl, refl))
 declares_at block mapping now (Err e) p cause = absurd cause
 
 pub declares : (block : Block) {stage after : Stage} {mapping now : Mapped} {r : Result (Unit {0}) Refusal}
     → is_built_block block.declared ≡ true → stage ≡ Declaring mapping → after ≡ Declaring now
-    → Takes (λ (u : Unit {0}). tt) (declare block.declared mapping) mapping r now → IfErr r IsOfDeclaring → Turns (declared block stage) stage r after
-unfolding declared
+    → Takes (λ (u : Unit {0}). tt) (declare block.declared mapping) mapping r now → IfErr r IsOfDeclaring → Turns (declared_stage block stage) stage r after
+unfolding declared_stage
 declares block {stage = stage} {after = after} {mapping = mapping} {now = now} {r = r} built is next p cause =
-    subst (λ (s : Stage). Turns (declared block stage) stage r s) (sym next)
-    (subst (λ (s : Stage). Turns (declared block s) s r (Declaring now)) (sym is)
-    (subst (λ b. Turns (if b then declared_at block (Declaring mapping) else Err NotBuilt) (Declaring mapping) r (Declaring now)) (sym built) (declares_at block mapping now r p cause)))
+    subst (λ (s : Stage). Turns (declared_stage block stage) stage r s) (sym next)
+    (subst (λ (s : Stage). Turns (declared_stage block s) s r (Declaring now)) (sym is)
+    (subst (λ b. Turns (if b then declared_stage_at block (Declaring mapping) else Err NotBuilt) (Declaring mapping) r (Declaring now)) (sym built) (declares_at block mapping now r p cause)))
 
-pub ruleset declaring = (declares, turns_ok, turns_err, turns_lost)
+pub ruleset declaring = (kept_same, stay_same, declares, turns_ok, turns_err, turns_lost)

@@ -1,3 +1,4 @@
+pub mod Bindings
 pub mod Declaring
 pub mod Named
 pub mod Shells

@@ -23,7 +23,9 @@ use Rattle.shell_parts.specs.declared.block.Block.{Block}
 use Rattle.shell_steps.specs.declared.stage.Stage.{Stage}
 use Rattle.shell_steps.specs.declared.stage.Stage.TheVariants.{Declaring, Configured}
 use Rattle.shell_steps.specs.ShellState.{ShellState}
-use Rattle.shell_steps.specs.Step.{World, alone_at, alone_run, at_stage, at_stage_of, closing, closing_at, commit, configured, do_command, do_line, done, done_at, done_if, ended, create_tables, creating, creating_if, declared, ended_in, error_text, goes, in_session, in_session_alone, in_block, is_open, is_skipped, line_if, line_step, next_line, on_tables, open_block, read_and_do, reply_to, run_at, session_run, skip_block, skip_line, skipping, tables_at, take_line, taken, tell, tell_here, unless_end, with_block, with_refused, with_session}
+use Rattle.session_core.proofs.SessionLemmas.{stay_same}
+use Rattle.shell_steps.proofs.Bindings.{kept_same}
+use Rattle.shell_steps.specs.Step.{World, alone_at, alone_run, at_stage, at_stage_of, close_session, close_session_at, commit, opened_stage, do_command, do_line, program_of, program_at, program_if, end_of_script, create_tables, create_session_tables, create_unless, declared_stage, end_of_script_in, error_text, goes, in_session, in_session_alone, in_block, is_open, is_skipped, line_if, line_step, next_line, on_tables, open_block, read_and_do, reply_to, run_at, session_run, skip_block, skip_line, with_skipping, tables_at, take_line, program_in_block, tell, tell_here, unless_end, with_block, with_refused, with_session}
 use Rattle.programs.proofs.AloneLemmas.{alone_err, alone_lost, alone_ok, alone_same, answering_alone, asked_err, asked_ok, asked_tells, becomes_err, becomes_ok, beside_alone, change_ok, lost_alone, then_own_err, then_own_ok}
 use Rattle.programs.proofs.Recovering.{answering_ends, caught_early, caught_ok, caught_refused}
 
@@ -84,14 +86,14 @@ tables_none moment m {own = own} closed =
     same_beside moment (refuse (InvalidRequestError NotConfigured)) (on_tables m) (λ store. sym (ap (λ stage. tables_at stage m (record { own = own; store = store })) closed)) (refused refl refl)
 
 pub created : {S X : Type 0} {tell : S → Moment Store} {v : X → List ℕ} (state : SessionState) {old new : S} {r : Result X Refusal}
-    → is_open state ≡ false → Runs tell v (create_tables state.mapping.schema >>= λ _. give []) old r new → Runs tell v (creating state) old r new
-unfolding creating
-created {tell = tell} {v = v} state {old = old} {new = new} {r = r} is p = subst (λ b. Runs tell v (creating_if b state) old r new) (sym is) p
+    → is_open state ≡ false → Runs tell v (create_tables state.mapping.schema >>= λ _. give []) old r new → Runs tell v (create_session_tables state) old r new
+unfolding create_session_tables
+created {tell = tell} {v = v} state {old = old} {new = new} {r = r} is p = subst (λ b. Runs tell v (create_unless b state) old r new) (sym is) p
 
 pub not_created : {S X : Type 0} {tell : S → Moment Store} {v : X → List ℕ} (state : SessionState) {s : S}
-    → is_open state ≡ true → Runs tell v (creating state) s (Err (InvalidRequestError InTransaction)) s
-unfolding creating
-not_created {tell = tell} {v = v} state {s = s} is = subst (λ b. Runs tell v (creating_if b state) s (Err (InvalidRequestError InTransaction)) s) (sym is) (refused refl refl)
+    → is_open state ≡ true → Runs tell v (create_session_tables state) s (Err (InvalidRequestError InTransaction)) s
+unfolding create_session_tables
+not_created {tell = tell} {v = v} state {s = s} is = subst (λ b. Runs tell v (create_unless b state) s (Err (InvalidRequestError InTransaction)) s) (sym is) (refused refl refl)
 
 -- a call of the session alone
 pub alone_session : {A X : Type 0} {v : X → A} (m : SessionState → Run SessionState A) {own after : ShellState} {session now : SessionState} {r : Result X Refusal}
@@ -120,12 +122,12 @@ goes_turned step {own = own} {after = after} {stage = stage} {r = Err e} is (Tur
     (becomes_err (λ shell. at_stage_of shell (step shell.stage)) p.2.0 p.2.1 (ap (at_stage_of own) p.0))
 
 pub goes_declared : (block : Block) {own after : ShellState} {before stage : Stage} {r : Result (Unit {0}) Refusal}
-    → own.stage ≡ before → after ≡ at_stage own stage → Turns (declared block before) before r stage → Runs alone (λ u. u) (goes (declared block)) own r after
-goes_declared block {stage = stage} {r = r} here is p = goes_turned (declared block) is (subst (λ (s : Stage). Turns (declared block s) s r stage) (sym here) p)
+    → own.stage ≡ before → after ≡ at_stage own stage → Turns (declared_stage block before) before r stage → Runs alone (λ u. u) (goes (declared_stage block)) own r after
+goes_declared block {stage = stage} {r = r} here is p = goes_turned (declared_stage block) is (subst (λ (s : Stage). Turns (declared_stage block s) s r stage) (sym here) p)
 
 pub goes_configured : {own after : ShellState} {before stage : Stage} {r : Result (Unit {0}) Refusal}
-    → own.stage ≡ before → after ≡ at_stage own stage → Turns (configured before) before r stage → Runs alone (λ u. u) (goes configured) own r after
-goes_configured {stage = stage} {r = r} here is p = goes_turned configured is (subst (λ (s : Stage). Turns (configured s) s r stage) (sym here) p)
+    → own.stage ≡ before → after ≡ at_stage own stage → Turns (opened_stage before) before r stage → Runs alone (λ u. u) (goes opened_stage) own r after
+goes_configured {stage = stage} {r = r} here is p = goes_turned opened_stage is (subst (λ (s : Stage). Turns (opened_stage s) s r stage) (sym here) p)
 
 -- ---- a line in its place
 
@@ -142,26 +144,26 @@ line_read moment bytes {own = own} skipped p =
     same_beside moment (read_and_do bytes) (do_line bytes) (λ store. sym (ap (λ b. line_if b bytes (record { own = own; store = store })) skipped)) p
 
 pub command_outside : {K X : Type 0} (moment : K → Moment Store) {v : X → List ℕ} (command : Command) {own mid now : ShellState} {old new : K} {r : Result X Refusal}
-    → own.block ≡ None → mid ≡ with_block None own → Runs (moment_beside moment) v (done_if (is_built command) command) (mid, old) r (now, new)
+    → own.block ≡ None → mid ≡ with_block None own → Runs (moment_beside moment) v (program_if (is_built command) command) (mid, old) r (now, new)
     → Runs (moment_beside moment) v (do_command command) (own, old) r (now, new)
 unfolding do_command by_own
 command_outside moment {v = v} command {own = own} {mid = mid} {now = now} {old = old} {new = new} {r = r} outside is p =
     let here : mid ≡ own = is ∙ ap (λ block. with_block block own) (sym outside) in
-    same_beside moment (done_if (is_built command) command) (do_command command) (λ store. sym (ap (λ block. done_at block command (record { own = own; store = store })) outside))
-    (subst (λ (s : ShellState). Runs (moment_beside moment) v (done_if (is_built command) command) (s, old) r (now, new)) here p)
+    same_beside moment (program_if (is_built command) command) (do_command command) (λ store. sym (ap (λ block. program_at block command (record { own = own; store = store })) outside))
+    (subst (λ (s : ShellState). Runs (moment_beside moment) v (program_if (is_built command) command) (s, old) r (now, new)) here p)
 
 pub command_inside : {K X : Type 0} (moment : K → Moment Store) {v : X → List ℕ} (command : Command) {own mid now : ShellState} {block : Block} {keeper : K} {r : Result X Refusal}
-    → own.block ≡ Some block → mid ≡ with_block None own → Runs alone v (taken command block) mid r now → Runs (moment_beside moment) v (do_command command) (own, keeper) r (now, keeper)
+    → own.block ≡ Some block → mid ≡ with_block None own → Runs alone v (program_in_block command block) mid r now → Runs (moment_beside moment) v (do_command command) (own, keeper) r (now, keeper)
 unfolding do_command by_own in_block
 command_inside moment command {own = own} {block = block} inside is p =
-    same_beside moment (on_own (in_block command block)) (do_command command) (λ store. sym (ap (λ block. done_at block command (record { own = own; store = store })) inside))
-    (beside_alone moment (then_ok (λ _. taken command block) {x = tt} (change_ok {X = Unit {0}} (with_block None) is) p))
+    same_beside moment (on_own (in_block command block)) (do_command command) (λ store. sym (ap (λ block. program_at block command (record { own = own; store = store })) inside))
+    (beside_alone moment (then_ok (λ _. program_in_block command block) {x = tt} (change_ok {X = Unit {0}} (with_block None) is) p))
 
-pub not_built : {S X : Type 0} {tell : S → Moment World} {v : X → List ℕ} (command : Command) {s : S} → is_built command ≡ false → Runs tell v (done_if (is_built command) command) s (Err NotBuilt) s
-not_built {tell = tell} {v = v} command {s = s} is = subst (λ b. Runs tell v (done_if b command) s (Err NotBuilt) s) (sym is) (refused refl refl)
+pub not_built : {S X : Type 0} {tell : S → Moment World} {v : X → List ℕ} (command : Command) {s : S} → is_built command ≡ false → Runs tell v (program_if (is_built command) command) s (Err NotBuilt) s
+not_built {tell = tell} {v = v} command {s = s} is = subst (λ b. Runs tell v (program_if b command) s (Err NotBuilt) s) (sym is) (refused refl refl)
 
-pub built : {S X : Type 0} {tell : S → Moment World} {v : X → List ℕ} (command : Command) {old new : S} {r : Result X Refusal} → is_built command ≡ true → Runs tell v (done command) old r new → Runs tell v (done_if (is_built command) command) old r new
-built {tell = tell} {v = v} command {old = old} {new = new} {r = r} is p = subst (λ b. Runs tell v (done_if b command) old r new) (sym is) p
+pub built : {S X : Type 0} {tell : S → Moment World} {v : X → List ℕ} (command : Command) {old new : S} {r : Result X Refusal} → is_built command ≡ true → Runs tell v (program_of command) old r new → Runs tell v (program_if (is_built command) command) old r new
+built {tell = tell} {v = v} command {old = old} {new = new} {r = r} is p = subst (λ b. Runs tell v (program_if b command) old r new) (sym is) p
 
 -- the line is counted, and then done
 pub line_counted : {K X : Type 0} (moment : K → Moment Store) {v : X → List ℕ} (bytes : List ℕ) {own mid now : ShellState} {old new : K} {r : Result X Refusal}
@@ -177,14 +179,14 @@ unfolding tell
 told_text {v = v} number e is text = then_ok (λ _. asked (λ shell. Ok (error_text number e shell))) {x = tt} (change_ok {X = Unit {0}} with_refused is) (asked_ok {v = v} (λ shell. Ok (error_text number e shell)) (ap Ok (sym text)))
 
 -- no block was opened at the end
-pub ended_none : {X : Type 0} {v : X → List ℕ} {own : ShellState} {x : X} → own.block ≡ None → [] ≡ v x → Runs alone v ended own (Ok x) own
-unfolding ended
-ended_none {v = v} {own = own} none is = alone_same (give []) ended (sym (ap (λ block. ended_in block own) none)) (given {v = v} is)
+pub ended_none : {X : Type 0} {v : X → List ℕ} {own : ShellState} {x : X} → own.block ≡ None → [] ≡ v x → Runs alone v end_of_script own (Ok x) own
+unfolding end_of_script
+ended_none {v = v} {own = own} none is = alone_same (give []) end_of_script (sym (ap (λ block. end_of_script_in block own) none)) (given {v = v} is)
 
 -- a block was opened at the end
-pub ended_some : {X : Type 0} {v : X → List ℕ} {own now : ShellState} {block : Block} {r : Result X Refusal} → own.block ≡ Some block → Runs alone v (tell block.first (ScriptError block.first 1)) own r now → Runs alone v ended own r now
-unfolding ended
-ended_some {own = own} {block = block} some p = alone_same (tell block.first (ScriptError block.first 1)) ended (sym (ap (λ block. ended_in block own) some)) p
+pub ended_some : {X : Type 0} {v : X → List ℕ} {own now : ShellState} {block : Block} {r : Result X Refusal} → own.block ≡ Some block → Runs alone v (tell block.first (ScriptError block.first 1)) own r now → Runs alone v end_of_script own r now
+unfolding end_of_script
+ended_some {own = own} {block = block} some p = alone_same (tell block.first (ScriptError block.first 1)) end_of_script (sym (ap (λ block. end_of_script_in block own) some)) p
 
 told_here : {X : Type 0} {v : X → List ℕ} (e : Refusal) {own now : ShellState} {r : Result X Refusal} → Runs alone v (tell own.line e) own r now → Runs alone v (tell_here e) own r now
 unfolding alone
@@ -210,23 +212,23 @@ answer_refused moment {v' = v'} bytes {mid = mid} {now = now} {e = e} {r = r} ea
 -- ---- the end
 
 closing_same : (own : ShellState) (state : SessionState) → own.stage ≡ Configured state → (store : Store)
-    → in_session session.close (record { own = own; store = store }) ≡ closing (record { own = own; store = store })
-unfolding closing by_own
-closing_same own state opened store = sym (ap (λ stage. closing_at stage (record { own = own; store = store })) opened)
+    → in_session session.close (record { own = own; store = store }) ≡ close_session (record { own = own; store = store })
+unfolding close_session by_own
+closing_same own state opened store = sym (ap (λ stage. close_session_at stage (record { own = own; store = store })) opened)
 
 -- the session is closed
 pub closes_open : {K : Type 0} (moment : K → Moment Store) {own after : ShellState} {state now : SessionState} {old new : K} {r : Result (Unit {0}) Refusal}
     → own.stage ≡ Configured state → after ≡ with_session own now → IfErr r (λ e. ends_early e ≡ true) → Runs (moment_beside moment) (λ u. u) session.close (state, old) r (now, new)
-    → Runs (moment_answering moment) (λ u. u) closing (own, old) r (after, new)
+    → Runs (moment_answering moment) (λ u. u) close_session (own, old) r (after, new)
 closes_open moment {own = own} {state = state} opened is early p =
-    answering_ends moment early (same_beside moment (in_session session.close) closing (closing_same own state opened) (session_runs moment session.close opened is p))
+    answering_ends moment early (same_beside moment (in_session session.close) close_session (closing_same own state opened) (session_runs moment session.close opened is p))
 
 -- there is no session
 pub closes_none : {K : Type 0} (moment : K → Moment Store) {own : ShellState} {mapping : Mapped} {keeper : K}
-    → own.stage ≡ Declaring mapping → Runs (moment_answering moment) (λ u. u) closing (own, keeper) (Ok tt) (own, keeper)
-unfolding closing by_own
+    → own.stage ≡ Declaring mapping → Runs (moment_answering moment) (λ u. u) close_session (own, keeper) (Ok tt) (own, keeper)
+unfolding close_session by_own
 closes_none moment {own = own} closed =
-    answering_ends moment {r = Ok tt} tt (same_beside moment (give tt) closing (λ store. sym (ap (λ stage. closing_at stage (record { own = own; store = store })) closed)) (given refl))
+    answering_ends moment {r = Ok tt} tt (same_beside moment (give tt) close_session (λ store. sym (ap (λ stage. close_session_at stage (record { own = own; store = store })) closed)) (given refl))
 
 -- ---- changes of the shell
 
@@ -236,10 +238,10 @@ changes_to f is = change_ok f is
 -- the lines of the block are skipped
 pub skips : {own now : ShellState} {block skipped : Block} → own.block ≡ Some block → skipped ≡ record block { skipping = true } → now ≡ with_block (Some skipped) own
     → Runs alone (λ (u : Unit {0}). u) (change skip_block) own (Ok tt) now
-skips {own = own} some is next = changes_to skip_block (next ∙ ap (λ (b : Block). with_block (Some b) own) is ∙ ap (λ (b : Option Block). with_block (skipping b) own) (sym some))
+skips {own = own} some is next = changes_to skip_block (next ∙ ap (λ (b : Block). with_block (Some b) own) is ∙ ap (λ (b : Option Block). with_block (with_skipping b) own) (sym some))
 
 pub skips_none : {own now : ShellState} → own.block ≡ None → now ≡ own → Runs alone (λ (u : Unit {0}). u) (change skip_block) own (Ok tt) now
-skips_none {own = own} none is = changes_to skip_block (is ∙ ap (λ (b : Option Block). with_block b own) none ∙ ap (λ (b : Option Block). with_block (skipping b) own) (sym none))
+skips_none {own = own} none is = changes_to skip_block (is ∙ ap (λ (b : Option Block). with_block b own) none ∙ ap (λ (b : Option Block). with_block (with_skipping b) own) (sym none))
 
 -- the block ended among its skipped lines
 pub skipped_end : (b : Bool) {own now : ShellState} → b ≡ true → now ≡ with_block None own → Runs alone (λ (u : Unit {0}). u) (change (unless_end b)) own (Ok tt) now
@@ -252,24 +254,24 @@ skipped_on b {own = own} is next = changes_to (unless_end b) (next ∙ ap (λ c.
 
 -- a command that is done by the shell alone
 pub does_alone : {K X : Type 0} (moment : K → Moment Store) {v : X → List ℕ} (command : Command) (m : ShellState → Run ShellState (List ℕ)) {own now : ShellState} {keeper : K} {r : Result X Refusal}
-    → done command ≡ on_own m → Runs alone v m own r now → Runs (moment_beside moment) v (done command) (own, keeper) r (now, keeper)
+    → program_of command ≡ on_own m → Runs alone v m own r now → Runs (moment_beside moment) v (program_of command) (own, keeper) r (now, keeper)
 does_alone moment {v = v} command m {own = own} {now = now} {keeper = keeper} {r = r} is p =
     subst (λ (n : World → Run World (List ℕ)). Runs (moment_beside moment) v n (own, keeper) r (now, keeper)) (sym is) (beside_alone moment p)
 
 -- ---- what a line is that has no case of its own
 
 pub takes_line : {X : Type 0} {v : X → List ℕ} (command other : Command) (block : Block) {own now : ShellState} {r : Result X Refusal}
-    → command ≡ other → (command ≡ line.End → ⊥) → Runs alone v (take_line other block) own r now → Runs alone v (taken command block) own r now
+    → command ≡ other → (command ≡ line.End → ⊥) → Runs alone v (take_line other block) own r now → Runs alone v (program_in_block command block) own r now
 takes_line {v = v} command other block {own = own} {now = now} {r = r} is apart p =
     by command apart (subst (λ (c : Command). Runs alone v (take_line c block) own r now) (sym is) p)
   where
-    by : (command : Command) → (command ≡ line.End → ⊥) → Runs alone v (take_line command block) own r now → Runs alone v (taken command block) own r now
+    by : (command : Command) → (command ≡ line.End → ⊥) → Runs alone v (take_line command block) own r now → Runs alone v (program_in_block command block) own r now
     by line.End apart p = absurd (apart refl)
     by command apart p = p
 
 done_is : (command : Command) → (command ≡ line.Skip → ⊥) → (command ≡ line.Configure → ⊥) → (command ≡ line.CreateAll → ⊥) → (command ≡ line.Dump → ⊥)
     → ((name : List ℕ) (class : List ℕ) (given : List (List ℕ × Value)) → command ≡ line.New name class given → ⊥) → ((term : Term) → command ≡ line.Add term → ⊥)
-    → ((savepoint : Option (List ℕ)) → command ≡ line.Commit savepoint → ⊥) → done command ≡ on_own (open_block command)
+    → ((savepoint : Option (List ℕ)) → command ≡ line.Commit savepoint → ⊥) → program_of command ≡ on_own (open_block command)
 done_is line.Skip s c a d n t k = absurd (s refl)
 done_is line.Configure s c a d n t k = absurd (c refl)
 done_is line.CreateAll s c a d n t k = absurd (a refl)
@@ -282,15 +284,15 @@ done_is command s c a d n t k = refl
 -- a line without a case of its own
 pub done_head : (command head : Command) → command ≡ head → (command ≡ line.Skip → ⊥) → (command ≡ line.Configure → ⊥) → (command ≡ line.CreateAll → ⊥) → (command ≡ line.Dump → ⊥)
     → ((name : List ℕ) (class : List ℕ) (given : List (List ℕ × Value)) → command ≡ line.New name class given → ⊥) → ((term : Term) → command ≡ line.Add term → ⊥)
-    → ((savepoint : Option (List ℕ)) → command ≡ line.Commit savepoint → ⊥) → done command ≡ on_own (open_block head)
+    → ((savepoint : Option (List ℕ)) → command ≡ line.Commit savepoint → ⊥) → program_of command ≡ on_own (open_block head)
 done_head command head is s c a d n t k = done_is command s c a d n t k ∙ ap (λ (c : Command). on_own (open_block c)) is
 
 pub commits : {S X : Type 0} {tell : S → Moment World} {v : X → List ℕ} (savepoint : Option (List ℕ)) {old new : S} {r : Result X Refusal}
-    → is_none savepoint ≡ true → Runs tell v commit old r new → Runs tell v (done (line.Commit savepoint)) old r new
+    → is_none savepoint ≡ true → Runs tell v commit old r new → Runs tell v (program_of (line.Commit savepoint)) old r new
 commits None built p = p
 commits (Some name) built p = absurd (false≢true built)
 
-pub ruleset acting = (changes_to, skips, skips_none, skipped_end, skipped_on, line_counted, told_text, ended_none, ended_some, lost_alone, then_own_ok, then_own_err, then_store_ok, then_store_err, then_ok, then_err, given, beside_alone, on_keeper, no_memory, refused, ran_out, session_runs, session_none, alone_session, alone_none, goes_declared, goes_configured, line_skipped, line_read, command_outside, command_inside, not_built, built, guard_ok, guard_early, guard_refused, asked_ok, asked_err, asked_tells, change_ok, alone_lost, commits)
+pub ruleset acting = (kept_same, stay_same, changes_to, skips, skips_none, skipped_end, skipped_on, line_counted, told_text, ended_none, ended_some, lost_alone, then_own_ok, then_own_err, then_store_ok, then_store_err, then_ok, then_err, given, beside_alone, on_keeper, no_memory, refused, ran_out, session_runs, session_none, alone_session, alone_none, goes_declared, goes_configured, line_skipped, line_read, command_outside, command_inside, not_built, built, guard_ok, guard_early, guard_refused, asked_ok, asked_err, asked_tells, change_ok, alone_lost, commits)
 
 pub ruleset tables = (tables_open, tables_none)
 

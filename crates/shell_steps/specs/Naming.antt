@@ -1,5 +1,5 @@
 -- What the names of a command stand for.
-use Rattle.std.specs.Prelude.{ℕ, Bool, ◌&&◌, not, nat_lt, ◌==◌, List, [], ◌∷◌, ◌++◌, length, Option, None, Some, Result, Ok, Err, if◌then◌else◌}
+use Rattle.std.specs.Prelude.{◌≡◌, ℕ, Bool, ◌==◌, List, [], ◌∷◌, ◌++◌, Option, None, Some, Result, Ok, Err, if◌then◌else◌}
 use Rattle.std.specs.Option.{option_map}
 use Rattle.std.specs.List.{list_any, position}
 use Rattle.base_core.specs.declared.ids.AttrNo.{AttrNo}
@@ -12,7 +12,6 @@ use Rattle.base_core.specs.declared.refusal.Refusal.TheVariants.{InvalidRequestE
 use Rattle.schema_core.specs.Catalog.{same_name}
 use Rattle.mapper_types.specs.declared.mapped.Attribute.{Attribute}
 use Rattle.mapper_core.specs.Mapped.{attributes_of, find_class}
-use Rattle.object_arena.specs.Graph.{Graph}
 use Rattle.programs.specs.Programs.{Run, each, asked}
 use Rattle.session_core.specs.SessionState.{SessionState}
 use Rattle.shell_parts.specs.declared.names.Bound.{Bound}
@@ -35,27 +34,28 @@ of_session question (Configured session) = question session
 
 -- ---- objects
 
--- the object has been made
-abbrev pub is_object : Graph → ObjId → Bool
-is_object graph object = nat_lt 0 object.0 && not (nat_lt (length graph.objects) object.0)
+-- the name is bound to the object
+abbrev pub StandsFor : Option Bound → ObjId → Type 0
+StandsFor (Some (Object own class)) object = object ≡ own
+StandsFor other object = ⊥
 
--- the object of the session that a name is bound to
-abbrev pub object_bound : SessionState → List ℕ → Option Bound → Result ObjId Refusal
-object_bound session name None = unknown name
-object_bound session name (Some (Object object class)) = if is_object session.graph object then Ok object else wrong_kind
-object_bound session name (Some other) = wrong_kind
+-- the object that a name is bound to
+abbrev pub object_bound : List ℕ → Option Bound → Result ObjId Refusal
+object_bound name None = unknown name
+object_bound name (Some (Object object class)) = Ok object
+object_bound name (Some other) = wrong_kind
 
 abbrev pub object_named : List ℕ → ShellState → Result ObjId Refusal
-object_named name shell = of_session (λ session. object_bound session name (bound_to shell.names name)) shell.stage
+object_named name shell = of_session (λ session. object_bound name (bound_to shell.names name)) shell.stage
 
 -- ---- classes and attributes
 
-abbrev pub known : {A : Type 0} → List ℕ → Option A → Result A Refusal
-known name None = unknown name
-known name (Some a) = Ok a
+abbrev pub found_or_unknown : {A : Type 0} → List ℕ → Option A → Result A Refusal
+found_or_unknown name None = unknown name
+found_or_unknown name (Some a) = Ok a
 
 abbrev pub class_named : List ℕ → ShellState → Result ClassId Refusal
-class_named name shell = of_session (λ session. known name (find_class session.mapping.classes name)) shell.stage
+class_named name shell = of_session (λ session. found_or_unknown name (find_class session.mapping.classes name)) shell.stage
 
 -- the attribute of a name
 abbrev pub find_attribute : List Attribute → List ℕ → Option AttrNo

@@ -1,15 +1,17 @@
 -- What is seen of a shell between two lines, and how a keeper stands beside it.
-use Rattle.std.specs.Prelude.{◌≡◌, ℕ, Bool, true, false, List, [], Option, None, Result, Ok, Err}
+use Rattle.std.specs.Prelude.{◌≡◌, ℕ, Bool, true, false, List, [], Option, None, Some, Result, Ok, Err}
 use Rattle.base_core.specs.declared.refusal.Refusal.{Refusal}
 use Rattle.base_core.specs.declared.ids.ClassId.{ClassId}
 use Rattle.base_core.specs.declared.ids.ObjId.{ObjId}
 use Rattle.mapper_core.specs.Mapped.{IsClass, Mapped}
-use Rattle.object_arena.specs.Graph.{IsObject}
+use Rattle.object_arena.specs.Graph.{Graph, IsObject, empty_graph}
 use Rattle.programs.specs.Programs.{ends_early}
 use Rattle.programs.specs.Moment.{Moment}
-use Rattle.session_core.specs.SessionState.{IsInStep}
+use Rattle.session_core.specs.SessionState.{IsInStep, IsOfClass, ObjectsStay}
 use Rattle.shell_parts.specs.declared.block.Block.{Block}
 use Rattle.shell_parts.specs.declared.names.Bound.{Bound}
+use Rattle.shell_parts.specs.declared.names.Bound.TheVariants.{Object}
+use Rattle.shell_parts.specs.Bindings.{bound_to}
 use Rattle.shell_steps.specs.declared.stage.Stage.{Stage}
 use Rattle.shell_steps.specs.declared.stage.Stage.TheVariants.{Declaring, Configured}
 
@@ -35,6 +37,15 @@ abbrev pub mapping_of : Stage → Mapped
 mapping_of (Declaring mapping) = mapping
 mapping_of (Configured session) = session.mapping
 
+-- the objects of the session; before there is one there are none
+abbrev pub graph_of : Stage → Graph
+graph_of (Declaring mapping) = empty_graph
+graph_of (Configured session) = session.graph
+
+-- what every shell keeps: a name that is bound to an object stands for one that has been made, of the class with which it is bound
+pub record AreBound (stage : Stage) (names : List (List ℕ × Bound)) : Type 0 where
+  pub made : (name : List ℕ) (object : ObjId) (class : ClassId) → bound_to names name ≡ Some (Object object class) → IsOfClass (graph_of stage) object class
+
 -- the keeper took its target and is in step with the session, whose tables have their targets; before there is a session it
 -- has no scope
 abbrev pub IsReady : {W : Type 0} → Stage → Moment W → Type 0
@@ -46,18 +57,17 @@ abbrev pub StaysReady : {A W : Type 0} → Result A Refusal → Stage → Moment
 StaysReady (Ok x) stage moment = IsReady stage moment
 StaysReady (Err e) stage moment = ends_early e ≡ false → IsReady stage moment
 
--- a keeper that was ready is so still: a session that opened has no transaction, and one that was open has the same mapping
--- and scopes
+-- A keeper that was ready is so still, and every object is there still: a session that opened has no transaction and no
+-- objects, and one that was open has the same mapping and scopes.
 abbrev pub IsKept : Stage → Stage → Type 0
 IsKept (Declaring old) (Declaring new) = Unit {0}
-IsKept (Declaring old) (Configured new) = (new.mapping.schema.resolved ≡ true) × (new.scopes ≡ [])
+IsKept (Declaring old) (Configured new) = (new.mapping.schema.resolved ≡ true) × (new.scopes ≡ []) × (new.graph ≡ empty_graph)
 IsKept (Configured old) (Declaring new) = ⊥
-IsKept (Configured old) (Configured new) = (new.mapping ≡ old.mapping) × (new.scopes ≡ old.scopes)
+IsKept (Configured old) (Configured new) = (new.mapping ≡ old.mapping) × (new.scopes ≡ old.scopes) × ObjectsStay old.graph new.graph
 
 -- the object is one of the session's
 abbrev pub HasObject : Stage → ObjId → Type 0
-HasObject (Declaring mapping) object = Unit {0}
-HasObject (Configured session) object = IsObject session.graph object
+HasObject stage object = IsObject (graph_of stage) object
 
 -- the class is one of the session's, which is open
 abbrev pub HasClass : Stage → ClassId → Type 0

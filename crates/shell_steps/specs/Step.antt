@@ -81,29 +81,29 @@ at_stage_of shell (Err e) = Err e
 unfoldable pub goes : (Stage → Result Stage Refusal) → ShellState → Run ShellState (Unit {0})
 goes step = becomes (λ shell. at_stage_of shell (step shell.stage))
 
-abbrev pub session_over : Result (Unit {0} × Mapped) Refusal → Result Stage Refusal
-session_over (Ok p) = Ok (Configured (new_session p.1))
-session_over (Err e) = Err e
+abbrev pub session_stage : Result (Unit {0} × Mapped) Refusal → Result Stage Refusal
+session_stage (Ok p) = Ok (Configured (new_session p.1))
+session_stage (Err e) = Err e
 
 -- all declarations are checked, and a session opens over them
-unfoldable pub configured : Stage → Result Stage Refusal
-configured (Declaring mapping) = session_over (declaring.configure mapping)
-configured (Configured session) = Err (InvalidRequestError IsConfigured)
+unfoldable pub opened_stage : Stage → Result Stage Refusal
+opened_stage (Declaring mapping) = session_stage (declaring.configure mapping)
+opened_stage (Configured session) = Err (InvalidRequestError IsConfigured)
 
 unfoldable pub configure : ShellState → Run ShellState (List ℕ)
-configure = goes configured >>= λ _. give []
+configure = goes opened_stage >>= λ _. give []
 
-abbrev pub declaring_on : Result (Unit {0} × Mapped) Refusal → Result Stage Refusal
-declaring_on (Ok p) = Ok (Declaring p.1)
-declaring_on (Err e) = Err e
+abbrev pub stage_over : Result (Unit {0} × Mapped) Refusal → Result Stage Refusal
+stage_over (Ok p) = Ok (Declaring p.1)
+stage_over (Err e) = Err e
 
-abbrev pub declared_at : Block → Stage → Result Stage Refusal
-declared_at block (Declaring mapping) = declaring_on (declare block.declared mapping)
-declared_at block (Configured session) = Err (InvalidRequestError IsConfigured)
+abbrev pub declared_stage_at : Block → Stage → Result Stage Refusal
+declared_stage_at block (Declaring mapping) = stage_over (declare block.declared mapping)
+declared_stage_at block (Configured session) = Err (InvalidRequestError IsConfigured)
 
 -- what a block says is declared, where its form is built
-unfoldable pub declared : Block → Stage → Result Stage Refusal
-declared block stage = if is_built_block block.declared then declared_at block stage else Err NotBuilt
+unfoldable pub declared_stage : Block → Stage → Result Stage Refusal
+declared_stage block stage = if is_built_block block.declared then declared_stage_at block stage else Err NotBuilt
 
 -- ---- tables
 
@@ -127,16 +127,16 @@ create_tables schema = each create_one tt (dependency_order schema)
 abbrev pub is_open : SessionState → Bool
 is_open state = in_transaction state || state.failed
 
-abbrev pub creating_if : Bool → SessionState → Store → Run Store (List ℕ)
-creating_if true state = refuse (InvalidRequestError InTransaction)
-creating_if false state = create_tables state.mapping.schema >>= λ _. give []
+abbrev pub create_unless : Bool → SessionState → Store → Run Store (List ℕ)
+create_unless true state = refuse (InvalidRequestError InTransaction)
+create_unless false state = create_tables state.mapping.schema >>= λ _. give []
 
 -- the session's tables are made outside transactions
-unfoldable pub creating : SessionState → Store → Run Store (List ℕ)
-creating state = creating_if (is_open state) state
+unfoldable pub create_session_tables : SessionState → Store → Run Store (List ℕ)
+create_session_tables state = create_unless (is_open state) state
 
 unfoldable pub create_all : World → Run World (List ℕ)
-create_all = on_tables creating
+create_all = on_tables create_session_tables
 
 abbrev pub text_of : Catalog → TableId → Option (List (List Value)) → List ℕ
 text_of schema table None = []
@@ -151,11 +151,11 @@ unfoldable pub dump_tables : Catalog → Store → Run Store (List ℕ)
 dump_tables schema = each (dump_one schema) [] (table_ids schema)
 
 -- the created tables of the session's mapping
-unfoldable pub dumping : SessionState → Store → Run Store (List ℕ)
-dumping state = dump_tables state.mapping.schema
+unfoldable pub dump_session_tables : SessionState → Store → Run Store (List ℕ)
+dump_session_tables state = dump_tables state.mapping.schema
 
 unfoldable pub dump : World → Run World (List ℕ)
-dump = on_tables dumping
+dump = on_tables dump_session_tables
 
 -- ---- objects
 
@@ -179,27 +179,27 @@ commit = in_session session.commit >>= λ _. give []
 abbrev pub with_block : Option Block → ShellState → ShellState
 with_block block shell = record shell { block = block }
 
-abbrev pub opened_here : Command → ShellState → Result Block Refusal
-opened_here head shell = block_of head shell.line
+abbrev pub block_opened : Command → ShellState → Result Block Refusal
+block_opened head shell = block_of head shell.line
 
 -- a head opens a block, and every other line is not built
 unfoldable pub open_block : Command → ShellState → Run ShellState (List ℕ)
-open_block head = asked (opened_here head) >>= λ block. (change (with_block (Some block)) >>= λ _. give [])
+open_block head = asked (block_opened head) >>= λ block. (change (with_block (Some block)) >>= λ _. give [])
 
 -- what a line does whose form is built
-abbrev pub done : Command → World → Run World (List ℕ)
-done line.Skip = give []
-done line.Configure = on_own configure
-done line.CreateAll = create_all
-done line.Dump = dump
-done (line.New name class given) = on_own (make name class given)
-done (line.Add term) = add term.name
-done (line.Commit None) = commit
-done head = on_own (open_block head)
+abbrev pub program_of : Command → World → Run World (List ℕ)
+program_of line.Skip = give []
+program_of line.Configure = on_own configure
+program_of line.CreateAll = create_all
+program_of line.Dump = dump
+program_of (line.New name class given) = on_own (make name class given)
+program_of (line.Add term) = add term.name
+program_of (line.Commit None) = commit
+program_of head = on_own (open_block head)
 
-abbrev pub done_if : Bool → Command → World → Run World (List ℕ)
-done_if false command = refuse NotBuilt
-done_if true command = done command
+abbrev pub program_if : Bool → Command → World → Run World (List ℕ)
+program_if false command = refuse NotBuilt
+program_if true command = program_of command
 
 -- ---- a line of a block
 
@@ -212,25 +212,25 @@ take_line command block = change (with_block (Some (with_line_taken command bloc
 
 -- what the block says is declared
 unfoldable pub declare_block : Block → ShellState → Run ShellState (List ℕ)
-declare_block block = goes (declared block) >>= λ _. give []
+declare_block block = goes (declared_stage block) >>= λ _. give []
 
-abbrev pub taken : Command → Block → ShellState → Run ShellState (List ℕ)
-taken line.End block = declare_block block
-taken command block = take_line command block
+abbrev pub program_in_block : Command → Block → ShellState → Run ShellState (List ℕ)
+program_in_block line.End block = declare_block block
+program_in_block command block = take_line command block
 
 -- the block that is open ends, or goes on with one more line
 unfoldable pub in_block : Command → Block → ShellState → Run ShellState (List ℕ)
-in_block command block = change (with_block None) >>= λ _. taken command block
+in_block command block = change (with_block None) >>= λ _. program_in_block command block
 
 -- ---- a line
 
 -- what a line does in its place
-abbrev pub done_at : Option Block → Command → World → Run World (List ℕ)
-done_at None command = done_if (is_built command) command
-done_at (Some block) command = on_own (in_block command block)
+abbrev pub program_at : Option Block → Command → World → Run World (List ℕ)
+program_at None command = program_if (is_built command) command
+program_at (Some block) command = on_own (in_block command block)
 
 unfoldable pub do_command : Command → World → Run World (List ℕ)
-do_command command = by_own (λ shell. done_at shell.block command)
+do_command command = by_own (λ shell. program_at shell.block command)
 
 -- the forms of the lines in a place
 abbrev pub place_of : Option Block → Inside
@@ -238,20 +238,20 @@ place_of None = inside.Top
 place_of (Some block) = forms_of block.declared
 
 -- the lines of the block are skipped from here on
-abbrev pub skipping : Option Block → Option Block
-skipping None = None
-skipping (Some block) = Some (record block { skipping = true })
+abbrev pub with_skipping : Option Block → Option Block
+with_skipping None = None
+with_skipping (Some block) = Some (record block { skipping = true })
 
 abbrev pub skip_block : ShellState → ShellState
-skip_block shell = with_block (skipping shell.block) shell
+skip_block shell = with_block (with_skipping shell.block) shell
 
 -- what a line says in its place
-abbrev pub said : List ℕ → ShellState → Result Command Refusal
-said bytes shell = said_by bytes shell.line (place_of shell.block)
+abbrev pub said_command : List ℕ → ShellState → Result Command Refusal
+said_command bytes shell = said_by bytes shell.line (place_of shell.block)
 
 -- what a line says; in a block the lines behind one that can not be read are skipped
 unfoldable pub read : List ℕ → ShellState → Run ShellState Command
-read bytes = guarded (asked (said bytes)) (change skip_block)
+read bytes = guarded (asked (said_command bytes)) (change skip_block)
 
 unfoldable pub read_and_do : List ℕ → World → Run World (List ℕ)
 read_and_do bytes = on_own (read bytes) >>= do_command
@@ -303,21 +303,21 @@ tell_here e shell = tell shell.line e shell
 unfoldable pub reply_to : List ℕ → World → Run World (List ℕ)
 reply_to bytes = caught (λ e. on_own (tell_here e)) (line_step bytes)
 
-abbrev pub ended_in : Option Block → ShellState → Run ShellState (List ℕ)
-ended_in None = give []
-ended_in (Some block) = tell block.first (ScriptError block.first 1)
+abbrev pub end_of_script_in : Option Block → ShellState → Run ShellState (List ℕ)
+end_of_script_in None = give []
+end_of_script_in (Some block) = tell block.first (ScriptError block.first 1)
 
 -- the script has ended: a block that is open is refused at its first line
-unfoldable pub ended : ShellState → Run ShellState (List ℕ)
-ended shell = ended_in shell.block shell
+unfoldable pub end_of_script : ShellState → Run ShellState (List ℕ)
+end_of_script shell = end_of_script_in shell.block shell
 
 unfoldable pub end_reply : World → Run World (List ℕ)
-end_reply = on_own ended
+end_reply = on_own end_of_script
 
-abbrev pub closing_at : Stage → World → Run World (Unit {0})
-closing_at (Declaring mapping) = give tt
-closing_at (Configured state) = in_session session.close
+abbrev pub close_session_at : Stage → World → Run World (Unit {0})
+close_session_at (Declaring mapping) = give tt
+close_session_at (Configured state) = in_session session.close
 
 -- the session is closed, where there is one
-unfoldable pub closing : World → Run World (Unit {0})
-closing = by_own (λ shell. closing_at shell.stage)
+unfoldable pub close_session : World → Run World (Unit {0})
+close_session = by_own (λ shell. close_session_at shell.stage)

@@ -7,11 +7,11 @@ ghost use Rattle.programs.specs.Moment.{Runs};
 ghost use Rattle.std.specs.List.{All};
 ghost use Rattle.schema_core.specs.Catalog.{IsTable};
 ghost use Rattle.schema_core.specs.DependencyOrder.{dependency_order};
-ghost use Rattle.session_core.specs.SessionState.{IsInStep, StaysInStep};
+ghost use Rattle.session_core.specs.SessionState.{IsInStep, IsOfClass, StaysInStep};
 ghost use Rattle.session_core.specs.Making.{object_made};
 ghost use Rattle.session_core.specs.Steps as session;
 ghost use Rattle.programs.specs.Alone.{Turns, alone};
-ghost use Rattle.shell_steps.specs.ShellState.{DepthStays, HasClass, HasObject, IsKept, IsReady, StaysReady};
+ghost use Rattle.shell_steps.specs.ShellState.{DepthStays, HasClass, HasObject, IsKept, IsReady, StaysReady, graph_of};
 ghost use Rattle.shell_steps.specs.Step as step;
 
 use crate::shell::Shell;
@@ -25,7 +25,7 @@ use schema_core::Schema;
 use session_core::Session;
 use shell_parts::{Bound, Reply};
 use std::alloc::Global;
-use std::mem;
+use std::mem::{self, drop};
 
 impl Shell {
     /// Checks all declarations, closes the mapping and opens the session.
@@ -42,9 +42,9 @@ impl Shell {
     }
 
     /// The stage after `configure`.
-    #[tactic(auto, using(crate::proofs::Shells::acting))]
+    #[tactic(auto, using(crate::proofs::Shells::acting, crate::proofs::Bindings::bindings))]
     fn open_session(&mut self) -> Result<(), Refusal>
-        ensures step { Runs alone (λ u. u) (step.goes step.configured) self.old result self.new }
+        ensures step { Runs alone (λ u. u) (step.goes step.opened_stage) self.old result self.new }
         ensures kept { IsKept self.old.stage self.new.stage }
     {
         open_session(self.alloc, &mut self.stage)
@@ -108,23 +108,26 @@ impl Shell {
     }
 
     /// Makes a transient object of a class with these values.
-    #[tactic(auto, using(crate::proofs::Shells::acting))]
+    #[tactic(auto, using(crate::proofs::Shells::acting, crate::proofs::Bindings::bindings))]
     fn make_object(&mut self, class: ClassId, cells: &[(AttrNo, Value)]) -> Result<ObjId, Refusal>
         requires { HasClass self.old.stage class }
         ensures step { Runs alone
             (λ object. object)
             (step.in_session_alone (object_made class cells.now)) self.old result self.new }
+        ensures made { IfOk result
+            (λ object. IsOfClass (graph_of self.new.stage) object class) }
         ensures kept { IsKept self.old.stage self.new.stage }
     {
-        match &mut self.stage {
-            Stage::Declaring(_) => { Err(Refusal::InvalidRequestError(RequestKind::NotConfigured)) }
-            Stage::Configured(session) => session.make(class, cells),
-        }
+        let Stage::Configured(session) = &mut self.stage else {
+            return Err(Refusal::InvalidRequestError(RequestKind::NotConfigured));
+        };
+        session.make(class, cells)
     }
 
     /// The name stands for the object.
-    #[tactic(auto, using(crate::proofs::Shells::acting))]
+    #[tactic(auto, using(crate::proofs::Shells::acting, crate::proofs::Bindings::bindings))]
     fn bind(&mut self, name: &Name, class: ClassId, object: ObjId) -> Result<(), Refusal>
+        requires made { IsOfClass (graph_of self.old.stage) object class }
         ensures step { Runs alone
             (λ u. u) (change (step.with_bound name.now class object)) self.old result self.new }
         ensures stage { self.new.stage ≡ self.old.stage }
@@ -151,7 +154,7 @@ impl Shell {
     }
 
     /// Adds an object to the session.
-    #[tactic(auto, using(crate::proofs::Shells::acting))]
+    #[tactic(auto, using(crate::proofs::Shells::acting, crate::proofs::Bindings::bindings))]
     fn add_object<K: Keeper>(&mut self, keeper: &mut K, object: ObjId) -> Result<(), Refusal>
         requires object { HasObject self.old.stage object }
         requires ready { IsReady self.old.stage (K.moment keeper.old) }
@@ -160,10 +163,10 @@ impl Shell {
             (self.new, keeper.new) }
         ensures ready { StaysReady result self.new.stage (K.moment keeper.new) }
     {
-        match &mut self.stage {
-            Stage::Declaring(_) => { Err(Refusal::InvalidRequestError(RequestKind::NotConfigured)) }
-            Stage::Configured(session) => session.add(keeper, object),
-        }
+        let Stage::Configured(session) = &mut self.stage else {
+            return Err(Refusal::InvalidRequestError(RequestKind::NotConfigured));
+        };
+        session.add(keeper, object)
     }
 
     /// Writes what is pending, and commits.
@@ -182,7 +185,7 @@ impl Shell {
     }
 
     /// Commits the session.
-    #[tactic(auto, using(crate::proofs::Shells::acting))]
+    #[tactic(auto, using(crate::proofs::Shells::acting, crate::proofs::Bindings::bindings))]
     fn commit_session<K: Keeper>(&mut self, keeper: &mut K) -> Result<(), Refusal>
         requires { IsReady self.old.stage (K.moment keeper.old) }
         ensures step { Runs (moment_beside K.moment)
@@ -190,17 +193,17 @@ impl Shell {
             (self.new, keeper.new) }
         ensures ready { StaysReady result self.new.stage (K.moment keeper.new) }
     {
-        match &mut self.stage {
-            Stage::Declaring(_) => { Err(Refusal::InvalidRequestError(RequestKind::NotConfigured)) }
-            Stage::Configured(session) => session.commit(keeper),
-        }
+        let Stage::Configured(session) = &mut self.stage else {
+            return Err(Refusal::InvalidRequestError(RequestKind::NotConfigured));
+        };
+        session.commit(keeper)
     }
 }
 
 /// Checks all declarations, closes the mapping and opens the session.
-#[tactic(auto, using(programs::proofs::AloneLemmas::standing), unfolding(crate::specs::Step::configured))]
+#[tactic(auto, using(programs::proofs::AloneLemmas::standing, crate::proofs::Bindings::bindings), unfolding(crate::specs::Step::opened_stage))]
 fn open_session(alloc: Global, stage: &mut Stage) -> Result<(), Refusal>
-    ensures step { Turns (step.configured stage.old) stage.old result stage.new }
+    ensures step { Turns (step.opened_stage stage.old) stage.old result stage.new }
     ensures kept { IsKept stage.old stage.new }
 {
     let Stage::Declaring(mapping) = stage else {
@@ -212,7 +215,8 @@ fn open_session(alloc: Global, stage: &mut Stage) -> Result<(), Refusal>
         Err(_) => return Err(Refusal::Memory),
     }
     let mapping = mem::replace(mapping, Mapping::new(alloc));
-    *stage = Stage::Configured(Session::new(alloc, mapping));
+    let session = Session::new(alloc, mapping);
+    drop(mem::replace(stage, Stage::Configured(session)));
     Ok(())
 }
 
@@ -225,12 +229,12 @@ fn is_open(session: &Session) -> bool
 }
 
 /// Makes the tables of a session that are not there, outside transactions.
-#[tactic(auto, using(programs::proofs::Sequence::sequence, crate::proofs::Shells::creates), unfolding(crate::specs::Step::creating))]
+#[tactic(auto, using(programs::proofs::Sequence::sequence, crate::proofs::Shells::creates), unfolding(crate::specs::Step::create_session_tables))]
 fn create_all<K: Keeper>(alloc: Global, session: &Session, keeper: &mut K) -> Result<Reply, Refusal>
     requires resolved { session.now.mapping.schema.resolved ≡ true }
     requires in_step { IsInStep session.now (K.moment keeper.old) }
     ensures step { Runs K.moment
-        (λ reply. reply) (step.creating session.now) keeper.old result keeper.new }
+        (λ reply. reply) (step.create_session_tables session.now) keeper.old result keeper.new }
     ensures in_step { StaysInStep result session.now (K.moment keeper.new) }
 {
     if is_open(session) {
@@ -308,11 +312,11 @@ fn create_one<K: Keeper>(
 }
 
 /// Answers the created tables of a session with their rows.
-#[tactic(auto, unfolding(crate::specs::Step::dumping))]
+#[tactic(auto, unfolding(crate::specs::Step::dump_session_tables))]
 fn dump_all<K: Keeper>(alloc: Global, session: &Session, keeper: &mut K) -> Result<Reply, Refusal>
     requires { IsInStep session.now (K.moment keeper.old) }
     ensures step { Runs K.moment
-        (λ reply. reply) (step.dumping session.now) keeper.old result keeper.new }
+        (λ reply. reply) (step.dump_session_tables session.now) keeper.old result keeper.new }
     ensures in_step { StaysInStep result session.now (K.moment keeper.new) }
 {
     dump_tables(alloc, keeper, session.mapping().schema())

@@ -15,7 +15,7 @@ use base_core::{Refusal, RequestKind};
 use keeper_core::{Keeper, calls};
 use script_types::{Command, Inside};
 use shell_parts::{Block, Reply, is_built, is_end, read};
-use std::mem;
+use std::mem::{self, drop};
 
 impl Shell {
     /// Does a line of the script, the next by number.
@@ -117,7 +117,7 @@ impl Shell {
     #[tactic(auto, using(crate::proofs::Declaring::reads))]
     fn say(&self, line: &[u8]) -> Result<Command, Refusal>
         ensures { Runs alone (λ command. command)
-            (asked (step.said line.now)) self.now result self.now }
+            (asked (step.said_command line.now)) self.now result self.now }
     {
         read(self.alloc, line, self.line, place_of(&self.block))
     }
@@ -166,11 +166,12 @@ impl Shell {
     fn do_built<K: Keeper>(&mut self, keeper: &mut K, command: Command) -> Result<Reply, Refusal>
         requires { IsReady self.old.stage (K.moment keeper.old) }
         ensures step { Runs (moment_beside K.moment)
-            (λ reply. reply) (step.done_if (is_built_line command) command)
+            (λ reply. reply) (step.program_if (is_built_line command) command)
             (self.old, keeper.old) result (self.new, keeper.new) }
         ensures ready { StaysReady result self.new.stage (K.moment keeper.new) }
     {
         if !is_built(&command) {
+            drop(command);
             return Err(Refusal::NotBuilt);
         }
         self.do_top(keeper, command)
@@ -182,7 +183,7 @@ impl Shell {
         requires built { is_built_line command ≡ true }
         requires ready { IsReady self.old.stage (K.moment keeper.old) }
         ensures step { Runs (moment_beside K.moment)
-            (λ reply. reply) (step.done command) (self.old, keeper.old) result
+            (λ reply. reply) (step.program_of command) (self.old, keeper.old) result
             (self.new, keeper.new) }
         ensures ready { StaysReady result self.new.stage (K.moment keeper.new) }
     {
@@ -216,7 +217,7 @@ impl Shell {
     #[tactic(auto, using(crate::proofs::Declaring::opens))]
     fn opened(&self, head: Command) -> Result<Block, Refusal>
         ensures { Runs alone (λ block. block)
-            (asked (step.opened_here head)) self.now result self.now }
+            (asked (step.block_opened head)) self.now result self.now }
     {
         Block::of_head(self.alloc, head, self.line)
     }
@@ -236,7 +237,7 @@ impl Shell {
     #[tactic(auto, using(crate::proofs::Shells::acting))]
     fn take(&mut self, command: Command, block: Block) -> Result<Reply, Refusal>
         ensures step { Runs alone
-            (λ reply. reply) (step.taken command block) self.old result self.new }
+            (λ reply. reply) (step.program_in_block command block) self.old result self.new }
         ensures kept { IsKept self.old.stage self.new.stage }
     {
         match command {
@@ -270,10 +271,10 @@ impl Shell {
     }
 
     /// The stage after a block's declaration.
-    #[tactic(auto, using(crate::proofs::Shells::acting))]
+    #[tactic(auto, using(crate::proofs::Shells::acting, crate::proofs::Bindings::bindings))]
     fn declare(&mut self, block: Block) -> Result<(), Refusal>
         ensures step { Runs alone
-            (λ u. u) (step.goes (step.declared block)) self.old result self.new }
+            (λ u. u) (step.goes (step.declared_stage block)) self.old result self.new }
         ensures kept { IsKept self.old.stage self.new.stage }
     {
         declare(&mut self.stage, block)
@@ -284,17 +285,21 @@ impl Shell {
 ///
 /// # Errors
 /// `NotBuilt` where its form is not built; `Configured` where the mapping is; then the declaration's own refusals.
-#[tactic(auto, using(crate::proofs::Declaring::declaring), unfolding(crate::specs::Step::declared))]
+#[tactic(auto, using(crate::proofs::Declaring::declaring), unfolding(crate::specs::Step::declared_stage))]
 fn declare(stage: &mut Stage, block: Block) -> Result<(), Refusal>
-    ensures step { Turns (step.declared block stage.old) stage.old result stage.new }
+    ensures step { Turns (step.declared_stage block stage.old) stage.old result stage.new }
     ensures kept { IsKept stage.old stage.new }
 {
     if !block.is_built() {
+        drop(block);
         return Err(Refusal::NotBuilt);
     }
     match stage {
         Stage::Declaring(mapping) => block.declare(mapping),
-        Stage::Configured(_) => Err(Refusal::InvalidRequestError(RequestKind::Configured)),
+        Stage::Configured(_) => {
+            drop(block);
+            Err(Refusal::InvalidRequestError(RequestKind::Configured))
+        }
     }
 }
 

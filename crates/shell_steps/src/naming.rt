@@ -1,12 +1,11 @@
 //! What the names of a command stand for.
 
-ghost use Rattle.std.specs.Prelude.{◌≡◌, ◌≤◌, ◌<◌, [], length, true, false, IfOk, IfErr, IfSome};
+ghost use Rattle.std.specs.Prelude.{◌≡◌, ◌<◌, [], length, IfOk, IfErr, IfSome};
 ghost use Rattle.std.specs.List.{position};
 ghost use Rattle.std.specs.Option.{option_copied};
 ghost use Rattle.programs.specs.Moment.{Runs};
 ghost use Rattle.schema_core.specs.Catalog.{same_name};
 ghost use Rattle.mapper_core.specs.Mapped.{IsClass, find_class};
-ghost use Rattle.object_arena.specs.Graph.{IsObject};
 ghost use Rattle.programs.specs.Alone.{Tells, alone};
 ghost use Rattle.programs.specs.Programs.{asked};
 ghost use Rattle.shell_steps.specs.Naming as naming;
@@ -17,34 +16,20 @@ use crate::stage::Stage;
 use base_core::{AttrNo, ClassId, Copied, ListOf, Name, ObjId, Refusal, RequestKind, Value};
 use mapper_core::Mapping;
 use mapper_types::Attribute;
-use session_core::Session;
 use shell_parts::Bound;
 
 /// Values for attributes.
 pub(crate) type Cells = ListOf<(AttrNo, Value)>;
 
-/// Whether an object has been made.
-fn is_object(session: &Session, object: ObjId) -> bool
-    ensures is { result ≡ naming.is_object session.now.graph object }
-    ensures made { result ≡ true → IsObject session.now.graph object }
-{
-    0 < object.0 && object.0 <= session.count()
-}
-
-/// The object of the session that a name is bound to.
+/// The object that a name is bound to.
 #[tactic(auto, using(programs::proofs::AloneLemmas::standing))]
-fn object_bound(session: &Session, name: &Name, bound: Option<&Bound>) -> Result<ObjId, Refusal>
+fn object_bound(name: &Name, bound: Option<&Bound>) -> Result<ObjId, Refusal>
     ensures told { Tells (λ object. object)
-        (naming.object_bound session.now name.now (option_copied bound.entry)) result }
-    ensures found { IfOk result (IsObject session.now.graph) }
+        (naming.object_bound name.now (option_copied bound.entry)) result }
+    ensures bound { IfOk result (naming.StandsFor (option_copied bound.entry)) }
 {
     match bound {
-        Some(Bound::Object(object, _class)) => {
-            if is_object(session, *object) {
-                return Ok(*object);
-            }
-            Err(Refusal::InvalidRequestError(RequestKind::WrongKind))
-        }
+        Some(Bound::Object(object, _class)) => Ok(*object),
         Some(_) => Err(Refusal::InvalidRequestError(RequestKind::WrongKind)),
         None => {
             let name = name.copied()?;
@@ -57,7 +42,7 @@ fn object_bound(session: &Session, name: &Name, bound: Option<&Bound>) -> Result
 #[tactic(auto, using(programs::proofs::AloneLemmas::standing))]
 fn class_known(mapping: &Mapping, name: &Name) -> Result<ClassId, Refusal>
     ensures told { Tells (λ class. class)
-        (naming.known name.now (find_class mapping.now.classes name.now)) result }
+        (naming.found_or_unknown name.now (find_class mapping.now.classes name.now)) result }
     ensures found { IfOk result (IsClass mapping.now) }
 {
     match mapping.find_class(name) {
@@ -130,10 +115,10 @@ impl Shell {
             (λ object. object) (asked (naming.object_named name.now)) self.now result self.now }
         ensures found { IfOk result (HasObject self.now.stage) }
     {
-        let Stage::Configured(session) = &self.stage else {
+        let Stage::Configured(_) = &self.stage else {
             return Err(Refusal::InvalidRequestError(RequestKind::NotConfigured));
         };
-        object_bound(session, name, self.names.get(name))
+        object_bound(name, self.names.get(name))
     }
 
     /// The class of a name.

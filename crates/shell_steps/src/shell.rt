@@ -33,15 +33,18 @@ pub struct Shell {
 }
 
 impl Model for Shell {
-    ghost use Rattle.shell_steps.specs.ShellState.{ShellState};
+    ghost use Rattle.shell_steps.specs.ShellState.{AreBound, ShellState};
 
     ghost Value = { ShellState };
 
     ghost view = { λ s. record { stage = s.stage; names = s.names; block = s.block; line = s.line; refused = s.refused } };
+
+    ghost invariant = { λ s. AreBound s.stage s.names };
 }
 
 impl Shell {
     /// Nothing is declared or bound.
+    #[tactic(auto, using(crate::proofs::Bindings::bindings))]
     pub fn new(alloc: Global) -> Shell
         ensures { result ≡ new_shell }
     {
@@ -132,7 +135,7 @@ impl Shell {
     /// The reply at the script's end.
     #[tactic(auto, using(crate::proofs::Shells::acting))]
     fn tell_end(&mut self) -> Result<Reply, Refusal>
-        ensures step { Runs alone (λ reply. reply) step.ended self.old result self.new }
+        ensures step { Runs alone (λ reply. reply) step.end_of_script self.old result self.new }
         ensures stage { self.new.stage ≡ self.old.stage }
         ensures cause { IfErr result (λ e. e ≡ Refusal.Memory) }
     {
@@ -147,17 +150,17 @@ impl Shell {
     ///
     /// # Errors
     /// `Memory` and `KeeperFault`.
-    #[tactic(auto, using(crate::proofs::Shells::closes))]
+    #[tactic(auto, using(crate::proofs::Shells::closes, crate::proofs::Bindings::bindings))]
     pub fn close<K: Keeper>(&mut self, keeper: &mut K) -> Result<(), Refusal>
         requires { IsReady self.old.stage (K.moment keeper.old) }
         ensures step { Runs (moment_answering K.moment)
-            (λ u. u) step.closing (self.old, keeper.old) result (self.new, keeper.new) }
+            (λ u. u) step.close_session (self.old, keeper.old) result (self.new, keeper.new) }
         ensures stops { IfErr result (λ e. ends_early e ≡ true) }
         ensures outside { OnOk result ((K.moment keeper.new).depth ≡ 0) }
     {
-        match &mut self.stage {
-            Stage::Declaring(_) => Ok(()),
-            Stage::Configured(session) => session.close(keeper),
-        }
+        let Stage::Configured(session) = &mut self.stage else {
+            return Ok(());
+        };
+        session.close(keeper)
     }
 }

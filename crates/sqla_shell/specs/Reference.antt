@@ -4,7 +4,7 @@ use Rattle.programs.specs.Programs.{Run, Writes, ◌>>=◌, give, each}
 use Rattle.programs.specs.Beside.{Beside}
 use Rattle.script_lines.specs.Scripts.{lines_of}
 use Rattle.shell_steps.specs.ShellState.{ShellState, new_shell}
-use Rattle.shell_steps.specs.Step.{reply_to, end_reply, closing}
+use Rattle.shell_steps.specs.Step.{reply_to, end_reply, close_session}
 use Rattle.sqla_shell.specs.declared.ending.Ending.{Ending}
 use Rattle.sqla_shell.specs.declared.ending.Ending.TheVariants.{Finished, TooLong}
 
@@ -20,7 +20,7 @@ answered line u = reply_to line >>= writes
 
 -- the script has ended: a block that is open is refused, and the session is closed
 unfoldable pub finished : Beside ShellState → Run (Beside ShellState) Ending
-finished = end_reply >>= λ reply. writes reply >>= λ u. closing >>= λ u. give Finished
+finished = end_reply >>= λ reply. writes reply >>= λ u. close_session >>= λ u. give Finished
 
 abbrev pub ending : Bool → Beside ShellState → Run (Beside ShellState) Ending
 ending true = give TooLong

@@ -4,7 +4,7 @@ use Rattle.programs.proofs.Sequence.{done, then_ok}
 use Rattle.programs.specs.Programs.{Run, ends_early, give, ◌>>=◌}
 use Rattle.programs.specs.Beside.{Beside}
 use Rattle.shell_steps.specs.ShellState.{ShellState}
-use Rattle.shell_steps.specs.Step.{closing}
+use Rattle.shell_steps.specs.Step.{close_session}
 use Rattle.sqla_shell.specs.Outcome.{HasWritten}
 use Rattle.sqla_shell.specs.Reference.{finished, writes}
 use Rattle.sqla_shell.specs.declared.ending.Ending.{Ending}
@@ -17,7 +17,7 @@ abbrev after_closing : Unit {0} → Beside ShellState → Run (Beside ShellState
 after_closing u = give Finished
 
 abbrev after_writing : Unit {0} → Beside ShellState → Run (Beside ShellState) Ending
-after_writing u = closing >>= after_closing
+after_writing u = close_session >>= after_closing
 
 -- src/script.rt:124:17
 pub returns-in_err-reply-clause-step : goal.returns-in_err-reply-clause-step

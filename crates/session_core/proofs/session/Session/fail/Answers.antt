@@ -1,10 +1,10 @@
-use Rattle.std.proofs.Common.{◌∙◌, ap, length}
-use Rattle.object_arena.proofs.ClassLemmas.{classes_long}
+use Rattle.std.proofs.Common.{◌∙◌, ap}
+use Rattle.object_arena.specs.Every.{classes_of}
 use Rattle.session_core.specs.SessionState.{SessionState}
 use Rattle.session_core.proofs.session.Session.fail.Goals as goal
 
 pub returns-clause-same : goal.returns-clause-same
-returns-clause-same c = (
-  ap (λ (s : SessionState). s.mapping) c.self.view_is,
-  classes_long c.self.inside.arena c.restore.new.arena c.restore.ensures.keeps.classes ∙ ap (λ (s : SessionState). length s.graph.objects) c.self.view_is,
-)
+returns-clause-same c = record {
+  mapping = ap (λ (s : SessionState). s.mapping) c.self.view_is;
+  classes = c.restore.ensures.keeps.classes ∙ ap (λ (s : SessionState). classes_of s.graph) c.self.view_is;
+}

@@ -27,7 +27,10 @@ loop-object-preserved c =
       tt,
       tt,
       ap (session_flushed rest) c.in_ok-settle_one.ensures.ok ∙ sym (ap (λ (xs : List Written). session_flushed xs c.loop-object.self) items) ∙ c.loop-object.invariant.2,
-      subst (λ (m : Mapped). All (IsUnderKey m c.settle_one.new.self.graph) rest) (sym c.in_ok-settle_one.ensures.same.0) under,
-      (c.in_ok-settle_one.ensures.same.0 ∙ c.loop-object.invariant.4.0, c.in_ok-settle_one.ensures.same.1 ∙ c.loop-object.invariant.4.1),
+      subst (λ (m : Mapped). All (IsUnderKey m c.settle_one.new.self.graph) rest) (sym c.in_ok-settle_one.ensures.same.mapping) under,
+      record {
+        mapping = c.in_ok-settle_one.ensures.same.mapping ∙ c.loop-object.invariant.4.mapping;
+        classes = c.in_ok-settle_one.ensures.same.classes ∙ c.loop-object.invariant.4.classes;
+      },
       c.in_ok-settle_one.ensures.scope ∙ c.loop-object.invariant.5,
     )
