@@ -1,0 +1,223 @@
+//! Plays a line of declarations.
+
+use crate::told::told;
+use base_core::{ListOf, Refusal};
+use class_mapping::Mapping;
+use hooks::Hooks;
+use mapper_types::ClassSpec;
+use schema_core::TableSpec;
+use script_read::read_line;
+use script_types::{Command, Inside};
+use std::alloc::{AllocError, Global};
+use std::mem::{self, drop};
+
+/// The block that is open.
+#[derive(Drop)]
+enum Open {
+    Nothing,
+    Table(TableSpec),
+    Class(ClassSpec),
+}
+
+/// What a line outside every block opens.
+fn opened(alloc: Global, head: Command) -> Open {
+    match head {
+        Command::TableHead(name) => Open::Table(TableSpec {
+            name,
+            columns: ListOf::new(alloc),
+            uniques: ListOf::new(alloc),
+            foreigns: ListOf::new(alloc),
+        }),
+        Command::ClassHead {
+            name,
+            base,
+            table,
+            discriminator,
+            identity,
+            owned,
+        } => Open::Class(ClassSpec {
+            name,
+            base,
+            table,
+            discriminator,
+            identity,
+            owned,
+            relations: ListOf::new(alloc),
+            validators: ListOf::new(alloc),
+        }),
+        other => {
+            drop(other);
+            Open::Nothing
+        }
+    }
+}
+
+/// Takes a line of a block of a table.
+fn take_column(spec: &mut TableSpec, line: Command) -> Result<(), Refusal> {
+    match line {
+        Command::ColumnLine(column) => spec.columns.push(column),
+        Command::UniqueLine(columns) => spec.uniques.push(columns),
+        Command::ForeignLine(foreign) => spec.foreigns.push(foreign),
+        other => {
+            drop(other);
+            Ok(())
+        }
+    }
+}
+
+/// Takes a line of a block of a class.
+fn take_relation(spec: &mut ClassSpec, line: Command) -> Result<(), Refusal> {
+    match line {
+        Command::RelationLine(relation) => spec.relations.push(relation),
+        Command::ValidateLine(attribute, hook) => spec.validators.push((attribute, hook)),
+        other => {
+            drop(other);
+            Ok(())
+        }
+    }
+}
+
+/// A space goes between two things that are said.
+fn space(line: &mut String) -> Result<(), AllocError> {
+    if line.is_empty() {
+        return Ok(());
+    }
+    line.push(' ')
+}
+
+/// A refusal's kind goes to what is said.
+fn say(alloc: Global, refusal: &Refusal, line: &mut String) -> Result<(), AllocError> {
+    space(line)?;
+    match refusal {
+        Refusal::ArgumentError(kind) => {
+            let text = format!(in alloc; "{kind:?}")?;
+            line.push_str(&text)
+        }
+        _ => line.push('?'),
+    }
+}
+
+/// An answer is said, where it is a refusal.
+fn heed(alloc: Global, answer: Result<(), Refusal>, line: &mut String) -> Result<(), AllocError> {
+    match answer {
+        Ok(()) => Ok(()),
+        Err(refusal) => say(alloc, &refusal, line),
+    }
+}
+
+fn declare_table(mapping: &mut Mapping, spec: TableSpec) -> Result<(), Refusal> {
+    if mapping.schema().count() == u32::MAX {
+        return Err(Refusal::Memory);
+    }
+    match mapping.declare_table(spec) {
+        Ok(_) => Ok(()),
+        Err(refusal) => Err(refusal),
+    }
+}
+
+fn declare_class(mapping: &mut Mapping, hooks: &Hooks, spec: ClassSpec) -> Result<(), Refusal> {
+    if mapping.count() == u32::MAX {
+        return Err(Refusal::Memory);
+    }
+    match mapping.declare_class(spec, hooks) {
+        Ok(_) => Ok(()),
+        Err(refusal) => Err(refusal),
+    }
+}
+
+/// The line `configure`.
+fn close(alloc: Global, mapping: &mut Mapping, line: &mut String) -> Result<(), AllocError> {
+    match mapping.configure() {
+        Ok(()) => {
+            space(line)?;
+            told(mapping, line)
+        }
+        Err(refusal) => say(alloc, &refusal, line),
+    }
+}
+
+/// What is declared.
+#[derive(Drop)]
+struct Player {
+    alloc: Global,
+    mapping: Mapping,
+    open: Open,
+}
+
+impl Player {
+    /// The end of the block that is open.
+    fn end(&mut self, hooks: &Hooks) -> Result<(), Refusal> {
+        match mem::replace(&mut self.open, Open::Nothing) {
+            Open::Nothing => Ok(()),
+            Open::Table(spec) => declare_table(&mut self.mapping, spec),
+            Open::Class(spec) => declare_class(&mut self.mapping, hooks, spec),
+        }
+    }
+
+    /// Against which forms a line is read.
+    fn inside(&self) -> Inside {
+        match self.open {
+            Open::Nothing => Inside::Top,
+            Open::Table(_) => Inside::Table,
+            Open::Class(_) => Inside::Class,
+        }
+    }
+
+    /// Takes a line other than `end` and `configure`.
+    fn take(&mut self, line: Command) -> Result<(), Refusal> {
+        match &mut self.open {
+            Open::Table(spec) => take_column(spec, line),
+            Open::Class(spec) => take_relation(spec, line),
+            Open::Nothing => {
+                self.open = opened(self.alloc, line);
+                Ok(())
+            }
+        }
+    }
+
+    /// Reads a line other than `end` and `configure`, and takes it.
+    fn read(&mut self, line: &[u8]) -> Result<(), Refusal> {
+        match read_line(self.alloc, line, 1, self.inside()) {
+            Ok(command) => self.take(command),
+            Err(refusal) => Err(refusal),
+        }
+    }
+
+    /// A line.
+    fn step(&mut self, hooks: &Hooks, line: &str, said: &mut String) -> Result<(), AllocError> {
+        match line {
+            "" => Ok(()),
+            "configure" => close(self.alloc, &mut self.mapping, said),
+            "end" => {
+                let answer = self.end(hooks);
+                heed(self.alloc, answer, said)
+            }
+            _ => {
+                let answer = self.read(line.as_bytes());
+                heed(self.alloc, answer, said)
+            }
+        }
+    }
+
+    /// Lines that end with `;`.
+    fn play(&mut self, hooks: &Hooks, lines: &str, said: &mut String) -> Result<(), AllocError> {
+        for line in lines.split(';') {
+            self.step(hooks, line, said)?;
+        }
+        Ok(())
+    }
+}
+
+/// What is said of declarations whose lines end with `;`.
+pub(crate) fn answer(alloc: Global, hooks: &Hooks, lines: &str) -> Result<String, AllocError> {
+    let mut said = String::new(alloc);
+    let mut player = Player {
+        alloc,
+        mapping: Mapping::new(alloc),
+        open: Open::Nothing,
+    };
+    match player.play(hooks, lines, &mut said) {
+        Ok(()) => Ok(said),
+        Err(refusal) => Err(refusal),
+    }
+}
