@@ -1,18 +1,20 @@
 -- Tables of two integer columns, and statements on their rows.
-use Rattle.std.proofs.Common.{◌≡◌, ℤ, Bool, true, false, not, cond, ◌&&◌, ◌||◌, List, [], ◌∷◌, length, get_or, Option, Some, None, refl, sym, ap, ◌∙◌, arith}
-use Rattle.std.specs.List.{filter}
+use Rattle.std.proofs.Common.{◌≡◌, ℕ, ℤ, ◌<◌, ◌≤◌, Bool, true, false, not, cond, ◌&&◌, ◌||◌, List, [], ◌∷◌, length, get_or, Option, Some, None, refl, sym, ap, ◌∙◌, arith}
+use Rattle.std.proofs.Math.Bool.{or-true}
+use Rattle.std.specs.List.{filter, list_all, list_any}
 use Rattle.std.specs.Cmp.Lexicographic.{pointwise}
 use Rattle.base_core.specs.declared.ids.TableId.{TableId}
 use Rattle.base_core.specs.declared.value.Kind.TheVariants.{Integer}
 use Rattle.base_core.specs.declared.value.Value.{Value}
-use Rattle.base_core.specs.declared.value.Value.TheVariants.{Int}
+use Rattle.base_core.specs.declared.value.Value.TheVariants.{Int, Null}
 use Rattle.schema_core.specs.declared.table.ColumnSpec.{ColumnSpec}
 use Rattle.schema_core.specs.declared.table.TableSpec.{TableSpec}
-use Rattle.schema_core.specs.Catalog.{Catalog, IsTable, kind_of, same_kind, spec_of}
-use Rattle.schema_core.specs.Tables.{fits}
+use Rattle.schema_core.specs.declared.statement.RowStmt.TheVariants as row
+use Rattle.schema_core.specs.Catalog.{Catalog, IsTable, has_generated_key, kind_of, same_kind, spec_of}
+use Rattle.schema_core.specs.Tables.{fits, has_null, key_cells}
 use Rattle.schema_core.specs.Apply.{wants_key}
 use Rattle.schema_core.specs.WellFormed.{AreNewRows, IsWellFormed, are_cells, is_row, may_hold}
-use Rattle.keeper_tests.specs.Pair.{IsPair, cell, delete, insert, update}
+use Rattle.keeper_tests.specs.Pair.{AreOpen, IsPair, cell, delete, insert, is_open, update}
 
 two_items : {A : Type 0} (xs : List A) (a b : A) → length xs ≡ 2 → a ≡ get_or xs 0 a → b ≡ get_or xs 1 b → xs ≡ a ∷ b ∷ []
 two_items [] a b len p q = absurd (omega arith)
@@ -78,5 +80,69 @@ update_fits schema table id n is = (is.declared, key_fits schema table id is, om
 
 pub delete_fits : (schema : Catalog) (table : TableId) (id : ℤ) → IsPair schema table → IsWellFormed schema (delete table id)
 delete_fits schema table id is = (is.declared, key_fits schema table id is)
+
+-- ---- many rows
+
+open_holds : (schema : Catalog) (table : TableId) (row : List Value) → IsPair schema table → is_open row ≡ true → is_row (spec_of schema table) row ≡ true
+open_holds schema table (Null ∷ Int n ∷ []) is open_row =
+    ap (λ columns. pointwise may_hold columns (Null ∷ Int n ∷ [])) is.columns ∙ ap (λ h. h && true) (fits_int is.second n is.integer)
+open_holds schema table row is open_row = cc
+
+open_wants : (schema : Catalog) (table : TableId) (row : List Value) → IsPair schema table → is_open row ≡ true → wants_key (spec_of schema table) row ≡ (has_generated_key (spec_of schema table) && true)
+open_wants schema table (Null ∷ Int n ∷ []) is open_row =
+    ap (λ columns. has_generated_key (spec_of schema table) && has_null (key_cells columns (Null ∷ Int n ∷ []))) is.columns
+    ∙ ap (λ k. has_generated_key (spec_of schema table) && has_null (cond k (Null ∷ cond is.second.key (Int n ∷ []) []) (cond is.second.key (Int n ∷ []) []))) is.key
+open_wants schema table row is open_row = cc
+
+first_of : (a b : Bool) → (a && b) ≡ true → a ≡ true
+first_of true b e = refl
+first_of false b e = cc
+
+rest_of : (a b : Bool) → (a && b) ≡ true → b ≡ true
+rest_of true b e = e
+rest_of false b e = cc
+
+all_hold : (schema : Catalog) (table : TableId) (rows : List (List Value)) → IsPair schema table → list_all is_open rows ≡ true → list_all (is_row (spec_of schema table)) rows ≡ true
+all_hold schema table [] is e = refl
+all_hold schema table (row ∷ rows) is e =
+    ap (λ b. b && list_all (is_row (spec_of schema table)) rows) (open_holds schema table row is (first_of (is_open row) (list_all is_open rows) e))
+    ∙ all_hold schema table rows is (rest_of (is_open row) (list_all is_open rows) e)
+
+all_want : (spec : TableSpec) (b : Bool) (rows : List (List Value)) → ((row : List Value) → is_open row ≡ true → wants_key spec row ≡ b) → list_all is_open rows ≡ true → (list_all (wants_key spec) rows || not b) ≡ true
+all_want spec false rows want e = or-true (list_all (wants_key spec) rows)
+all_want spec true [] want e = refl
+all_want spec true (row ∷ rows) want e =
+    ap (λ b. (b && list_all (wants_key spec) rows) || false) (want row (first_of (is_open row) (list_all is_open rows) e)) ∙ all_want spec true rows want (rest_of (is_open row) (list_all is_open rows) e)
+
+any_wants : (spec : TableSpec) (b : Bool) (rows : List (List Value)) → ((row : List Value) → is_open row ≡ true → wants_key spec row ≡ b) → list_all is_open rows ≡ true → b ≡ false → list_any (wants_key spec) rows ≡ false
+any_wants spec b [] want e never = refl
+any_wants spec b (row ∷ rows) want e never =
+    ap (λ c. c || list_any (wants_key spec) rows) (want row (first_of (is_open row) (list_all is_open rows) e) ∙ never) ∙ any_wants spec b rows want (rest_of (is_open row) (list_all is_open rows) e) never
+
+all_alike : (spec : TableSpec) (b : Bool) (rows : List (List Value)) → ((row : List Value) → is_open row ≡ true → wants_key spec row ≡ b) → list_all is_open rows ≡ true
+    → (list_all (wants_key spec) rows || not (list_any (wants_key spec) rows)) ≡ true
+all_alike spec true rows want e = by (list_all (wants_key spec) rows) (list_any (wants_key spec) rows) (all_want spec true rows want e)
+  where
+    by : (a c : Bool) → (a || false) ≡ true → (a || not c) ≡ true
+    by true c e = refl
+    by false c e = cc
+all_alike spec false rows want e =
+    ap (λ c. list_all (wants_key spec) rows || not c) (any_wants spec false rows want e refl) ∙ or-true (list_all (wants_key spec) rows)
+
+-- up to 1000 rows make a statement
+pub fill_fits : (schema : Catalog) (table : TableId) (count : ℕ) (rows : List (List Value)) → IsPair schema table → AreOpen count rows → 0 < count → count ≤ 1000 → IsWellFormed schema (row.Insert table rows)
+fill_fits schema table count rows is are some few = (
+  is.declared,
+  record {
+    some = omega (arith, are.many);
+    few = omega (arith, are.many);
+    wide = all_hold schema table rows is are.open_rows;
+    alike = all_alike (spec_of schema table) (has_generated_key (spec_of schema table) && true) rows (λ row open_row. open_wants schema table row is open_row) are.open_rows;
+    alone = λ one _. absurd (two one);
+  },
+)
+  where
+    two : length (spec_of schema table).columns ≡ 1 → ⊥
+    two one = let l : length (spec_of schema table).columns ≡ 2 = ap length is.columns in omega (arith, l, one)
 
 pub ruleset row_shapes = (insert_fits, update_fits, delete_fits)

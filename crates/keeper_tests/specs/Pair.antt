@@ -1,5 +1,6 @@
 -- Tables of two integer columns, of which the first is the key, and statements on them.
-use Rattle.std.specs.Prelude.{◌≡◌, ℤ, true, false, [], ◌∷◌, Option, Some, None}
+use Rattle.std.specs.Prelude.{◌≡◌, ℕ, ℤ, Bool, true, false, List, [], ◌∷◌, length, Option, Some, None}
+use Rattle.std.specs.List.{list_all}
 use Rattle.base_core.specs.declared.ids.TableId.{TableId}
 use Rattle.base_core.specs.declared.value.ArithOp.TheVariants.{Add}
 use Rattle.base_core.specs.declared.value.Kind.TheVariants.{Integer}
@@ -39,6 +40,16 @@ cell (Some n) = Int n
 
 abbrev pub insert : TableId → Option ℤ → Option ℤ → RowStmt
 insert table id n = row.Insert table ((cell id ∷ cell n ∷ []) ∷ [])
+
+-- a row whose key is left open, with a number
+abbrev pub is_open : List Value → Bool
+is_open (Null ∷ Int n ∷ []) = true
+is_open row = false
+
+-- so many rows whose keys are left open
+pub record AreOpen (count : ℕ) (rows : List (List Value)) : Type 0 where
+  pub many : length rows ≡ count
+  pub open_rows : list_all is_open rows ≡ true
 
 abbrev pub update : TableId → ℤ → Option ℤ → RowStmt
 update table id n = row.Update table (Int id ∷ []) ((record { 0 = 1 }, cell n) ∷ [])

@@ -4,6 +4,8 @@
 #[cfg(test)]
 mod calls;
 #[cfg(test)]
+mod filling;
+#[cfg(test)]
 mod playing;
 #[cfg(test)]
 mod schema;

@@ -18,7 +18,7 @@ fn digit(n: u64) -> u8 {
     b'0' + (n % 10) as u8
 }
 
-/// What is said of an end of a call: a letter for a fault, or for want of memory.
+/// What is said of an end of a call: a letter for a fault, or for memory that ran out.
 fn stopped(stop: KeeperStop) -> u8 {
     match stop {
         KeeperStop::Fault => b'!',
