@@ -14,11 +14,11 @@ use Rattle.base_core.specs.Order.{values_cmp}
 use Rattle.base_core.specs.OrderLaws.{value_cmp_total}
 use Rattle.schema_core.specs.Tables.{Rows, Tables, row_under, rows_in, table_cmp, with_rows}
 use Rattle.table_laws.proofs.Entries.{all_insert, all_lookup}
-use Rattle.table_laws.proofs.SameValues.{same_key, same_table}
+use Rattle.table_laws.proofs.SameValues.{same_key, same_table, is_equal}
 use Rattle.flush_plan.specs.Sorted.{Place}
 use Rattle.flush_plan.specs.Stating.{Edit, edited, edited_in, edited_rows, is_created, row_at}
 use Rattle.plan_laws.specs.Premises.{IsSorted}
-use Rattle.plan_laws.proofs.Lookups.{all_found, lookup_insert, lookup_remove, same_lists, sorted_insert, sorted_remove, equal}
+use Rattle.plan_laws.proofs.Lookups.{all_found, lookup_insert, lookup_remove, same_lists, sorted_insert, sorted_remove}
 use Rattle.plan_laws.proofs.Facts.{some_or_none, true_false}
 
 pub table_total : IsTotalOrder table_cmp
@@ -73,7 +73,7 @@ edited_created tables edit table =
     elim (some_or_none (rows_in tables edit.0.0)) [
       | inl found ↦
           ap is_some (in_edited tables edit found.0 table found.1)
-          ∙ still (is_eq (table_cmp table edit.0.0)) found.0 (edited_rows found.0 edit.0.1 edit.1) (rows_in tables edit.0.0) (rows_in tables table) found.1 (λ e. ap (rows_in tables) (same_table table edit.0.0 (equal (table_cmp table edit.0.0) e)))
+          ∙ still (is_eq (table_cmp table edit.0.0)) found.0 (edited_rows found.0 edit.0.1 edit.1) (rows_in tables edit.0.0) (rows_in tables table) found.1 (λ e. ap (rows_in tables) (same_table table edit.0.0 (is_equal (table_cmp table edit.0.0) e)))
       | inr none ↦ ap (λ t. is_some (rows_in t table)) (edit_none tables edit none)
     ]
 
@@ -90,12 +90,12 @@ pub IsOther : Place → Place → Type 0
 IsOther one other = one ≡ other → ⊥
 
 other_key : (b : Bool) (key q : List Value) → is_eq (values_cmp q key) ≡ b → (q ≡ key → ⊥) → b ≡ false
-other_key true key q e apart = absurd (apart (same_key q key (equal (values_cmp q key) e)))
+other_key true key q e apart = absurd (apart (same_key q key (is_equal (values_cmp q key) e)))
 other_key false key q e apart = refl
 
 other_step : (tables : Tables) (edit : Edit) (rows : Rows) (q : Place) (b : Bool) → is_eq (table_cmp q.0 edit.0.0) ≡ b → IsSorted tables → rows_in tables edit.0.0 ≡ Some rows → (edit.0 ≡ q → ⊥) → option_and_then (λ r. row_under r q.1) (cond b (Some (edited_rows rows edit.0.1 edit.1)) (rows_in tables q.0)) ≡ row_at tables q
 other_step tables edit rows q true at sorted found apart =
-    let same : q.0 ≡ edit.0.0 = same_table q.0 edit.0.0 (equal (table_cmp q.0 edit.0.0) at) in
+    let same : q.0 ≡ edit.0.0 = same_table q.0 edit.0.0 (is_equal (table_cmp q.0 edit.0.0) at) in
     let differs : is_eq (values_cmp q.1 edit.0.1) ≡ false = other_key (is_eq (values_cmp q.1 edit.0.1)) edit.0.1 q.1 refl (λ k. apart (sym (λ i. (same i, k i)))) in
     under_edited rows edit.0.1 edit.1 q.1 (rows_sorted tables edit.0.0 rows sorted found)
     ∙ ap (λ b. cond b edit.1 (row_under rows q.1)) differs
@@ -115,11 +115,11 @@ at_other tables edit q sorted apart =
 -- ---- two places are one, or not
 
 key_cases : (b : Bool) (k q : List Value) → is_eq (values_cmp k q) ≡ b → (k ≡ q) ⊎ (k ≡ q → ⊥)
-key_cases true k q e = inl (same_key k q (equal (values_cmp k q) e))
+key_cases true k q e = inl (same_key k q (is_equal (values_cmp k q) e))
 key_cases false k q e = inr (λ same. true_false (sym (ap is_eq (tied_itself key_total q)) ∙ ap (λ z. is_eq (values_cmp z q)) (sym same) ∙ e))
 
 table_cases : (b : Bool) (t u : TableId) → is_eq (table_cmp t u) ≡ b → (t ≡ u) ⊎ (t ≡ u → ⊥)
-table_cases true t u e = inl (same_table t u (equal (table_cmp t u) e))
+table_cases true t u e = inl (same_table t u (is_equal (table_cmp t u) e))
 table_cases false t u e = inr (λ same. true_false (sym (ap is_eq (tied_itself table_total u)) ∙ ap (λ z. is_eq (table_cmp z u)) (sym same) ∙ e))
 
 pub place_cases : (p q : Place) → (p ≡ q) ⊎ (p ≡ q → ⊥)

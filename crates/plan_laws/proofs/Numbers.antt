@@ -12,11 +12,11 @@ use Rattle.base_core.specs.Order.{values_cmp}
 use Rattle.schema_core.specs.Declaration.{some_two}
 use Rattle.schema_core.specs.Tables.{table_cmp}
 use Rattle.table_laws.proofs.Entries.{all_insert}
-use Rattle.table_laws.proofs.SameValues.{same_key, same_table, both_equal}
+use Rattle.table_laws.proofs.SameValues.{same_key, same_table, both_equal, is_equal}
 use Rattle.flush_plan.specs.Places.{is_among}
 use Rattle.flush_plan.specs.Sorted.{Place, entered, place_cmp, same_place, sorted_numbers}
 use Rattle.plan_laws.proofs.At.{key_total, table_total}
-use Rattle.plan_laws.proofs.Lookups.{lookup_insert, sorted_insert, equal, less, first, second}
+use Rattle.plan_laws.proofs.Lookups.{lookup_insert, sorted_insert, less, first, second}
 use Rattle.plan_laws.proofs.Newness.{place_same}
 use Rattle.plan_laws.proofs.Facts.{none_some, or_cases, or_false, true_false}
 
@@ -29,7 +29,7 @@ place_is p q e =
     λ i. (same_table p.0 q.0 both.0 i, same_key p.1 q.1 both.1 i)
 
 other_place : (b : Bool) (p q : Place) → is_eq (place_cmp p q) ≡ b → (p ≡ q → ⊥) → b ≡ false
-other_place true p q e apart = absurd (apart (place_is p q (equal (place_cmp p q) e)))
+other_place true p q e apart = absurd (apart (place_is p q (is_equal (place_cmp p q) e)))
 other_place false p q e apart = refl
 
 Entries : Type 0
