@@ -493,6 +493,8 @@ fn exists(
 
 #[tactic(auto, unfolding(crate::specs::Laid::laid), using(sql_text::proofs::Steps::steps, crate::proofs::Lists::laid_lists))]
 #[cycle(emits)]
+/// The text of an expression is appended, with its parameters; a value beside no column stands under this base name. After a
+/// refusal, which is that memory ran out, what was appended is not told: [`emit_expr`] keeps the writer then.
 pub fn expression(
     writer: &mut Writer,
     schema: &Schema,
@@ -522,43 +524,26 @@ pub fn expression(
             two(writer, schema, scope, (5, 5), word, a.get(), b.get())
         }
         Expr::Ilike(negated, a, b) => ilike(writer, schema, scope, *negated, a.get(), b.get()),
-        Expr::InList(negated, a, values) => in_list(
-            writer,
-            schema,
-            scope,
-            *negated,
-            a.get(),
-            values.as_slice(),
-        ),
-        Expr::Between(negated, a, low, high) => between(
-            writer,
-            schema,
-            scope,
-            *negated,
-            a.get(),
-            low.get(),
-            high.get(),
-        ),
-        Expr::Distinct(negated, a, b) => distinct(
-            writer,
-            schema,
-            scope,
-            *negated,
-            a.get(),
-            b.get(),
-        ),
+        Expr::InList(negated, a, values) => {
+            let values = values.as_slice();
+            in_list(writer, schema, scope, *negated, a.get(), values)
+        }
+        Expr::Between(negated, a, low, high) => {
+            let (low, high) = (low.get(), high.get());
+            between(writer, schema, scope, *negated, a.get(), low, high)
+        }
+        Expr::Distinct(negated, a, b) => {
+            let (a, b) = (a.get(), b.get());
+            distinct(writer, schema, scope, *negated, a, b)
+        }
         Expr::Call(function, operands) => {
             call(writer, schema, scope, *function, operands.as_slice())
         }
         Expr::CountAll => writer.put_words("count(*)"),
-        Expr::Exists(negated, origin, a) => exists(
-            writer,
-            schema,
-            scope,
-            *negated,
-            origin,
-            a.get(),
-        ),
+        Expr::Exists(negated, origin, a) => {
+            let condition = a.get();
+            exists(writer, schema, scope, *negated, origin, condition)
+        }
     }
 }
 
