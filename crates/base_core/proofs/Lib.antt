@@ -1,3 +1,4 @@
+pub mod Exact
 pub mod Lists
 pub mod Pushing
 pub mod Tests

@@ -1,7 +1,8 @@
 -- What may refuse a bulk statement.
-use Rattle.std.proofs.Common.{◌≡◌, ℕ, ℤ, Bool, true, false, ◌||◌, ◌==◌, if◌then◌else◌, List, [], ◌∷◌, ◌++◌, length, Option, Some, None, Ok, Err, IfErr, IsTrue, refl, subst, sym}
+use Rattle.std.proofs.Common.{◌≡◌, ℕ, Bool, true, false, ◌==◌, if◌then◌else◌, List, [], ◌∷◌, ◌++◌, length, Option, Some, None, Ok, Err, IfErr, IsTrue, refl, subst, sym}
 use Rattle.std.proofs.lemmas.Cmp.{nat_eq_equiv}
 use Rattle.std.specs.List.{list_any}
+use Rattle.base_core.proofs.Tests.{or_first, or_then}
 use Rattle.base_core.specs.declared.ids.ColumnNo.{ColumnNo}
 use Rattle.base_core.specs.declared.ids.TableId.{TableId}
 use Rattle.base_core.specs.declared.value.Value.{Value}
@@ -26,7 +27,7 @@ use Rattle.sql_semantics.specs.Created.{bare}
 use Rattle.sql_semantics.specs.Rows.{created}
 use Rattle.select_rows.proofs.Refused.{OnlyMisses, created_misses}
 use Rattle.sql_semantics.specs.Applied as spec
-use Rattle.sql_semantics.specs.Applied.{Outcome, applied, count_rows, found, named_in, of_judged, table_of}
+use Rattle.sql_semantics.specs.Applied.{Outcome, applied, count_rows, found, named_in, of_judged}
 use Rattle.sql_semantics.specs.BulkRefusals.{CanRefuse, has_expressions, tables_of}
 use Rattle.sql_semantics.specs.Taken.{at, cells_from, deleted_from, inserted, one_more, rewritten, takes, updated_from, value_for}
 
@@ -79,21 +80,13 @@ of_data s (Ok a) has h = tt
 of_data s (Err (DataError op a b)) has h = has
 of_data s (Err e) has h = absurd h
 
-or_true : (a b : Bool) → b ≡ true → (a || b) ≡ true
-or_true true b h = refl
-or_true false b h = h
-
-true_or : (a b : Bool) → a ≡ true → (a || b) ≡ true
-true_or true b h = refl
-true_or false b h = absurd (cc)
-
 of_misses : {A : Type 0} (s : Bulk) (first : ℕ) (more : List ℕ) (r : Checked A) → tables_of s ≡ first ∷ more → OnlyMisses more r → OnlyOf s r
 of_misses s first more (Ok a) is h = tt
-of_misses s first more (Err (OperationalError table)) is h = subst (λ ts. IsTrue (list_any (λ t. t == table.0) ts)) (sym is) (or_true (first == table.0) (list_any (λ t. t == table.0) more) h)
+of_misses s first more (Err (OperationalError table)) is h = subst (λ ts. IsTrue (list_any (λ t. t == table.0) ts)) (sym is) (or_then (first == table.0) (list_any (λ t. t == table.0) more) h)
 of_misses s first more (Err e) is h = absurd h
 
 found_of : (s : Bulk) (table : TableId) (more : List ℕ) (rows : Option Rows) → tables_of s ≡ table.0 ∷ more → OnlyOf s (found table rows)
-found_of s table more None is = subst (λ ts. IsTrue (list_any (λ t. t == table.0) ts)) (sym is) (true_or (table.0 == table.0) (list_any (λ t. t == table.0) more) (nat_eq_equiv.refl table.0))
+found_of s table more None is = subst (λ ts. IsTrue (list_any (λ t. t == table.0) ts)) (sym is) (or_first (table.0 == table.0) (list_any (λ t. t == table.0) more) (nat_eq_equiv.refl table.0))
 found_of s table more (Some rows) is = tt
 
 -- ---- the judgement on what is left

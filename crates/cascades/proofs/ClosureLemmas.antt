@@ -12,7 +12,7 @@ use Rattle.std.proofs.lemmas.Map.Views.{length-le_from_below}
 use Rattle.base_core.specs.declared.ids.ObjId.{ObjId}
 use Rattle.base_core.specs.Ascending.{IsAbove, IsAscending, IsBelow}
 use Rattle.std.specs.declared.cmp.Ordering.TheVariants.{Less}
-use Rattle.mapper_core.specs.Mapped.{Mapped}
+use Rattle.class_mapping.specs.Mapped.{Mapped}
 use Rattle.object_arena.specs.Graph.{Graph, IsObject}
 use Rattle.object_arena.specs.Fit.{IsFit}
 use Rattle.cascades.specs.declared.closures.Flag.{Flag}

@@ -11,8 +11,8 @@ use Rattle.std.proofs.lemmas.List.Folds.{list_all-append}
 use Rattle.std.proofs.lemmas.Option.{slice_get_within}
 use Rattle.base_core.specs.declared.ids.ClassId.{ClassId}
 use Rattle.base_core.specs.declared.ids.ObjId.{ObjId}
-use Rattle.mapper_types.specs.declared.mapped.Relation.{Relation}
-use Rattle.mapper_core.specs.Mapped.{Mapped, relations_of, root_of}
+use Rattle.class_types.specs.declared.mapped.Relation.{Relation}
+use Rattle.class_mapping.specs.Mapped.{Mapped, relations_of, root_of}
 use Rattle.object_arena.specs.declared.object.Link.{Link}
 use Rattle.object_arena.specs.declared.object.Link.TheVariants.{Unset, Unloaded, One, Many}
 use Rattle.object_arena.specs.declared.object.Object.{Object}

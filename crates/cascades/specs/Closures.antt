@@ -3,9 +3,9 @@ use Rattle.std.specs.Prelude.{◌≡◌, ℕ, ◌<◌, ◌≤◌, Bool, true, fa
 use Rattle.std.specs.List.{All, list_all, list_any}
 use Rattle.base_core.specs.declared.ids.ObjId.{ObjId}
 use Rattle.base_core.specs.Ascending.{IsAscending}
-use Rattle.mapper_types.specs.declared.declared.Cascade.{Cascade}
-use Rattle.mapper_types.specs.declared.mapped.Relation.{Relation}
-use Rattle.mapper_core.specs.Mapped.{Mapped, relations_of}
+use Rattle.class_types.specs.declared.declared.Cascade.{Cascade}
+use Rattle.class_types.specs.declared.mapped.Relation.{Relation}
+use Rattle.class_mapping.specs.Mapped.{Mapped, relations_of}
 use Rattle.object_arena.specs.declared.object.Link.{Link}
 use Rattle.object_arena.specs.declared.object.Link.TheVariants.{Unset, Unloaded, One, Many}
 use Rattle.object_arena.specs.Graph.{Graph, IsObject, object_at}

@@ -9,7 +9,7 @@ ghost use Rattle.cascades.specs.Closures as spec;
 
 use crate::walk::Walk;
 use base_core::{ListOf, ObjId, ObjList, ObjSet, Refusal};
-use mapper_core::{Cascade, Mapping, Relation};
+use class_mapping::{Cascade, Mapping, Relation};
 use object_arena::{Arena, Link};
 use std::alloc::Global;
 

@@ -32,7 +32,8 @@ impl Walk {
     /// The walk comes to an object. Where it comes there first, its links are to be followed.
     pub(crate) fn come_to(&mut self, object: ObjId) -> Result<(), Refusal>
         ensures ok { OnOk result
-            (Comes self.old.reached.keys self.new.reached.keys self.old.waiting.items self.new.waiting.items (object ∷ [])) }
+            (Comes self.old.reached.keys self.new.reached.keys self.old.waiting.items
+            self.new.waiting.items (object ∷ [])) }
         ensures ascending { OnOk result (IsStrictlySortedBy nat_cmp self.new.reached.keys) }
         ensures cause { IfErr result (λ e. e ≡ Memory) }
     {
@@ -47,7 +48,8 @@ impl Walk {
     pub(crate) fn come_to_all(&mut self, objects: &[ObjId]) -> Result<(), Refusal>
         requires { IsStrictlySortedBy nat_cmp self.old.reached.keys }
         ensures ok { OnOk result
-            (Comes self.old.reached.keys self.new.reached.keys self.old.waiting.items self.new.waiting.items objects.now) }
+            (Comes self.old.reached.keys self.new.reached.keys self.old.waiting.items
+            self.new.waiting.items objects.now) }
         ensures ascending { OnOk result (IsStrictlySortedBy nat_cmp self.new.reached.keys) }
         ensures cause { IfErr result (λ e. e ≡ Memory) }
     {

@@ -9,8 +9,8 @@ use Rattle.schema_core.specs.declared.table.ColumnSpec.{ColumnSpec}
 use Rattle.schema_core.specs.declared.table.TableSpec.{TableSpec}
 use Rattle.schema_core.specs.Catalog.{find_table, has_name, is_required, same_name}
 use Rattle.schema_core.specs.Declaration.{has_targets, some_two}
-use Rattle.mapper_types.specs.declared.declared.Cascade.{Cascade}
-use Rattle.mapper_types.specs.declared.declared.ClassSpec.{ClassSpec}
+use Rattle.class_types.specs.declared.declared.Cascade.{Cascade}
+use Rattle.class_types.specs.declared.declared.ClassSpec.{ClassSpec}
 use Rattle.class_layouts.specs.declared.classes.Classes.{Classes}
 use Rattle.class_layouts.specs.declared.layout.Layout.{Layout}
 use Rattle.class_layouts.specs.Hierarchy.{line_of, root_in}
@@ -18,8 +18,9 @@ use Rattle.class_layouts.specs.Columns.{columns_in, is_table, layouts_of, lives_
 use Rattle.class_layouts.specs.Faults.{discriminator_on, is_named, root_table_on}
 use Rattle.class_sides.specs.declared.side.Side.{Side}
 use Rattle.class_sides.specs.Keys.{TableKey, is_tied, names_of}
-use Rattle.class_sides.specs.Sides.{Ends, sides_of}
+use Rattle.class_sides.specs.Sides.{sides_of}
 use Rattle.class_sides.specs.Pairs.{differs, has_two_joins, is_plain, join_of, lacks_join, many_cascade, overlaps}
+use Rattle.class_sides.specs.Linking.{near_key}
 
 -- ---- BadTarget
 
@@ -94,13 +95,9 @@ misses_delete tables classes sides side =
 
 -- ---- BadPostUpdate
 
-abbrev pub near_of : Option Ends → Option TableKey
-near_of None = None
-near_of (Some ends) = Some ends.0
-
 -- the foreign key behind a side; of a secondary table the one to the side
 abbrev pub key_of : List TableSpec → Classes → List Side → Side → Option TableKey
-key_of tables classes sides side = if is_plain side then join_of tables classes sides side else near_of side.ends
+key_of tables classes sides side = if is_plain side then join_of tables classes sides side else near_key side.ends
 
 abbrev pub is_unique_name : Option TableSpec → List ℕ → Bool
 is_unique_name None name = false

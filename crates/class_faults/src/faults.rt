@@ -18,7 +18,7 @@ use class_sides::{
     Side, TableKey, differs, has_name, has_two_joins, is_plain, is_tied, join_of, lacks_join,
     many_cascade, names_of, some_overlap,
 };
-use mapper_types::{Cascade, ClassSpec};
+use class_types::{Cascade, ClassSpec};
 use schema_core::{ColumnSpec, Schema, is_required};
 
 // ---- BadTarget

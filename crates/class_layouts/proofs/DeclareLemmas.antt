@@ -6,8 +6,8 @@ use Rattle.base_core.specs.declared.refusal.ArgumentKind.{ArgumentKind}
 use Rattle.base_core.specs.declared.refusal.Refusal.{Refusal}
 use Rattle.base_core.specs.declared.refusal.Refusal.TheVariants.{ArgumentError}
 use Rattle.schema_core.specs.declared.table.TableSpec.{TableSpec}
-use Rattle.hooks.specs.Rules.{Rules}
-use Rattle.mapper_types.specs.declared.declared.ClassSpec.{ClassSpec}
+use Rattle.class_types.specs.Rules.{Rules}
+use Rattle.class_types.specs.declared.declared.ClassSpec.{ClassSpec}
 use Rattle.class_layouts.specs.declared.classes.Classes.{Classes}
 use Rattle.class_layouts.specs.Hierarchy.{line_of, line_or_none, new_line, with_class}
 use Rattle.class_layouts.specs.Faults.{class_fault, fault_at, fault_of, first_fault}

@@ -7,8 +7,8 @@ use Rattle.base_core.specs.declared.ids.TableId.{TableId}
 use Rattle.schema_core.specs.declared.table.ColumnSpec.{ColumnSpec}
 use Rattle.schema_core.specs.declared.table.TableSpec.{TableSpec}
 use Rattle.schema_core.specs.Catalog.{find_table, has_name, kind_of, no_table}
-use Rattle.mapper_types.specs.declared.declared.ClassSpec.{ClassSpec}
-use Rattle.mapper_types.specs.declared.mapped.Attribute.{Attribute}
+use Rattle.class_types.specs.declared.declared.ClassSpec.{ClassSpec}
+use Rattle.class_types.specs.declared.mapped.Attribute.{Attribute}
 use Rattle.class_layouts.specs.declared.classes.Classes.{Classes}
 use Rattle.class_layouts.specs.declared.layout.Layout.{Layout}
 use Rattle.class_layouts.specs.Hierarchy.{has_class, line_of, root_in, same_root}

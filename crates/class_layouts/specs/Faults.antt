@@ -17,11 +17,11 @@ use Rattle.schema_core.specs.declared.table.TableSpec.{TableSpec}
 use Rattle.schema_core.specs.Catalog.{has_name, kind_of, same_kind, same_name}
 use Rattle.schema_core.specs.Declaration.{some_two}
 use Rattle.schema_core.specs.Tables.{kind_of_value}
-use Rattle.hooks.specs.Rules as hooks
-use Rattle.mapper_types.specs.declared.declared.Cascade.{Cascade}
-use Rattle.mapper_types.specs.declared.declared.ClassSpec.{ClassSpec}
-use Rattle.mapper_types.specs.declared.declared.RelationSpec.{RelationSpec}
-use Rattle.mapper_types.specs.declared.mapped.Attribute.{Attribute}
+use Rattle.class_types.specs.Rules as hooks
+use Rattle.class_types.specs.declared.declared.Cascade.{Cascade}
+use Rattle.class_types.specs.declared.declared.ClassSpec.{ClassSpec}
+use Rattle.class_types.specs.declared.declared.RelationSpec.{RelationSpec}
+use Rattle.class_types.specs.declared.mapped.Attribute.{Attribute}
 use Rattle.class_layouts.specs.declared.classes.Classes.{Classes}
 use Rattle.class_layouts.specs.Hierarchy.{line_of, new_line, relations_at, root_in, same_root, with_class}
 use Rattle.class_layouts.specs.Columns.{attributes_on, columns_in, named_table, own_table}

@@ -3,7 +3,7 @@
 ghost use Rattle.std.specs.Prelude.{◌≡◌, ◌≤◌, ◌++◌, [], ◌∷◌, IfErr, IfOk, OnErr, OnOk, length, take};
 ghost use Rattle.base_core.specs.Answers.{Takes};
 ghost use Rattle.base_core.specs.declared.refusal.Refusal.TheVariants.{Memory};
-ghost use Rattle.hooks.specs.Shown.{rules_of};
+ghost use Rattle.class_types.specs.Shown.{rules_of};
 ghost use Rattle.class_layouts.specs.Declaring.{declare};
 ghost use Rattle.class_layouts.specs.Hierarchy.{new_line, with_class};
 
@@ -11,8 +11,7 @@ use crate::faults::last_fault;
 use crate::layout::number_of;
 use crate::lookup::{line_at, place_named};
 use base_core::{ClassId, ListOf, Refusal};
-use hooks::Hooks;
-use mapper_types::ClassSpec;
+use class_types::{ClassSpec, Hooks};
 use schema_core::Schema;
 use std::alloc::Global;
 use std::mem;

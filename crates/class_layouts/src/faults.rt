@@ -7,7 +7,7 @@ ghost use Rattle.base_core.specs.declared.refusal.Refusal.TheVariants.{Memory};
 ghost use Rattle.schema_core.specs.Catalog.{has_name, same_name};
 ghost use Rattle.schema_core.specs.Tables.{kind_of_value};
 ghost use Rattle.schema_core.specs.Declaration.{some_two};
-ghost use Rattle.hooks.specs.Shown.{rules_of};
+ghost use Rattle.class_types.specs.Shown.{rules_of};
 ghost use Rattle.class_layouts.specs.Columns.{attributes_on};
 ghost use Rattle.class_layouts.specs.Faults.{cascade_or_default, default_cascade, discriminator_on, fails_discriminator, fault_at, fault_of_lines, first_fault, has_kind, is_bad_cascade, is_bad_hook, is_declared, is_discriminating, is_identity, is_named, maps_name, misses_declaration, names_on, repeats_identity, root_table_on, takes_identity, takes_in};
 ghost use Rattle.class_layouts.specs.Hierarchy.{relations_at, root_in};
@@ -19,8 +19,7 @@ use crate::lookup::{has_name, line_of, place_of, relations_at, root_in, same_roo
 use base_core::{
     ArgumentKind, ClassId, Copied, Kind, ListOf, Name, Refusal, TableId, Value, compare,
 };
-use hooks::Hooks;
-use mapper_types::{Attribute, Cascade, ClassSpec, RelationSpec};
+use class_types::{Attribute, Cascade, ClassSpec, Hooks, RelationSpec};
 use schema_core::{ColumnSpec, ForeignSpec, Schema, kind_of, kind_of_value, same_kind};
 use std::alloc::Global;
 
@@ -352,7 +351,7 @@ fn is_bad_hook(hooks: &Hooks, attributes: &[Attribute], attribute: &Name, hook: 
     }
 }
 
-#[tactic(auto, using(crate::proofs::Steps::any_steps))]
+#[tactic(auto, using(schema_core::proofs::AnySteps::any_steps))]
 /// Whether a validator is a bad one beside these attributes.
 fn some_bad_hook(hooks: &Hooks, attributes: &[Attribute], validators: &[(Name, Name)]) -> bool
     ensures { result ≡ list_any (is_bad_hook (rules_of hooks.now) attributes.now) validators.now }

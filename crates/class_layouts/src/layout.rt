@@ -9,7 +9,7 @@ use crate::Classes;
 use crate::columns::{columns_of, tables_on};
 use crate::lookup::is_shown;
 use base_core::{AttrNo, ClassId, ColumnNo, Copied, ListOf, Refusal, TableId};
-use mapper_types::Attribute;
+use class_types::Attribute;
 use schema_core::{ColumnSpec, Schema, kind_of};
 use std::alloc::Global;
 

@@ -9,7 +9,7 @@ ghost use Rattle.class_layouts.specs.Columns.{is_above, is_owner, is_shown, is_t
 use crate::Classes;
 use crate::columns::lives_in;
 use base_core::{ClassId, Name, TableId};
-use mapper_types::{ClassSpec, RelationSpec};
+use class_types::{ClassSpec, RelationSpec};
 use schema_core::Schema;
 
 /// The place of the class of a name.

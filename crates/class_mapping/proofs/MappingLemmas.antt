@@ -2,24 +2,23 @@
 use Rattle.std.proofs.Common.{◌≡◌, ℕ, ◌<◌, ◌≤◌, Bool, true, false, ◌||◌, if◌then◌else◌, subst, List, [], ◌∷◌, ◌++◌, ◌∙◌, length, filter, ap, sym, refl, Option, None, Some, Result, Ok, Err, arith, length-append, zero-add}
 use Rattle.std.specs.Prelude.{slice_get}
 use Rattle.std.specs.Option.{option_map}
-use Rattle.std.specs.List.{All, enumerate_from, list_any}
+use Rattle.std.specs.List.{All, enumerate_from, list_all, list_any}
 use Rattle.std.proofs.lemmas.List.Elements.{All-filter, All-from_get_or, All-map}
 use Rattle.std.proofs.lemmas.List.FromFn.{get_or-enumerate_from, length-enumerate_from}
 use Rattle.std.proofs.lemmas.Option.{slice_get-map}
 use Rattle.base_core.specs.Answers.{Refuses}
 use Rattle.base_core.specs.declared.ids.AttrNo.{AttrNo}
 use Rattle.base_core.specs.declared.ids.ClassId.{ClassId}
-use Rattle.base_core.specs.declared.value.Kind.TheVariants.{Integer}
 use Rattle.base_core.specs.declared.refusal.ArgumentKind.{ArgumentKind}
 use Rattle.base_core.specs.declared.refusal.ArgumentKind.TheVariants.{DuplicateName, BadClass, NoDiscriminator, DuplicateIdentity, BadCascade, BadHook, BadTarget}
 use Rattle.base_core.specs.declared.refusal.Refusal.{Refusal}
 use Rattle.base_core.specs.declared.refusal.Refusal.TheVariants.{Memory, ArgumentError}
 use Rattle.schema_core.specs.declared.table.TableSpec.{TableSpec}
 use Rattle.schema_core.specs.Catalog.{Catalog, same_name}
-use Rattle.hooks.specs.Rules.{Rules}
-use Rattle.mapper_types.specs.declared.declared.ClassSpec.{ClassSpec}
-use Rattle.mapper_types.specs.declared.mapped.Attribute.{Attribute}
-use Rattle.mapper_types.specs.declared.mapped.Relation.{Relation}
+use Rattle.class_types.specs.Rules.{Rules}
+use Rattle.class_types.specs.declared.declared.ClassSpec.{ClassSpec}
+use Rattle.class_types.specs.declared.mapped.Attribute.{Attribute}
+use Rattle.class_types.specs.declared.mapped.Relation.{Relation}
 use Rattle.class_layouts.specs.declared.classes.Classes.{Classes}
 use Rattle.class_layouts.specs.declared.layout.Layout.{Layout}
 use Rattle.class_layouts.specs.Columns.{attr_at, is_key, attributes_on, keys_among, layout_of, layouts_of}
@@ -31,7 +30,8 @@ use Rattle.class_sides.specs.Linking as linking
 use Rattle.schema_core.specs.Declaration.{has_targets, resolve, some_two}
 use Rattle.class_faults.specs.Faults.{fault_among, mapping_fault}
 use Rattle.class_mapping.specs.Valid.{IsValid}
-use Rattle.class_mapping.specs.Mapped.{IsLaid, IsValidMapping, Mapped, all_validators}
+use Rattle.class_mapping.specs.Mapped.{IsLaid, IsValidMapping, Mapped, all_validators, no_attribute}
+use Rattle.class_mapping.specs.Plain.{is_over_table, is_plain_root, lines_alone}
 use Rattle.class_mapping.specs.Declaring.{class_unless, closed_unless, configure}
 use Rattle.class_mapping.proofs.Lists.{none_append}
 use Rattle.class_mapping.proofs.ValidLemmas.{split, valid_from}
@@ -86,7 +86,7 @@ class_refused fault mapped spec Memory h = tt
 class_refused fault mapped spec e h = told_err fault mapped spec e h
 
 -- what is taken has no fault
-untaken : (fault : Option ArgumentKind) (classes : Classes) (spec : ClassSpec) (new : Classes) → declared_unless fault classes spec ≡ Ok (tt, new) → fault ≡ None
+pub untaken : (fault : Option ArgumentKind) (classes : Classes) (spec : ClassSpec) (new : Classes) → declared_unless fault classes spec ≡ Ok (tt, new) → fault ≡ None
 untaken (Some fault) classes spec new h = absurd cc
 untaken None classes spec new h = refl
 
@@ -125,9 +125,6 @@ pub no_targets : (tables : List TableSpec) (classes : Classes) → has_targets t
 unfolding fault_among
 no_targets tables classes h = rw h refl
 
-abbrev no_attribute : Attribute
-no_attribute = record { name = []; table = record { 0 = 0 }; column = record { 0 = 0 }; kind = Integer }
-
 -- a key attribute is an attribute
 pub keys_inside : (tables : List TableSpec) (attributes : List Attribute) → All (λ key. key.0 < length attributes) (keys_among tables attributes)
 keys_inside tables attributes =
@@ -157,15 +154,18 @@ resolved_is schema new h = resolved_by (has_targets schema.tables) schema new h
 
 -- what is kept once all was checked
 pub laid_by : (schema new : Catalog) (classes : Classes) (fault : Option ArgumentKind) (layouts : List Layout) (relations : List (List Relation)) (validators : List (List (List ℕ × List ℕ)))
-    → length classes.specs ≤ 4294967295 → length classes.lines ≡ length classes.specs → list_any (λ spec. list_any is_bad_cascade spec.relations) classes.specs ≡ false
+    → length classes.specs ≤ 4294967295 → length classes.lines ≡ length classes.specs → (list_all is_plain_root classes.specs ≡ true → classes.lines ≡ lines_alone classes.specs)
+    → list_all (is_over_table schema.tables) classes.specs ≡ true → list_any (λ spec. list_any is_bad_cascade spec.relations) classes.specs ≡ false
     → resolve schema ≡ Ok (tt, new) → fault ≡ mapping_fault schema.tables classes → fault ≡ None
     → layouts ≡ layouts_of schema.tables classes → relations ≡ linking.relations_of schema.tables classes → validators ≡ all_validators classes
     → IsLaid new classes true layouts relations validators
-laid_by schema new classes fault layouts relations validators few lined orphans h told none laid linked validated =
+laid_by schema new classes fault layouts relations validators few lined alone over orphans h told none laid linked validated =
     subst (λ (now : Catalog). IsLaid now classes true layouts relations validators) (resolved_is schema new h)
     (record {
       few = few;
       lined = lined;
+      alone = alone;
+      over = over;
       orphans = orphans;
       valid = λ _. sym told ∙ none;
       resolved = λ _. refl;

@@ -7,9 +7,9 @@ use Rattle.base_core.specs.declared.refusal.Refusal.{Refusal}
 use Rattle.base_core.specs.declared.refusal.Refusal.TheVariants.{ArgumentError}
 use Rattle.schema_core.specs.declared.table.TableSpec.{TableSpec}
 use Rattle.schema_core.specs.Catalog.{Catalog}
-use Rattle.schema_core.specs.Declaration.{declare}
-use Rattle.hooks.specs.Rules.{Rules}
-use Rattle.mapper_types.specs.declared.declared.ClassSpec.{ClassSpec}
+use Rattle.schema_core.specs.Declaration.{declare, with_table as with_one_table}
+use Rattle.class_types.specs.Rules.{Rules}
+use Rattle.class_types.specs.declared.declared.ClassSpec.{ClassSpec}
 use Rattle.class_layouts.specs.Hierarchy as hierarchy
 use Rattle.class_layouts.specs.Faults.{class_fault}
 use Rattle.class_mapping.specs.Mapped.{Mapped, fault_of}
@@ -22,6 +22,10 @@ over_tables mapped (Err e) = Err e
 -- the answer to a declaration of a table: the schema's
 unfoldable pub declare_table : Mapped → TableSpec → Result (TableId × Mapped) Refusal
 declare_table mapped spec = over_tables mapped (declare mapped.schema spec)
+
+-- the mapping with one more table, to be checked again
+abbrev pub with_table : Mapped → TableSpec → Mapped
+with_table mapped spec = record { schema = with_one_table mapped.schema spec; classes = mapped.classes; configured = false }
 
 -- the mapping with one more class, to be checked again
 abbrev pub with_class : Mapped → ClassSpec → Mapped

@@ -1,15 +1,17 @@
 -- A mapping: the tables, the classes over them, and what each class has.
-use Rattle.std.specs.Prelude.{◌≡◌, ℕ, ◌-◌, ◌<◌, ◌≤◌, Bool, true, false, List, [], length, map, nat_lt, slice_get, slice_index_or, Option, None, Some, if◌then◌else◌}
+use Rattle.std.specs.Prelude.{◌≡◌, ℕ, ◌-◌, ◌<◌, ◌≤◌, Bool, true, false, List, [], length, map, nat_lt, slice_get, slice_index_or, ◌==◌, Option, None, Some, if◌then◌else◌}
 use Rattle.std.specs.Option.{option_map}
-use Rattle.std.specs.List.{flat_map, list_any}
+use Rattle.std.specs.List.{flat_map, list_all, list_any}
 use Rattle.base_core.specs.declared.ids.AttrNo.{AttrNo}
 use Rattle.base_core.specs.declared.ids.ClassId.{ClassId}
 use Rattle.base_core.specs.declared.ids.TableId.{TableId}
+use Rattle.base_core.specs.declared.value.Kind.TheVariants.{Integer}
 use Rattle.base_core.specs.declared.refusal.ArgumentKind.{ArgumentKind}
-use Rattle.schema_core.specs.Catalog.{Catalog}
-use Rattle.mapper_types.specs.declared.declared.ClassSpec.{ClassSpec}
-use Rattle.mapper_types.specs.declared.mapped.Attribute.{Attribute}
-use Rattle.mapper_types.specs.declared.mapped.Relation.{Relation}
+use Rattle.schema_core.specs.declared.table.TableSpec.{TableSpec}
+use Rattle.schema_core.specs.Catalog.{Catalog, spec_of}
+use Rattle.class_types.specs.declared.declared.ClassSpec.{ClassSpec}
+use Rattle.class_types.specs.declared.mapped.Attribute.{Attribute}
+use Rattle.class_types.specs.declared.mapped.Relation.{Relation}
 use Rattle.class_layouts.specs.declared.classes.Classes.{Classes}
 use Rattle.class_layouts.specs.declared.layout.Layout.{Layout}
 use Rattle.class_layouts.specs.Hierarchy as hierarchy
@@ -19,6 +21,7 @@ use Rattle.class_faults.specs.Faults.{mapping_fault}
 use Rattle.class_sides.specs.Sides.{sides_of}
 use Rattle.class_sides.specs.Linking as linking
 use Rattle.class_mapping.specs.Valid.{IsValid}
+use Rattle.class_mapping.specs.Plain.{is_over_table, is_plain_root, lines_alone}
 
 -- the tables, the declared classes in order of number with their lines from the root down, and whether all was checked since the last declaration
 pub record Mapped : Type 0 where
@@ -57,6 +60,22 @@ before_last line = if nat_lt (length line) 2 then None else slice_get line (leng
 abbrev pub parent_of : Mapped → ClassId → Option ClassId
 parent_of mapped class = before_last (line_of mapped class)
 
+-- a place that stands for no table
+abbrev pub no_table_id : TableId
+no_table_id = record { 0 = 0 }
+
+abbrev pub table_or_none : Option TableId → TableId
+table_or_none None = no_table_id
+table_or_none (Some table) = table
+
+-- the table of the class's root
+abbrev pub root_table : Mapped → ClassId → TableId
+root_table mapped class = table_or_none (columns.own_table mapped.schema.tables mapped.classes (root_of mapped class).0)
+
+-- the declaration of the table of the class's root
+abbrev pub root_spec : Mapped → ClassId → TableSpec
+root_spec mapped class = spec_of mapped.schema (root_table mapped class)
+
 -- what a class has: its tables, its attributes, and which of them are those of the key
 abbrev pub layout_of : Mapped → ClassId → Layout
 layout_of mapped class = columns.layout_of mapped.schema.tables mapped.classes (line_of mapped class)
@@ -72,6 +91,18 @@ attributes_of mapped class = columns.attributes_on mapped.schema.tables mapped.c
 -- which attributes of a class are those of the key, in order
 abbrev pub key_attributes : Mapped → ClassId → List AttrNo
 key_attributes mapped class = columns.keys_among mapped.schema.tables (attributes_of mapped class)
+
+-- the attribute is a column of the key
+abbrev pub is_key_attribute : Mapped → ClassId → AttrNo → Bool
+is_key_attribute mapped class attr = list_any (λ key. key.0 == attr.0) (key_attributes mapped class)
+
+-- an attribute of no name
+abbrev pub no_attribute : Attribute
+no_attribute = record { name = []; table = no_table_id; column = record { 0 = 0 }; kind = Integer }
+
+-- the attribute at a place of a class
+abbrev pub attribute_of : Mapped → ClassId → AttrNo → Attribute
+attribute_of mapped class attr = slice_index_or (attributes_of mapped class) attr.0 no_attribute
 
 -- the class has an attribute of this number
 abbrev pub IsAttribute : Mapped → ClassId → AttrNo → Type 0
@@ -118,10 +149,14 @@ IsValidMapping mapped =
     let layouts = columns.layouts_of mapped.schema.tables mapped.classes in
     IsValid mapped.schema.tables mapped.classes layouts (sides_of mapped.schema.tables mapped.classes layouts)
 
--- What every mapping keeps: there is a line for each class, delete-orphan is at one-to-many alone, and once it is configured it has no fault, and what each class has is known.
+-- What every mapping keeps: there is a line for each class, which is the class alone where all are plain roots, the tables
+-- that classes name are declared, delete-orphan is at one-to-many alone, and once it is configured it has no fault, and what
+-- each class has is known.
 pub record IsLaid (schema : Catalog) (classes : Classes) (configured : Bool) (layouts : List Layout) (relations : List (List Relation)) (validators : List (List (List ℕ × List ℕ))) : Type 0 where
   pub few : length classes.specs ≤ 4294967295
   pub lined : length classes.lines ≡ length classes.specs
+  pub alone : list_all is_plain_root classes.specs ≡ true → classes.lines ≡ lines_alone classes.specs
+  pub over : list_all (is_over_table schema.tables) classes.specs ≡ true
   pub orphans : list_any (λ spec. list_any is_bad_cascade spec.relations) classes.specs ≡ false
   pub valid : configured ≡ true → mapping_fault schema.tables classes ≡ None
   pub resolved : configured ≡ true → schema.resolved ≡ true

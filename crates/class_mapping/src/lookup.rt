@@ -1,9 +1,9 @@
 //! Places in the lines of classes.
 
 ghost use Rattle.std.specs.Prelude.{◌≡◌};
-ghost use Rattle.class_mapping.specs.Mapped.{before_last, class_or};
+ghost use Rattle.class_mapping.specs.Mapped.{before_last, class_or, table_or_none};
 
-use base_core::ClassId;
+use base_core::{ClassId, TableId};
 
 pub(crate) fn class_or(found: Option<ClassId>, class: ClassId) -> ClassId
     ensures { result ≡ class_or found class }
@@ -11,6 +11,15 @@ pub(crate) fn class_or(found: Option<ClassId>, class: ClassId) -> ClassId
     match found {
         Some(found) => found,
         None => class,
+    }
+}
+
+pub(crate) fn table_or_none(found: Option<TableId>) -> TableId
+    ensures { result ≡ table_or_none found }
+{
+    match found {
+        Some(table) => table,
+        None => TableId(0),
     }
 }
 

@@ -1,28 +1,32 @@
 //! A mapping: tables and the classes over them.
 
-ghost use Rattle.std.specs.Prelude.{◌≡◌, ◌<◌, ◌≤◌, [], length, true, false, None, Err, OnOk, IfOk, IfErr};
+ghost use Rattle.std.specs.Prelude.{◌≡◌, ◌<◌, ◌≤◌, [], length, true, false, None, Err, OnOk, IfOk, IfErr, IfSome};
 ghost use Rattle.std.specs.List.{All};
 ghost use Rattle.base_core.specs.Answers.{Takes};
 ghost use Rattle.base_core.specs.declared.refusal.Refusal.TheVariants.{Memory};
 ghost use Rattle.schema_core.specs.Declaration.{declaration_fault, has_targets};
-ghost use Rattle.hooks.specs.Shown.{rules_of};
+ghost use Rattle.class_types.specs.Shown.{rules_of};
 ghost use Rattle.class_layouts.specs.Columns.{layouts_of};
 ghost use Rattle.class_faults.specs.Faults.{mapping_fault};
 ghost use Rattle.class_sides.specs.Linking as linking;
-ghost use Rattle.class_mapping.specs.Mapped.{IsAttribute, IsClass, IsValidMapping, all_validators, attributes_of, class_spec, find_class, key_attributes, layout_of, parent_of, relations_of, root_of, tables_of, validators_of};
-ghost use Rattle.class_mapping.specs.Declaring.{closed, configure, declare_class, declare_table, with_class};
+ghost use Rattle.class_layouts.specs.Faults.{class_fault};
+ghost use Rattle.class_mapping.specs.Mapped.{IsAttribute, IsClass, IsValidMapping, all_validators, attributes_of, class_spec, find_class, key_attributes, layout_of, parent_of, relations_of, root_of, root_table, tables_of, validators_of};
+ghost use Rattle.class_mapping.specs.Plain.{early_fault};
+ghost use Rattle.class_mapping.specs.PlainClass.{ArePlain, IsPlainClass};
+ghost use Rattle.class_mapping.specs.Declaring.{closed, configure, declare_class, declare_table, with_class, with_table};
 
-use crate::lookup::{before_last, class_or};
+use crate::lookup::{before_last, class_or, table_or_none};
+use crate::plain::early_fault;
 use crate::validators::all_validators;
 use base_core::{ArgumentKind, AttrNo, ClassId, ListOf, Name, Refusal, TableId};
 use class_faults::fault_among;
-use class_layouts::{Classes, Layout, declare, layouts_of, line_of, place_of, root_in};
+use class_layouts::{Classes, Layout, declare, layouts_of, line_of, own_table, place_of, root_in};
 use class_sides::{relations_by, sides_of};
-use hooks::Hooks;
-use mapper_types::{Attribute, ClassSpec, Relation};
+use class_types::{Attribute, ClassSpec, Hooks, Relation};
 use schema_core::{Schema, TableSpec};
 use std::alloc::Global;
 use std::marker::Model;
+use std::mem::drop;
 
 /// Tables, and the classes over them. Once it is configured, it is valid, and says of each class which tables, attributes
 /// and relationships it has.
@@ -131,7 +135,8 @@ impl Mapping {
 
     /// The class of a name.
     pub fn find_class(&self, name: &Name) -> Option<ClassId>
-        ensures { result ≡ find_class self.now name.now }
+        ensures class { result ≡ find_class self.now name.now }
+        ensures declared { IfSome result (IsClass self.now) }
     {
         match place_of(self.classes.specs.as_slice(), name) {
             Some(place) => Some(ClassId(place as u32)),
@@ -153,6 +158,17 @@ impl Mapping {
         ensures { result ≡ root_of self.now class }
     {
         class_or(root_in(line_of(&self.classes, class.0 as usize)), class)
+    }
+
+    /// The table of a class's root. Where each class is a plain root, the class is its own root and has the columns of this
+    /// table, which is declared.
+    pub fn root_table(&self, class: ClassId) -> TableId
+        requires { IsClass self.now class }
+        ensures table { result ≡ root_table self.now class }
+        ensures plain { ArePlain self.now → IsPlainClass self.now class }
+    {
+        let root = self.root_of(class);
+        table_or_none(own_table(&self.schema, &self.classes, root.0 as usize))
     }
 
     /// The class that a class extends.
@@ -235,6 +251,7 @@ impl Mapping {
         requires { length self.old.schema.tables < 4294967295 }
         ensures step { Takes (λ table. table)
             (declare_table self.old spec) self.old result self.new }
+        ensures taken { OnOk result (self.new ≡ with_table self.old spec) }
         ensures sound { result ≡ Err Memory → declaration_fault self.old.schema.tables spec ≡ None }
     {
         let table = self.schema.declare_table(spec)?;
@@ -252,11 +269,36 @@ impl Mapping {
     /// or text column of the root's table, or one of the key or of a foreign key, or its identity is of another kind),
     /// `DuplicateIdentity` (another class of its hierarchy has it), `BadCascade` (delete-orphan without delete, or at
     /// another relationship than one-to-many), `BadHook` (a validator of no attribute, or no validator of its kind).
-    /// A refusal changes nothing.
+    /// A refusal changes nothing. Where each class is a plain root, this one too, it is `Memory` only where none of these holds.
     pub fn declare_class(&mut self, spec: ClassSpec, hooks: &Hooks) -> Result<ClassId, Refusal>
         requires { length self.old.classes.specs < 4294967295 }
-        ensures { Takes (λ class. class)
+        ensures step { Takes (λ class. class)
             (declare_class (rules_of hooks.now) self.old spec) self.old result self.new }
+        ensures taken { OnOk result (self.new ≡ with_class self.old spec) }
+        ensures sound { result ≡ Err Memory → ArePlain (with_class self.old spec)
+            → class_fault (rules_of hooks.now) self.old.schema.tables self.old.classes spec
+            ≡ None }
+    {
+        match early_fault(&self.schema, self.classes.specs.as_slice(), &spec) {
+            Some(fault) => {
+                drop(spec);
+                Err(Refusal::ArgumentError(fault))
+            }
+            None => self.take_class(spec, hooks),
+        }
+    }
+
+    #[tactic(auto, using(crate::proofs::PlainLemmas::early_none), unfolding(crate::specs::Declaring::declare_class))]
+    /// Declares a class of which no fault is told early.
+    fn take_class(&mut self, spec: ClassSpec, hooks: &Hooks) -> Result<ClassId, Refusal>
+        requires room { length self.old.classes.specs < 4294967295 }
+        requires early { early_fault self.old.schema.tables self.old.classes.specs spec ≡ None }
+        ensures step { Takes (λ class. class)
+            (declare_class (rules_of hooks.now) self.old spec) self.old result self.new }
+        ensures taken { OnOk result (self.new ≡ with_class self.old spec) }
+        ensures sound { ArePlain (with_class self.old spec)
+            → class_fault (rules_of hooks.now) self.old.schema.tables self.old.classes spec
+            ≡ None }
     {
         let class = ClassId(self.classes.specs.len() as u32);
         declare(self.alloc, hooks, &self.schema, &mut self.classes, spec)?;

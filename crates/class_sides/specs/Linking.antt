@@ -6,7 +6,7 @@ use Rattle.base_core.specs.declared.ids.RelNo.{RelNo}
 use Rattle.base_core.specs.declared.ids.TableId.{TableId}
 use Rattle.schema_core.specs.declared.table.TableSpec.{TableSpec}
 use Rattle.schema_core.specs.Catalog.{same_name}
-use Rattle.mapper_types.specs.declared.mapped.Relation.{Relation}
+use Rattle.class_types.specs.declared.mapped.Relation.{Relation}
 use Rattle.class_layouts.specs.declared.classes.Classes.{Classes}
 use Rattle.class_layouts.specs.Columns.{layouts_of}
 use Rattle.class_layouts.specs.Faults.{cascade_or_default, default_cascade}

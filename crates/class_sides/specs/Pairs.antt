@@ -4,7 +4,7 @@ use Rattle.std.specs.List.{enumerate_from, list_any}
 use Rattle.base_core.specs.declared.ids.ClassId.{ClassId}
 use Rattle.schema_core.specs.declared.table.TableSpec.{TableSpec}
 use Rattle.schema_core.specs.Catalog.{same_name}
-use Rattle.mapper_types.specs.declared.declared.Cascade.{Cascade}
+use Rattle.class_types.specs.declared.declared.Cascade.{Cascade}
 use Rattle.class_layouts.specs.declared.classes.Classes.{Classes}
 use Rattle.class_layouts.specs.declared.layout.Layout.{Layout}
 use Rattle.class_layouts.specs.Hierarchy.{has_class, line_of}

@@ -8,9 +8,9 @@ use Rattle.schema_core.specs.declared.table.ColumnSpec.{ColumnSpec}
 use Rattle.schema_core.specs.declared.table.ForeignSpec.{ForeignSpec}
 use Rattle.schema_core.specs.declared.table.TableSpec.{TableSpec}
 use Rattle.schema_core.specs.Catalog.{has_name, same_name}
-use Rattle.mapper_types.specs.declared.declared.ClassSpec.{ClassSpec}
-use Rattle.mapper_types.specs.declared.declared.RelationSpec.{RelationSpec}
-use Rattle.mapper_types.specs.declared.mapped.Attribute.{Attribute}
+use Rattle.class_types.specs.declared.declared.ClassSpec.{ClassSpec}
+use Rattle.class_types.specs.declared.declared.RelationSpec.{RelationSpec}
+use Rattle.class_types.specs.declared.mapped.Attribute.{Attribute}
 use Rattle.class_layouts.specs.declared.classes.Classes.{Classes}
 use Rattle.class_layouts.specs.declared.layout.Layout.{Layout}
 use Rattle.class_layouts.specs.Hierarchy.{place_of}

@@ -10,7 +10,7 @@ ghost use Rattle.class_sides.specs.Sides.{candidates, candidates_of, has_attribu
 use crate::keys::{TableKey, allows, is_inherited, refers_into};
 use base_core::{ClassId, ListOf, Name, Refusal, TableId};
 use class_layouts::{Layout, foreigns_of, number_of};
-use mapper_types::{Attribute, RelationSpec};
+use class_types::{Attribute, RelationSpec};
 use schema_core::{ForeignSpec, Schema};
 use std::alloc::Global;
 

@@ -9,7 +9,7 @@ use crate::candidates::layout_at;
 use crate::keys::{TableKey, has_name, refers_into};
 use base_core::{ClassId, Name, TableId};
 use class_layouts::{Layout, columns_of, foreigns_of, maps_name, named_table};
-use mapper_types::ClassSpec;
+use class_types::ClassSpec;
 use schema_core::{ColumnSpec, ForeignSpec, Schema};
 
 /// A secondary table's key to the near side, and its key to the far side.

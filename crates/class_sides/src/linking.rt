@@ -15,7 +15,7 @@ use crate::pairs::{is_plain, join_of};
 use crate::partners::{is_class, is_partner, same_side};
 use base_core::{ClassId, Copied, ListOf, Name, Refusal, RelNo, TableId};
 use class_layouts::{Classes, cascade_or_default, number_of};
-use mapper_types::Relation;
+use class_types::Relation;
 use schema_core::Schema;
 use std::alloc::Global;
 

@@ -10,7 +10,7 @@ use crate::Side;
 use crate::pairs::{is_plain, same_secondary};
 use base_core::{ClassId, Name};
 use class_layouts::{Classes, Layout, cascade_or_default, has_class, line_of};
-use mapper_types::{Attribute, Cascade};
+use class_types::{Attribute, Cascade};
 
 pub(crate) fn is_class(found: Option<ClassId>, class: ClassId) -> bool
     ensures { result ≡ is_class found class }

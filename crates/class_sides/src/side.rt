@@ -9,7 +9,7 @@ use crate::ends::{Ends, ends_of};
 use crate::keys::TableKey;
 use base_core::{ClassId, Copied, ListOf, Refusal};
 use class_layouts::{Classes, Layout, number_of, place_of};
-use mapper_types::{ClassSpec, RelationSpec};
+use class_types::{ClassSpec, RelationSpec};
 use schema_core::Schema;
 use std::alloc::Global;
 

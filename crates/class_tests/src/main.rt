@@ -13,7 +13,7 @@ mod play;
 mod told;
 
 use base_core::{Kind, Name, Refusal, Value};
-use hooks::{Hooks, Rule, Validator, has_at, is_nonempty, is_positive, is_short};
+use class_types::{Hooks, Rule, Validator, has_at, is_nonempty, is_positive, is_short};
 use play::answer;
 use std::alloc::{AllocError, Global};
 use std::io;

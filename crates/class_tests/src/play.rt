@@ -3,8 +3,7 @@
 use crate::told::told;
 use base_core::{ListOf, Refusal};
 use class_mapping::Mapping;
-use hooks::Hooks;
-use mapper_types::ClassSpec;
+use class_types::{ClassSpec, Hooks};
 use schema_core::TableSpec;
 use script_read::read_line;
 use script_types::{Command, Inside};

@@ -2,7 +2,7 @@
 
 use base_core::{AttrNo, ClassId, TableId};
 use class_mapping::Mapping;
-use mapper_types::{Attribute, Cascade, Relation};
+use class_types::{Attribute, Cascade, Relation};
 use std::alloc::AllocError;
 
 /// A number of one digit.

@@ -15,12 +15,13 @@ use Rattle.schema_core.specs.declared.changes.Planned.{Planned}
 use Rattle.schema_core.specs.declared.changes.RowChanges.{RowChanges}
 use Rattle.schema_core.specs.Catalog.{Catalog, IsTable}
 use Rattle.schema_core.specs.DependencyOrder.{table_ids}
-use Rattle.flush_plan.specs.Planning.{Writing, cells_when, gone_at, is_of, late_gone, late_in, late_old, late_updates_of, late_writings, no_changed, no_gone, no_writing, place_of_gone, update_of, updates_to, writing_some}
-use Rattle.flush_plan.specs.declared.refers.ReadyGone.{ReadyGone}
-use Rattle.flush_plan.specs.Cells.{new_at, no_row}
-use Rattle.flush_plan.specs.Ready.{AreInRange, AreReadyGone, IsInTable, ready_gone}
-use Rattle.flush_plan.specs.Sorted.{Place, sorted_numbers}
-use Rattle.flush_plan.proofs.Sorting.{numbers_fewer, numbers_within}
+use Rattle.flush_order.specs.Orders.{gone_at, no_gone, place_of_gone}
+use Rattle.flush_plan.specs.Planning.{Writing, cells_when, is_of, late_gone, late_in, late_old, late_updates_of, late_writings, no_changed, no_writing, update_of, updates_to, writing_some}
+use Rattle.flush_order.specs.declared.refers.ReadyGone.{ReadyGone}
+use Rattle.flush_order.specs.Cells.{new_at, no_row}
+use Rattle.flush_order.specs.Ready.{AreInRange, AreReadyGone, IsInTable, ready_gone}
+use Rattle.flush_order.specs.Sorted.{Place, sorted_numbers}
+use Rattle.flush_order.proofs.Sorting.{numbers_fewer, numbers_within}
 use Rattle.schema_core.specs.declared.changes.NewRow.{NewRow}
 use Rattle.flush_plan.proofs.UpdateSteps.{mapped_more, take_one}
 

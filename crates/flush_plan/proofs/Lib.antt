@@ -1,10 +1,4 @@
-pub mod CellLemmas
-pub mod Cycles
-pub mod GoneLemmas
 pub mod LateSteps
-pub mod Ranges
-pub mod ReadyLemmas
 pub mod RunSteps
-pub mod Sorting
 pub mod UpdateSteps
 pub mod WritingSteps

@@ -11,7 +11,7 @@ use Rattle.schema_core.specs.Catalog.{Catalog, IsTable, no_table, spec_of}
 use Rattle.base_core.specs.declared.ids.ColumnNo.{ColumnNo}
 use Rattle.base_core.specs.declared.ids.TableId.{TableId}
 use Rattle.flush_plan.specs.Planning.{column_of, no_column}
-use Rattle.flush_plan.specs.Ready.{AreInRange}
+use Rattle.flush_order.specs.Ready.{AreInRange}
 
 pub narrow_at : (schema : Catalog) (changes : RowChanges) (table : TableId) → AreInRange schema changes → IsTable schema table → length (spec_of schema table).columns ≤ 4294967295
 narrow_at schema changes table range declared = All-get_or (λ (spec : TableSpec). length spec.columns ≤ 4294967295) schema.tables table.0 no_table declared range.narrow

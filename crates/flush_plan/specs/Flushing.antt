@@ -18,9 +18,10 @@ use Rattle.schema_core.specs.declared.statement.RowStmt.TheVariants as statement
 use Rattle.schema_core.specs.Apply.{Outcome, apply}
 use Rattle.schema_core.specs.Catalog.{Catalog}
 use Rattle.schema_core.specs.Tables.{Tables, same_values}
-use Rattle.flush_plan.specs.Cells.{first_cells}
-use Rattle.flush_plan.specs.Planning.{place_of_changed, place_of_gone, writes_some}
-use Rattle.flush_plan.specs.Sorted.{same_place}
+use Rattle.flush_order.specs.Cells.{first_cells}
+use Rattle.flush_order.specs.Orders.{place_of_gone}
+use Rattle.flush_plan.specs.Planning.{place_of_changed, writes_some}
+use Rattle.flush_order.specs.Sorted.{same_place}
 
 -- the keys of new rows that are known, each with the row's place
 abbrev pub Keys : Type 0

@@ -1,10 +1,4 @@
-pub mod Cells
-pub mod Refers
-pub mod Places
-pub mod Sorted
 pub mod Runs
 pub mod Planning
 pub mod Flushing
 pub mod Stating
-pub mod Told
-pub mod Ready

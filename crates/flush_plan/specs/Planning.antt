@@ -18,38 +18,14 @@ use Rattle.schema_core.specs.declared.table.ColumnKind.TheVariants.{Integer}
 use Rattle.schema_core.specs.declared.table.ColumnSpec.{ColumnSpec}
 use Rattle.schema_core.specs.Catalog.{Catalog, spec_of}
 use Rattle.schema_core.specs.DependencyOrder.{table_ids}
-use Rattle.schema_core.specs.Tables.{is_null}
-use Rattle.flush_plan.specs.Cells.{first_cells, is_late, key_parts, new_at, table_at}
-use Rattle.flush_plan.specs.Places.{order_or_cycle}
-use Rattle.flush_plan.specs.Refers.{gone_key, gone_refers, new_refers}
+use Rattle.flush_order.specs.Cells.{first_cells, is_late, key_parts, new_at, table_at}
+use Rattle.flush_order.specs.Orders.{delete_order, gone_at, gone_rows, insert_order}
+use Rattle.flush_order.specs.Refers.{gone_key}
+use Rattle.flush_order.specs.Sorted.{Place, sorted_numbers}
 use Rattle.flush_plan.specs.Runs.{is_nothing, runs}
-use Rattle.flush_plan.specs.Sorted.{Place, sorted_numbers}
 
 abbrev pub no_column : ColumnSpec
 no_column = record { name = []; kind = Integer; key = false; not_null = false }
-
-abbrev pub no_gone : GoneRow
-no_gone = record { name = record { table = record { 0 = 0 }; object = record { 0 = 0 } }; base = [] }
-
--- ---- the two orders
-
-abbrev pub gone_at : List GoneRow → ℕ → GoneRow
-gone_at rows place = slice_index_or rows place no_gone
-
-abbrev pub place_of_gone : Catalog → GoneRow → Place
-place_of_gone schema row = (row.name.table, gone_key schema row)
-
--- the deleted rows by table and key
-abbrev pub gone_rows : Catalog → RowChanges → List GoneRow
-gone_rows schema changes = map (gone_at changes.gone) (sorted_numbers (map (place_of_gone schema) changes.gone))
-
--- the new rows by place, each after those to which it refers, or a cycle
-abbrev pub insert_order : Catalog → RowChanges → Result (List ℕ) (List ℕ)
-insert_order schema changes = order_or_cycle (new_refers schema changes) (length changes.fresh)
-
--- the deleted rows by place in their sorted list, each after those that refer to it, or a cycle
-abbrev pub delete_order : Catalog → RowChanges → List GoneRow → Result (List ℕ) (List ℕ)
-delete_order schema changes rows = order_or_cycle (λ place other. gone_refers schema changes (gone_at rows place) (gone_at rows other)) (length rows)
 
 -- ---- the four phases
 

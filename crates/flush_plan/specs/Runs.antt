@@ -8,8 +8,8 @@ use Rattle.schema_core.specs.declared.changes.RowCell.TheVariants.{Given, KeyOf}
 use Rattle.schema_core.specs.declared.changes.RowChanges.{RowChanges}
 use Rattle.schema_core.specs.Catalog.{Catalog, has_generated_key, spec_of}
 use Rattle.schema_core.specs.Tables.{is_null}
-use Rattle.flush_plan.specs.Cells.{first_cells, key_parts, table_at}
-use Rattle.flush_plan.specs.Refers.{new_refers}
+use Rattle.flush_order.specs.Cells.{first_cells, key_parts, table_at}
+use Rattle.flush_order.specs.Refers.{new_refers}
 
 abbrev pub is_nothing : RowCell → Bool
 is_nothing (Given value) = is_null value

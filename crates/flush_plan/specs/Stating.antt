@@ -18,12 +18,13 @@ use Rattle.schema_core.specs.declared.table.TableSpec.{TableSpec}
 use Rattle.schema_core.specs.Apply.{with_cells, with_own_key}
 use Rattle.schema_core.specs.Catalog.{Catalog, spec_of, target_of}
 use Rattle.schema_core.specs.Declaration.{some_two}
-use Rattle.schema_core.specs.Tables.{Rows, Tables, cells_of, has_null, key_of, row_under, rows_in, same_values, with_row, with_rows, without_row}
-use Rattle.flush_plan.specs.Cells.{first_cells, is_late, known_row, new_at, table_at}
+use Rattle.schema_core.specs.Tables.{Rows, Tables, cells_of, has_null, is_created, key_of, row_under, rows_in, same_values, with_row, with_rows, without_row}
+use Rattle.flush_order.specs.Cells.{first_cells, is_late, known_row, new_at, table_at}
 use Rattle.flush_plan.specs.Flushing.{Keys, Sofar, key_of_new, put}
-use Rattle.flush_plan.specs.Planning.{is_of, late_gone, place_of_gone, writes_some}
-use Rattle.flush_plan.specs.Refers.{gone_key, names}
-use Rattle.flush_plan.specs.Sorted.{Place, same_place}
+use Rattle.flush_order.specs.Orders.{place_of_gone}
+use Rattle.flush_plan.specs.Planning.{is_of, late_gone, writes_some}
+use Rattle.flush_order.specs.Refers.{gone_key, names}
+use Rattle.flush_order.specs.Sorted.{Place, same_place}
 
 -- ---- Keys
 
@@ -109,9 +110,6 @@ written_rows changes = filter (λ row. writes_some row.cells) changes.changed
 abbrev pub edits : Catalog → Tables → RowChanges → List ℕ → Sofar → List Edit
 edits schema tables changes order placed =
     map (edit_gone schema) changes.gone ++ map (edit_changed tables placed.keys) (written_rows changes) ++ map (edit_new schema changes placed) order
-
-abbrev pub is_created : Tables → TableId → Bool
-is_created tables table = is_some (rows_in tables table)
 
 abbrev pub is_present : Tables → Place → Bool
 is_present tables place = is_some (row_at tables place)

@@ -5,15 +5,14 @@ ghost use Rattle.std.specs.List.{All};
 ghost use Rattle.base_core.specs.declared.refusal.Refusal.TheVariants.{Memory};
 ghost use Rattle.base_core.specs.declared.value.Value.TheVariants.{Null};
 ghost use Rattle.schema_core.specs.Catalog.{IsTable};
-ghost use Rattle.flush_plan.specs.Planning.{gone_at, gone_rows, place_of_gone, remove_of, removes};
-ghost use Rattle.flush_plan.specs.Ready.{AreInRange, AreReadyGone, ready_gone};
-ghost use Rattle.flush_plan.specs.Refers.{last_base};
+ghost use Rattle.flush_order.specs.Orders.{gone_at, gone_rows, place_of_gone};
+ghost use Rattle.flush_plan.specs.Planning.{remove_of, removes};
+ghost use Rattle.flush_order.specs.Ready.{AreInRange, AreReadyGone, ready_gone};
+ghost use Rattle.flush_order.specs.Refers.{last_base};
 
-use crate::cells::push_cleared;
-use crate::refers::{GoneRows, ReadyGone};
-use crate::sorted::sorted_numbers;
 use crate::writings::{Place, gone_key, place_of_gone};
 use base_core::{Copied, ListOf, Refusal, RowValues, Value};
+use flush_order::{GoneRows, ReadyGone, push_cleared, sorted_numbers};
 use schema_core::{GoneRow, Planned, RowChanges, Schema};
 use std::alloc::Global;
 
@@ -129,34 +128,32 @@ pub fn gone_rows(
     ready_in_order(alloc, schema, changes, numbers.as_slice())
 }
 
-impl<'a> GoneRows<'a> {
-    /// The DELETE of a row.
-    fn remove_of(&self, place: u32) -> Result<Planned, Refusal>
-        requires ready { AreReadyGone self.now.schema.now self.now.changes.now self.now.rows.now }
-        requires within { place < length self.now.rows.now }
-        ensures remove { IfOk result (λ planned. planned ≡ remove_of self.now.schema.now
-            (gone_at (gone_rows self.now.schema.now self.now.changes.now) place)) }
-        ensures cause { IfErr result (λ e. e ≡ Memory) }
-    {
-        let row = self.at(place);
-        Ok(Planned::Remove {
-            table: row.name.table,
-            key: row.key.copied()?,
-        })
-    }
+/// The DELETE of a row.
+fn remove_of(gone: &GoneRows, place: u32) -> Result<Planned, Refusal>
+    requires ready { AreReadyGone gone.now.schema.now gone.now.changes.now gone.now.rows.now }
+    requires within { place < length gone.now.rows.now }
+    ensures remove { IfOk result (λ planned. planned ≡ remove_of gone.now.schema.now
+        (gone_at (gone_rows gone.now.schema.now gone.now.changes.now) place)) }
+    ensures cause { IfErr result (λ e. e ≡ Memory) }
+{
+    let row = gone.at(place);
+    Ok(Planned::Remove {
+        table: row.name.table,
+        key: row.key.copied()?,
+    })
+}
 
-    /// The DELETEs of rows in this order. The only refusal is `Memory`.
-    pub fn removes(&self, alloc: Global, order: &[u32]) -> Result<Vec<Planned>, Refusal>
-        requires ready { AreReadyGone self.now.schema.now self.now.changes.now self.now.rows.now }
-        requires within { All (λ place. place < length self.now.rows.now) order.now }
-        ensures removes { IfOk result (λ statements. statements.items
-            ≡ removes self.now.schema.now self.now.changes.now order.now) }
-        ensures cause { IfErr result (λ e. e ≡ Memory) }
-    {
-        let mut statements = Vec::new(alloc);
-        for place in order {
-            statements.push(self.remove_of(*place)?)?;
-        }
-        Ok(statements)
+/// The DELETEs of rows in this order. The only refusal is `Memory`.
+pub fn removes(gone: &GoneRows, alloc: Global, order: &[u32]) -> Result<Vec<Planned>, Refusal>
+    requires ready { AreReadyGone gone.now.schema.now gone.now.changes.now gone.now.rows.now }
+    requires within { All (λ place. place < length gone.now.rows.now) order.now }
+    ensures removes { IfOk result (λ statements. statements.items
+        ≡ removes gone.now.schema.now gone.now.changes.now order.now) }
+    ensures cause { IfErr result (λ e. e ≡ Memory) }
+{
+    let mut statements = Vec::new(alloc);
+    for place in order {
+        statements.push(remove_of(gone, *place)?)?;
     }
+    Ok(statements)
 }

@@ -4,16 +4,16 @@ ghost use Rattle.std.specs.Prelude.{◌≡◌, ◌<◌, ◌++◌, [], ◌∷◌,
 ghost use Rattle.std.specs.List.{All};
 ghost use Rattle.base_core.specs.Answers.{Gives};
 ghost use Rattle.base_core.specs.declared.refusal.Refusal.TheVariants.{Memory};
-ghost use Rattle.flush_plan.specs.Cells.{new_at};
-ghost use Rattle.flush_plan.specs.Planning.{gone_at, gone_rows, plan, statements};
-ghost use Rattle.flush_plan.specs.Ready.{AreInRange, AreReady, AreReadyGone};
+ghost use Rattle.flush_order.specs.Cells.{new_at};
+ghost use Rattle.flush_order.specs.Orders.{delete_order, gone_at, gone_rows};
+ghost use Rattle.flush_plan.specs.Planning.{plan, statements, unless_gone_cycle};
+ghost use Rattle.flush_order.specs.Ready.{AreInRange, AreReady, AreReadyGone};
 
-use crate::gone::gone_rows;
-use crate::places::{Ordered, order_or_cycle};
-use crate::ready::ready_rows;
-use crate::refers::{GoneRows, NewRows};
-use crate::updates::updates;
+use crate::gone::{gone_rows, removes};
+use crate::runs::inserts;
+use crate::updates::{late_updates, updates};
 use base_core::{Copied, ListOf, Refusal, RowName};
+use flush_order::{GoneRows, NewRows, Ordered, order_or_cycle, ready_rows};
 use schema_core::{Plan, Planned, RowChanges, Schema};
 use std::alloc::Global;
 
@@ -26,40 +26,36 @@ fn push_name(out: &mut ListOf<RowName>, name: &RowName) -> Result<(), Refusal>
     Ok(())
 }
 
-impl<'a> NewRows<'a> {
-    /// The objects and tables of new rows.
-    fn names(&self, alloc: Global, rows: &[u32]) -> Result<ListOf<RowName>, Refusal>
-        requires ready { AreReady self.now.schema.now self.now.changes.now self.now.rows.now }
-        requires within { All (λ row. row < length self.now.changes.now.fresh) rows.now }
-        ensures names { IfOk result
-            (λ names. names ≡ map (λ row. (new_at self.now.changes.now row).name) rows.now) }
-        ensures cause { IfErr result (λ e. e ≡ Memory) }
-    {
-        let mut names = ListOf::new(alloc);
-        for row in rows {
-            let new = self.changes.fresh.at(*row as usize);
-            push_name(&mut names, &new.name)?;
-        }
-        Ok(names)
+/// The objects and tables of new rows.
+fn new_names(new: &NewRows, alloc: Global, rows: &[u32]) -> Result<ListOf<RowName>, Refusal>
+    requires ready { AreReady new.now.schema.now new.now.changes.now new.now.rows.now }
+    requires within { All (λ row. row < length new.now.changes.now.fresh) rows.now }
+    ensures names { IfOk result
+        (λ names. names ≡ map (λ row. (new_at new.now.changes.now row).name) rows.now) }
+    ensures cause { IfErr result (λ e. e ≡ Memory) }
+{
+    let mut names = ListOf::new(alloc);
+    for row in rows {
+        let fresh = new.changes.fresh.at(*row as usize);
+        push_name(&mut names, &fresh.name)?;
     }
+    Ok(names)
 }
 
-impl<'a> GoneRows<'a> {
-    /// The objects and tables of deleted rows.
-    fn names(&self, alloc: Global, rows: &[u32]) -> Result<ListOf<RowName>, Refusal>
-        requires ready { AreReadyGone self.now.schema.now self.now.changes.now self.now.rows.now }
-        requires within { All (λ row. row < length self.now.rows.now) rows.now }
-        ensures names { IfOk result (λ names. names ≡ map
-            (λ row. (gone_at (gone_rows self.now.schema.now self.now.changes.now) row).name)
-            rows.now) }
-        ensures cause { IfErr result (λ e. e ≡ Memory) }
-    {
-        let mut names = ListOf::new(alloc);
-        for row in rows {
-            names.push(self.at(*row).name.copied()?)?;
-        }
-        Ok(names)
+/// The objects and tables of deleted rows.
+fn gone_names(gone: &GoneRows, alloc: Global, rows: &[u32]) -> Result<ListOf<RowName>, Refusal>
+    requires ready { AreReadyGone gone.now.schema.now gone.now.changes.now gone.now.rows.now }
+    requires within { All (λ row. row < length gone.now.rows.now) rows.now }
+    ensures names { IfOk result (λ names. names ≡ map
+        (λ row. (gone_at (gone_rows gone.now.schema.now gone.now.changes.now) row).name)
+        rows.now) }
+    ensures cause { IfErr result (λ e. e ≡ Memory) }
+{
+    let mut names = ListOf::new(alloc);
+    for row in rows {
+        names.push(gone.at(*row).name.copied()?)?;
     }
+    Ok(names)
 }
 
 /// Puts statements behind others.
@@ -91,11 +87,37 @@ fn statements(
         ≡ statements new.now.schema.now new.now.changes.now new_order.now gone_order.now) }
     ensures cause { IfErr result (λ e. e ≡ Memory) }
 {
-    let mut plan = new.inserts(alloc, new_order)?;
+    let mut plan = inserts(new, alloc, new_order)?;
     push_all(&mut plan, updates(alloc, new.schema, new.changes)?)?;
-    push_all(&mut plan, new.late_updates(alloc, new_order)?)?;
-    push_all(&mut plan, gone.removes(alloc, gone_order)?)?;
+    push_all(&mut plan, late_updates(new, alloc, new_order)?)?;
+    push_all(&mut plan, removes(gone, alloc, gone_order)?)?;
     Ok(ListOf::from_vec(plan))
+}
+
+/// The statements of a flush by the order of its new rows, or the deleted rows of a cycle.
+fn plan_by(alloc: Global, new: &NewRows, new_order: &[u32]) -> Result<Plan, Refusal>
+    requires range { AreInRange new.now.schema.now new.now.changes.now }
+    requires new { AreReady new.now.schema.now new.now.changes.now new.now.rows.now }
+    requires new_order { All (λ row. row < length new.now.rows.now) new_order.now }
+    ensures { Gives (λ plan. plan) result (unless_gone_cycle new.now.schema.now new.now.changes.now
+        new_order.now
+        (delete_order new.now.schema.now new.now.changes.now
+        (gone_rows new.now.schema.now new.now.changes.now))) }
+{
+    let ready = gone_rows(alloc, new.schema, new.changes)?;
+    let gone = GoneRows {
+        schema: new.schema,
+        changes: new.changes,
+        rows: ready.as_slice(),
+    };
+    match order_or_cycle(alloc, &gone)? {
+        Ordered::Order(rows) => statements(alloc, new, new_order, &gone, rows.as_slice()),
+        Ordered::Cycle(rows) => Err(Refusal::CircularDependencyError(gone_names(
+            &gone,
+            alloc,
+            rows.as_slice(),
+        )?)),
+    }
 }
 
 #[tactic(auto, unfolding(crate::specs::Planning::plan))]
@@ -116,27 +138,10 @@ pub fn plan(alloc: Global, schema: &Schema, changes: &RowChanges) -> Result<Plan
         changes,
         rows: ready.as_slice(),
     };
-    let new_order = match order_or_cycle(alloc, &new)? {
-        Ordered::Order(rows) => rows,
-        Ordered::Cycle(rows) => {
-            return Err(Refusal::CircularDependencyError(new.names(alloc, rows.as_slice())?));
-        }
-    };
-    let ready_gone = gone_rows(alloc, schema, changes)?;
-    let gone = GoneRows {
-        schema,
-        changes,
-        rows: ready_gone.as_slice(),
-    };
-    match order_or_cycle(alloc, &gone)? {
-        Ordered::Order(rows) => statements(
-            alloc,
+    match order_or_cycle(alloc, &new)? {
+        Ordered::Order(rows) => plan_by(alloc, &new, rows.as_slice()),
+        Ordered::Cycle(rows) => Err(Refusal::CircularDependencyError(new_names(
             &new,
-            new_order.as_slice(),
-            &gone,
-            rows.as_slice(),
-        ),
-        Ordered::Cycle(rows) => Err(Refusal::CircularDependencyError(gone.names(
             alloc,
             rows.as_slice(),
         )?)),

@@ -3,14 +3,13 @@
 ghost use Rattle.std.specs.Prelude.{◌≡◌, ◌<◌, ◌++◌, ◌-◌, ◌*◌, [], ◌∷◌, ℕ, List, cond, map, not, suc, length, nat_lt, IfOk, IfErr, OnOk};
 ghost use Rattle.std.specs.List.{All, list_all, list_any};
 ghost use Rattle.base_core.specs.declared.refusal.Refusal.TheVariants.{Memory};
-ghost use Rattle.flush_plan.specs.Cells.{key_parts, table_at};
+ghost use Rattle.flush_order.specs.Cells.{key_parts, table_at};
 ghost use Rattle.flush_plan.specs.Planning.{insert_run};
-ghost use Rattle.flush_plan.specs.Ready.{AreReady};
+ghost use Rattle.flush_order.specs.Ready.{AreReady};
 ghost use Rattle.flush_plan.specs.Runs.{cut, ended, goes_with, is_nothing, joins, leaves_key, runs, width};
 
-use crate::places::Waits;
-use crate::refers::NewRows;
 use base_core::{ListOf, Refusal, TableId, Value};
+use flush_order::{NewRows, Waits};
 use schema_core::{ColumnSpec, Planned, RowCell, RowChanges};
 use std::alloc::Global;
 
@@ -42,7 +41,7 @@ fn is_within(rows: usize, width: usize) -> bool
     width <= 32700 && (rows + 1) * width <= 32700
 }
 
-#[tactic(auto, using(crate::proofs::ReadyLemmas::new_is))]
+#[tactic(auto, using(flush_order::proofs::ReadyLemmas::new_is))]
 /// The table of a new row.
 fn table_at(changes: &RowChanges, row: u32) -> TableId
     requires { row < length changes.now.fresh }
@@ -71,117 +70,115 @@ fn push_run(
     Ok(())
 }
 
-impl<'a> NewRows<'a> {
-    /// Whether the key of a new row is generated.
-    fn leaves_key(&self, row: u32) -> bool
-        requires ready { AreReady self.now.schema.now self.now.changes.now self.now.rows.now }
-        requires within { row < length self.now.rows.now }
-        ensures { result ≡ leaves_key self.now.schema.now self.now.changes.now row }
-    {
-        let ready = self.at(row);
-        let columns = self.schema.spec(ready.table).columns.as_slice();
-        self.schema.generated(ready.table) && some_nothing(columns, ready.first.as_slice())
-    }
+/// Whether the key of a new row is generated.
+fn leaves_key(new: &NewRows, row: u32) -> bool
+    requires ready { AreReady new.now.schema.now new.now.changes.now new.now.rows.now }
+    requires within { row < length new.now.rows.now }
+    ensures { result ≡ leaves_key new.now.schema.now new.now.changes.now row }
+{
+    let ready = new.at(row);
+    let columns = new.schema.spec(ready.table).columns.as_slice();
+    new.schema.generated(ready.table) && some_nothing(columns, ready.first.as_slice())
+}
 
-    /// How many columns the INSERT of a new row writes.
-    fn width(&self, row: u32) -> usize
-        requires ready { AreReady self.now.schema.now self.now.changes.now self.now.rows.now }
-        requires within { row < length self.now.rows.now }
-        ensures { result ≡ width self.now.schema.now self.now.changes.now row }
-    {
-        let columns = self.schema.spec(self.at(row).table).columns.len();
-        if self.leaves_key(row) {
-            columns.saturating_sub(1)
-        } else {
-            columns
+/// How many columns the INSERT of a new row writes.
+fn width(new: &NewRows, row: u32) -> usize
+    requires ready { AreReady new.now.schema.now new.now.changes.now new.now.rows.now }
+    requires within { row < length new.now.rows.now }
+    ensures { result ≡ width new.now.schema.now new.now.changes.now row }
+{
+    let columns = new.schema.spec(new.at(row).table).columns.len();
+    if leaves_key(new, row) {
+        columns.saturating_sub(1)
+    } else {
+        columns
+    }
+}
+
+/// Whether one INSERT can carry two rows, of which the second stands first.
+fn goes_with(new: &NewRows, row: u32, other: u32) -> bool
+    requires ready { AreReady new.now.schema.now new.now.changes.now new.now.rows.now }
+    requires row { row < length new.now.rows.now }
+    requires other { other < length new.now.rows.now }
+    ensures { result ≡ goes_with new.now.schema.now new.now.changes.now row other }
+{
+    new.at(other).table.0 == new.at(row).table.0
+        && leaves_key(new, other) == leaves_key(new, row)
+        && !new.waits(row, other)
+}
+
+#[tactic(auto, using(crate::proofs::RunSteps::all_steps))]
+/// Whether it can carry a row with all of these.
+fn goes_with_all(new: &NewRows, run: &[u32], row: u32) -> bool
+    requires ready { AreReady new.now.schema.now new.now.changes.now new.now.rows.now }
+    requires run { All (λ other. other < length new.now.rows.now) run.now }
+    requires row { row < length new.now.rows.now }
+    ensures { result
+        ≡ list_all (goes_with new.now.schema.now new.now.changes.now row) run.now }
+{
+    for other in run {
+        if !goes_with(new, row, *other) {
+            return false;
         }
     }
+    true
+}
 
-    /// Whether one INSERT can carry two rows, of which the second stands first.
-    fn goes_with(&self, row: u32, other: u32) -> bool
-        requires ready { AreReady self.now.schema.now self.now.changes.now self.now.rows.now }
-        requires row { row < length self.now.rows.now }
-        requires other { other < length self.now.rows.now }
-        ensures { result ≡ goes_with self.now.schema.now self.now.changes.now row other }
-    {
-        self.at(other).table.0 == self.at(row).table.0
-            && self.leaves_key(other) == self.leaves_key(row)
-            && !self.waits(row, other)
-    }
+/// Whether a row can stand behind these in one INSERT.
+fn joins(new: &NewRows, run: &[u32], row: u32) -> bool
+    requires ready { AreReady new.now.schema.now new.now.changes.now new.now.rows.now }
+    requires run { All (λ other. other < length new.now.rows.now) run.now }
+    requires row { row < length new.now.rows.now }
+    ensures { result ≡ joins new.now.schema.now new.now.changes.now run.now row }
+{
+    let width = width(new, row);
+    run.len() < 1000 && width > 0 && is_within(run.len(), width) && goes_with_all(new, run, row)
+}
 
-    #[tactic(auto, using(crate::proofs::RunSteps::all_steps))]
-    /// Whether it can carry a row with all of these.
-    fn goes_with_all(&self, run: &[u32], row: u32) -> bool
-        requires ready { AreReady self.now.schema.now self.now.changes.now self.now.rows.now }
-        requires run { All (λ other. other < length self.now.rows.now) run.now }
-        requires row { row < length self.now.rows.now }
-        ensures { result
-            ≡ list_all (goes_with self.now.schema.now self.now.changes.now row) run.now }
-    {
-        for other in run {
-            if !self.goes_with(row, *other) {
-                return false;
-            }
-        }
-        true
+#[tactic(auto, using(crate::proofs::RunSteps::take_steps))]
+/// The next row goes into the run, or ends it and begins another.
+fn take_row(
+    new: &NewRows,
+    alloc: Global,
+    statements: &mut Vec<Planned>,
+    run: &mut Vec<u32>,
+    row: u32,
+) -> Result<(), Refusal>
+    requires ready { AreReady new.now.schema.now new.now.changes.now new.now.rows.now }
+    requires run { All (λ other. other < length new.now.rows.now) run.old.items }
+    requires row { row < length new.now.rows.now }
+    ensures cut { OnOk result ((rest : List ℕ) → statements.new.items
+        ++ map (insert_run new.now.changes.now)
+        (cut new.now.schema.now new.now.changes.now run.new.items rest)
+        ≡ statements.old.items ++ map (insert_run new.now.changes.now)
+        (cut new.now.schema.now new.now.changes.now run.old.items (row ∷ rest))) }
+    ensures within { OnOk result
+        (All (λ other. other < length new.now.rows.now) run.new.items) }
+    ensures cause { IfErr result (λ e. e ≡ Memory) }
+{
+    if !joins(new, run.as_slice(), row) {
+        push_run(statements, alloc, new.changes, run.as_slice())?;
+        run.clear();
     }
+    run.push(row)?;
+    Ok(())
+}
 
-    /// Whether a row can stand behind these in one INSERT.
-    fn joins(&self, run: &[u32], row: u32) -> bool
-        requires ready { AreReady self.now.schema.now self.now.changes.now self.now.rows.now }
-        requires run { All (λ other. other < length self.now.rows.now) run.now }
-        requires row { row < length self.now.rows.now }
-        ensures { result ≡ joins self.now.schema.now self.now.changes.now run.now row }
-    {
-        let width = self.width(row);
-        run.len() < 1000 && width > 0 && is_within(run.len(), width) && self.goes_with_all(run, row)
+#[tactic(auto, using(crate::proofs::RunSteps::cut_steps))]
+/// The INSERTs of rows in this order. The only refusal is `Memory`.
+pub fn inserts(new: &NewRows, alloc: Global, order: &[u32]) -> Result<Vec<Planned>, Refusal>
+    requires ready { AreReady new.now.schema.now new.now.changes.now new.now.rows.now }
+    requires within { All (λ row. row < length new.now.rows.now) order.now }
+    ensures inserts { IfOk result (λ statements. statements.items
+        ≡ map (insert_run new.now.changes.now)
+        (runs new.now.schema.now new.now.changes.now order.now)) }
+    ensures cause { IfErr result (λ e. e ≡ Memory) }
+{
+    let mut statements = Vec::new(alloc);
+    let mut run = Vec::new(alloc);
+    for row in order {
+        take_row(new, alloc, &mut statements, &mut run, *row)?;
     }
-
-    #[tactic(auto, using(crate::proofs::RunSteps::take_steps))]
-    /// The next row goes into the run, or ends it and begins another.
-    fn take_row(
-        &self,
-        alloc: Global,
-        statements: &mut Vec<Planned>,
-        run: &mut Vec<u32>,
-        row: u32,
-    ) -> Result<(), Refusal>
-        requires ready { AreReady self.now.schema.now self.now.changes.now self.now.rows.now }
-        requires run { All (λ other. other < length self.now.rows.now) run.old.items }
-        requires row { row < length self.now.rows.now }
-        ensures cut { OnOk result ((rest : List ℕ) → statements.new.items
-            ++ map (insert_run self.now.changes.now)
-            (cut self.now.schema.now self.now.changes.now run.new.items rest)
-            ≡ statements.old.items ++ map (insert_run self.now.changes.now)
-            (cut self.now.schema.now self.now.changes.now run.old.items (row ∷ rest))) }
-        ensures within { OnOk result
-            (All (λ other. other < length self.now.rows.now) run.new.items) }
-        ensures cause { IfErr result (λ e. e ≡ Memory) }
-    {
-        if !self.joins(run.as_slice(), row) {
-            push_run(statements, alloc, self.changes, run.as_slice())?;
-            run.clear();
-        }
-        run.push(row)?;
-        Ok(())
-    }
-
-    #[tactic(auto, using(crate::proofs::RunSteps::cut_steps))]
-    /// The INSERTs of rows in this order. The only refusal is `Memory`.
-    pub fn inserts(&self, alloc: Global, order: &[u32]) -> Result<Vec<Planned>, Refusal>
-        requires ready { AreReady self.now.schema.now self.now.changes.now self.now.rows.now }
-        requires within { All (λ row. row < length self.now.rows.now) order.now }
-        ensures inserts { IfOk result (λ statements. statements.items
-            ≡ map (insert_run self.now.changes.now)
-            (runs self.now.schema.now self.now.changes.now order.now)) }
-        ensures cause { IfErr result (λ e. e ≡ Memory) }
-    {
-        let mut statements = Vec::new(alloc);
-        let mut run = Vec::new(alloc);
-        for row in order {
-            self.take_row(alloc, &mut statements, &mut run, *row)?;
-        }
-        push_run(&mut statements, alloc, self.changes, run.as_slice())?;
-        Ok(statements)
-    }
+    push_run(&mut statements, alloc, new.changes, run.as_slice())?;
+    Ok(statements)
 }

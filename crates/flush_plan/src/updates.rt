@@ -5,16 +5,15 @@ ghost use Rattle.std.specs.List.{All, filter, range_with_len};
 ghost use Rattle.base_core.specs.declared.refusal.Refusal.TheVariants.{Memory};
 ghost use Rattle.schema_core.specs.declared.changes.RowCell.TheVariants.{KeyOf};
 ghost use Rattle.schema_core.specs.Catalog.{IsTable};
-ghost use Rattle.flush_plan.specs.Cells.{key_parts};
+ghost use Rattle.flush_order.specs.Cells.{key_parts};
 ghost use Rattle.flush_plan.specs.Planning.{by_place, cells_when, is_of, key_at, late_gone, late_in, late_new, late_old, late_updates, late_updates_of, late_writings, no_writing, place_of_changed, update_of, updates, updates_to, writing_some};
-ghost use Rattle.flush_plan.specs.Ready.{AreInRange, AreReady, IsInTable};
+ghost use Rattle.flush_order.specs.Ready.{AreInRange, AreReady, IsInTable};
 
-use crate::refers::NewRows;
-use crate::sorted::sorted_numbers;
 use crate::writings::{
     Cells, Place, Writing, cells_when, late_gone, place_of_changed, push_late, update_of,
 };
 use base_core::{Copied, ListOf, Refusal, TableId};
+use flush_order::{NewRows, sorted_numbers};
 use schema_core::{ChangedRow, ColumnSpec, Planned, RowCell, RowChanges, Schema};
 use std::alloc::Global;
 
@@ -230,98 +229,88 @@ fn push_parts(
     Ok(())
 }
 
-impl<'a> NewRows<'a> {
-    #[tactic(auto, using(crate::proofs::WritingSteps::narrow_at))]
-    /// The parts of a new row's key.
-    fn key_at(&self, alloc: Global, row: u32) -> Result<ListOf<RowCell>, Refusal>
-        requires ready { AreReady self.now.schema.now self.now.changes.now self.now.rows.now }
-        requires range { AreInRange self.now.schema.now self.now.changes.now }
-        requires within { row < length self.now.rows.now }
-        ensures key { IfOk result
-            (λ key. key ≡ key_at self.now.schema.now self.now.changes.now row) }
-        ensures cause { IfErr result (λ e. e ≡ Memory) }
-    {
-        let ready = self.at(row);
-        let mut key = ListOf::new(alloc);
-        let columns = self.schema.spec(ready.table).columns.as_slice();
-        push_parts(&mut key, row, 0, columns, ready.first.as_slice())?;
-        Ok(key)
-    }
+#[tactic(auto, using(crate::proofs::WritingSteps::narrow_at))]
+/// The parts of a new row's key.
+fn key_at(new: &NewRows, alloc: Global, row: u32) -> Result<ListOf<RowCell>, Refusal>
+    requires ready { AreReady new.now.schema.now new.now.changes.now new.now.rows.now }
+    requires range { AreInRange new.now.schema.now new.now.changes.now }
+    requires within { row < length new.now.rows.now }
+    ensures key { IfOk result
+        (λ key. key ≡ key_at new.now.schema.now new.now.changes.now row) }
+    ensures cause { IfErr result (λ e. e ≡ Memory) }
+{
+    let ready = new.at(row);
+    let mut key = ListOf::new(alloc);
+    let columns = new.schema.spec(ready.table).columns.as_slice();
+    push_parts(&mut key, row, 0, columns, ready.first.as_slice())?;
+    Ok(key)
+}
 
-    #[tactic(auto, using(crate::proofs::WritingSteps::narrow_at, crate::proofs::ReadyLemmas::new_is))]
-    /// What is written into a new row once all rows stand.
-    fn late_new(&self, alloc: Global, row: u32) -> Result<Cells, Refusal>
-        requires ready { AreReady self.now.schema.now self.now.changes.now self.now.rows.now }
-        requires range { AreInRange self.now.schema.now self.now.changes.now }
-        requires within { row < length self.now.rows.now }
-        ensures cells { IfOk result
-            (λ cells. cells ≡ late_new self.now.schema.now self.now.changes.now row) }
-        ensures cause { IfErr result (λ e. e ≡ Memory) }
-    {
-        let table = self.at(row).table;
-        let columns = self.schema.spec(table).columns.as_slice();
-        let cells = self.changes.fresh.at(row as usize).cells.as_slice();
-        let mut late = ListOf::new(alloc);
-        push_late(
-            &mut late,
-            self.schema,
-            self.changes,
-            table,
-            0,
-            columns,
-            cells,
-        )?;
-        Ok(late)
-    }
+#[tactic(auto, using(crate::proofs::WritingSteps::narrow_at, flush_order::proofs::ReadyLemmas::new_is))]
+/// What is written into a new row once all rows stand.
+fn late_new(new: &NewRows, alloc: Global, row: u32) -> Result<Cells, Refusal>
+    requires ready { AreReady new.now.schema.now new.now.changes.now new.now.rows.now }
+    requires range { AreInRange new.now.schema.now new.now.changes.now }
+    requires within { row < length new.now.rows.now }
+    ensures cells { IfOk result
+        (λ cells. cells ≡ late_new new.now.schema.now new.now.changes.now row) }
+    ensures cause { IfErr result (λ e. e ≡ Memory) }
+{
+    let table = new.at(row).table;
+    let columns = new.schema.spec(table).columns.as_slice();
+    let cells = new.changes.fresh.at(row as usize).cells.as_slice();
+    let mut late = ListOf::new(alloc);
+    push_late(&mut late, new.schema, new.changes, table, 0, columns, cells)?;
+    Ok(late)
+}
 
-    /// Puts the UPDATE that is due to a new row once all rows stand behind others, where it is of this table and writes
-    /// some cell.
-    fn push_late_new(
-        &self,
-        out: &mut Vec<Planned>,
-        alloc: Global,
-        table: TableId,
-        row: u32,
-    ) -> Result<(), Refusal>
-        requires ready { AreReady self.now.schema.now self.now.changes.now self.now.rows.now }
-        requires range { AreInRange self.now.schema.now self.now.changes.now }
-        requires within { row < length self.now.rows.now }
-        ensures update { OnOk result (out.new.items ≡ out.old.items
-            ++ late_updates_of self.now.schema.now self.now.changes.now table (row ∷ [])) }
-        ensures cause { IfErr result (λ e. e ≡ Memory) }
-    {
-        if self.at(row).table.0 != table.0 {
-            return Ok(());
-        }
-        let cells = self.late_new(alloc, row)?;
-        if cells.is_empty() {
-            return Ok(());
-        }
-        let key = self.key_at(alloc, row)?;
-        out.push(Planned::Update { table, key, cells })?;
-        Ok(())
+/// Puts the UPDATE that is due to a new row once all rows stand behind others, where it is of this table and writes
+/// some cell.
+fn push_late_new(
+    new: &NewRows,
+    out: &mut Vec<Planned>,
+    alloc: Global,
+    table: TableId,
+    row: u32,
+) -> Result<(), Refusal>
+    requires ready { AreReady new.now.schema.now new.now.changes.now new.now.rows.now }
+    requires range { AreInRange new.now.schema.now new.now.changes.now }
+    requires within { row < length new.now.rows.now }
+    ensures update { OnOk result (out.new.items ≡ out.old.items
+        ++ late_updates_of new.now.schema.now new.now.changes.now table (row ∷ [])) }
+    ensures cause { IfErr result (λ e. e ≡ Memory) }
+{
+    if new.at(row).table.0 != table.0 {
+        return Ok(());
     }
+    let cells = late_new(new, alloc, row)?;
+    if cells.is_empty() {
+        return Ok(());
+    }
+    let key = key_at(new, alloc, row)?;
+    out.push(Planned::Update { table, key, cells })?;
+    Ok(())
+}
 
-    /// Puts what is written into new rows of a table once all rows stand behind others, in this order.
-    fn push_all_late_new(
-        &self,
-        out: &mut Vec<Planned>,
-        alloc: Global,
-        table: TableId,
-        order: &[u32],
-    ) -> Result<(), Refusal>
-        requires ready { AreReady self.now.schema.now self.now.changes.now self.now.rows.now }
-        requires range { AreInRange self.now.schema.now self.now.changes.now }
-        requires within { All (λ row. row < length self.now.rows.now) order.now }
-        ensures updates { OnOk result (out.new.items ≡ out.old.items
-            ++ late_updates_of self.now.schema.now self.now.changes.now table order.now) }
-        ensures cause { IfErr result (λ e. e ≡ Memory) }
-    {
-        for row in order {
-            self.push_late_new(out, alloc, table, *row)?;
-        }
-        Ok(())
+/// Puts what is written into new rows of a table once all rows stand behind others, in this order.
+fn push_all_late_new(
+    new: &NewRows,
+    out: &mut Vec<Planned>,
+    alloc: Global,
+    table: TableId,
+    order: &[u32],
+) -> Result<(), Refusal>
+    requires ready { AreReady new.now.schema.now new.now.changes.now new.now.rows.now }
+    requires range { AreInRange new.now.schema.now new.now.changes.now }
+    requires within { All (λ row. row < length new.now.rows.now) order.now }
+    ensures updates { OnOk result (out.new.items ≡ out.old.items
+        ++ late_updates_of new.now.schema.now new.now.changes.now table order.now) }
+    ensures cause { IfErr result (λ e. e ≡ Memory) }
+{
+    for row in order {
+        push_late_new(new, out, alloc, table, *row)?;
     }
+    Ok(())
 }
 
 /// Puts what is written into an old row behind others, where it is of this table.
@@ -358,51 +347,50 @@ fn push_late_old(
     Ok(())
 }
 
-impl<'a> NewRows<'a> {
-    /// Puts what is written in one table once all rows stand behind others.
-    fn push_table(
-        &self,
-        out: &mut Vec<Planned>,
-        alloc: Global,
-        table: TableId,
-        order: &[u32],
-        old: &[Writing],
-    ) -> Result<(), Refusal>
-        requires ready { AreReady self.now.schema.now self.now.changes.now self.now.rows.now }
-        requires range { AreInRange self.now.schema.now self.now.changes.now }
-        requires within { All (λ row. row < length self.now.rows.now) order.now }
-        requires old { old.now ≡ late_old self.now.schema.now self.now.changes.now }
-        ensures table { OnOk result (out.new.items ≡ out.old.items
-            ++ late_in self.now.schema.now self.now.changes.now order.now table) }
-        ensures cause { IfErr result (λ e. e ≡ Memory) }
-    {
-        self.push_all_late_new(out, alloc, table, order)?;
-        push_late_old(out, alloc, table, old)?;
-        Ok(())
-    }
+/// Puts what is written in one table once all rows stand behind others.
+fn push_table(
+    new: &NewRows,
+    out: &mut Vec<Planned>,
+    alloc: Global,
+    table: TableId,
+    order: &[u32],
+    old: &[Writing],
+) -> Result<(), Refusal>
+    requires ready { AreReady new.now.schema.now new.now.changes.now new.now.rows.now }
+    requires range { AreInRange new.now.schema.now new.now.changes.now }
+    requires within { All (λ row. row < length new.now.rows.now) order.now }
+    requires old { old.now ≡ late_old new.now.schema.now new.now.changes.now }
+    ensures table { OnOk result (out.new.items ≡ out.old.items
+        ++ late_in new.now.schema.now new.now.changes.now order.now table) }
+    ensures cause { IfErr result (λ e. e ≡ Memory) }
+{
+    push_all_late_new(new, out, alloc, table, order)?;
+    push_late_old(out, alloc, table, old)?;
+    Ok(())
+}
 
-    #[tactic(auto, using(crate::proofs::LateSteps::late_end))]
-    /// What is written once all rows stand, table by table: into new rows in this order, and then into the others by key. The
-    /// only refusal is `Memory`.
-    pub fn late_updates(&self, alloc: Global, order: &[u32]) -> Result<Vec<Planned>, Refusal>
-        requires ready { AreReady self.now.schema.now self.now.changes.now self.now.rows.now }
-        requires range { AreInRange self.now.schema.now self.now.changes.now }
-        requires within { All (λ row. row < length self.now.rows.now) order.now }
-        ensures updates { IfOk result (λ statements. statements.items
-            ≡ late_updates self.now.schema.now self.now.changes.now order.now) }
-        ensures cause { IfErr result (λ e. e ≡ Memory) }
-    {
-        let old = late_old(alloc, self.schema, self.changes)?;
-        let mut statements = Vec::new(alloc);
-        for number in 0..self.schema.count() {
-            self.push_table(
-                &mut statements,
-                alloc,
-                TableId(number),
-                order,
-                old.as_slice(),
-            )?;
-        }
-        Ok(statements)
+#[tactic(auto, using(crate::proofs::LateSteps::late_end))]
+/// What is written once all rows stand, table by table: into new rows in this order, and then into the others by key. The
+/// only refusal is `Memory`.
+pub fn late_updates(new: &NewRows, alloc: Global, order: &[u32]) -> Result<Vec<Planned>, Refusal>
+    requires ready { AreReady new.now.schema.now new.now.changes.now new.now.rows.now }
+    requires range { AreInRange new.now.schema.now new.now.changes.now }
+    requires within { All (λ row. row < length new.now.rows.now) order.now }
+    ensures updates { IfOk result (λ statements. statements.items
+        ≡ late_updates new.now.schema.now new.now.changes.now order.now) }
+    ensures cause { IfErr result (λ e. e ≡ Memory) }
+{
+    let old = late_old(alloc, new.schema, new.changes)?;
+    let mut statements = Vec::new(alloc);
+    for number in 0..new.schema.count() {
+        push_table(
+            new,
+            &mut statements,
+            alloc,
+            TableId(number),
+            order,
+            old.as_slice(),
+        )?;
     }
+    Ok(statements)
 }

@@ -6,15 +6,15 @@ ghost use Rattle.base_core.specs.declared.refusal.Refusal.TheVariants.{Memory};
 ghost use Rattle.base_core.specs.declared.value.Value.TheVariants.{Null};
 ghost use Rattle.schema_core.specs.declared.changes.RowCell.TheVariants.{Given};
 ghost use Rattle.schema_core.specs.Catalog.{IsTable, spec_of};
-ghost use Rattle.flush_plan.specs.Cells.{is_late};
-ghost use Rattle.flush_plan.specs.Planning.{cells_when, is_written_when, late_gone, numbered, place_of_changed, place_of_gone, update_of};
-ghost use Rattle.flush_plan.specs.Ready.{AreInRange, IsInTable};
-ghost use Rattle.flush_plan.specs.Refers.{gone_key};
+ghost use Rattle.flush_order.specs.Cells.{is_late};
+ghost use Rattle.flush_order.specs.Orders.{place_of_gone};
+ghost use Rattle.flush_plan.specs.Planning.{cells_when, is_written_when, late_gone, numbered, place_of_changed, update_of};
+ghost use Rattle.flush_order.specs.Ready.{AreInRange, IsInTable};
+ghost use Rattle.flush_order.specs.Refers.{gone_key};
 
-use crate::cells::is_late;
-use crate::ready::push_key;
 use crate::runs::is_nothing;
 use base_core::{ColumnNo, Copied, Key, ListOf, Refusal, TableId, Value};
+use flush_order::{is_late, push_key};
 use schema_core::{ChangedRow, ColumnSpec, GoneRow, Planned, RowCell, RowChanges, Schema};
 use std::alloc::Global;
 

@@ -1,6 +1,6 @@
 -- Lines of the block of a class are read as their forms say.
 use Rattle.std.proofs.Common.{◌≡◌, ℕ, zero, suc, ◌+◌, Bool, true, false, ◌||◌, if◌then◌else◌, List, [], ◌∷◌, ◌++◌, drop, length, Option, None, Ok, Err, refl, ap, sym, subst, ◌∙◌, append-nil, inl, inr, arith}
-use Rattle.mapper_types.specs.declared.declared.Cascade.{Cascade}
+use Rattle.class_types.specs.declared.declared.Cascade.{Cascade}
 use Rattle.script_types.specs.declared.command.Command.TheVariants as c
 use Rattle.script_lex.specs.declared.kind.Kind.{Kind}
 use Rattle.script_lex.specs.declared.kind.Kind.TheVariants as k

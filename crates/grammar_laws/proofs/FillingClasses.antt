@@ -1,6 +1,6 @@
 -- What the forms of the lines of a class's block say is read.
 use Rattle.std.proofs.Common.{◌≡◌, ℕ, zero, suc, ◌+◌, ◌≤◌, Bool, true, false, ◌||◌, if◌then◌else◌, List, [], ◌∷◌, ◌++◌, drop, length, Option, None, Ok, Err, refl, ap, sym, subst, ◌∙◌, append_assoc, length-append, inl, inr, arith}
-use Rattle.mapper_types.specs.declared.declared.Cascade.{Cascade}
+use Rattle.class_types.specs.declared.declared.Cascade.{Cascade}
 use Rattle.script_types.specs.declared.command.Command.TheVariants as c
 use Rattle.script_lex.specs.declared.kind.Kind.{Kind}
 use Rattle.script_lex.specs.declared.kind.Kind.TheVariants as k

@@ -2,7 +2,7 @@
 
 use crate::fixture::{is_made, key, keys_alone};
 use base_core::{AttrNo, ClassId, Kind, ObjId, Refusal, RequestKind, Value};
-use mapper_core::Mapping;
+use class_mapping::Mapping;
 use object_arena::{Arena, CellRead, State};
 use std::alloc::Global;
 use std::test::Fail;
@@ -15,6 +15,17 @@ fn answers(
     held: Value,
 ) -> Result<bool, Refusal> {
     let mapping = keys_alone(alloc)?;
+    gives(alloc, &*mapping, value, answer, held)
+}
+
+/// The same over a mapping.
+fn gives(
+    alloc: Global,
+    mapping: &Mapping,
+    value: Value,
+    answer: Result<(), Refusal>,
+    held: Value,
+) -> Result<bool, Refusal> {
     if mapping.count() == 0 || !mapping.is_configured() {
         return Ok(false);
     }
@@ -22,8 +33,8 @@ fn answers(
         return Ok(false);
     }
     let mut arena = Arena::new(alloc);
-    let object = arena.make(&mapping, ClassId(0))?;
-    let given = arena.set_cell(&mapping, object, AttrNo(0), value);
+    let object = arena.make(mapping, ClassId(0))?;
+    let given = arena.set_cell(mapping, object, AttrNo(0), value);
     Ok(given == answer && shows(&arena, object, held))
 }
 
@@ -107,15 +118,20 @@ fn second_stands(alloc: Global, arena: &mut Arena) -> Result<bool, Refusal> {
     stands(alloc, arena, ObjId(2))
 }
 
+/// Whether two objects stand for the key one after the other, and none does in the end.
+fn stand_in_turn(alloc: Global, arena: &mut Arena) -> Result<bool, Refusal> {
+    if arena.count() != 2 || !first_stands(alloc, arena)? || !second_stands(alloc, arena)? {
+        return Ok(false);
+    }
+    put_back(arena, ObjId(2));
+    Ok(!stands(alloc, arena, ObjId(2))?)
+}
+
 #[test]
 fn one_object_stands_for_a_key_until_it_leaves(rt: HostRuntime) -> Result<(), Fail> {
     let alloc = rt.alloc();
     let mapping = keys_alone(alloc)?;
-    let mut arena = two(alloc, &mapping)?;
-    assert!(rt; arena.count() == 2);
-    assert!(rt; first_stands(alloc, &mut arena)?);
-    assert!(rt; second_stands(alloc, &mut arena)?);
-    put_back(&mut arena, ObjId(2));
-    assert!(rt; !stands(alloc, &arena, ObjId(2))?);
+    let mut arena = two(alloc, &*mapping)?;
+    assert!(rt; stand_in_turn(alloc, &mut arena)?);
     Ok(())
 }

@@ -3,7 +3,7 @@
 use crate::fixture::keys_alone;
 use base_core::{ClassId, ObjSet, Refusal};
 use cascades::{delete_closure, expire_closure, expunge_closure, save_closure};
-use mapper_core::Mapping;
+use class_mapping::Mapping;
 use object_arena::Arena;
 use std::alloc::Global;
 use std::test::Fail;
@@ -32,6 +32,6 @@ fn alone(alloc: Global, mapping: &Mapping) -> Result<bool, Refusal> {
 #[test]
 fn an_object_without_links_is_its_closure(rt: HostRuntime) -> Result<(), Fail> {
     let mapping = keys_alone(rt.alloc())?;
-    assert!(rt; alone(rt.alloc(), &mapping)?);
+    assert!(rt; alone(rt.alloc(), &*mapping)?);
     Ok(())
 }

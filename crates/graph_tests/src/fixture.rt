@@ -4,7 +4,8 @@ ghost use Rattle.std.specs.Prelude.{IsTrue};
 ghost use Rattle.object_arena.specs.Graph.{IsObject};
 
 use base_core::{Key, ListOf, Name, ObjId, Refusal, Value};
-use mapper_core::{ClassSpec, Mapping, is_plain_root};
+use class_mapping::Mapping;
+use class_types::{ClassSpec, Hooks};
 use object_arena::Arena;
 use schema_core::{ColumnKind, ColumnSpec, TableSpec};
 use std::alloc::{AllocError, Global};
@@ -46,24 +47,33 @@ fn over_users(alloc: Global) -> Result<ClassSpec, AllocError> {
     })
 }
 
+/// Declares the table of users, of these columns, and the class over it, where numbers are left for them.
+fn declare_users(
+    alloc: Global,
+    mapping: &mut Mapping,
+    columns: &[(&str, ColumnKind, bool)],
+) -> Result<(), Refusal> {
+    if mapping.schema().count() < u32::MAX {
+        mapping.declare_table(users(alloc, columns)?)?;
+    }
+    if mapping.count() < u32::MAX {
+        mapping.declare_class(over_users(alloc)?, &Hooks::new(alloc))?;
+    }
+    Ok(())
+}
+
 /// A mapping with the table of users, of these columns, and the class over it.
 pub(crate) fn declared(
     alloc: Global,
     columns: &[(&str, ColumnKind, bool)],
-) -> Result<Mapping, Refusal> {
-    let mut mapping = Mapping::new(alloc);
-    if mapping.schema().count() < u32::MAX {
-        mapping.declare_table(users(alloc, columns)?)?;
-    }
-    let class = over_users(alloc)?;
-    if mapping.count() < u32::MAX && is_plain_root(&class) {
-        mapping.declare_class(class)?;
-    }
+) -> Result<Box<Mapping>, Refusal> {
+    let mut mapping = Box::new(alloc, Mapping::new(alloc))?;
+    declare_users(alloc, &mut *mapping, columns)?;
     Ok(mapping)
 }
 
 /// The mapping of a table with an integer key alone.
-pub(crate) fn keys_alone(alloc: Global) -> Result<Mapping, Refusal> {
+pub(crate) fn keys_alone(alloc: Global) -> Result<Box<Mapping>, Refusal> {
     let mut mapping = declared(alloc, &[("id", ColumnKind::Integer, true)])?;
     mapping.configure()?;
     Ok(mapping)

@@ -2,7 +2,7 @@
 
 use crate::fixture::{declared, name};
 use base_core::{AttrNo, ClassId, ColumnNo, Kind, TableId};
-use mapper_core::Mapping;
+use class_mapping::Mapping;
 use schema_core::ColumnKind;
 use std::test::Fail;
 
@@ -37,6 +37,6 @@ fn a_class_has_the_columns_of_its_table_and_its_key(rt: HostRuntime) -> Result<(
     mapping.configure()?;
     let user = mapping.find_class(&name(alloc, "User")?);
     assert_eq!(rt; user, Some(ClassId(0)));
-    assert!(rt; has_columns(&mapping, ClassId(0)));
+    assert!(rt; has_columns(&*mapping, ClassId(0)));
     Ok(())
 }

@@ -4,7 +4,7 @@ ghost use Rattle.object_arena.specs.Graph.{IsObject};
 
 use crate::fixture::{is_made, key, keys_alone};
 use base_core::{AttrNo, ClassId, Key, LimitKind, ObjId, Refusal, Value};
-use mapper_core::Mapping;
+use class_mapping::Mapping;
 use object_arena::{Arena, CellRead, State};
 use savepoints::Frames;
 use std::alloc::Global;
@@ -114,7 +114,7 @@ fn played(alloc: Global, acts: &[Act]) -> Result<(Arena, u32), Refusal> {
     let mut arena = Arena::new(alloc);
     let mut frames = Frames::new(alloc);
     for act in acts {
-        play_one(alloc, &mapping, &mut arena, &mut frames, act)?;
+        play_one(alloc, &*mapping, &mut arena, &mut frames, act)?;
     }
     let depth = frames.depth();
     Ok((arena, depth))

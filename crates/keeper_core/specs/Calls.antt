@@ -1,5 +1,5 @@
 -- What each call of a keeper does to a store that is told.
-use Rattle.std.specs.Prelude.{◌≡◌, ℕ, ◌-◌, Bool, true, false, List, [], ◌∷◌, map, length, drop, slice_index_or, Option, Result, Ok, Err, if◌then◌else◌}
+use Rattle.std.specs.Prelude.{ℕ, ◌-◌, Bool, true, false, List, [], ◌∷◌, map, length, drop, slice_index_or, Option, Result, Ok, Err, if◌then◌else◌}
 use Rattle.std.specs.Option.{option_map}
 use Rattle.base_core.specs.declared.ids.TableId.{TableId}
 use Rattle.base_core.specs.declared.value.Value.{Value}
@@ -21,14 +21,14 @@ use Rattle.programs.specs.Programs.{Run, Sends, quiet, give}
 use Rattle.schema_core.specs.Apply.{Outcome, apply, table_of}
 use Rattle.schema_core.specs.Catalog.{Catalog}
 use Rattle.schema_core.specs.Refusals.{violation_refusal}
-use Rattle.schema_core.specs.Tables.{rows_in}
+use Rattle.schema_core.specs.Tables.{is_created, rows_in}
 use Rattle.expr_types.specs.declared.select.Select.{Select}
 use Rattle.sql_semantics.specs.Created.{bare}
 use Rattle.sql_semantics.specs.Rows.{answer}
 use Rattle.expr_types.specs.declared.select.Bulk.{Bulk}
 use Rattle.sql_semantics.specs.Applied.{applied}
 use Rattle.sql_semantics.specs.Applied as bulks
-use Rattle.programs.specs.Store.{Store, committed_of, is_created, created, dropped}
+use Rattle.programs.specs.Store.{Store, committed_of, created, dropped}
 
 -- ---- refusals of a keeper as refusals of the layers above
 

@@ -7,7 +7,7 @@ use Rattle.base_core.specs.declared.refusal.Refusal.{Refusal}
 use Rattle.base_core.specs.declared.refusal.Refusal.TheVariants.{Memory, KeeperFault}
 use Rattle.base_core.specs.declared.value.Value.{Value}
 use Rattle.schema_core.specs.Catalog.{Catalog}
-use Rattle.schema_core.specs.Tables.{Tables, rows_in}
+use Rattle.schema_core.specs.Tables.{Tables, is_created, rows_in}
 use Rattle.sql_semantics.specs.Created.{bare}
 use Rattle.sql_semantics.specs.Shapes.{AreLegalRows, AreRows}
 use Rattle.programs.specs.declared.sent.Sent.{Sent}
@@ -16,7 +16,7 @@ use Rattle.programs.specs.declared.target.Target.{Target}
 use Rattle.programs.specs.declared.target.Target.TheVariants as targets
 use Rattle.programs.specs.Programs.{Run, after_events, ends_early, is_fault, is_of_tables, quiet, give}
 use Rattle.programs.specs.Moment.{AsTold, IsCutOff, IsRun, Keeps, Outcome, Ran, Refused, Runs, Stops, Told, counters}
-use Rattle.programs.specs.Store.{Store, committed_of, created, dropped, is_created, outermost}
+use Rattle.programs.specs.Store.{Store, committed_of, created, dropped, outermost}
 use Rattle.programs.proofs.Counts.{no_fault, own_is_no_fault}
 use Rattle.keeper_core.specs.Calls as call
 use Rattle.keeper_core.specs.Calls.{sends}

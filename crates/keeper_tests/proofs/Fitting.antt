@@ -3,6 +3,7 @@ use Rattle.std.proofs.Common.{◌≡◌, ℕ, ℤ, ◌<◌, ◌≤◌, Bool, tru
 use Rattle.std.proofs.Math.Bool.{or-true}
 use Rattle.std.specs.List.{filter, list_all, list_any}
 use Rattle.std.specs.Cmp.Lexicographic.{pointwise}
+use Rattle.base_core.proofs.Tests.{alike, and_then}
 use Rattle.base_core.specs.declared.ids.TableId.{TableId}
 use Rattle.base_core.specs.declared.value.Kind.TheVariants.{Integer}
 use Rattle.base_core.specs.declared.value.Value.{Value}
@@ -41,10 +42,6 @@ fits_int column n is = ap (λ kind. same_kind kind Integer) is
 holds_cell : (column : ColumnSpec) (n : Option ℤ) → kind_of column.kind ≡ Integer → may_hold column (cell n) ≡ true
 holds_cell column None is = refl
 holds_cell column (Some n) is = fits_int column n is
-
-alike : (b : Bool) → ((b && true) || not (b || false)) ≡ true
-alike true = refl
-alike false = refl
 
 -- one row makes a statement
 one_row : (spec : TableSpec) (row : List Value) → is_row spec row ≡ true → AreNewRows spec (row ∷ [])
@@ -98,26 +95,22 @@ first_of : (a b : Bool) → (a && b) ≡ true → a ≡ true
 first_of true b e = refl
 first_of false b e = cc
 
-rest_of : (a b : Bool) → (a && b) ≡ true → b ≡ true
-rest_of true b e = e
-rest_of false b e = cc
-
 all_hold : (schema : Catalog) (table : TableId) (rows : List (List Value)) → IsPair schema table → list_all is_open rows ≡ true → list_all (is_row (spec_of schema table)) rows ≡ true
 all_hold schema table [] is e = refl
 all_hold schema table (row ∷ rows) is e =
     ap (λ b. b && list_all (is_row (spec_of schema table)) rows) (open_holds schema table row is (first_of (is_open row) (list_all is_open rows) e))
-    ∙ all_hold schema table rows is (rest_of (is_open row) (list_all is_open rows) e)
+    ∙ all_hold schema table rows is (and_then (is_open row) (list_all is_open rows) e)
 
 all_want : (spec : TableSpec) (b : Bool) (rows : List (List Value)) → ((row : List Value) → is_open row ≡ true → wants_key spec row ≡ b) → list_all is_open rows ≡ true → (list_all (wants_key spec) rows || not b) ≡ true
 all_want spec false rows want e = or-true (list_all (wants_key spec) rows)
 all_want spec true [] want e = refl
 all_want spec true (row ∷ rows) want e =
-    ap (λ b. (b && list_all (wants_key spec) rows) || false) (want row (first_of (is_open row) (list_all is_open rows) e)) ∙ all_want spec true rows want (rest_of (is_open row) (list_all is_open rows) e)
+    ap (λ b. (b && list_all (wants_key spec) rows) || false) (want row (first_of (is_open row) (list_all is_open rows) e)) ∙ all_want spec true rows want (and_then (is_open row) (list_all is_open rows) e)
 
 any_wants : (spec : TableSpec) (b : Bool) (rows : List (List Value)) → ((row : List Value) → is_open row ≡ true → wants_key spec row ≡ b) → list_all is_open rows ≡ true → b ≡ false → list_any (wants_key spec) rows ≡ false
 any_wants spec b [] want e never = refl
 any_wants spec b (row ∷ rows) want e never =
-    ap (λ c. c || list_any (wants_key spec) rows) (want row (first_of (is_open row) (list_all is_open rows) e) ∙ never) ∙ any_wants spec b rows want (rest_of (is_open row) (list_all is_open rows) e) never
+    ap (λ c. c || list_any (wants_key spec) rows) (want row (first_of (is_open row) (list_all is_open rows) e) ∙ never) ∙ any_wants spec b rows want (and_then (is_open row) (list_all is_open rows) e) never
 
 all_alike : (spec : TableSpec) (b : Bool) (rows : List (List Value)) → ((row : List Value) → is_open row ≡ true → wants_key spec row ≡ b) → list_all is_open rows ≡ true
     → (list_all (wants_key spec) rows || not (list_any (wants_key spec) rows)) ≡ true

@@ -11,10 +11,10 @@ ghost use Rattle.schema_core.specs.WellFormed.{IsWellFormed};
 ghost use Rattle.keeper_tests.specs.Pair.{AreOpen, is_open};
 
 use crate::calls::Call;
-use crate::playing::{attached, said};
+use crate::playing::said;
 use crate::schema::{is_pair, two_tables};
 use base_core::{Key, KeyList, ListOf, RowList, RowValues, TableId, Value};
-use keeper_core::{Keeper, WriteRefusal};
+use keeper_core::{Keeper, Target, WriteRefusal};
 use keeper_mem::MemKeeper;
 use schema_core::{RowStmt, Schema};
 use std::alloc::{AllocError, Global};
@@ -77,7 +77,7 @@ fn fill(
     keeper: &mut MemKeeper,
     count: u16,
     different: u16,
-) -> Result<Option<Result<KeyList, WriteRefusal>>, Fail> {
+) -> Result<Option<Result<KeyList, WriteRefusal>>, AllocError> {
     if count == 0 || 1000 < count || different == 0 {
         return Ok(None);
     }
@@ -91,12 +91,37 @@ fn fill(
     Ok(Some(keeper.write(alloc, schema, &statement)))
 }
 
-/// Whether the answer is the keys from 1 to a number.
-fn are_first_keys(answer: &Option<Result<KeyList, WriteRefusal>>, count: usize) -> bool {
-    match answer {
-        Some(Ok(keys)) => keys.len() == count && are_numbered(keys.as_slice()),
+/// Whether an INSERT of so many rows is refused for its unique values, and leaves no row.
+fn is_not_unique(alloc: Global, schema: &Schema, keeper: &mut MemKeeper, count: u16) -> bool {
+    let answer = fill(alloc, schema, keeper, count, 999);
+    matches!(answer, Ok(Some(Err(WriteRefusal::Unique)))) && count_rows(alloc, schema, keeper) == 0
+}
+
+/// Whether an INSERT of so many rows answers the keys from 1 on, and leaves its rows.
+fn has_first_keys(alloc: Global, schema: &Schema, keeper: &mut MemKeeper, count: u16) -> bool {
+    match fill(alloc, schema, keeper, count, count) {
+        Ok(Some(Ok(keys))) => {
+            keys.len() == count as usize
+                && are_numbered(keys.as_slice())
+                && count_rows(alloc, schema, keeper) == count as usize
+        }
         _ => false,
     }
+}
+
+/// Whether a thousand rows are taken at once, and are refused at once where the last has the unique value of the first.
+fn takes_a_thousand(alloc: Global) -> bool {
+    let Ok(schema) = two_tables(alloc) else {
+        return false;
+    };
+    let Ok(mut keeper) = MemKeeper::new(alloc, &[]) else {
+        return false;
+    };
+    let _taken = keeper.attach(alloc, Target::Memory);
+    let _created = said(alloc, &schema, &mut keeper, &Call::Create(0));
+    let _begun = said(alloc, &schema, &mut keeper, &Call::Begin);
+    is_not_unique(alloc, &schema, &mut keeper, 1000)
+        && has_first_keys(alloc, &schema, &mut keeper, 1000)
 }
 
 /// More than 1000 rows make no statement.
@@ -115,18 +140,7 @@ fn one_open_key_alone()
 
 #[test]
 fn a_thousand_rows_are_one_statement(rt: HostRuntime) -> Result<(), Fail> {
-    let alloc = rt.alloc();
-    let schema = two_tables(alloc)?;
-    let mut keeper = attached(alloc, &[])?;
-    said(alloc, &schema, &mut keeper, &Call::Create(0))?;
-    said(alloc, &schema, &mut keeper, &Call::Begin)?;
-    // The last row has the unique value of the first.
-    let refused = fill(alloc, &schema, &mut keeper, 1000, 999)?;
-    assert!(rt; matches!(refused, Some(Err(WriteRefusal::Unique))));
-    assert_eq!(rt; count_rows(alloc, &schema, &mut keeper), 0);
-    let answer = fill(alloc, &schema, &mut keeper, 1000, 1000)?;
-    assert!(rt; are_first_keys(&answer, 1000));
-    assert_eq!(rt; count_rows(alloc, &schema, &mut keeper), 1000);
+    assert!(rt; takes_a_thousand(rt.alloc()));
     thousand_is_the_most();
     one_open_key_alone();
     Ok(())

@@ -12,7 +12,6 @@ use keeper_core::{Keeper, KeeperStop, QueryRefusal, Target, WriteRefusal};
 use keeper_mem::MemKeeper;
 use schema_core::{RowStmt, Schema};
 use std::alloc::Global;
-use std::test::Fail;
 
 fn digit(n: u64) -> u8 {
     b'0' + (n % 10) as u8
@@ -166,46 +165,70 @@ fn bulk_call(
     keeper: &mut MemKeeper,
     tables: (u32, u32),
     many: &Many,
-) -> Result<u8, Fail> {
+) -> u8 {
     let table = TableId(tables.0);
     let other = TableId(tables.1);
     if !keeper.is_attached() || keeper.depth() < 1 {
-        return Ok(b'?');
+        return b'?';
     }
     if !is_pair(schema, table) || !is_pair(schema, other) || !are_apart(schema, table, other) {
-        return Ok(b'?');
+        return b'?';
     }
-    let statement = bulk_of(alloc, table, other, many)?;
-    Ok(match keeper.bulk(alloc, schema, &statement) {
+    let Ok(statement) = bulk_of(alloc, table, other, many) else {
+        return b'-';
+    };
+    match keeper.bulk(alloc, schema, &statement) {
         Ok(count) => digit(count),
         Err(refusal) => refused(refusal),
-    })
+    }
 }
 
-/// What a call answers.
-pub(crate) fn said(
+/// What a call answers that writes no row.
+fn other_call(alloc: Global, schema: &Schema, keeper: &mut MemKeeper, call: &Call) -> u8 {
+    match call {
+        Call::Create(_) | Call::Drop(_) | Call::Count(_) => table_call(alloc, schema, keeper, call),
+        Call::Bulk(table, other, many) => bulk_call(alloc, schema, keeper, (*table, *other), many),
+        Call::Rows(table) => query_call(alloc, schema, keeper, *table),
+        Call::Depth => digit(keeper.depth() as u64),
+        _ => scope_call(alloc, keeper, call),
+    }
+}
+
+/// What a call answers; `-` where there is no memory for its statement.
+pub(crate) fn said(alloc: Global, schema: &Schema, keeper: &mut MemKeeper, call: &Call) -> u8 {
+    match statement_of(alloc, call) {
+        Ok(Some(statement)) => write_call(alloc, schema, keeper, &statement),
+        Ok(None) => other_call(alloc, schema, keeper, call),
+        Err(_) => b'-',
+    }
+}
+
+/// The place of the first call that answers otherwise.
+pub(crate) fn first_other(
     alloc: Global,
     schema: &Schema,
     keeper: &mut MemKeeper,
-    call: &Call,
-) -> Result<u8, Fail> {
-    if let Some(statement) = statement_of(alloc, call)? {
-        return Ok(write_call(alloc, schema, keeper, &statement));
+    calls: &[(Call, u8)],
+) -> Option<usize> {
+    for (place, (call, answer)) in calls.iter().enumerate() {
+        if said(alloc, schema, keeper, call) != *answer {
+            return Some(place);
+        }
     }
-    match call {
-        Call::Create(_) | Call::Drop(_) | Call::Count(_) => Ok(table_call(
-            alloc, schema, keeper, call,
-        )),
-        Call::Bulk(table, other, many) => bulk_call(alloc, schema, keeper, (*table, *other), many),
-        Call::Rows(table) => Ok(query_call(alloc, schema, keeper, *table)),
-        Call::Depth => Ok(digit(keeper.depth() as u64)),
-        _ => Ok(scope_call(alloc, keeper, call)),
-    }
+    None
 }
 
-/// A keeper in memory that fails the calls of these numbers; the first is that of its target.
-pub(crate) fn attached(alloc: Global, failing: &[u64]) -> Result<MemKeeper, Fail> {
-    let mut keeper = MemKeeper::new(alloc, failing)?;
+/// The place of the first call that answers otherwise, on a keeper in memory that fails the calls of these numbers; the first
+/// is that of its target.
+pub(crate) fn played(
+    alloc: Global,
+    schema: &Schema,
+    failing: &[u64],
+    calls: &[(Call, u8)],
+) -> Option<usize> {
+    let Ok(mut keeper) = MemKeeper::new(alloc, failing) else {
+        return Some(0);
+    };
     let _taken = keeper.attach(alloc, Target::Memory);
-    Ok(keeper)
+    first_other(alloc, schema, &mut keeper, calls)
 }

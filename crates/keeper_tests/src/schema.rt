@@ -3,23 +3,22 @@
 ghost use Rattle.std.specs.Prelude.{IsTrue};
 ghost use Rattle.keeper_tests.specs.Pair.{AreApart, IsPair};
 
-use base_core::{Kind, ListOf, Name, TableId};
+use base_core::{Kind, ListOf, Name, Refusal, TableId};
 use schema_core::{ColumnKind, ColumnSpec, ForeignSpec, Schema, TableSpec, kind_of, same_kind};
 use std::alloc::Global;
 use std::string::String;
-use std::test::Fail;
 
-fn name(alloc: Global, text: &str) -> Result<Name, Fail> {
+fn name(alloc: Global, text: &str) -> Result<Name, Refusal> {
     Ok(Name::new(String::from_str(alloc, text)?))
 }
 
-fn names(alloc: Global, text: &str) -> Result<ListOf<Name>, Fail> {
+fn names(alloc: Global, text: &str) -> Result<ListOf<Name>, Refusal> {
     let mut names = Vec::new(alloc);
     names.push(name(alloc, text)?)?;
     Ok(ListOf::from_vec(names))
 }
 
-fn column(alloc: Global, called: &str, key: bool, not_null: bool) -> Result<ColumnSpec, Fail> {
+fn column(alloc: Global, called: &str, key: bool, not_null: bool) -> Result<ColumnSpec, Refusal> {
     Ok(ColumnSpec {
         name: name(alloc, called)?,
         kind: ColumnKind::Integer,
@@ -29,7 +28,7 @@ fn column(alloc: Global, called: &str, key: bool, not_null: bool) -> Result<Colu
 }
 
 /// A table with an integer key `id` and an integer `n`, which is NOT NULL and unique, or refers to another table.
-fn table(alloc: Global, called: &str, foreign: Option<&str>) -> Result<TableSpec, Fail> {
+fn table(alloc: Global, called: &str, foreign: Option<&str>) -> Result<TableSpec, Refusal> {
     let mut columns = Vec::new(alloc);
     columns.push(column(alloc, "id", true, true)?)?;
     columns.push(column(alloc, "n", false, foreign.is_none())?)?;
@@ -51,7 +50,7 @@ fn table(alloc: Global, called: &str, foreign: Option<&str>) -> Result<TableSpec
 }
 
 /// Declares a table, where there is a number left for it.
-fn declare(schema: &mut Schema, spec: TableSpec) -> Result<(), Fail> {
+fn declare(schema: &mut Schema, spec: TableSpec) -> Result<(), Refusal> {
     if schema.count() < u32::MAX {
         schema.declare_table(spec)?;
     }
@@ -59,7 +58,7 @@ fn declare(schema: &mut Schema, spec: TableSpec) -> Result<(), Fail> {
 }
 
 /// Table 0 has n NOT NULL and unique, and table 1 has n a foreign key of it.
-pub(crate) fn two_tables(alloc: Global) -> Result<Schema, Fail> {
+pub(crate) fn two_tables(alloc: Global) -> Result<Schema, Refusal> {
     let mut schema = Schema::new(alloc);
     declare(&mut schema, table(alloc, "a", None)?)?;
     declare(&mut schema, table(alloc, "b", Some("a"))?)?;

@@ -1,7 +1,7 @@
 //! Tables of calls with their answers, and each call of a sequence that fails.
 
 use crate::calls::{Call, Many};
-use crate::playing::{attached, done, said};
+use crate::playing::{done, first_other, played, said};
 use crate::schema::two_tables;
 use keeper_core::{Keeper, Sent, Target};
 use keeper_mem::MemKeeper;
@@ -142,35 +142,24 @@ static JUDGED: [(Call, u8); 12] = [
     (Call::Commit, b'.'),
 ];
 
-/// The place of the first call that answers otherwise.
-fn first_other(
-    alloc: Global,
-    schema: &Schema,
-    calls: &[(Call, u8)],
-) -> Result<Option<usize>, Fail> {
-    let mut keeper = attached(alloc, &[])?;
-    for (place, (call, answer)) in calls.iter().enumerate() {
-        if said(alloc, schema, &mut keeper, call)? != *answer {
-            return Ok(Some(place));
-        }
+/// The place of the first call that answers otherwise, on two tables and a keeper that fails no call.
+fn first_wrong(alloc: Global, calls: &[(Call, u8)]) -> Option<usize> {
+    match two_tables(alloc) {
+        Ok(schema) => played(alloc, &schema, &[], calls),
+        Err(_) => Some(0),
     }
-    Ok(None)
 }
 
 #[test]
 fn calls_answer_as_the_rules_say(rt: HostRuntime) -> Result<(), Fail> {
-    let alloc = rt.alloc();
-    let schema = two_tables(alloc)?;
-    assert_eq!(rt; first_other(alloc, &schema, &CALLS)?, None);
+    assert_eq!(rt; first_wrong(rt.alloc(), &CALLS), None);
     Ok(())
 }
 
 #[test]
 fn bulk_statements_answer_as_the_rules_say(rt: HostRuntime) -> Result<(), Fail> {
-    let alloc = rt.alloc();
-    let schema = two_tables(alloc)?;
-    assert_eq!(rt; first_other(alloc, &schema, &BULKS)?, None);
-    assert_eq!(rt; first_other(alloc, &schema, &JUDGED)?, None);
+    assert_eq!(rt; first_wrong(rt.alloc(), &BULKS), None);
+    assert_eq!(rt; first_wrong(rt.alloc(), &JUDGED), None);
     Ok(())
 }
 
@@ -197,66 +186,91 @@ fn faulted(
     number: u64,
     earlier: &[(Call, u8)],
     call: &Call,
-) -> Result<[u8; 3], Fail> {
-    let mut keeper = attached(alloc, &[number])?;
+) -> [u8; 3] {
+    let Ok(mut keeper) = MemKeeper::new(alloc, &[number]) else {
+        return [b'-', b'-', b'-'];
+    };
+    let _taken = keeper.attach(alloc, Target::Memory);
     for (before, _) in earlier {
-        said(alloc, schema, &mut keeper, before)?;
+        let _said = said(alloc, schema, &mut keeper, before);
     }
-    let answer = said(alloc, schema, &mut keeper, call)?;
-    let depth = said(alloc, schema, &mut keeper, &Call::Depth)?;
-    let rows = said(alloc, schema, &mut keeper, &Call::Count(0))?;
-    Ok([answer, depth, rows])
+    let answer = said(alloc, schema, &mut keeper, call);
+    let depth = said(alloc, schema, &mut keeper, &Call::Depth);
+    let rows = said(alloc, schema, &mut keeper, &Call::Count(0));
+    [answer, depth, rows]
+}
+
+/// The place of the first call whose fault answers otherwise, or leaves other rows.
+fn first_wrong_fault(alloc: Global) -> Option<usize> {
+    let Ok(schema) = two_tables(alloc) else {
+        return Some(0);
+    };
+    for (place, (call, rows)) in STEPS.iter().enumerate() {
+        let number = (place as u64).saturating_add(2);
+        if faulted(alloc, &schema, number, &STEPS[..place], call) != [b'!', b'0', *rows] {
+            return Some(place);
+        }
+    }
+    None
 }
 
 #[test]
 fn a_fault_leaves_what_was_committed_and_no_scope(rt: HostRuntime) -> Result<(), Fail> {
-    let alloc = rt.alloc();
-    let schema = two_tables(alloc)?;
-    let mut number: u64 = 2;
-    for (place, (call, rows)) in STEPS.iter().enumerate() {
-        let answer = faulted(alloc, &schema, number, &STEPS[..place], call)?;
-        assert_eq!(rt; answer, [b'!', b'0', *rows]);
-        number = number.saturating_add(1);
-    }
+    assert_eq!(rt; first_wrong_fault(rt.alloc()), None);
     Ok(())
+}
+
+/// What `attach` answers, what a transaction and the number of scopes then, and how many statements were sent.
+fn refused_target(alloc: Global, schema: &Schema) -> ([u8; 3], usize) {
+    let Ok(mut keeper) = MemKeeper::new(alloc, &[1]) else {
+        return ([b'-', b'-', b'-'], 0);
+    };
+    let taken = done(keeper.attach(alloc, Target::Memory));
+    let begun = said(alloc, schema, &mut keeper, &Call::Begin);
+    let depth = said(alloc, schema, &mut keeper, &Call::Depth);
+    ([taken, begun, depth], keeper.statements().len())
+}
+
+/// A letter for the last statement that calls left in the log, and how many there are.
+fn logged(alloc: Global, schema: &Schema, calls: &[(Call, u8)]) -> (u8, usize) {
+    let Ok(mut keeper) = MemKeeper::new(alloc, &[]) else {
+        return (b'-', 0);
+    };
+    let _taken = keeper.attach(alloc, Target::Memory);
+    if first_other(alloc, schema, &mut keeper, calls).is_some() {
+        return (b'?', 0);
+    }
+    let statements = keeper.statements();
+    let last = match statements.last() {
+        Some(Sent::Query(_)) => b'q',
+        Some(Sent::Bulk(_)) => b'b',
+        _ => b'?',
+    };
+    (last, statements.len())
 }
 
 #[test]
 fn a_fault_of_the_first_call_takes_no_target(rt: HostRuntime) -> Result<(), Fail> {
-    let alloc = rt.alloc();
-    let schema = two_tables(alloc)?;
-    let mut keeper = MemKeeper::new(alloc, &[1])?;
-    assert_eq!(rt; done(keeper.attach(alloc, Target::Memory)), b'!');
-    assert_eq!(rt; said(alloc, &schema, &mut keeper, &Call::Begin)?, b'?');
-    assert_eq!(rt; said(alloc, &schema, &mut keeper, &Call::Depth)?, b'0');
-    assert_eq!(rt; keeper.statements().len(), 0);
+    let schema = Schema::new(rt.alloc());
+    assert_eq!(rt;
+        refused_target(rt.alloc(), &schema),
+        ([b'!', b'?', b'0'], 0)
+    );
     Ok(())
 }
 
-#[test]
-fn a_refused_select_is_in_the_log(rt: HostRuntime) -> Result<(), Fail> {
-    let alloc = rt.alloc();
-    let schema = two_tables(alloc)?;
-    let mut keeper = attached(alloc, &[])?;
-    said(alloc, &schema, &mut keeper, &Call::Begin)?;
-    assert_eq!(rt; said(alloc, &schema, &mut keeper, &Call::Rows(0))?, b'T');
-    assert_eq!(rt; said(alloc, &schema, &mut keeper, &Call::Count(0))?, b'T');
-    assert_eq!(rt; keeper.statements().len(), 2);
-    let last = keeper.statements().last();
-    assert!(rt; matches!(last, Some(Sent::Query(_))));
-    Ok(())
-}
+/// A select, and a bulk statement, that the store refuses.
+static REFUSED_SELECT: [(Call, u8); 2] = [(Call::Begin, b'.'), (Call::Rows(0), b'T')];
+
+static REFUSED_BULK: [(Call, u8); 2] = [
+    (Call::Begin, b'.'),
+    (Call::Bulk(0, 1, Many::Clear(None)), b'T'),
+];
 
 #[test]
-fn a_refused_bulk_statement_is_in_the_log(rt: HostRuntime) -> Result<(), Fail> {
-    let alloc = rt.alloc();
-    let schema = two_tables(alloc)?;
-    let mut keeper = attached(alloc, &[])?;
-    said(alloc, &schema, &mut keeper, &Call::Begin)?;
-    let clear = Call::Bulk(0, 1, Many::Clear(None));
-    assert_eq!(rt; said(alloc, &schema, &mut keeper, &clear)?, b'T');
-    assert_eq!(rt; keeper.statements().len(), 2);
-    let last = keeper.statements().last();
-    assert!(rt; matches!(last, Some(Sent::Bulk(_))));
+fn refused_statements_are_in_the_log(rt: HostRuntime) -> Result<(), Fail> {
+    let schema = two_tables(rt.alloc())?;
+    assert_eq!(rt; logged(rt.alloc(), &schema, &REFUSED_SELECT), (b'q', 2));
+    assert_eq!(rt; logged(rt.alloc(), &schema, &REFUSED_BULK), (b'b', 2));
     Ok(())
 }

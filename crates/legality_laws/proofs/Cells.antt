@@ -4,6 +4,7 @@ use Rattle.std.proofs.lemmas.Bool.{and_parts}
 use Rattle.std.specs.Prelude.{slice_get}
 use Rattle.std.specs.List.{AllByRecursion}
 use Rattle.std.specs.Cmp.Lexicographic.{pointwise}
+use Rattle.select_sources.proofs.Columns.{some_is}
 use Rattle.base_core.specs.declared.ids.ColumnNo.{ColumnNo}
 use Rattle.base_core.specs.declared.ids.TableId.{TableId}
 use Rattle.base_core.specs.declared.value.Kind.{Kind}
@@ -46,9 +47,6 @@ IsFor cs cell = (c : ColumnSpec) × (slice_get cs cell.0.0 ≡ Some c) × (may_h
 -- the column is there and no part of the key
 abbrev pub IsFree : List ColumnSpec → ColumnNo × Value → Type 0
 IsFree cs cell = (c : ColumnSpec) × (slice_get cs cell.0.0 ≡ Some c) × (c.key ≡ false)
-
-some_is : (a b : ColumnSpec) → ◌≡◌ {A = Option ColumnSpec} (Some a) (Some b) → a ≡ b
-some_is a b e = cc
 
 no_column : (c : ColumnSpec) → ◌≡◌ {A = Option ColumnSpec} None (Some c) → ⊥
 no_column c e = cc

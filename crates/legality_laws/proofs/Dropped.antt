@@ -9,9 +9,9 @@ use Rattle.std.specs.Map.{keys_of, lookup, remove_entry}
 use Rattle.std.specs.BTreeMap.{is_at}
 use Rattle.base_core.specs.declared.ids.TableId.{TableId}
 use Rattle.schema_core.specs.Catalog.{Catalog, IsTable}
-use Rattle.schema_core.specs.Tables.{AreAscending, Rows, Tables, table_cmp}
+use Rattle.schema_core.specs.Tables.{AreAscending, Rows, Tables, is_created, table_cmp}
 use Rattle.programs.specs.Programs.{Run, ◌>>=◌, each, give}
-use Rattle.programs.specs.Store.{Store, dropped, is_created}
+use Rattle.programs.specs.Store.{Store, dropped}
 use Rattle.keeper_core.specs.Calls.{drop_table}
 use Rattle.table_laws.proofs.Entries.{all_map, all_remove}
 use Rattle.table_laws.proofs.Members.{In}

@@ -15,11 +15,11 @@ use Rattle.schema_core.specs.declared.table.ForeignSpec.{ForeignSpec}
 use Rattle.schema_core.specs.declared.table.TableSpec.{TableSpec}
 use Rattle.schema_core.specs.Apply as row
 use Rattle.schema_core.specs.Catalog.{Catalog, IsTable, spec_of, target_of}
-use Rattle.schema_core.specs.Tables.{AreAscending, Legal, Rows, Tables, cells_of, has_dangling, has_null, has_row, is_legal_row, key_of, names_row, repeats_unique, rows_in, some_dangles, table_cmp}
+use Rattle.schema_core.specs.Tables.{AreAscending, Legal, Rows, Tables, cells_of, has_dangling, has_null, has_row, is_created, is_legal_row, key_of, names_row, repeats_unique, rows_in, some_dangles, table_cmp}
 use Rattle.schema_core.specs.WellFormed.{IsWellFormed}
 use Rattle.expr_types.specs.declared.select.Select.{Select}
 use Rattle.programs.specs.Programs.{give}
-use Rattle.programs.specs.Store.{Store, committed_of, created, dropped, is_created, outermost}
+use Rattle.programs.specs.Store.{Store, committed_of, created, dropped, outermost}
 use Rattle.keeper_core.specs.Calls as call
 use Rattle.table_laws.proofs.Ascending.{accepted_ascends, ascending_with, sorted_remove}
 use Rattle.table_laws.proofs.Entries.{all_insert, all_map, all_remove}

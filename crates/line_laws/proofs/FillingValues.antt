@@ -1,5 +1,6 @@
 -- What the forms of values and terms say is read.
 use Rattle.std.proofs.Common.{◌≡◌, ℕ, ◌^◌, nat_lt, Bool, true, false, not, ◌||◌, if◌then◌else◌, List, ◌∷◌, ◌++◌, Some, None, refl, ap, sym, subst, ◌∙◌}
+use Rattle.base_core.proofs.Tests.{or_then}
 use Rattle.base_core.specs.declared.value.Value.TheVariants as v
 use Rattle.script_lex.specs.declared.kind.Kind.{Kind}
 use Rattle.script_lex.specs.declared.kind.Kind.TheVariants as k
@@ -24,7 +25,7 @@ use Rattle.expression_laws.proofs.FillingSteps.{unlike, only, opens_less, solid_
 use Rattle.expression_laws.proofs.FillingKinds.{is_name}
 use Rattle.expression_laws.proofs.FillingLiterals.{literal_read, literal_opens, name_opens as any_name_opens}
 use Rattle.line_laws.proofs.Flat.{through, clause_same}
-use Rattle.line_laws.proofs.SomeKinds.{false_true, not_this, or_right}
+use Rattle.line_laws.proofs.SomeKinds.{false_true, not_this}
 use Rattle.line_laws.proofs.FillingParts.{instead, word_or}
 
 -- ---- names
@@ -68,7 +69,7 @@ value = word_or k.Null (made v.Null) literal_read (opens_less literal_opens (not
 
 literal_value : (y : Kind) → begins_literal y ≡ true → begins_value y ≡ true
 unfolding begins_value
-literal_value y e = or_right (same_kind y k.Null) (begins_literal y) e
+literal_value y e = or_then (same_kind y k.Null) (begins_literal y) e
 
 pub value_opens : {t : Kind → Bool} → Opens form.value t begins_value
 unfolding begins_value same_kind

@@ -1,5 +1,6 @@
 -- Kinds of tokens, by lists of them.
 use Rattle.std.proofs.Common.{◌≡◌, Bool, true, false, not, ◌&&◌, ◌||◌, List, [], ◌∷◌, refl, ap, ◌∙◌}
+use Rattle.base_core.proofs.Tests.{or_then}
 use Rattle.script_lex.specs.declared.kind.Kind.{Kind}
 use Rattle.script_lex.specs.declared.kind.Kind.TheVariants as k
 use Rattle.script_lex.specs.Lex.{same_kind}
@@ -26,10 +27,6 @@ and_right : (a b : Bool) → (a && b) ≡ true → b ≡ true
 and_right true b e = e
 and_right false b e = absurd (false_true e)
 
-pub or_right : (a b : Bool) → b ≡ true → (a || b) ≡ true
-or_right true b e = refl
-or_right false b e = e
-
 by_first : (kd : Kind) (ks : List Kind) (these : Kind → Bool) → (these kd && all_in these ks) ≡ true → (y : Kind) → (among ks y ≡ true → these y ≡ true)
     → (b : Bool) → same_kind y kd ≡ b → (b || among ks y) ≡ true → these y ≡ true
 by_first kd ks these all y rec true is e = ap these (same is) ∙ and_left (these kd) (all_in these ks) all
@@ -52,7 +49,7 @@ first_among kd ks = ap (λ b. b || among ks kd) (alike {a = kd} {b = kd} refl)
 
 pub rest_among : (kd : Kind) (ks : List Kind) (y : Kind) → among ks y ≡ true → among (kd ∷ ks) y ≡ true
 unfolding among
-rest_among kd ks y e = or_right (same_kind y kd) (among ks y) e
+rest_among kd ks y e = or_then (same_kind y kd) (among ks y) e
 
 pub not_this : (these : Kind → Bool) (kd : Kind) → these kd ≡ false → (y : Kind) → these y ≡ true → other_than kd y ≡ true
 not_this these kd out y e = ap not (unlike these kd out y e)

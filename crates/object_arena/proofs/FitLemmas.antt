@@ -16,8 +16,8 @@ use Rattle.base_core.specs.declared.refusal.Refusal.{Refusal}
 use Rattle.base_core.specs.declared.refusal.Refusal.TheVariants.{TypeMismatch}
 use Rattle.schema_core.specs.Catalog.{same_kind}
 use Rattle.schema_core.specs.Tables.{kind_of_value}
-use Rattle.mapper_types.specs.declared.mapped.Attribute.{Attribute}
-use Rattle.mapper_core.specs.Mapped.{IsAttribute, IsClass, Mapped, attribute_of, attributes_of, no_attribute, relations_of, root_of}
+use Rattle.class_types.specs.declared.mapped.Attribute.{Attribute}
+use Rattle.class_mapping.specs.Mapped.{IsAttribute, IsClass, Mapped, attribute_of, attributes_of, no_attribute, relations_of, root_of}
 use Rattle.object_arena.specs.declared.object.State.{State}
 use Rattle.object_arena.specs.declared.object.State.TheVariants.{Transient, Pending, Persistent, Deleted, Detached}
 use Rattle.object_arena.specs.declared.object.Cell.{Cell}

@@ -23,14 +23,14 @@ use Rattle.object_arena.specs.declared.object.Object.{Object}
 use Rattle.object_arena.specs.Graph.{has_identity, is_persistent, kept_identity, place_of, put_back_object, no_class_id, no_object, object_limit, settled}
 use Rattle.object_arena.specs.Identity.{IsFree, IsGraph, IsOne, has_key, holds, holds_at, is_identified, is_other, is_taken, numbered}
 
-at_same : (objects : List Object) (roots : List ClassId) (root : ClassId) (key : List Value) (p : ℕ) (new : Object) → p < length objects → holds_at (slice_set objects p new) roots root key p ≡ holds root key (new, get_or roots p no_class_id)
+pub at_same : (objects : List Object) (roots : List ClassId) (root : ClassId) (key : List Value) (p : ℕ) (new : Object) → p < length objects → holds_at (slice_set objects p new) roots root key p ≡ holds root key (new, get_or roots p no_class_id)
 at_same objects roots root key p new less = ap (λ (o : Object). holds root key (o, get_or roots p no_class_id)) (get_or-set_same objects p new no_object less)
 
-at_other : (objects : List Object) (roots : List ClassId) (root : ClassId) (key : List Value) (p j : ℕ) (new : Object) → j ≢ p → holds_at (slice_set objects p new) roots root key j ≡ holds_at objects roots root key j
+pub at_other : (objects : List Object) (roots : List ClassId) (root : ClassId) (key : List Value) (p j : ℕ) (new : Object) → j ≢ p → holds_at (slice_set objects p new) roots root key j ≡ holds_at objects roots root key j
 at_other objects roots root key p j new other = ap (λ (o : Object). holds root key (o, get_or roots j no_class_id)) (get_or-set_other objects p j new no_object other)
 
 -- what the new object holds, no other holds
-pub Owns : List Object → List ClassId → ℕ → Object → Type 0
+unfoldable pub Owns : List Object → List ClassId → ℕ → Object → Type 0
 Owns objects roots p new = (root : ClassId) (key : List Value) → holds root key (new, get_or roots p no_class_id) ≡ true → (j : ℕ) → holds_at objects roots root key j ≡ true → j ≡ p
 
 one_set : (objects : List Object) (roots : List ClassId) (p : ℕ) (new : Object) → p < length objects → IsOne objects roots → Owns objects roots p new → IsOne (slice_set objects p new) roots
@@ -101,7 +101,7 @@ none_passes p xs k d none less =
     (cases_Bool (nat_lt (position_or_len p xs) (length xs)))
 
 -- an object that holds an identity is one of the graph
-held_inside : (objects : List Object) (roots : List ClassId) (root : ClassId) (key : List Value) (j : ℕ) → holds_at objects roots root key j ≡ true → j < length objects
+pub held_inside : (objects : List Object) (roots : List ClassId) (root : ClassId) (key : List Value) (j : ℕ) → holds_at objects roots root key j ≡ true → j < length objects
 held_inside objects roots root key j held =
     ⊎_elim
     (λ (less : j < length objects). less)
@@ -163,14 +163,14 @@ graph_stated objects roots p old new state graph less read left had is =
     (identified_left state new old.identity new_state (ap (λ (o : Object). o.identity) is) (λ h. rw was (had h)))
     (rw new_state left)
 
-settled_state : (state : State) (object : Object) → (settled state object).state ≡ object.state
+pub settled_state : (state : State) (object : Object) → (settled state object).state ≡ object.state
 settled_state Transient object = refl
 settled_state Pending object = refl
 settled_state Persistent object = refl
 settled_state Deleted object = refl
 settled_state Detached object = refl
 
-settled_identity : (state : State) (object : Object) → (settled state object).identity ≡ object.identity
+pub settled_identity : (state : State) (object : Object) → (settled state object).identity ≡ object.identity
 settled_identity Transient object = refl
 settled_identity Pending object = refl
 settled_identity Persistent object = refl
@@ -184,7 +184,7 @@ identified_back Persistent new identity s i h = rw (s, i, ← h) refl
 identified_back Deleted new identity s i h = rw (s, i, ← h) refl
 identified_back Detached new identity s i h = rw (s, i, ← h) refl
 
-owns_back : (objects : List Object) (roots : List ClassId) (object : ObjId) (new : Object) (state : State) (identity : Option (List Value)) → IsGraph objects roots → new.state ≡ state → new.identity ≡ identity → has_identity state ≡ is_some identity → (is_persistent state ≡ true → IsFree (record { objects = objects; roots = roots }) object identity) → Owns objects roots (place_of object) new
+pub owns_back : (objects : List Object) (roots : List ClassId) (object : ObjId) (new : Object) (state : State) (identity : Option (List Value)) → IsGraph objects roots → new.state ≡ state → new.identity ≡ identity → has_identity state ≡ is_some identity → (is_persistent state ≡ true → IsFree (record { objects = objects; roots = roots }) object identity) → Owns objects roots (place_of object) new
 unfolding Owns
 owns_back objects roots object new state None graph s i h free root' key' held j other =
     let mine = and_parts (is_persistent new.state) _ held in
@@ -203,7 +203,7 @@ graph_back objects roots object old new state identity graph above within h free
     graph_set objects roots (place_of object) new (omega arith) graph (identified_back state new identity s i h)
     (owns_back objects roots object new state identity graph s i h free)
 
-transient_past : (objects : List Object) (new : Object) (i : ℕ) → length objects ≤ i → new.state ≡ Transient → (get_or (objects ++ new ∷ []) i no_object).state ≡ Transient
+pub transient_past : (objects : List Object) (new : Object) (i : ℕ) → length objects ≤ i → new.state ≡ Transient → (get_or (objects ++ new ∷ []) i no_object).state ≡ Transient
 transient_past objects new i past state =
     ⊎_elim
     (λ (same : length objects ≡ i). ap (λ (o : Object). o.state) (get_or_push objects new no_object i same) ∙ state)

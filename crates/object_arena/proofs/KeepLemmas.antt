@@ -1,6 +1,6 @@
 -- What calls keep, one after another.
 use Rattle.std.proofs.Common.{◌≡◌, refl, ◌∙◌}
-use Rattle.mapper_core.specs.Mapped.{Mapped}
+use Rattle.class_mapping.specs.Mapped.{Mapped}
 use Rattle.object_arena.specs.Graph.{Graph}
 use Rattle.object_arena.specs.Fit.{Keeps, KeepsWith}
 

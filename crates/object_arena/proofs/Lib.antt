@@ -1,6 +1,7 @@
 pub mod FitLemmas
 pub mod GraphLemmas
 pub mod HolderLemmas
+pub mod IndexLemmas
 pub mod KeepLemmas
 pub mod LinkLemmas
 pub mod PartLemmas

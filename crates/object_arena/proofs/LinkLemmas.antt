@@ -6,8 +6,8 @@ use Rattle.std.specs.Cmp.Lexicographic.{pointwise}
 use Rattle.std.proofs.lemmas.Bool.{and_from, and_parts}
 use Rattle.base_core.specs.declared.ids.ClassId.{ClassId}
 use Rattle.base_core.specs.declared.ids.ObjId.{ObjId}
-use Rattle.mapper_types.specs.declared.mapped.Relation.{Relation}
-use Rattle.mapper_core.specs.Mapped.{Mapped, relations_of, root_of}
+use Rattle.class_types.specs.declared.mapped.Relation.{Relation}
+use Rattle.class_mapping.specs.Mapped.{Mapped, relations_of, root_of}
 use Rattle.object_arena.specs.declared.object.Link.{Link}
 use Rattle.object_arena.specs.declared.object.Link.TheVariants.{Unset, Unloaded, One, Many}
 use Rattle.object_arena.specs.declared.object.Object.{Object}

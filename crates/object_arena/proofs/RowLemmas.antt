@@ -1,29 +1,32 @@
 -- The row and the key of an object that fits its mapping, beside the table of its class's root.
-use Rattle.std.proofs.Common.{◌≡◌, ℕ, ◌+◌, ◌<◌, Bool, true, false, List, [], ◌∷◌, length, map, filter, cond, get_or, suc, Option, None, Some, refl, sym, ap, ◌∙◌, subst, arith}
+use Rattle.std.proofs.Common.{◌≡◌, ℕ, ◌+◌, ◌<◌, Bool, true, false, List, [], ◌∷◌, length, map, filter, cond, get_or, suc, Option, None, Some, refl, sym, ap, ◌∙◌, arith}
 use Rattle.std.specs.Prelude.{◌&&◌, ◌||◌, not}
 use Rattle.std.specs.List.{enumerate_from}
 use Rattle.std.specs.Cmp.Lexicographic.{pointwise}
 use Rattle.std.proofs.lemmas.Bool.{and_from, and_parts}
-use Rattle.std.proofs.lemmas.List.{length-map}
-use Rattle.std.proofs.lemmas.List.FromFn.{length-enumerate_from}
+use Rattle.std.proofs.lemmas.List.{get_or-map}
+use Rattle.std.proofs.lemmas.List.FromFn.{get_or-enumerate_from, length-enumerate_from}
+use Rattle.class_mapping.proofs.PlainLemmas.{no_column}
+use Rattle.base_core.specs.declared.ids.AttrNo.{AttrNo}
 use Rattle.base_core.specs.declared.ids.ClassId.{ClassId}
-use Rattle.base_core.specs.declared.ids.ObjId.{ObjId}
 use Rattle.base_core.specs.declared.ids.TableId.{TableId}
 use Rattle.base_core.specs.declared.value.Kind.{Kind}
 use Rattle.base_core.specs.declared.value.Value.{Value}
 use Rattle.base_core.specs.declared.value.Value.TheVariants as value
 use Rattle.schema_core.specs.declared.table.ColumnSpec.{ColumnSpec}
+use Rattle.schema_core.specs.declared.table.ColumnKind.TheVariants as column_kinds
 use Rattle.schema_core.specs.Catalog.{kind_of, same_kind}
-use Rattle.schema_core.specs.Tables.{fits, fits_kind, kind_of_value}
+use Rattle.schema_core.specs.Tables.{fits, fits_kind, kind_of_value, value_or_null}
 use Rattle.schema_core.specs.WellFormed.{is_key, is_row, may_hold}
-use Rattle.mapper_types.specs.declared.mapped.Attribute.{Attribute}
-use Rattle.mapper_core.specs.Mapped.{Mapped, attr_at, attribute_at, attribute_of, columns_in, no_column, root_spec, root_table, table_attributes}
-use Rattle.mapper_core.proofs.MappingLemmas.{attribute_is, attributes_count}
+use Rattle.class_types.specs.declared.mapped.Attribute.{Attribute}
+use Rattle.class_layouts.specs.Columns.{attribute_at}
+use Rattle.class_mapping.specs.Mapped.{Mapped, attribute_of, no_attribute, root_spec, root_table}
+use Rattle.class_mapping.specs.Plain.{attr_at}
+use Rattle.class_mapping.specs.PlainClass.{IsPlainClass}
 use Rattle.object_arena.specs.declared.object.Cell.{Cell}
 use Rattle.object_arena.specs.declared.object.Object.{Object}
-use Rattle.object_arena.specs.Graph.{Graph, IsObject, object_at, row_of, value_or_null}
-use Rattle.object_arena.specs.Fit.{IsFit, ObjectFits, cell_fits, is_just_of_kind, is_of_kind, key_fits, value_fits}
-use Rattle.object_arena.proofs.FitLemmas.{fit_at}
+use Rattle.object_arena.specs.Graph.{row_of}
+use Rattle.object_arena.specs.Fit.{ObjectFits, cell_fits, is_just_of_kind, key_fits, key_value_fits, value_fits}
 
 -- ---- the row
 
@@ -47,10 +50,11 @@ row_fits table n (column ∷ columns) (cell ∷ cells) h =
     (value_held table n column cell.value (and_parts (value_fits attribute cell.value) (value_fits attribute cell.base) parts.0).0)
     (row_fits table (n + 1) columns cells parts.1)
 
--- the row of an object that fits
-pub object_row : (mapped : Mapped) (object : Object) → ObjectFits mapped object → is_row (root_spec mapped object.class) (row_of object) ≡ true
-object_row mapped object fits =
-    row_fits (root_table mapped object.class) 0 (columns_in mapped.schema.tables (root_table mapped object.class)) object.cells fits.cells
+-- the row of an object of a plain root that fits
+pub object_row : (mapped : Mapped) (object : Object) → IsPlainClass mapped object.class → ObjectFits mapped object → is_row (root_spec mapped object.class) (row_of object) ≡ true
+object_row mapped object plain fits =
+    row_fits (root_table mapped object.class) 0 (root_spec mapped object.class).columns object.cells
+    (ap (λ (attributes : List Attribute). pointwise cell_fits attributes object.cells) (sym plain.attributes) ∙ fits.cells)
 
 -- ---- the key
 
@@ -96,13 +100,21 @@ keys_from kinds n (column ∷ columns) key all =
     column_more kinds n column (filter (λ placed. placed.1.key) (enumerate_from (n + 1) columns)) (filter (λ c. c.key) columns) column.key key (λ e. e) (first kinds n column columns all)
     (λ more. keys_from kinds (n + 1) columns more (later kinds n column columns all))
 
--- the keys of a class are those of the table of its root
-pub key_is : (mapped : Mapped) (class : ClassId) (key : List Value) → key_fits mapped class key ≡ is_key (root_spec mapped class) key
-key_is mapped class key =
-    let table : TableId = root_table mapped class in
-    let columns : List ColumnSpec = columns_in mapped.schema.tables table in
-    keys_from (λ i. (attribute_of mapped class (record { 0 = i })).kind) 0 columns key
+kind_at : (table : TableId) (columns : List ColumnSpec) (i : ℕ) → i < length columns → (get_or (map (attribute_at table) (enumerate_from 0 columns)) i no_attribute).kind ≡ kind_of (get_or columns i no_column).kind
+kind_at table columns i less =
+    let long : i < length (enumerate_from 0 columns) = rw length-enumerate_from less in
+    ap (λ (a : Attribute). a.kind)
+    (get_or-map (attribute_at table) (enumerate_from 0 columns) i (0, no_column) no_attribute long
+    ∙ ap (attribute_at table) (get_or-enumerate_from 0 columns i (0, no_column) less))
+
+-- the keys of a plain root are those of its table
+pub key_is : (mapped : Mapped) (class : ClassId) (key : List Value) → IsPlainClass mapped class → key_fits mapped class key ≡ is_key (root_spec mapped class) key
+key_is mapped class key plain =
+    let columns : List ColumnSpec = (root_spec mapped class).columns in
+    ap (λ (keys : List AttrNo). pointwise (key_value_fits mapped class) keys key) plain.keys
+    ∙ keys_from (λ i. (attribute_of mapped class (record { 0 = i })).kind) 0 columns key
     (λ i less.
     let number : 0 + i ≡ i = omega arith in
-    let long : i < length (table_attributes table columns) = rw (attributes_count table columns) less in
-    ap (λ (p : ℕ). (attribute_of mapped class (record { 0 = p })).kind) number ∙ ap (λ (a : Attribute). a.kind) (attribute_is table columns i long))
+    ap (λ (p : ℕ). (attribute_of mapped class (record { 0 = p })).kind) number
+    ∙ ap (λ (attributes : List Attribute). (get_or attributes i no_attribute).kind) plain.attributes
+    ∙ kind_at (root_table mapped class) columns i less)

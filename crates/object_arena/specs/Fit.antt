@@ -10,10 +10,10 @@ use Rattle.base_core.specs.declared.value.Kind.{Kind}
 use Rattle.base_core.specs.declared.value.Value.{Value}
 use Rattle.schema_core.specs.Catalog.{same_kind}
 use Rattle.schema_core.specs.Tables.{kind_of_value}
-use Rattle.mapper_types.specs.declared.declared.Cascade.{Cascade}
-use Rattle.mapper_types.specs.declared.mapped.Attribute.{Attribute}
-use Rattle.mapper_types.specs.declared.mapped.Relation.{Relation}
-use Rattle.mapper_core.specs.Mapped.{IsClass, Mapped, attribute_of, attributes_of, key_attributes, relations_of, root_of}
+use Rattle.class_types.specs.declared.declared.Cascade.{Cascade}
+use Rattle.class_types.specs.declared.mapped.Attribute.{Attribute}
+use Rattle.class_types.specs.declared.mapped.Relation.{Relation}
+use Rattle.class_mapping.specs.Mapped.{IsClass, Mapped, attribute_of, attributes_of, key_attributes, relations_of, root_of}
 use Rattle.object_arena.specs.declared.object.Cell.{Cell}
 use Rattle.object_arena.specs.declared.object.Link.{Link}
 use Rattle.object_arena.specs.declared.object.Link.TheVariants.{Unset, Unloaded, One, Many}

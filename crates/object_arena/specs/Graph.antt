@@ -12,8 +12,8 @@ use Rattle.base_core.specs.declared.refusal.RequestKind.TheVariants.{KeyChange}
 use Rattle.base_core.specs.declared.refusal.Refusal.{Refusal}
 use Rattle.base_core.specs.declared.refusal.Refusal.TheVariants.{InvalidRequestError, LimitReached, TypeMismatch}
 use Rattle.schema_core.specs.Catalog.{same_kind}
-use Rattle.schema_core.specs.Tables.{kind_of_value}
-use Rattle.mapper_core.specs.Mapped.{Mapped, attribute_of, attributes_of, is_key_attribute, relations_of, root_of}
+use Rattle.schema_core.specs.Tables.{kind_of_value, value_or_null}
+use Rattle.class_mapping.specs.Mapped.{Mapped, attribute_of, attributes_of, is_key_attribute, relations_of, root_of}
 use Rattle.object_arena.specs.declared.object.State.{State}
 use Rattle.object_arena.specs.declared.object.State.TheVariants.{Transient, Pending, Persistent, Deleted, Detached}
 use Rattle.object_arena.specs.declared.object.Cell.{Cell}
@@ -212,11 +212,6 @@ settled state object = object
 -- the object in a state that it had, without a delete mark
 abbrev pub put_back_object : Object → State → Option (List Value) → Object
 put_back_object object state identity = settled state (record object { state = state; identity = identity; marked = false })
-
--- the value that is known, or NULL
-abbrev pub value_or_null : Option Value → Value
-value_or_null None = Null
-value_or_null (Some value) = value
 
 -- the row of an object: the value of each cell, and NULL where it is not known
 abbrev pub row_of : Object → List Value

@@ -2,3 +2,4 @@ pub mod Every
 pub mod Fit
 pub mod Graph
 pub mod Identity
+pub mod Index

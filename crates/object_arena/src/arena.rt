@@ -7,16 +7,19 @@ ghost use Rattle.base_core.specs.declared.ids.ClassId.{ClassId};
 ghost use Rattle.base_core.specs.declared.refusal.Refusal.TheVariants.{Memory};
 ghost use Rattle.base_core.specs.declared.value.Value.{Value};
 ghost use Rattle.schema_core.specs.WellFormed.{is_key, is_row};
-ghost use Rattle.mapper_core.specs.Mapped.{IsAttribute, IsClass, Mapped, attribute_of, attributes_of, is_key_attribute, root_of, root_spec};
+ghost use Rattle.class_mapping.specs.Mapped.{IsAttribute, IsClass, Mapped, attribute_of, attributes_of, is_key_attribute, root_of, root_spec};
+ghost use Rattle.class_mapping.specs.PlainClass.{IsPlainClass};
 ghost use Rattle.object_arena.specs.declared.object.State.TheVariants.{Persistent};
 ghost use Rattle.object_arena.specs.Graph.{IsCell, IsLink, IsObject, cell_at, either_fault, empty_graph, expired, fresh_object, has_identity, is_persistent, key_fault, kind_fault, make, object_at, object_limit, put_back_object, root_at, row_of, set_cell, shown, value_fault, with_cell, with_fresh, with_link, with_marks, with_object, with_state, with_value};
 ghost use Rattle.object_arena.specs.Every.{classes_of};
 ghost use Rattle.object_arena.specs.Identity.{IsFree, IsGraph, IsOne, find_identity, has_key, holds, is_identified, is_other, is_taken, register, registered};
+ghost use Rattle.object_arena.specs.Index.{is_holder};
 ghost use Rattle.object_arena.specs.Fit.{IsFit, Keeps, KeepsWith, ObjectFits, cell_fits, identity_fits, key_fits, link_fits, links_fit, relation_of};
 
+use crate::index::IdentityIndex;
 use crate::{Cell, CellRead, Link, Object, State, parts};
 use base_core::{AttrNo, ClassId, Key, Kind, LimitKind, ObjId, Refusal, RelNo, RequestKind, Value};
-use mapper_core::Mapping;
+use class_mapping::Mapping;
 use schema_core::{kind_of_value, same_kind};
 use std::alloc::Global;
 use std::cmp::Ordering;
@@ -28,27 +31,28 @@ const OBJECT_LIMIT: usize = 1_000_000;
 /// Objects, numbered from 1 in the order in which they are made, and the identity map.
 ///
 /// Objects that fit a mapping go on to fit it, whatever call is made; only a cell or a key that is put in must fit.
-#[derive(Debug, Drop)]
+#[derive(Drop)]
 pub struct Arena {
     alloc: Global,
     objects: Vec<Object>,
     /// The root class of each object's class.
     roots: Vec<ClassId>,
+    index: IdentityIndex,
 }
 
 impl Model for Arena {
     ghost use Rattle.object_arena.specs.Graph.{Graph};
-    ghost use Rattle.object_arena.specs.Identity.{IsGraph};
+    ghost use Rattle.object_arena.specs.Index.{IsIndexed};
 
     ghost Value = { Graph };
 
     ghost view = { λ a. record { objects = a.objects.items; roots = a.roots.items } };
 
-    ghost invariant = { λ a. IsGraph a.objects.items a.roots.items };
+    ghost invariant = { λ a. IsIndexed a.objects.items a.roots.items a.index.entries.maps.items a.index.complete };
 }
 
 impl Arena {
-    #[tactic(auto, using(crate::proofs::FitLemmas::fit_empty))]
+    #[tactic(auto, using(crate::proofs::FitLemmas::fit_empty, crate::proofs::IndexLemmas::indexed_empty))]
     /// No objects.
     pub fn new(alloc: Global) -> Arena
         ensures empty { result ≡ empty_graph }
@@ -58,6 +62,7 @@ impl Arena {
             alloc,
             objects: Vec::new(alloc),
             roots: Vec::new(alloc),
+            index: IdentityIndex::new(alloc),
         }
     }
 
@@ -72,8 +77,8 @@ impl Arena {
     }
 
     #[tactic(auto, using(crate::proofs::FitLemmas::fit_at))]
-    /// An object's record. Where the objects fit a mapping it has one cell for each attribute of its class, and they make
-    /// a row of the table of the class's root.
+    /// An object's record. Where the objects fit a mapping it has one cell for each attribute of its class, and, where
+    /// each class is a plain root, they make a row of its table.
     pub fn object(&self, object: ObjId) -> &Object
         requires { IsObject self.now object }
         ensures is { result.now ≡ object_at self.now object }
@@ -84,18 +89,19 @@ impl Arena {
         ensures cells { (mapped : Mapped) → IsFit mapped self.now
             → length result.now.cells ≡ length (attributes_of mapped result.now.class) }
         ensures row { (mapped : Mapped) → IsFit mapped self.now
+            → IsPlainClass mapped result.now.class
             → is_row (root_spec mapped result.now.class) (row_of result.now) ≡ true }
     {
         &self.objects[object.0 as usize - 1]
     }
 
-    /// An object's class. Its keys are those of the table of its root.
+    /// An object's class. Where each class is a plain root, its keys are those of its table.
     pub fn class_of(&self, object: ObjId) -> ClassId
         requires { IsObject self.now object }
         ensures class { result ≡ (object_at self.now object).class }
         ensures root { (mapped : Mapped) → IsFit mapped self.now
             → root_at self.now object ≡ root_of mapped result }
-        ensures keys { (mapped : Mapped) (key : List Value)
+        ensures keys { (mapped : Mapped) (key : List Value) → IsPlainClass mapped result
             → key_fits mapped result key ≡ is_key (root_spec mapped result) key }
     {
         self.objects[object.0 as usize - 1].class
@@ -122,8 +128,34 @@ impl Arena {
         )
     }
 
-    /// The persistent object that has a key under a root class, if there is one.
+    /// The persistent object that has a key under a root class, if there is one. An ordered map has it, so that the time
+    /// grows as the logarithm of the number of objects. Takes no memory.
     pub fn find_identity(&self, root: ClassId, key: &Key) -> Option<ObjId>
+        ensures found { result ≡ find_identity self.now root key.now }
+        ensures made { IfSome result (λ object. IsObject self.now object) }
+        ensures holds { IfSome result
+            (λ object. holds root key.now (object_at self.now object, root_at self.now object)
+            ≡ true) }
+        ensures identified { IfSome result
+            (λ object. is_some (object_at self.now object).identity ≡ true) }
+    {
+        if !self.index.complete {
+            return self.scan(root, key);
+        }
+        match self.index.find(root, key) {
+            None => None,
+            Some(object) => {
+                if self.is_holder(object, root, key) {
+                    Some(object)
+                } else {
+                    None
+                }
+            }
+        }
+    }
+
+    /// The persistent object that has a key under a root class, if there is one. All objects are gone over.
+    fn scan(&self, root: ClassId, key: &Key) -> Option<ObjId>
         ensures found { result ≡ find_identity self.now root key.now }
         ensures made { IfSome result (λ object. IsObject self.now object) }
         ensures holds { IfSome result
@@ -136,6 +168,17 @@ impl Arena {
             Some(place) => Some(ObjId(place as u32 + 1)),
             None => None,
         }
+    }
+
+    /// Whether an object has been made and is persistent under a root class and a key.
+    fn is_holder(&self, object: ObjId, root: ClassId, key: &Key) -> bool
+        ensures { result ≡ is_holder self.now root key.now object }
+    {
+        if object.0 == 0 || object.0 as usize > self.objects.len() {
+            return false;
+        }
+        let place = object.0 as usize - 1;
+        holds(root, key, &self.objects[place], self.roots[place])
     }
 
     /// Whether another persistent object has the key that an object is to have.
@@ -178,7 +221,6 @@ impl Arena {
         Ok(ObjId(self.count()))
     }
 
-    #[tactic(auto, using(crate::proofs::GraphLemmas::graph_pushed))]
     /// One more transient object of a class.
     fn add_fresh(&mut self, mapping: &Mapping, class: ClassId) -> Result<(), Refusal>
         requires declared { IsClass mapping.now class }
@@ -226,7 +268,6 @@ impl Arena {
         }
     }
 
-    #[tactic(auto, using(crate::proofs::GraphLemmas::graph_kept))]
     /// A cell holds a value; its base stays.
     fn put_value(&mut self, object: ObjId, attr: AttrNo, value: Value)
         requires object { IsObject self.old object }
@@ -264,7 +305,9 @@ impl Arena {
         requires free { is_taken self.old object key ≡ false }
         ensures { self.new ≡ registered self.old object key }
     {
-        let target = &mut self.objects[object.0 as usize - 1];
+        let place = object.0 as usize - 1;
+        self.index.enter(self.roots[place], &key, object);
+        let target = &mut self.objects[place];
         target.state = State::Persistent;
         target.identity = Some(key);
     }
@@ -280,7 +323,6 @@ impl Arena {
         self.write_expired(object);
     }
 
-    #[tactic(auto, using(crate::proofs::GraphLemmas::graph_kept))]
     /// Drops what is known of an object.
     fn write_expired(&mut self, object: ObjId)
         requires { IsObject self.old object }
@@ -304,7 +346,6 @@ impl Arena {
         Ok(())
     }
 
-    #[tactic(auto, using(crate::proofs::GraphLemmas::graph_kept))]
     /// Replaces a cell of an object.
     fn write_cell(&mut self, object: ObjId, attr: AttrNo, cell: Cell)
         requires object { IsObject self.old object }
@@ -331,7 +372,6 @@ impl Arena {
         Ok(())
     }
 
-    #[tactic(auto, using(crate::proofs::GraphLemmas::graph_kept))]
     /// Replaces a link of an object.
     fn write_link(&mut self, object: ObjId, relation: RelNo, link: Link)
         requires object { IsObject self.old object }
@@ -360,7 +400,6 @@ impl Arena {
         Ok(())
     }
 
-    #[tactic(auto, using(crate::proofs::GraphLemmas::graph_kept))]
     /// Replaces an object's add number and marks.
     fn write_marks(&mut self, object: ObjId, added: u64, marked: bool, orphan: bool)
         requires { IsObject self.old object }
@@ -391,7 +430,7 @@ impl Arena {
         Ok(())
     }
 
-    #[tactic(auto, using(crate::proofs::GraphLemmas::graph_stated))]
+    #[tactic(auto, using(crate::proofs::IndexLemmas::indexed_stated))]
     /// Replaces an object's state.
     fn write_state(&mut self, object: ObjId, state: State)
         requires object { IsObject self.old object }
@@ -431,12 +470,10 @@ impl Arena {
         ensures { self.new ≡ with_object self.old object
             (put_back_object (object_at self.old object) state identity) }
     {
-        parts::put_back(
-            self.alloc,
-            &mut self.objects[object.0 as usize - 1],
-            state,
-            identity,
-        );
+        let place = object.0 as usize - 1;
+        self.index
+            .go_back(self.roots[place], state, &identity, object);
+        parts::put_back(self.alloc, &mut self.objects[place], state, identity);
     }
 
     /// Puts an object into a state under the identity that it has, as [`Arena::put_back`] does. Takes no memory.
@@ -463,7 +500,11 @@ impl Arena {
             (put_back_object (object_at self.old object) state
             (object_at self.old object).identity) }
     {
-        parts::stand(self.alloc, &mut self.objects[object.0 as usize - 1], state);
+        let place = object.0 as usize - 1;
+        let target = &mut self.objects[place];
+        self.index
+            .go_back(self.roots[place], state, &target.identity, object);
+        parts::stand(self.alloc, target, state);
     }
 }
 

@@ -2,6 +2,7 @@
 #![tactic(auto)]
 
 mod arena;
+mod index;
 mod object;
 mod parts;
 

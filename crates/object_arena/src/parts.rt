@@ -2,13 +2,13 @@
 
 ghost use Rattle.std.specs.Prelude.{◌≡◌, ◌<◌, [], IfOk, IfErr, length, map, true, Some};
 ghost use Rattle.base_core.specs.declared.refusal.Refusal.TheVariants.{Memory};
-ghost use Rattle.mapper_core.specs.Mapped.{IsClass};
+ghost use Rattle.class_mapping.specs.Mapped.{IsClass};
 ghost use Rattle.object_arena.specs.declared.object.Link.TheVariants.{Unset, Unloaded};
 ghost use Rattle.object_arena.specs.Graph.{cell_in, cell_put, expired, expired_cell, fresh_object, kept_identity, null_cell, put_back_object, settled, settled_adds, settled_cell, settled_link};
 
 use crate::{Cell, Link, Object, State};
 use base_core::{AttrNo, ClassId, Key, ListOf, ObjList, Refusal, Value};
-use mapper_core::{Attribute, Mapping, Relation};
+use class_mapping::{Attribute, Mapping, Relation};
 use std::alloc::Global;
 
 /// One null cell for each attribute.

@@ -1,19 +1,10 @@
 -- Tests of cells that are taken one after another.
 use Rattle.std.proofs.Common.{◌≡◌, ℕ, zero, suc, ◌≤◌, Bool, true, false, not, ◌&&◌, ◌||◌, List, [], ◌∷◌, length, slice_set, refl, ap, ◌∙◌, arith}
-use Rattle.std.specs.declared.cmp.Ordering.{Ordering}
-use Rattle.std.specs.declared.cmp.Ordering.TheVariants.{Less, Equal, Greater}
-use Rattle.std.specs.Ordering.{is_eq, ordering_then}
 use Rattle.base_core.specs.declared.value.Value.{Value}
 use Rattle.schema_core.specs.declared.table.ColumnSpec.{ColumnSpec}
 use Rattle.schema_core.specs.Judged.{lacks_value}
 use Rattle.schema_core.specs.Catalog.{is_required}
 use Rattle.schema_core.specs.Tables.{is_null}
-
--- two orders are ties where both are
-pub then_equal : (r o : Ordering) → (is_eq r && is_eq o) ≡ is_eq (ordering_then r o)
-then_equal Less o = refl
-then_equal Equal o = refl
-then_equal Greater o = refl
 
 -- a cell behind the row's end is written nowhere
 pub set_past : {A : Type 0} (row : List A) (i : ℕ) (cell : A) → length row ≤ i → slice_set row i cell ≡ row

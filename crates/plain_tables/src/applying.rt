@@ -35,11 +35,11 @@ fn with_rows(
     alloc: Global,
     tables: &PlainTables,
     table: TableId,
-    rows: PlainRows,
+    rows: &PlainRows,
 ) -> Result<PlainTables, AllocError>
-    ensures { IfOk result (λ changed. changed ≡ with_rows tables.now table rows) }
+    ensures { IfOk result (λ changed. changed ≡ with_rows tables.now table rows.now) }
 {
-    with_entry(alloc, tables.as_slice(), table, rows)
+    with_entry(alloc, tables.as_slice(), &table, rows)
 }
 
 /// The row of a key.
@@ -49,16 +49,24 @@ fn row_under<'a>(rows: &'a PlainRows, key: &Key) -> Option<&'a RowValues>
     value_of(rows.as_slice(), key)
 }
 
-/// The rows with one more, or another under its key.
+/// The rows with a copy of one more, or of another under its key.
 fn with_row(
     alloc: Global,
     rows: &PlainRows,
-    key: Key,
-    row: RowValues,
+    entry: &(Key, RowValues),
 ) -> Result<PlainRows, AllocError>
-    ensures { IfOk result (λ changed. changed ≡ with_row rows.now key row) }
+    ensures { IfOk result (λ changed. changed ≡ with_row rows.now entry.now.0 entry.now.1) }
 {
-    with_entry(alloc, rows.as_slice(), key, row)
+    with_entry(alloc, rows.as_slice(), &entry.0, &entry.1)
+}
+
+/// The rows with one before them.
+fn with_first(entry: (Key, RowValues), entries: PlainRows) -> Result<PlainRows, AllocError>
+    ensures { IfOk result (λ all. all ≡ entry ∷ entries) }
+{
+    let mut entries = entries.into_vec();
+    entries.insert(0, entry)?;
+    Ok(ListOf::from_vec(entries))
 }
 
 /// The rows with these written, each under its key.
@@ -72,7 +80,7 @@ fn with_all(
     let Some((entry, entries)) = entries.split_first() else {
         return copy_of(alloc, rows);
     };
-    let rows = with_entry(alloc, rows, entry.0.copied()?, entry.1.copied()?)?;
+    let rows = with_entry(alloc, rows, &entry.0, &entry.1)?;
     with_all(alloc, rows.as_slice(), entries)
 }
 
@@ -177,7 +185,7 @@ impl<'a> Target<'a> {
         if some_repeats(spec, rows.as_slice(), entries) {
             return Err(Unwritten::Violates(Violation::Unique));
         }
-        let tables = with_rows(alloc, self.tables, self.table, rows)?;
+        let tables = with_rows(alloc, self.tables, self.table, &rows)?;
         if some_written_dangles(self.schema, tables.as_slice(), spec, entries) {
             return Err(Unwritten::Violates(Violation::Foreign));
         }
@@ -210,7 +218,7 @@ impl<'a> Target<'a> {
             self.now.rows.now keys.now) result }
     {
         let rows = without_all(alloc, self.rows.as_slice(), keys)?;
-        let tables = with_rows(alloc, self.tables, self.table, rows)?;
+        let tables = with_rows(alloc, self.tables, self.table, &rows)?;
         if some_loses_row(self.schema, self.tables.as_slice(), tables.as_slice()) {
             return Err(Unwritten::Violates(Violation::Foreign));
         }
@@ -272,6 +280,21 @@ impl<'a> Target<'a> {
         Ok((key, row))
     }
 
+    /// A new row under its key, which is the next one of these rows where the row leaves it open.
+    fn next_entry(
+        &self,
+        alloc: Global,
+        rows: &PlainRows,
+        row: &RowValues,
+    ) -> Result<(Key, RowValues), Unwritten>
+        requires { IsTable self.now.schema.now self.now.table }
+        ensures { Told (entry_of (spec_of self.now.schema.now self.now.table) rows.now
+            (with_own_key (spec_of self.now.schema.now self.now.table) rows.now row.now)) result }
+    {
+        let keyed = self.with_own_key(alloc, rows, row)?;
+        self.entry_of(alloc, rows, keyed)
+    }
+
     #[tactic(auto, using(schema_core::proofs::ApplySteps::entries_steps))]
     /// New rows under their keys, one after another.
     fn entries_of(
@@ -287,12 +310,10 @@ impl<'a> Target<'a> {
         let Some((row, more)) = new.split_first() else {
             return Ok(ListOf::new(alloc));
         };
-        let keyed = self.with_own_key(alloc, rows, row)?;
-        let entry = self.entry_of(alloc, rows, keyed)?;
-        let rows = with_row(alloc, rows, entry.0.copied()?, entry.1.copied()?)?;
-        let mut entries = self.entries_of(alloc, &rows, more)?.into_vec();
-        entries.insert(0, entry)?;
-        Ok(ListOf::from_vec(entries))
+        let entry = self.next_entry(alloc, rows, row)?;
+        let rows = with_row(alloc, rows, &entry)?;
+        let entries = self.entries_of(alloc, &rows, more)?;
+        Ok(with_first(entry, entries)?)
     }
 
     /// Whether a new row has a NULL in a column that takes none; a key that is generated may be left open.

@@ -1,6 +1,6 @@
 //! Cells of rows beside the columns of their table.
 
-ghost use Rattle.std.specs.Prelude.{◌≡◌, ◌&&◌, ◌++◌, not, map, IfOk, OnOk};
+ghost use Rattle.std.specs.Prelude.{◌≡◌, ◌&&◌, ◌++◌, [], ◌∷◌, not, map, IfOk, OnOk};
 ghost use Rattle.std.specs.Option.{option_copied};
 ghost use Rattle.std.specs.Ordering.{is_eq};
 ghost use Rattle.base_core.specs.Order.{value_cmp};
@@ -68,7 +68,7 @@ pub fn has_null_in(columns: &[ColumnSpec], row: &[Value], names: &[Name]) -> boo
     is_null_in(columns, row, name) || has_null_in(columns, row, names)
 }
 
-#[tactic(auto, using(crate::proofs::CellLemmas::then_equal))]
+#[tactic(auto, using(base_core::proofs::Tests::then_equal))]
 /// Whether the cells in the columns of a list are these.
 pub fn are_cells(columns: &[ColumnSpec], row: &[Value], names: &[Name], key: &[Value]) -> bool
     ensures { result ≡ same_values (map (cell_of columns.now row.now) names.now) key.now }
@@ -91,7 +91,7 @@ fn same_cell(columns: &[ColumnSpec], one: &[Value], other: &[Value], name: &Name
     are_same(cell_of(columns, one, name), cell_of(columns, other, name))
 }
 
-#[tactic(auto, using(crate::proofs::CellLemmas::then_equal))]
+#[tactic(auto, using(base_core::proofs::Tests::then_equal))]
 /// Whether two rows have the same cells in the columns of a list.
 pub fn same_cells(columns: &[ColumnSpec], one: &[Value], other: &[Value], names: &[Name]) -> bool
     ensures { result ≡ same_values (map (cell_of columns.now one.now) names.now)
@@ -148,15 +148,23 @@ pub fn key_of(alloc: Global, columns: &[ColumnSpec], row: &[Value]) -> Result<Ke
 fn push_key(cells: &mut Vec<Value>, columns: &[ColumnSpec], row: &[Value]) -> Result<(), AllocError>
     ensures { OnOk result (cells.new.items ≡ cells.old.items ++ key_cells columns.now row.now) }
 {
-    if let (Some((column, columns)), Some((cell, row))) = (
-        columns.split_first(),
-        row.split_first(),
-    ) {
-        if column.key {
-            cells.push(cell.copied()?)?;
-        }
-        push_key(cells, columns, row)?;
+    let Some((column, columns)) = columns.split_first() else {
+        return Ok(());
+    };
+    let Some((cell, row)) = row.split_first() else {
+        return Ok(());
+    };
+    if column.key {
+        push_copy(cells, cell)?;
     }
+    push_key(cells, columns, row)
+}
+
+/// Puts a copy of a cell behind others.
+fn push_copy(cells: &mut Vec<Value>, cell: &Value) -> Result<(), AllocError>
+    ensures { OnOk result (cells.new.items ≡ cells.old.items ++ cell.now ∷ []) }
+{
+    cells.push(cell.copied()?)?;
     Ok(())
 }
 
@@ -184,19 +192,18 @@ fn push_keyed(
     ensures { OnOk result (cells.new.items
         ≡ cells.old.items ++ with_key columns.now (Value.Int key) row.now) }
 {
-    if let (Some((column, columns)), Some((cell, row))) = (
-        columns.split_first(),
-        row.split_first(),
-    ) {
-        let value = if column.key {
-            Value::Int(key)
-        } else {
-            cell.copied()?
-        };
-        cells.push(value)?;
-        push_keyed(cells, columns, key, row)?;
+    let Some((column, columns)) = columns.split_first() else {
+        return Ok(());
+    };
+    let Some((cell, row)) = row.split_first() else {
+        return Ok(());
+    };
+    if column.key {
+        cells.push(Value::Int(key))?;
+    } else {
+        push_copy(cells, cell)?;
     }
-    Ok(())
+    push_keyed(cells, columns, key, row)
 }
 
 /// The row with these cells written.

@@ -1,6 +1,6 @@
 //! Lists of keys with their values, ascending by key.
 
-ghost use Rattle.std.specs.Prelude.{◌≡◌, ◌++◌, IfOk, OnOk};
+ghost use Rattle.std.specs.Prelude.{◌≡◌, ◌++◌, [], ◌∷◌, IfOk, OnOk};
 ghost use Rattle.std.specs.BTreeMap.{insert_entry, is_at};
 ghost use Rattle.std.specs.Map.{lookup, remove_entry};
 ghost use Rattle.std.specs.Option.{option_copied};
@@ -24,10 +24,11 @@ pub fn value_of<'a, K: Ord, V>(entries: &'a [(K, V)], key: &K) -> Option<&'a V>
 pub fn with_entry<K: Ord + Copied + Drop, V: Copied + Drop>(
     alloc: Global,
     entries: &[(K, V)],
-    key: K,
-    value: V,
+    key: &K,
+    value: &V,
 ) -> Result<ListOf<(K, V)>, AllocError>
-    ensures { IfOk result (λ changed. changed ≡ insert_entry K.cmp entries.now key value) }
+    ensures { IfOk result
+        (λ changed. changed ≡ insert_entry K.cmp entries.now key.now value.now) }
 {
     let mut changed = Vec::new(alloc);
     push_with(&mut changed, entries, key, value)?;
@@ -38,30 +39,41 @@ pub fn with_entry<K: Ord + Copied + Drop, V: Copied + Drop>(
 fn push_with<K: Ord + Copied + Drop, V: Copied + Drop>(
     changed: &mut Vec<(K, V)>,
     entries: &[(K, V)],
-    key: K,
-    value: V,
+    key: &K,
+    value: &V,
 ) -> Result<(), AllocError>
     ensures { OnOk result (changed.new.items
-        ≡ changed.old.items ++ insert_entry K.cmp entries.now key value) }
+        ≡ changed.old.items ++ insert_entry K.cmp entries.now key.now value.now) }
 {
     let Some((entry, rest)) = entries.split_first() else {
-        changed.push((key, value))?;
-        return Ok(());
+        return push_pair(changed, key, value);
     };
     match key.cmp(&entry.0) {
         Ordering::Less => {
-            changed.push((key, value))?;
+            push_pair(changed, key, value)?;
             push_all(changed, entries)
         }
         Ordering::Equal => {
-            changed.push((entry.0.copied()?, value))?;
+            push_pair(changed, &entry.0, value)?;
             push_all(changed, rest)
         }
         Ordering::Greater => {
-            changed.push(entry.copied()?)?;
+            push_pair(changed, &entry.0, &entry.1)?;
             push_with(changed, rest, key, value)
         }
     }
+}
+
+/// Puts copies of a key and a value behind others.
+fn push_pair<K: Copied + Drop, V: Copied + Drop>(
+    changed: &mut Vec<(K, V)>,
+    key: &K,
+    value: &V,
+) -> Result<(), AllocError>
+    ensures { OnOk result (changed.new.items ≡ changed.old.items ++ (key.now, value.now) ∷ []) }
+{
+    changed.push((key.copied()?, value.copied()?))?;
+    Ok(())
 }
 
 /// The entries without that of a key.
@@ -92,7 +104,7 @@ fn push_without<K: Ord + Copied + Drop, V: Copied + Drop>(
     if key.cmp(&entry.0).is_eq() {
         return push_all(changed, rest);
     }
-    changed.push(entry.copied()?)?;
+    push_pair(changed, &entry.0, &entry.1)?;
     push_without(changed, rest, key)
 }
 
@@ -116,7 +128,7 @@ fn push_all<K: Copied + Drop, V: Copied + Drop>(
     ensures { OnOk result (changed.new.items ≡ changed.old.items ++ entries.now) }
 {
     for entry in entries {
-        changed.push(entry.copied()?)?;
+        push_pair(changed, &entry.0, &entry.1)?;
     }
     Ok(())
 }

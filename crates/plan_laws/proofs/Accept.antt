@@ -1,9 +1,10 @@
 -- A statement on one row is accepted where the tables that it leaves are legal.
-use Rattle.std.proofs.Common.{◌≡◌, Bool, true, false, cond, ◌&&◌, ◌||◌, List, [], ◌∷◌, Option, None, Some, Ok, Err, refl, sym, ap, ◌∙◌, subst}
+use Rattle.std.proofs.Common.{◌≡◌, Bool, true, false, cond, ◌||◌, List, [], ◌∷◌, Option, None, Some, Ok, Err, refl, sym, ap, ◌∙◌, subst}
 use Rattle.std.specs.Ordering.{is_eq}
 use Rattle.std.specs.Cmp.{tied_itself}
 use Rattle.std.specs.List.{list_any}
 use Rattle.std.specs.Option.{is_some}
+use Rattle.base_core.proofs.Tests.{and_none}
 use Rattle.base_core.specs.declared.ids.ColumnNo.{ColumnNo}
 use Rattle.base_core.specs.declared.ids.TableId.{TableId}
 use Rattle.base_core.specs.declared.value.Value.{Value}
@@ -17,17 +18,19 @@ use Rattle.schema_core.specs.declared.table.TableSpec.{TableSpec}
 use Rattle.schema_core.specs.Tables.{Legal, Rows, Tables, dangles, has_dangling, is_legal_row, key_of, repeats_unique, row_under, rows_in, some_dangles, with_row, with_rows, without_row}
 use Rattle.flush_plan.specs.Stating.{edited}
 use Rattle.plan_laws.specs.Premises.{IsSorted}
-use Rattle.plan_laws.proofs.At.{at_edit, edit_is, in_edited, key_total, row_found, rows_sorted, table_total, under_edited}
+use Rattle.plan_laws.proofs.At.{at_edit, edit_is, in_edited, row_found, rows_sorted, under_edited}
 use Rattle.plan_laws.proofs.Between.{legal_bound}
 use Rattle.plan_laws.proofs.Blend.{legal_lacks_none}
+use Rattle.base_core.proofs.Exact.{values_total}
+use Rattle.schema_core.proofs.TableOrder.{tables_total}
 
 -- a row that stands in legal tables repeats no unique value
 alone : (schema : Catalog) (tables : Tables) (table : TableId) (rows : Rows) (key row : List Value) → IsSorted tables → rows_in tables table ≡ Some rows → Legal schema (edited tables ((table, key), Some row)) → repeats_unique (spec_of schema table) (with_row rows key row) key row ≡ false
 alone schema tables table rows key row sorted found legal =
     let here : rows_in (edited tables ((table, key), Some row)) table ≡ Some (with_row rows key row) =
-    in_edited tables ((table, key), Some row) rows table found ∙ ap (λ o. cond (is_eq o) (Some (with_row rows key row)) (rows_in tables table)) (tied_itself table_total table) in
+    in_edited tables ((table, key), Some row) rows table found ∙ ap (λ o. cond (is_eq o) (Some (with_row rows key row)) (rows_in tables table)) (tied_itself tables_total table) in
     let under : row_under (with_row rows key row) key ≡ Some row =
-    under_edited rows key (Some row) key (rows_sorted tables table rows sorted found) ∙ ap (λ o. cond (is_eq o) (Some row) (row_under rows key)) (tied_itself key_total key) in
+    under_edited rows key (Some row) key (rows_sorted tables table rows sorted found) ∙ ap (λ o. cond (is_eq o) (Some row) (row_under rows key)) (tied_itself values_total key) in
     row_found (λ t rs r. repeats_unique (spec_of schema t) rs r.0 r.1 ≡ false) (edited tables ((table, key), Some row)) table (with_row rows key row) key row legal.uniques here under
 
 -- its foreign keys name rows
@@ -75,10 +78,6 @@ update_accepted schema tables table rows key row cells sorted found under fits l
     ∙ ap (λ b. answer_keys (key ∷ []) (cond b (Err NotNull) (write_all schema tables table rows ((key, with_cells row cells) ∷ []))))
     (or_none (lacks_value is_required (spec_of schema table).columns (with_cells row cells)) (legal_lacks_none (spec_of schema table).columns (with_cells row cells) fits))
     ∙ ap (answer_keys (key ∷ [])) (written_accepted schema tables table rows key (with_cells row cells) sorted found legal)
-
-and_none : (a b : Bool) → b ≡ false → (a && b) ≡ false
-and_none true b e = e
-and_none false b e = refl
 
 fewer : {A : Type 0} (p q : A → Bool) → ((x : A) → p x ≡ false → q x ≡ false) → (xs : List A) → list_any p xs ≡ false → list_any q xs ≡ false
 fewer p q f xs e = none_any q xs (all_map (λ x. p x ≡ false) (λ x. q x ≡ false) f xs (any_none p xs e))

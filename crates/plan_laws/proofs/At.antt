@@ -1,9 +1,7 @@
 -- What stands under a table and key, before and after an edit.
-use Rattle.std.proofs.Common.{◌≡◌, ◌⊎◌, inl, inr, Bool, true, false, cond, T, List, Option, None, Some, Ordering, refl, sym, ap, ◌∙◌, subst}
-use Rattle.std.specs.declared.cmp.Ordering.TheVariants.{Less, Equal, Greater}
+use Rattle.std.proofs.Common.{◌≡◌, ◌⊎◌, inl, inr, Bool, true, false, cond, T, List, Option, None, Some, refl, sym, ap, ◌∙◌, subst}
 use Rattle.std.specs.Ordering.{is_eq}
-use Rattle.std.specs.Cmp.{IsTotalOrder, on_total, nat_cmp_total, tied_itself}
-use Rattle.std.specs.Cmp.Lexicographic.{lists_total}
+use Rattle.std.specs.Cmp.{tied_itself}
 use Rattle.std.specs.List.{AllByRecursion}
 use Rattle.std.specs.BTreeMap.{is_at}
 use Rattle.std.specs.Option.{is_some, option_and_then}
@@ -11,32 +9,27 @@ use Rattle.std.specs.FinMap.Entries.{is_sorted}
 use Rattle.base_core.specs.declared.ids.TableId.{TableId}
 use Rattle.base_core.specs.declared.value.Value.{Value}
 use Rattle.base_core.specs.Order.{values_cmp}
-use Rattle.base_core.specs.OrderLaws.{value_cmp_total}
-use Rattle.schema_core.specs.Tables.{Rows, Tables, row_under, rows_in, table_cmp, with_rows}
+use Rattle.schema_core.specs.Tables.{Rows, Tables, is_created, row_under, rows_in, table_cmp, with_rows}
 use Rattle.table_laws.proofs.Entries.{all_insert, all_lookup}
 use Rattle.table_laws.proofs.SameValues.{same_key, same_table, is_equal}
-use Rattle.flush_plan.specs.Sorted.{Place}
-use Rattle.flush_plan.specs.Stating.{Edit, edited, edited_in, edited_rows, is_created, row_at}
+use Rattle.flush_order.specs.Sorted.{Place}
+use Rattle.flush_plan.specs.Stating.{Edit, edited, edited_in, edited_rows, row_at}
 use Rattle.plan_laws.specs.Premises.{IsSorted}
 use Rattle.plan_laws.proofs.Lookups.{all_found, lookup_insert, lookup_remove, same_lists, sorted_insert, sorted_remove}
 use Rattle.plan_laws.proofs.Facts.{some_or_none, true_false}
-
-pub table_total : IsTotalOrder table_cmp
-table_total = on_total (λ t. t.0) nat_cmp_total
-
-pub key_total : IsTotalOrder values_cmp
-key_total = lists_total value_cmp_total
+use Rattle.base_core.proofs.Exact.{values_total}
+use Rattle.schema_core.proofs.TableOrder.{tables_total}
 
 pub rows_sorted : (tables : Tables) (table : TableId) (rows : Rows) → IsSorted tables → rows_in tables table ≡ Some rows → T (is_sorted values_cmp rows)
 rows_sorted tables table rows sorted found = all_lookup table_cmp same_table (λ c. T (is_sorted values_cmp c.1)) tables table rows sorted.inner found
 
 pub edited_sorted_rows : (rows : Rows) (key : List Value) (row : Option (List Value)) → T (is_sorted values_cmp rows) → T (is_sorted values_cmp (edited_rows rows key row))
-edited_sorted_rows rows key None sorted = sorted_remove values_cmp key_total (is_at (values_cmp key)) rows sorted
-edited_sorted_rows rows key (Some row) sorted = sorted_insert values_cmp key_total rows key row sorted
+edited_sorted_rows rows key None sorted = sorted_remove values_cmp values_total (is_at (values_cmp key)) rows sorted
+edited_sorted_rows rows key (Some row) sorted = sorted_insert values_cmp values_total rows key row sorted
 
 pub under_edited : (rows : Rows) (key : List Value) (row : Option (List Value)) (q : List Value) → T (is_sorted values_cmp rows) → row_under (edited_rows rows key row) q ≡ cond (is_eq (values_cmp q key)) row (row_under rows q)
-under_edited rows key None q sorted = lookup_remove values_cmp key_total same_key rows key q sorted
-under_edited rows key (Some row) q sorted = lookup_insert values_cmp key_total rows key row q
+under_edited rows key None q sorted = lookup_remove values_cmp values_total same_key rows key q sorted
+under_edited rows key (Some row) q sorted = lookup_insert values_cmp values_total rows key row q
 
 pub edit_is : (tables : Tables) (edit : Edit) (rows : Rows) → rows_in tables edit.0.0 ≡ Some rows → edited tables edit ≡ with_rows tables edit.0.0 (edited_rows rows edit.0.1 edit.1)
 unfolding edited
@@ -48,13 +41,13 @@ edit_none tables edit none = ap (edited_in tables edit) none
 
 pub in_edited : (tables : Tables) (edit : Edit) (rows : Rows) (table : TableId) → rows_in tables edit.0.0 ≡ Some rows → rows_in (edited tables edit) table ≡ cond (is_eq (table_cmp table edit.0.0)) (Some (edited_rows rows edit.0.1 edit.1)) (rows_in tables table)
 in_edited tables edit rows table found =
-    ap (λ t. rows_in t table) (edit_is tables edit rows found) ∙ lookup_insert table_cmp table_total tables edit.0.0 (edited_rows rows edit.0.1 edit.1) table
+    ap (λ t. rows_in t table) (edit_is tables edit rows found) ∙ lookup_insert table_cmp tables_total tables edit.0.0 (edited_rows rows edit.0.1 edit.1) table
 
 pub edited_sorted : (tables : Tables) (edit : Edit) → IsSorted tables → IsSorted (edited tables edit)
 edited_sorted tables edit sorted =
     elim (some_or_none (rows_in tables edit.0.0)) [
       | inl found ↦ subst IsSorted (sym (edit_is tables edit found.0 found.1)) (record {
-        outer = sorted_insert table_cmp table_total tables edit.0.0 (edited_rows found.0 edit.0.1 edit.1) sorted.outer;
+        outer = sorted_insert table_cmp tables_total tables edit.0.0 (edited_rows found.0 edit.0.1 edit.1) sorted.outer;
         inner = all_insert table_cmp same_table (λ c. T (is_sorted values_cmp c.1)) tables edit.0.0 (edited_rows found.0 edit.0.1 edit.1) sorted.inner (edited_sorted_rows found.0 edit.0.1 edit.1 (rows_sorted tables edit.0.0 found.0 sorted found.1));
       })
       | inr none ↦ subst IsSorted (sym (edit_none tables edit none)) sorted
@@ -81,10 +74,10 @@ edited_created tables edit table =
 pub at_edit : (tables : Tables) (edit : Edit) (rows : Rows) → IsSorted tables → rows_in tables edit.0.0 ≡ Some rows → row_at (edited tables edit) edit.0 ≡ edit.1
 at_edit tables edit rows sorted found =
     let here : rows_in (edited tables edit) edit.0.0 ≡ Some (edited_rows rows edit.0.1 edit.1) =
-    in_edited tables edit rows edit.0.0 found ∙ ap (λ o. cond (is_eq o) (Some (edited_rows rows edit.0.1 edit.1)) (rows_in tables edit.0.0)) (tied_itself table_total edit.0.0) in
+    in_edited tables edit rows edit.0.0 found ∙ ap (λ o. cond (is_eq o) (Some (edited_rows rows edit.0.1 edit.1)) (rows_in tables edit.0.0)) (tied_itself tables_total edit.0.0) in
     ap (option_and_then (λ r. row_under r edit.0.1)) here
     ∙ under_edited rows edit.0.1 edit.1 edit.0.1 (rows_sorted tables edit.0.0 rows sorted found)
-    ∙ ap (λ o. cond (is_eq o) edit.1 (row_under rows edit.0.1)) (tied_itself key_total edit.0.1)
+    ∙ ap (λ o. cond (is_eq o) edit.1 (row_under rows edit.0.1)) (tied_itself values_total edit.0.1)
 
 pub IsOther : Place → Place → Type 0
 IsOther one other = one ≡ other → ⊥
@@ -116,11 +109,11 @@ at_other tables edit q sorted apart =
 
 key_cases : (b : Bool) (k q : List Value) → is_eq (values_cmp k q) ≡ b → (k ≡ q) ⊎ (k ≡ q → ⊥)
 key_cases true k q e = inl (same_key k q (is_equal (values_cmp k q) e))
-key_cases false k q e = inr (λ same. true_false (sym (ap is_eq (tied_itself key_total q)) ∙ ap (λ z. is_eq (values_cmp z q)) (sym same) ∙ e))
+key_cases false k q e = inr (λ same. true_false (sym (ap is_eq (tied_itself values_total q)) ∙ ap (λ z. is_eq (values_cmp z q)) (sym same) ∙ e))
 
 table_cases : (b : Bool) (t u : TableId) → is_eq (table_cmp t u) ≡ b → (t ≡ u) ⊎ (t ≡ u → ⊥)
 table_cases true t u e = inl (same_table t u (is_equal (table_cmp t u) e))
-table_cases false t u e = inr (λ same. true_false (sym (ap is_eq (tied_itself table_total u)) ∙ ap (λ z. is_eq (table_cmp z u)) (sym same) ∙ e))
+table_cases false t u e = inr (λ same. true_false (sym (ap is_eq (tied_itself tables_total u)) ∙ ap (λ z. is_eq (table_cmp z u)) (sym same) ∙ e))
 
 pub place_cases : (p q : Place) → (p ≡ q) ⊎ (p ≡ q → ⊥)
 place_cases p q =
@@ -137,8 +130,8 @@ place_cases p q =
 -- what holds of each row that is found holds of each row of each table
 pub each_row : (P : TableId → Rows → List Value × List Value → Type 0) (tables : Tables) → IsSorted tables → ((table : TableId) (rows : Rows) (key row : List Value) → rows_in tables table ≡ Some rows → row_under rows key ≡ Some row → P table rows (key, row)) → AllByRecursion (λ c. AllByRecursion (P c.0 c.1) c.1) tables
 each_row P tables sorted each =
-    all_found table_cmp table_total same_table (λ c. AllByRecursion (P c.0 c.1) c.1) tables sorted.outer
-    (λ table rows found. all_found values_cmp key_total same_key (P table rows) rows (rows_sorted tables table rows sorted found) (λ key row under. each table rows key row found under))
+    all_found table_cmp tables_total same_table (λ c. AllByRecursion (P c.0 c.1) c.1) tables sorted.outer
+    (λ table rows found. all_found values_cmp values_total same_key (P table rows) rows (rows_sorted tables table rows sorted found) (λ key row under. each table rows key row found under))
 
 pub row_found : (P : TableId → Rows → List Value × List Value → Type 0) (tables : Tables) (table : TableId) (rows : Rows) (key row : List Value) → AllByRecursion (λ c. AllByRecursion (P c.0 c.1) c.1) tables → rows_in tables table ≡ Some rows → row_under rows key ≡ Some row → P table rows (key, row)
 row_found P tables table rows key row all found under =
@@ -152,11 +145,11 @@ same_in one other table None None a b s t c each = refl
 same_in one other table None (Some rows) a b s t c each = absurd (true_false (sym c))
 same_in one other table (Some rows) None a b s t c each = absurd (true_false c)
 same_in one other table (Some rows) (Some more) a b s t c each =
-    ap Some (same_lists values_cmp key_total same_key rows more (rows_sorted one table rows s a) (rows_sorted other table more t b)
+    ap Some (same_lists values_cmp values_total same_key rows more (rows_sorted one table rows s a) (rows_sorted other table more t b)
     (λ key. sym (ap (option_and_then (λ r. row_under r key)) a) ∙ each (table, key) ∙ ap (option_and_then (λ r. row_under r key)) b))
 
 -- tables that rise, of which the same are created, and with the same row under each key, are the same
 pub same_tables : (one other : Tables) → IsSorted one → IsSorted other → ((table : TableId) → is_created one table ≡ is_created other table) → ((q : Place) → row_at one q ≡ row_at other q) → one ≡ other
 same_tables one other s t created each =
-    same_lists table_cmp table_total same_table one other s.outer t.outer
+    same_lists table_cmp tables_total same_table one other s.outer t.outer
     (λ table. same_in one other table (rows_in one table) (rows_in other table) refl refl s t (created table) each)

@@ -10,17 +10,19 @@ use Rattle.schema_core.specs.declared.table.ColumnSpec.{ColumnSpec}
 use Rattle.schema_core.specs.declared.table.ForeignSpec.{ForeignSpec}
 use Rattle.schema_core.specs.declared.table.TableSpec.{TableSpec}
 use Rattle.schema_core.specs.Catalog.{Catalog, IsTable, spec_of, target_of}
-use Rattle.schema_core.specs.Tables.{Legal, Rows, Tables, cells_of, collide, dangles, has_null, has_row, is_legal_row, key_of, repeats_unique, row_under, rows_in, same_values, some_dangles, table_cmp}
+use Rattle.schema_core.specs.Tables.{Legal, Rows, Tables, cells_of, collide, dangles, has_null, has_row, is_created, is_legal_row, key_of, repeats_unique, row_under, rows_in, same_values, some_dangles, table_cmp}
 use Rattle.table_laws.proofs.Entries.{all_both, all_lookup, all_map, any_none, none_any}
 use Rattle.table_laws.proofs.SameValues.{same_key, same_table, same_turned, values_turned}
-use Rattle.flush_plan.specs.Cells.{is_late, late_name}
-use Rattle.flush_plan.specs.Sorted.{Place}
-use Rattle.flush_plan.specs.Stating.{blend, is_created, is_present, row_at}
+use Rattle.flush_order.specs.Cells.{is_late, late_name}
+use Rattle.flush_order.specs.Sorted.{Place}
+use Rattle.flush_plan.specs.Stating.{blend, is_present, row_at}
 use Rattle.plan_laws.specs.Premises.{Ends, IsSorted}
-use Rattle.plan_laws.proofs.At.{each_row, key_total, row_found, rows_sorted, table_total}
+use Rattle.plan_laws.proofs.At.{each_row, row_found, rows_sorted}
 use Rattle.plan_laws.proofs.Blend.{FitsLate, Long, blend_early, blend_fits, blend_key, blend_late, legal_fits_late, legal_is_long, nulls, nulls_are_long, nulls_fit_late, nulls_null}
 use Rattle.plan_laws.proofs.Lookups.{all_found}
-use Rattle.plan_laws.proofs.Facts.{none_some, true_false}
+use Rattle.plan_laws.proofs.Facts.{none_some, some_of}
+use Rattle.base_core.proofs.Exact.{values_total}
+use Rattle.schema_core.proofs.TableOrder.{tables_total}
 
 -- ---- a row that is found
 
@@ -76,6 +78,12 @@ module _ (schema : Catalog) (tables : Tables) (legal : Legal schema tables) wher
       some_same : (x y : Rows) → Some x ≡ Some y → x ≡ y
       some_same x y e = cc
 
+-- a table that is created is declared
+pub is_declared : (schema : Catalog) (tables : Tables) → Legal schema tables → (table : TableId) → is_created tables table ≡ true → IsTable schema table
+is_declared schema tables legal table created =
+    let rows = some_of (rows_in tables table) created in
+    all_lookup table_cmp same_table (λ c. IsTable schema c.0) tables table rows.0 legal.created rows.1
+
 -- ---- a foreign key that names a row
 
 has_row_at : (key : List Value) (o : Option Rows) → has_row key o ≡ is_some (option_and_then (λ rows. row_under rows key) o)
@@ -111,60 +119,64 @@ all_forall R (y ∷ ys) each = (λ x. (each x).0, all_forall R ys (λ x. (each x
 
 -- ---- between
 
+abbrev pub columns : Catalog → Place → List ColumnSpec
+columns schema place = (spec_of schema place.0).columns
+
+-- the row is that of the old tables, or of the stated ones
+abbrev pub Comes : Tables → Tables → Place → List Value → Type 0
+Comes old stated place row = (row_at old place ≡ Some row) ⊎ (row_at stated place ≡ Some row)
+
+-- the row with NULL in what is written late
+abbrev pub early_part : Catalog → RowChanges → Place → List Value → List Value
+early_part schema changes place row = blend (is_late schema changes place.0) (columns schema place) row (nulls (columns schema place))
+
 module _ (schema : Catalog) (changes : RowChanges) (old stated : Tables) (ends : Ends schema changes old stated) where
-  abbrev pub columns : Place → List ColumnSpec
-  columns place = (spec_of schema place.0).columns
-
-  -- the row is that of the old tables, or of the stated ones
-  abbrev pub Comes : Place → List Value → Type 0
-  Comes place row = (row_at old place ≡ Some row) ⊎ (row_at stated place ≡ Some row)
-
   pub record Good (place : Place) (row : List Value) : Type 0 where
     pub early : List Value
     pub late : List Value
-    pub is : row ≡ blend (is_late schema changes place.0) (columns place) early late
-    pub from : Comes place early
-    pub after : Comes place late ⊎ ((late ≡ nulls (columns place)) × ((row_at old place ≡ None) ⊎ (row_at stated place ≡ None)))
+    pub is : row ≡ blend (is_late schema changes place.0) (columns schema place) early late
+    pub from : Comes old stated place early
+    pub after : Comes old stated place late ⊎ ((late ≡ nulls (columns schema place)) × ((row_at old place ≡ None) ⊎ (row_at stated place ≡ None)))
 
-  pub comes_key : (place : Place) (row : List Value) → Comes place row → key_of (spec_of schema place.0) row ≡ place.1
+  pub comes_key : (place : Place) (row : List Value) → Comes old stated place row → key_of (spec_of schema place.0) row ≡ place.1
   comes_key place row (inl at) = legal_key schema old ends.legal_old place row at
   comes_key place row (inr at) = legal_key schema stated ends.legal_stated place row at
 
-  pub comes_legal : (place : Place) (row : List Value) → Comes place row → is_legal_row (spec_of schema place.0) row ≡ true
+  pub comes_legal : (place : Place) (row : List Value) → Comes old stated place row → is_legal_row (spec_of schema place.0) row ≡ true
   comes_legal place row (inl at) = legal_cells schema old ends.legal_old place row at
   comes_legal place row (inr at) = legal_cells schema stated ends.legal_stated place row at
 
-  pub comes_long : (place : Place) (row : List Value) → Comes place row → Long (columns place) row
-  comes_long place row comes = legal_is_long (columns place) row (comes_legal place row comes)
+  pub comes_long : (place : Place) (row : List Value) → Comes old stated place row → Long (columns schema place) row
+  comes_long place row comes = legal_is_long (columns schema place) row (comes_legal place row comes)
 
-  late_long : (place : Place) (row : List Value) → Comes place row ⊎ ((row ≡ nulls (columns place)) × ((row_at old place ≡ None) ⊎ (row_at stated place ≡ None))) → Long (columns place) row
+  late_long : (place : Place) (row : List Value) → Comes old stated place row ⊎ ((row ≡ nulls (columns schema place)) × ((row_at old place ≡ None) ⊎ (row_at stated place ≡ None))) → Long (columns schema place) row
   late_long place row (inl comes) = comes_long place row comes
-  late_long place row (inr none) = subst (Long (columns place)) (sym none.0) (nulls_are_long (columns place))
+  late_long place row (inr none) = subst (Long (columns schema place)) (sym none.0) (nulls_are_long (columns schema place))
 
-  late_fits : (place : Place) (row : List Value) → Comes place row ⊎ ((row ≡ nulls (columns place)) × ((row_at old place ≡ None) ⊎ (row_at stated place ≡ None))) → FitsLate (late_name schema changes place.0) (columns place) row
-  late_fits place row (inl comes) = legal_fits_late (late_name schema changes place.0) (columns place) row (comes_legal place row comes)
-  late_fits place row (inr none) = subst (FitsLate (late_name schema changes place.0) (columns place)) (sym none.0) (nulls_fit_late (late_name schema changes place.0) (columns place) (ends.fit.nullable place.0))
+  late_fits : (place : Place) (row : List Value) → Comes old stated place row ⊎ ((row ≡ nulls (columns schema place)) × ((row_at old place ≡ None) ⊎ (row_at stated place ≡ None))) → FitsLate (late_name schema changes place.0) (columns schema place) row
+  late_fits place row (inl comes) = legal_fits_late (late_name schema changes place.0) (columns schema place) row (comes_legal place row comes)
+  late_fits place row (inr none) = subst (FitsLate (late_name schema changes place.0) (columns schema place)) (sym none.0) (nulls_fit_late (late_name schema changes place.0) (columns schema place) (ends.fit.nullable place.0))
 
   pub good_key : (place : Place) (row : List Value) → Good place row → key_of (spec_of schema place.0) row ≡ place.1
   good_key place row good =
       ap (key_of (spec_of schema place.0)) good.is
-      ∙ blend_key (late_name schema changes place.0) (columns place) good.early good.late (comes_long place good.early good.from) (late_long place good.late good.after) (ends.fit.no_key place.0)
+      ∙ blend_key (late_name schema changes place.0) (columns schema place) good.early good.late (comes_long place good.early good.from) (late_long place good.late good.after) (ends.fit.no_key place.0)
       ∙ comes_key place good.early good.from
 
   pub good_legal : (place : Place) (row : List Value) → Good place row → is_legal_row (spec_of schema place.0) row ≡ true
   good_legal place row good =
       ap (is_legal_row (spec_of schema place.0)) good.is
-      ∙ blend_fits (late_name schema changes place.0) (columns place) good.early good.late (comes_legal place good.early good.from) (late_long place good.late good.after) (late_fits place good.late good.after)
+      ∙ blend_fits (late_name schema changes place.0) (columns schema place) good.early good.late (comes_legal place good.early good.from) (late_long place good.late good.after) (late_fits place good.late good.after)
 
   -- the cells of each unique constraint are those of the early row
   good_uniques : (place : Place) (row : List Value) (good : Good place row) → AllByRecursion (λ unique. cells_of (spec_of schema place.0) row unique ≡ cells_of (spec_of schema place.0) good.early unique) (spec_of schema place.0).uniques
   good_uniques place row good =
       all_map (λ unique. list_any (late_name schema changes place.0) unique ≡ false) (λ unique. cells_of (spec_of schema place.0) row unique ≡ cells_of (spec_of schema place.0) good.early unique)
-      (λ unique e. ap (λ r. cells_of (spec_of schema place.0) r unique) good.is ∙ blend_early (late_name schema changes place.0) (columns place) good.early good.late unique (comes_long place good.early good.from) (late_long place good.late good.after) e)
+      (λ unique e. ap (λ r. cells_of (spec_of schema place.0) r unique) good.is ∙ blend_early (late_name schema changes place.0) (columns schema place) good.early good.late unique (comes_long place good.early good.from) (late_long place good.late good.after) e)
       (spec_of schema place.0).uniques (ends.fit.uniques place.0)
 
   -- old and stated rows under two keys do not collide
-  comes_apart : (table : TableId) (key other : List Value) (row second : List Value) → Comes (table, key) row → Comes (table, other) second → same_values key other ≡ false → AllByRecursion (λ unique. collide (spec_of schema table) unique row second ≡ false) (spec_of schema table).uniques
+  comes_apart : (table : TableId) (key other : List Value) (row second : List Value) → Comes old stated (table, key) row → Comes old stated (table, other) second → same_values key other ≡ false → AllByRecursion (λ unique. collide (spec_of schema table) unique row second ≡ false) (spec_of schema table).uniques
   comes_apart table key other row second (inl one) (inl two) differs = legal_apart schema old ends.legal_old table key other row second one two differs
   comes_apart table key other row second (inl one) (inr two) differs = ends.clear.apart table key other row second one two differs
   comes_apart table key other row second (inr one) (inl two) differs =
@@ -194,7 +206,7 @@ module _ (schema : Catalog) (changes : RowChanges) (old stated : Tables) (ends :
   abbrev Bound : Place → List Value → ForeignSpec → Type 0
   Bound place other foreign = ((row_at old place ≡ Some other) × (dangles schema old (spec_of schema place.0) other foreign ≡ false)) ⊎ ((row_at stated place ≡ Some other) × (dangles schema stated (spec_of schema place.0) other foreign ≡ false))
 
-  comes_bound : (place : Place) (row : List Value) → Comes place row → AllByRecursion (Bound place row) (spec_of schema place.0).foreigns
+  comes_bound : (place : Place) (row : List Value) → Comes old stated place row → AllByRecursion (Bound place row) (spec_of schema place.0).foreigns
   comes_bound place row (inl at) = all_map (λ foreign. dangles schema old (spec_of schema place.0) row foreign ≡ false) (Bound place row) (λ foreign e. inl (at, e)) (spec_of schema place.0).foreigns (legal_bound schema old ends.legal_old place row at)
   comes_bound place row (inr at) = all_map (λ foreign. dangles schema stated (spec_of schema place.0) row foreign ≡ false) (Bound place row) (λ foreign e. inr (at, e)) (spec_of schema place.0).foreigns (legal_bound schema stated ends.legal_stated place row at)
 
@@ -203,9 +215,9 @@ module _ (schema : Catalog) (changes : RowChanges) (old stated : Tables) (ends :
   source_from place row other foreign same (inr both) = inr (inl (other, both.0, same, both.1))
 
   abbrev LateBound : Place → List Value → ForeignSpec → Type 0
-  LateBound place late foreign = Bound place late foreign ⊎ (late ≡ nulls (columns place))
+  LateBound place late foreign = Bound place late foreign ⊎ (late ≡ nulls (columns schema place))
 
-  late_bound : (place : Place) (late : List Value) → Comes place late ⊎ ((late ≡ nulls (columns place)) × ((row_at old place ≡ None) ⊎ (row_at stated place ≡ None))) → (all : (foreigns : List ForeignSpec) → AllByRecursion (λ f. Unit {0}) foreigns) → AllByRecursion (LateBound place late) (spec_of schema place.0).foreigns
+  late_bound : (place : Place) (late : List Value) → Comes old stated place late ⊎ ((late ≡ nulls (columns schema place)) × ((row_at old place ≡ None) ⊎ (row_at stated place ≡ None))) → (all : (foreigns : List ForeignSpec) → AllByRecursion (λ f. Unit {0}) foreigns) → AllByRecursion (LateBound place late) (spec_of schema place.0).foreigns
   late_bound place late (inl comes) all = all_map (Bound place late) (LateBound place late) (λ foreign b. inl b) (spec_of schema place.0).foreigns (comes_bound place late comes)
   late_bound place late (inr none) all = all_map (λ f. Unit {0}) (LateBound place late) (λ foreign u. inr none.0) (spec_of schema place.0).foreigns (all (spec_of schema place.0).foreigns)
 
@@ -216,16 +228,16 @@ module _ (schema : Catalog) (changes : RowChanges) (old stated : Tables) (ends :
   late_source : (place : Place) (row early late : List Value) (foreign : ForeignSpec) → cells_of (spec_of schema place.0) row foreign.columns ≡ cells_of (spec_of schema place.0) late foreign.columns → Bound place early foreign → LateBound place late foreign → FromRow place row foreign
   late_source place row early late foreign same bound (inl b) = source_from place row late foreign same b
   late_source place row early late foreign same bound (inr none) =
-      elim (nulls_null (columns place) foreign.columns) [
+      elim (nulls_null (columns schema place) foreign.columns) [
         | inl empty ↦ source_from place row early foreign (ap (cells_of (spec_of schema place.0) row) empty ∙ sym (ap (cells_of (spec_of schema place.0) early) empty)) bound
         | inr null ↦ inr (inr (ap has_null (same ∙ ap (λ r. cells_of (spec_of schema place.0) r foreign.columns) none) ∙ null))
       ]
 
   split_source : (place : Place) (row : List Value) (good : Good place row) (foreign : ForeignSpec) → (list_all (late_name schema changes place.0) foreign.columns ≡ true) ⊎ (list_any (late_name schema changes place.0) foreign.columns ≡ false) → Bound place good.early foreign → LateBound place good.late foreign → FromRow place row foreign
   split_source place row good foreign (inl whole) bound late =
-      late_source place row good.early good.late foreign (ap (λ r. cells_of (spec_of schema place.0) r foreign.columns) good.is ∙ blend_late (late_name schema changes place.0) (columns place) good.early good.late foreign.columns (comes_long place good.early good.from) (late_long place good.late good.after) whole) bound late
+      late_source place row good.early good.late foreign (ap (λ r. cells_of (spec_of schema place.0) r foreign.columns) good.is ∙ blend_late (late_name schema changes place.0) (columns schema place) good.early good.late foreign.columns (comes_long place good.early good.from) (late_long place good.late good.after) whole) bound late
   split_source place row good foreign (inr none) bound late =
-      source_from place row good.early foreign (ap (λ r. cells_of (spec_of schema place.0) r foreign.columns) good.is ∙ blend_early (late_name schema changes place.0) (columns place) good.early good.late foreign.columns (comes_long place good.early good.from) (late_long place good.late good.after) none) bound
+      source_from place row good.early foreign (ap (λ r. cells_of (spec_of schema place.0) r foreign.columns) good.is ∙ blend_early (late_name schema changes place.0) (columns schema place) good.early good.late foreign.columns (comes_long place good.early good.from) (late_long place good.late good.after) none) bound
 
   pub good_foreigns : (place : Place) (row : List Value) → Good place row → AllByRecursion (FromRow place row) (spec_of schema place.0).foreigns
   good_foreigns place row good =
@@ -245,10 +257,6 @@ module _ (schema : Catalog) (changes : RowChanges) (old stated : Tables) (ends :
   abbrev pub IsBound : Tables → Type 0
   IsBound tables = (place : Place) (row : List Value) → row_at tables place ≡ Some row → AllByRecursion (λ foreign. dangles schema tables (spec_of schema place.0) row foreign ≡ false) (spec_of schema place.0).foreigns
 
-  declared : (table : TableId) (o : Option Rows) → rows_in old table ≡ o → is_some o ≡ true → IsTable schema table
-  declared table None e is = absurd (true_false (sym is))
-  declared table (Some rows) e is = all_lookup table_cmp same_table (λ c. IsTable schema c.0) old table rows ends.legal_old.created e
-
   alone_step : (table : TableId) (key other : List Value) (row second : List Value) (b : Bool) → same_values key other ≡ b → Good (table, key) row → Good (table, other) second → AllByRecursion (λ unique. (not b && collide (spec_of schema table) unique row second) ≡ false) (spec_of schema table).uniques
   alone_step table key other row second true e one two = all_refl (spec_of schema table).uniques
     where
@@ -259,8 +267,8 @@ module _ (schema : Catalog) (changes : RowChanges) (old stated : Tables) (ends :
 
   pub between_legal : (tables : Tables) → Between tables → IsBound tables → Legal schema tables
   between_legal tables b bound = record {
-    created = all_found table_cmp table_total same_table (λ c. IsTable schema c.0) tables b.sorted.outer
-        (λ table rows e. declared table (rows_in old table) refl (sym (b.created table) ∙ ap is_some e));
+    created = all_found table_cmp tables_total same_table (λ c. IsTable schema c.0) tables b.sorted.outer
+        (λ table rows e. is_declared schema old ends.legal_old table (sym (b.created table) ∙ ap is_some e));
     keys = each_row (λ table rows row. key_of (spec_of schema table) row.1 ≡ row.0) tables b.sorted
         (λ table rows key row e under. good_key (table, key) row (b.good (table, key) row (at_found tables table key row rows e under)));
     cells = each_row (λ table rows row. is_legal_row (spec_of schema table) row.1 ≡ true) tables b.sorted
@@ -270,7 +278,7 @@ module _ (schema : Catalog) (changes : RowChanges) (old stated : Tables) (ends :
         none_any (λ unique. list_any (λ o. not (same_values key o.0) && collide (spec_of schema table) unique row o.1) rows) (spec_of schema table).uniques
         (all_map (λ unique. (o : (q : List Value) × ((r : List Value) × (row_under rows q ≡ Some r))) → (not (same_values key o.0) && collide (spec_of schema table) unique row o.1.0) ≡ false) (λ unique. list_any (λ o. not (same_values key o.0) && collide (spec_of schema table) unique row o.1) rows ≡ false)
         (λ unique each. none_any (λ o. not (same_values key o.0) && collide (spec_of schema table) unique row o.1) rows
-        (all_found values_cmp key_total same_key (λ o. (not (same_values key o.0) && collide (spec_of schema table) unique row o.1) ≡ false) rows (rows_sorted tables table rows b.sorted e) (λ q r at. each (q, (r, at)))))
+        (all_found values_cmp values_total same_key (λ o. (not (same_values key o.0) && collide (spec_of schema table) unique row o.1) ≡ false) rows (rows_sorted tables table rows b.sorted e) (λ q r at. each (q, (r, at)))))
         (spec_of schema table).uniques
         (all_forall (λ (o : (q : List Value) × ((r : List Value) × (row_under rows q ≡ Some r))) unique. (not (same_values key o.0) && collide (spec_of schema table) unique row o.1.0) ≡ false) (spec_of schema table).uniques
         (λ o. alone_step table key o.0 row o.1.0 (same_values key o.0) refl (b.good (table, key) row (at_found tables table key row rows e under)) (b.good (table, o.0) o.1.0 (at_found tables table o.0 o.1.0 rows e o.1.1))))));

@@ -11,6 +11,7 @@ use Rattle.schema_core.specs.Catalog.{is_required, same_name}
 use Rattle.schema_core.specs.Tables.{cell_of, fits, has_null, is_null, key_cells}
 use Rattle.table_laws.proofs.RowFits.{and_true}
 use Rattle.flush_plan.specs.Stating.{blend}
+use Rattle.plan_laws.proofs.Facts.{or_false}
 
 pub same_names : (one other : List ℕ) → same_name one other ≡ true → one ≡ other
 same_names [] [] e = refl
@@ -38,7 +39,7 @@ pub nulls_are_long : (cs : List ColumnSpec) → Long cs (nulls cs)
 nulls_are_long [] = tt
 nulls_are_long (c ∷ cs) = nulls_are_long cs
 
-false_true : false ≡ true → ⊥
+pub false_true : false ≡ true → ⊥
 false_true e = cc
 
 pub legal_is_long : (cs : List ColumnSpec) (row : List Value) → pointwise fits cs row ≡ true → Long cs row
@@ -113,10 +114,6 @@ module _ (late : List ℕ → Bool) where
   blend_cell (c ∷ cs) (v ∷ row) (w ∷ other) name r o =
       ap (cond (same_name c.name name) (cond (test c) w v)) (blend_cell cs row other name r o)
       ∙ cell_step (same_name c.name name) c name v w (cell_of cs row name) (cell_of cs other name) refl
-
-  or_false : (a b : Bool) → (a || b) ≡ false → (a ≡ false) × (b ≡ false)
-  or_false true b e = cc
-  or_false false b e = (refl, e)
 
   pub blend_early : (cs : List ColumnSpec) (row other : List Value) (names : List (List ℕ)) → Long cs row → Long cs other → list_any late names ≡ false → map (cell_of cs (blend test cs row other)) names ≡ map (cell_of cs row) names
   blend_early cs row other [] r o e = refl

@@ -1,9 +1,9 @@
 -- What is known of the new rows, under completeness's premises.
-use Rattle.std.proofs.Common.{◌≡◌, inl, inr, ℕ, ℤ, zero, suc, ◌<◌, Bool, true, false, cond, ◌&&◌, ◌||◌, eqb, List, [], ◌∷◌, ◌++◌, map, length, get_or, Option, None, Some, refl, sym, ap, ◌∙◌, subst, arith}
-use Rattle.std.proofs.lemmas.Bool.{eq-eqb}
-use Rattle.std.specs.List.{AllByRecursion, IsDistinct, filter, list_all}
-use Rattle.std.specs.Option.{unwrap_or}
+use Rattle.std.proofs.Common.{◌≡◌, inl, inr, ℕ, ℤ, zero, suc, ◌<◌, Bool, true, false, not, cond, ◌&&◌, ◌||◌, eqb, List, [], ◌∷◌, ◌++◌, map, length, set, Option, None, Some, Ok, refl, sym, ap, ◌∙◌, subst}
+use Rattle.std.specs.List.{AllByRecursion, IsDistinct, list_all}
+use Rattle.std.specs.Option.{is_some, unwrap_or}
 use Rattle.std.specs.Cmp.Lexicographic.{pointwise}
+use Rattle.base_core.specs.declared.ids.ColumnNo.{ColumnNo}
 use Rattle.base_core.specs.declared.value.Value.{Value}
 use Rattle.base_core.specs.declared.value.Value.TheVariants.{Null, Int}
 use Rattle.schema_core.specs.declared.changes.ChangedRow.{ChangedRow}
@@ -13,32 +13,35 @@ use Rattle.schema_core.specs.declared.changes.RowCell.TheVariants.{Given}
 use Rattle.schema_core.specs.declared.changes.RowChanges.{RowChanges}
 use Rattle.schema_core.specs.declared.table.ColumnSpec.{ColumnSpec}
 use Rattle.schema_core.specs.declared.table.TableSpec.{TableSpec}
-use Rattle.schema_core.specs.Apply.{next_key, wants_key, with_key}
+use Rattle.schema_core.specs.Apply.{next_key, wants_key, with_cells, with_key}
 use Rattle.schema_core.specs.Catalog.{Catalog, spec_of}
-use Rattle.schema_core.specs.Tables.{Rows, Tables}
+use Rattle.schema_core.specs.Tables.{Legal, Rows, Tables, is_created}
 use Rattle.schema_core.specs.WellFormed.{is_row, may_hold}
+use Rattle.base_core.proofs.Lists.{every_append}
+use Rattle.table_laws.proofs.Entries.{all_map}
 use Rattle.table_laws.proofs.RowFits.{and_true}
-use Rattle.flush_plan.specs.Cells.{cleared, first_cells, is_late, late_name, new_at, no_row, table_at}
+use Rattle.flush_order.specs.Cells.{cleared, first_cells, is_late, late_name, new_at, no_row, table_at}
+use Rattle.flush_order.specs.Orders.{insert_order, place_of_gone}
+use Rattle.flush_order.specs.Places.{is_among}
+use Rattle.flush_order.specs.Refers.{new_refers}
+use Rattle.flush_order.specs.Sorted.{Place}
 use Rattle.flush_plan.specs.Flushing.{Keys, Sofar, put}
-use Rattle.flush_plan.specs.Places.{is_among}
-use Rattle.flush_plan.specs.Refers.{new_refers}
-use Rattle.flush_plan.specs.Planning.{writes_some}
-use Rattle.flush_plan.specs.Stating.{Edit, all_placed, blend, edit_changed, edit_gone, edit_new, edits, given, is_created, row_at, written_rows}
+use Rattle.flush_plan.specs.Planning.{late_gone, place_of_changed, writes_some}
+use Rattle.flush_plan.specs.Stating.{Edit, all_placed, blend, edit_changed, edit_gone, edit_new, edits, given, is_present, old_row, place_of_new, put_cells, row_at, stated, written_rows}
 use Rattle.plan_laws.proofs.Drawn.{drawn_under}
-use Rattle.plan_laws.specs.Laws.{IsComplete, before}
-use Rattle.plan_laws.specs.Premises.{Ends}
-use Rattle.plan_laws.proofs.Blend.{Long, blend_again, nulls, nulls_are_long}
-use Rattle.plan_laws.proofs.Editing.{AreApart, IsEdit}
-use Rattle.plan_laws.proofs.Inserting.{First, News, new_place}
+use Rattle.plan_laws.specs.Laws.{IsComplete, IsProjected, before}
+use Rattle.plan_laws.specs.Premises.{Ends, IsSorted}
+use Rattle.plan_laws.proofs.Between.{Comes, columns, early_part, legal_cells}
+use Rattle.plan_laws.proofs.Blend.{Long, blend_again, blend_long, legal_is_long, nulls, nulls_are_long, false_true}
+use Rattle.plan_laws.proofs.Editing.{AreApart, IsEdit, at_edits, edit_cases}
+use Rattle.plan_laws.proofs.Inserting.{News}
+use Rattle.plan_laws.proofs.Items.{all_at, all_filter, all_map_of, all_members, mapped_member, member_all, member_split}
 use Rattle.plan_laws.proofs.Newness.{Facts, facts, new_apart, new_free, new_fresh}
 use Rattle.plan_laws.proofs.Orders.{order_distinct, order_within}
 use Rattle.plan_laws.proofs.Placing.{Leads, Placed, placed_step}
 use Rattle.plan_laws.proofs.Rowing.{NullLate, drawn_null, drawn_whole, null_blend, null_first}
-use Rattle.plan_laws.proofs.Stated.{all_from, edits_apart, stated_cover, stated_new, stated_sorted}
-use Rattle.plan_laws.proofs.Facts.{none_some, same_some}
-
-false_true : false ≡ true → ⊥
-false_true e = cc
+use Rattle.plan_laws.proofs.Stated.{all_from, edits_apart, new_case, stated_cover, stated_new, stated_other, stated_sorted}
+use Rattle.plan_laws.proofs.Facts.{none_some, same_some, true_false}
 
 -- ---- lengths
 
@@ -74,73 +77,61 @@ long_by : (spec : TableSpec) (rows : Rows) (row placed : List Value) (b : Bool) 
 long_by spec rows row placed true l e = long_under spec row placed (next_key rows) l e
 long_by spec rows row placed false l e = subst (Long spec.columns) (same_some row placed e) l
 
--- ---- an item of a list of which all are so
+long_set : (cs : List ColumnSpec) (row : List Value) (k : ℕ) (v : Value) → Long cs row → Long cs (set row k v)
+long_set cs [] zero v l = l
+long_set cs [] (suc k) v l = l
+long_set [] (x ∷ row) k v l = absurd l
+long_set (c ∷ cs) (x ∷ row) zero v l = l
+long_set (c ∷ cs) (x ∷ row) (suc k) v l = long_set cs row k v l
 
-pub all_at : {A : Type 0} (P : A → Type 0) (xs : List A) (i : ℕ) (d : A) → AllByRecursion P xs → i < length xs → P (get_or xs i d)
-all_at P [] i d all h = absurd (omega arith)
-all_at P (x ∷ xs) zero d all h = all.0
-all_at P (x ∷ xs) (suc i) d all h = all_at P xs i d all.1 (omega arith)
+long_cells : (cs : List ColumnSpec) (row : List Value) (cells : List (ColumnNo × Value)) → Long cs row → Long cs (with_cells row cells)
+long_cells cs row [] l = l
+long_cells cs row (cell ∷ cells) l = long_cells cs (set row cell.0.0 cell.1) cells (long_set cs row cell.0.0 cell.1 l)
 
-is_edit_all : (P : Edit → Type 0) (es : List Edit) (edit : Edit) → AllByRecursion P es → IsEdit edit es → P edit
-is_edit_all P [] edit all is = absurd is
-is_edit_all P (e ∷ es) edit all (inl here) = subst P here all.0
-is_edit_all P (e ∷ es) edit all (inr more) = is_edit_all P es edit all.1 more
+edit_row : (schema : Catalog) (edit other : Edit) (row x : List Value) → other ≡ edit → edit.1 ≡ Some row → other.1 ≡ Some x → Long (columns schema other.0) x → Long (columns schema edit.0) row
+edit_row schema edit other row x same e is long =
+    subst (λ q. Long (columns schema q) row) (ap (λ d. d.0) same) (subst (Long (columns schema other.0)) (same_some x row (sym is ∙ ap (λ d. d.1) same ∙ e)) long)
 
-all_joined : (P : Edit → Type 0) (xs ys : List Edit) → AllByRecursion P xs → AllByRecursion P ys → AllByRecursion P (xs ++ ys)
-all_joined P [] ys a b = b
-all_joined P (x ∷ xs) ys a b = (a.0, all_joined P xs ys a.1 b)
+-- the tables that changes of legal tables state, with the order and the keys of the new rows
+pub record IsStated (schema : Catalog) (old : Tables) (changes : RowChanges) (order : List ℕ) (placed : Sofar) (after : Tables) : Type 0 where
+  pub projected : IsProjected schema old changes
+  pub sorted : IsSorted old
+  pub legal : Legal schema old
+  pub ordered : insert_order schema changes ≡ Ok order
+  pub keys : all_placed schema changes old order ≡ Some placed
+  pub states : stated schema old changes order ≡ Some after
 
-all_mapped : {A : Type 0} (make : A → Edit) (P : Edit → Type 0) (xs : List A) → AllByRecursion (λ x. P (make x)) xs → AllByRecursion P (map make xs)
-all_mapped make P [] all = tt
-all_mapped make P (x ∷ xs) all = (all.0, all_mapped make P xs all.1)
+pub told_of : (schema : Catalog) (old : Tables) (changes : RowChanges) (order : List ℕ) (placed : Sofar) (after : Tables) → IsComplete schema old changes order placed after → IsStated schema old changes order placed after
+told_of schema old changes order placed after complete = record {
+  projected = complete.projected;
+  sorted = complete.sorted;
+  legal = complete.legal;
+  ordered = complete.ordered;
+  keys = complete.keys;
+  states = complete.states;
+}
 
-all_filtered : {A : Type 0} (P : A → Type 0) (p : A → Bool) (xs : List A) → AllByRecursion P xs → AllByRecursion P (filter p xs)
-all_filtered P p [] all = tt
-all_filtered P p (x ∷ xs) all = step (p x) (all_filtered P p xs all.1)
-  where
-    step : (b : Bool) → AllByRecursion P (filter p xs) → AllByRecursion P (cond b (x ∷ filter p xs) (filter p xs))
-    step true more = (all.0, more)
-    step false more = more
-
-all_members : (P : ℕ → Type 0) (xs : List ℕ) → ((x : ℕ) → is_among xs x ≡ true → P x) → AllByRecursion P xs
-all_members P [] each = tt
-all_members P (x ∷ xs) each = (each x (ap (λ b. b || is_among xs x) (eq-eqb x x refl)), all_members P xs (λ y among. each y (later (eqb y x) (is_among xs y) among)))
-  where
-    later : (a b : Bool) → b ≡ true → (a || b) ≡ true
-    later true b e = refl
-    later false b e = e
-
-module _ (schema : Catalog) (old : Tables) (changes : RowChanges) (order : List ℕ) (placed : Sofar) (after : Tables) (complete : IsComplete schema old changes order placed after) where
+module _ (schema : Catalog) (old : Tables) (changes : RowChanges) (order : List ℕ) (placed : Sofar) (after : Tables) (told : IsStated schema old changes order placed after) where
   abbrev pub known_facts : Facts schema old changes order placed after
-  known_facts = facts schema old changes order placed after complete.keys complete.states
-
-  pub ends : Ends schema changes old after
-  ends = record {
-    fit = complete.projected.fit;
-    sorted_old = complete.sorted;
-    sorted_stated = stated_sorted schema old changes order placed after complete.sorted known_facts;
-    legal_old = complete.legal;
-    legal_stated = complete.legal_after;
-    clear = complete.clear;
-  }
+  known_facts = facts schema old changes order placed after told.keys told.states
 
   pub leads : Leads schema changes (before old) order placed
   unfolding all_placed
-  leads = complete.keys
+  leads = told.keys
 
   pub once : IsDistinct eqb order
-  once = order_distinct (new_refers schema changes) (length changes.fresh) order complete.ordered
+  once = order_distinct (new_refers schema changes) (length changes.fresh) order told.ordered
 
   pub within : (place : ℕ) → is_among order place ≡ true → place < length changes.fresh
-  within place among = order_within (new_refers schema changes) (length changes.fresh) order place complete.ordered among
+  within place among = order_within (new_refers schema changes) (length changes.fresh) order place told.ordered among
 
   pub found_placed : (place : ℕ) → is_among order place ≡ true → Placed schema changes order placed place
-  found_placed place among = placed_step schema changes order (before old) placed place once complete.sorted leads (new_apart schema old changes order placed after known_facts) among
+  found_placed place among = placed_step schema changes order (before old) placed place once told.sorted leads (new_apart schema old changes order placed after known_facts) among
 
   pub new_long : (place : ℕ) → is_among order place ≡ true → Long (spec_of schema (table_at changes place)).columns (map given (new_at changes place).cells)
   new_long place among =
       held_is_long (spec_of schema (table_at changes place)).columns (map given (new_at changes place).cells)
-      (all_at (λ (row : NewRow). is_row (spec_of schema row.name.table) (map given row.cells) ≡ true) changes.fresh place no_row complete.projected.new_cells (within place among))
+      (all_at (λ (row : NewRow). is_row (spec_of schema row.name.table) (map given row.cells) ≡ true) changes.fresh place no_row told.projected.new_cells (within place among))
 
   pub created_parts : (list_all (λ row. is_created old row.name.table) changes.fresh ≡ true) × (list_all (λ row. is_created old row.name.table) changes.changed ≡ true) × (list_all (λ row. is_created old row.name.table) changes.gone ≡ true)
   created_parts =
@@ -154,19 +145,21 @@ module _ (schema : Catalog) (old : Tables) (changes : RowChanges) (order : List 
 
   pub all_created : (edit : Edit) → IsEdit edit (edits schema old changes order placed) → is_created old edit.0.0 ≡ true
   all_created edit is =
-      is_edit_all (λ e. is_created old e.0.0 ≡ true) (edits schema old changes order placed) edit
-      (all_joined (λ e. is_created old e.0.0 ≡ true) (map (edit_gone schema) changes.gone ++ map (edit_changed old placed.keys) (written_rows changes)) (map (edit_new schema changes placed) order)
-      (all_joined (λ e. is_created old e.0.0 ≡ true) (map (edit_gone schema) changes.gone) (map (edit_changed old placed.keys) (written_rows changes))
-      (all_mapped (edit_gone schema) (λ e. is_created old e.0.0 ≡ true) changes.gone (all_from (λ row. is_created old row.name.table) changes.gone created_parts.2))
-      (all_mapped (edit_changed old placed.keys) (λ e. is_created old e.0.0 ≡ true) (written_rows changes) (all_filtered (λ (row : ChangedRow). is_created old row.name.table ≡ true) (λ row. writes_some row.cells) changes.changed (all_from (λ row. is_created old row.name.table) changes.changed created_parts.1))))
-      (all_mapped (edit_new schema changes placed) (λ e. is_created old e.0.0 ≡ true) order (all_members (λ p. is_created old (table_at changes p) ≡ true) order new_created)))
+      member_all (λ e. is_created old e.0.0 ≡ true) (edits schema old changes order placed) edit
+      (every_append (λ e. is_created old e.0.0 ≡ true) (map (edit_gone schema) changes.gone ++ map (edit_changed old placed.keys) (written_rows changes)) (map (edit_new schema changes placed) order)
+      (every_append (λ e. is_created old e.0.0 ≡ true) (map (edit_gone schema) changes.gone) (map (edit_changed old placed.keys) (written_rows changes))
+      (all_map_of (λ e. is_created old e.0.0 ≡ true) (edit_gone schema) changes.gone (all_from (λ row. is_created old row.name.table) changes.gone created_parts.2))
+      (all_map_of (λ e. is_created old e.0.0 ≡ true) (edit_changed old placed.keys) (written_rows changes)
+      (all_filter (λ (row : ChangedRow). is_created old row.name.table ≡ true) (λ row. writes_some row.cells) changes.changed
+      (all_map (λ (row : ChangedRow). is_created old row.name.table ≡ true) (λ row. writes_some row.cells ≡ true → is_created old row.name.table ≡ true) (λ row created some. created) changes.changed (all_from (λ row. is_created old row.name.table) changes.changed created_parts.1)))))
+      (all_map_of (λ e. is_created old e.0.0 ≡ true) (edit_new schema changes placed) order (all_members (λ p. is_created old (table_at changes p) ≡ true) order new_created)))
       is
 
   pub apart : AreApart (edits schema old changes order placed)
-  apart = edits_apart schema old changes order placed after complete.sorted known_facts complete.projected.gone_once complete.projected.changed_once complete.projected.gone_apart
+  apart = edits_apart schema old changes order placed after told.sorted known_facts told.projected.gone_once told.projected.changed_once told.projected.gone_apart
 
   -- the row that an INSERT writes is the stated one before what is written late
-  pub stands : (place : ℕ) (row : List Value) → is_among order place ≡ true → row_at placed.tables (new_place schema changes old after ends placed place) ≡ Some row → (written : List Value) × (row_at after (new_place schema changes old after ends placed place) ≡ Some written) × (row ≡ First schema changes old after ends placed (new_place schema changes old after ends placed place) written)
+  pub stands : (place : ℕ) (row : List Value) → is_among order place ≡ true → row_at placed.tables (place_of_new changes placed.keys place) ≡ Some row → (written : List Value) × (row_at after (place_of_new changes placed.keys place) ≡ Some written) × (row ≡ early_part schema changes (place_of_new changes placed.keys place) written)
   stands place row among at =
       let cs : List ColumnSpec = (spec_of schema (table_at changes place)).columns in
       let found = found_placed place among in
@@ -174,17 +167,17 @@ module _ (schema : Catalog) (old : Tables) (changes : RowChanges) (order : List 
       let first : List Value = map (put found.sofar.keys) (first_cells schema changes place) in
       let long_row : Long cs row = subst (Long cs) same (long_by (spec_of schema (table_at changes place)) found.step.rows first found.step.row (wants_key (spec_of schema (table_at changes place)) first) (long_first (is_late schema changes (table_at changes place)) found.sofar.keys cs (new_at changes place).cells (new_long place among)) found.step.draws) in
       let null_row : NullLate (late_name schema changes (table_at changes place)) cs row = subst (NullLate (late_name schema changes (table_at changes place)) cs) same
-      (drawn_null (late_name schema changes (table_at changes place)) (spec_of schema (table_at changes place)) found.step.rows first found.step.row (complete.projected.fit.no_key (table_at changes place)) (null_first (late_name schema changes (table_at changes place)) found.sofar.keys cs (new_at changes place).cells) found.step.draws) in
+      (drawn_null (late_name schema changes (table_at changes place)) (spec_of schema (table_at changes place)) found.step.rows first found.step.row (told.projected.fit.no_key (table_at changes place)) (null_first (late_name schema changes (table_at changes place)) found.sofar.keys cs (new_at changes place).cells) found.step.draws) in
       let others : List Value = map (put placed.keys) (new_at changes place).cells in
       let written : List Value = blend (is_late schema changes (table_at changes place)) cs row others in (
         written,
-        stated_new schema old changes order placed after complete.sorted known_facts apart place among (new_created place among)
+        stated_new schema old changes order placed after told.sorted known_facts apart place among (new_created place among)
             ∙ ap (λ o. Some (blend (is_late schema changes (table_at changes place)) cs (unwrap_or o []) others)) at,
         null_blend (late_name schema changes (table_at changes place)) cs row long_row null_row
             ∙ sym (blend_again (late_name schema changes (table_at changes place)) cs row others (nulls cs) long_row (long_put placed.keys cs (new_at changes place).cells (new_long place among)) (nulls_are_long cs)),
       )
 
-  pub news : News schema changes old after ends placed order
+  pub news : News schema changes old after placed order
   news = record {
     once = once;
     free = new_free schema old changes order placed after known_facts;
@@ -192,5 +185,69 @@ module _ (schema : Catalog) (old : Tables) (changes : RowChanges) (order : List 
     fresh = new_fresh schema old changes order placed after known_facts;
     stands = stands;
     whole = λ place sofar next step legal. drawn_whole (spec_of schema (table_at changes place)) step.rows (map (put sofar.keys) (first_cells schema changes place)) step.row legal step.draws;
-    cover = stated_cover schema old changes order placed after complete.sorted known_facts apart all_created;
+    cover = stated_cover schema old changes order placed after told.sorted known_facts apart all_created;
   }
+
+  pub stated_edit : (edit : Edit) → IsEdit edit (edits schema old changes order placed) → row_at after edit.0 ≡ edit.1
+  stated_edit edit is =
+      ap (λ t. row_at t edit.0) known_facts.is
+      ∙ at_edits old (edits schema old changes order placed) edit told.sorted (all_created edit is) apart is
+
+  -- a new row as it was placed has a cell for each column
+  placed_long : (place : ℕ) → is_among order place ≡ true → Long (spec_of schema (table_at changes place)).columns (unwrap_or (row_at placed.tables (place_of_new changes placed.keys place)) [])
+  placed_long place among =
+      let spec : TableSpec = spec_of schema (table_at changes place) in
+      let found = found_placed place among in
+      let first : List Value = map (put found.sofar.keys) (first_cells schema changes place) in
+      subst (λ o. Long spec.columns (unwrap_or o [])) (sym found.stands)
+      (long_by spec found.step.rows first found.step.row (wants_key spec first) (long_first (is_late schema changes (table_at changes place)) found.sofar.keys spec.columns (new_at changes place).cells (new_long place among)) found.step.draws)
+
+  pub written_there : AllByRecursion (λ row. is_present old (place_of_changed row) ≡ true) (written_rows changes)
+  written_there =
+      all_from (λ row. is_present old (row.name.table, row.key)) (written_rows changes)
+      (and_true (list_all (λ row. is_present old (row.name.table, row.key)) (written_rows changes)) (list_all (λ row. not (writes_some (late_gone schema changes row).1) || is_present old (place_of_gone schema row)) changes.gone) known_facts.rows).0
+
+  pub cleared_there : AllByRecursion (λ row. (not (writes_some (late_gone schema changes row).1) || is_present old (place_of_gone schema row)) ≡ true) changes.gone
+  cleared_there =
+      all_from (λ row. not (writes_some (late_gone schema changes row).1) || is_present old (place_of_gone schema row)) changes.gone
+      (and_true (list_all (λ row. is_present old (row.name.table, row.key)) (written_rows changes)) (list_all (λ row. not (writes_some (late_gone schema changes row).1) || is_present old (place_of_gone schema row)) changes.gone) known_facts.rows).1
+
+  old_long : (q : Place) (o : Option (List Value)) → row_at old q ≡ o → is_some o ≡ true → Long (columns schema q) (unwrap_or o [])
+  old_long q None e there = absurd (true_false (sym there))
+  old_long q (Some row) e there = legal_is_long (columns schema q) row (legal_cells schema old told.legal q row e)
+
+  edit_long : (edit : Edit) (row : List Value) → IsEdit edit (edits schema old changes order placed) → edit.1 ≡ Some row → Long (columns schema edit.0) row
+  edit_long edit row is e =
+      elim (member_split edit (map (edit_gone schema) changes.gone ++ map (edit_changed old placed.keys) (written_rows changes)) (map (edit_new schema changes placed) order) is) [
+        | inr new ↦
+            let p = new_case schema old changes order placed after told.sorted known_facts order edit new in
+            let cs : List ColumnSpec = (spec_of schema (table_at changes p.0)).columns in
+            let long = blend_long (late_name schema changes (table_at changes p.0)) cs (unwrap_or (row_at placed.tables (place_of_new changes placed.keys p.0)) []) (map (put placed.keys) (new_at changes p.0).cells) (placed_long p.0 p.1) (long_put placed.keys cs (new_at changes p.0).cells (new_long p.0 p.1)) in
+            edit_row schema edit (edit_new schema changes placed p.0) row _ p.2 e refl long
+        | inl before ↦ elim (member_split edit (map (edit_gone schema) changes.gone) (map (edit_changed old placed.keys) (written_rows changes)) before) [
+          | inl gone ↦ let g = mapped_member (edit_gone schema) edit changes.gone gone in absurd (none_some row (ap (λ d. d.1) g.2 ∙ e))
+          | inr changed ↦
+              let r = mapped_member (edit_changed old placed.keys) edit (written_rows changes) changed in
+              let there : is_present old (place_of_changed r.0) ≡ true = member_all (λ row. is_present old (place_of_changed row) ≡ true) (written_rows changes) r.0 written_there r.1 in
+              edit_row schema edit (edit_changed old placed.keys r.0) row _ r.2 e refl (long_cells (columns schema (place_of_changed r.0)) (old_row old r.0) (put_cells (put placed.keys) r.0.cells) (old_long (place_of_changed r.0) (row_at old (place_of_changed r.0)) refl there))
+        ]
+      ]
+
+  -- an old or stated row has a cell for each column
+  pub told_long : (q : Place) (row : List Value) → Comes old after q row → Long (columns schema q) row
+  told_long q row (inl at) = legal_is_long (columns schema q) row (legal_cells schema old told.legal q row at)
+  told_long q row (inr at) =
+      elim (edit_cases (edits schema old changes order placed) q) [
+        | inr still ↦ legal_is_long (columns schema q) row (legal_cells schema old told.legal q row (sym (stated_other schema old changes order placed after told.sorted known_facts q still) ∙ at))
+        | inl found ↦ subst (λ p. Long (columns schema p) row) found.2 (edit_long found.0 row found.1 (sym (stated_edit found.0 found.1) ∙ ap (row_at after) found.2 ∙ at))
+      ]
+
+pub ends : (schema : Catalog) (old : Tables) (changes : RowChanges) (order : List ℕ) (placed : Sofar) (after : Tables) → IsComplete schema old changes order placed after → Ends schema changes old after
+ends schema old changes order placed after complete = record {
+  fit = complete.projected.fit;
+  sorted_old = complete.sorted;
+  sorted_stated = stated_sorted schema old changes order placed after complete.sorted (known_facts schema old changes order placed after (told_of schema old changes order placed after complete));
+  legal_old = complete.legal;
+  legal_stated = complete.legal_after;
+  clear = complete.clear;
+}

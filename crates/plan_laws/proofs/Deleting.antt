@@ -11,35 +11,37 @@ use Rattle.schema_core.specs.declared.statement.RowStmt.TheVariants as statement
 use Rattle.schema_core.specs.declared.table.ForeignSpec.{ForeignSpec}
 use Rattle.schema_core.specs.Apply.{apply}
 use Rattle.schema_core.specs.Catalog.{Catalog, spec_of, target_of}
-use Rattle.schema_core.specs.Tables.{Legal, Rows, Tables, cells_of, dangles, has_null, row_under, rows_in}
+use Rattle.schema_core.specs.Tables.{Legal, Rows, Tables, cells_of, dangles, has_null, is_created, row_under, rows_in}
 use Rattle.table_laws.proofs.Entries.{all_both, all_map}
-use Rattle.flush_plan.specs.Cells.{is_late, late_name}
+use Rattle.flush_order.specs.Cells.{late_name}
+use Rattle.flush_order.specs.Sorted.{Place}
 use Rattle.flush_plan.specs.Flushing.{Sofar, accepted, send}
-use Rattle.flush_plan.specs.Sorted.{Place}
-use Rattle.flush_plan.specs.Stating.{blend, edited, is_created, is_present, row_at}
+use Rattle.flush_plan.specs.Stating.{edited, is_present, row_at}
 use Rattle.plan_laws.specs.Premises.{Ends, IsSorted}
 use Rattle.plan_laws.proofs.Accept.{delete_accepted}
 use Rattle.plan_laws.proofs.At.{at_edit, at_other, edited_created, edited_sorted, place_cases, same_tables}
-use Rattle.plan_laws.proofs.Between.{Between, FromRow, Good, between_legal, columns, comes_long, good_foreigns, legal_bound, moved, null_bound}
+use Rattle.plan_laws.proofs.Between.{Between, FromRow, Good, between_legal, columns, comes_long, early_part, good_foreigns, legal_bound, moved, null_bound}
 use Rattle.plan_laws.proofs.Blend.{blend_self, nulls}
+use Rattle.plan_laws.proofs.Items.{Member}
 use Rattle.plan_laws.proofs.Prefixes.{Goes}
-use Rattle.plan_laws.proofs.Facts.{none_some, true_false}
-
-some_present : (o : Option (List Value)) → is_some o ≡ true → (row : List Value) × (o ≡ Some row)
-some_present None f = absurd (true_false (sym f))
-some_present (Some row) f = (row, refl)
-
-abbrev pub Member : Place → List Place → Type 0
-Member q [] = ⊥
-Member q (p ∷ ps) = (p ≡ q) ⊎ Member q ps
+use Rattle.plan_laws.proofs.Facts.{none_some, some_or_none, some_of}
 
 abbrev pub remove_at : Place → Planned
 remove_at place = Remove place.0 place.1
 
-module _ (schema : Catalog) (changes : RowChanges) (old stated : Tables) (ends : Ends schema changes old stated) where
+-- where nothing stands, taking it out leaves the tables
+pub unchanged : (place : Place) (tables : Tables) (rows : Rows) → IsSorted tables → rows_in tables place.0 ≡ Some rows → row_under rows place.1 ≡ None → edited tables (place, None) ≡ tables
+unchanged place tables rows sorted table free =
+    same_tables (edited tables (place, None)) tables (edited_sorted tables (place, None) sorted) sorted (edited_created tables (place, None))
+    (λ q. elim (place_cases place q) [
+      | inl same ↦ ap (row_at (edited tables (place, None))) (sym same) ∙ at_edit tables (place, None) rows sorted table ∙ sym (ap (option_and_then (λ r. row_under r place.1)) table ∙ free) ∙ ap (row_at tables) same
+      | inr apart ↦ at_other tables (place, None) q sorted apart
+    ])
+
+module _ (schema : Catalog) (changes : RowChanges) (old stated : Tables) where
   -- the old row once it is cleared
-  abbrev pub Last : Place → List Value → List Value
-  Last place row = blend (is_late schema changes place.0) (columns schema changes old stated ends place) row (nulls (columns schema changes old stated ends place))
+  abbrev Last : Place → List Value → List Value
+  Last place row = early_part schema changes place row
 
   -- the places that a cleared row names, and that hold an old row but no stated one, are among these
   abbrev pub NamesAmong : List Place → Place → List Value → ForeignSpec → Type 0
@@ -65,67 +67,6 @@ module _ (schema : Catalog) (changes : RowChanges) (old stated : Tables) (ends :
     pub alive : (place : Place) → Member place rest → is_present old place ≡ true → is_present sofar.tables place ≡ true
     pub rows : (place : Place) (row : List Value) → row_at sofar.tables place ≡ Some row → (row_at stated place ≡ Some row) ⊎ (Member place rest × (row_at stated place ≡ None) × ((first : List Value) × (row_at old place ≡ Some first) × (row ≡ Last place first)))
 
-  good_row : (rest : List Place) (place : Place) (row : List Value) → (row_at stated place ≡ Some row) ⊎ (Member place rest × (row_at stated place ≡ None) × ((first : List Value) × (row_at old place ≡ Some first) × (row ≡ Last place first))) → Good schema changes old stated ends place row
-  good_row rest place row (inl at) = record {
-    early = row;
-    late = row;
-    is = sym (blend_self (late_name schema changes place.0) (columns schema changes old stated ends place) row (comes_long schema changes old stated ends place row (inr at)));
-    from = inr at;
-    after = inl (inr at);
-  }
-  good_row rest place row (inr gone) = record {
-    early = gone.2.0;
-    late = nulls (columns schema changes old stated ends place);
-    is = gone.2.2;
-    from = inl gone.2.1;
-    after = inr (refl, inr gone.1);
-  }
-
-  between_of : (rest : List Place) (sofar : Sofar) → Going rest sofar → Between schema changes old stated ends sofar.tables
-  between_of rest sofar going = record { sorted = going.sorted; created = going.created; good = λ place row at. good_row rest place row (going.rows place row at) }
-
-  stays : (rest : List Place) (sofar : Sofar) → Going rest sofar → (place : Place) → is_present stated place ≡ true → is_present sofar.tables place ≡ true
-  stays rest sofar going place e = let row = some_present (row_at stated place) e in ap is_some (going.stateds place row.0 row.1)
-
-  some_or_none : {A : Type 0} (o : Option A) → ((x : A) × (o ≡ Some x)) ⊎ (o ≡ None)
-  some_or_none None = inr refl
-  some_or_none (Some x) = inl (x, refl)
-
-  -- a named old row is there still
-  named_stays : (rest : List Place) (sofar : Sofar) → Going rest sofar → (place : Place) → (row_at stated place ≡ None → is_present old place ≡ true → Member place rest) → is_present old place ≡ true → is_present sofar.tables place ≡ true
-  named_stays rest sofar going place among e =
-      elim (some_or_none (row_at stated place)) [
-        | inl row ↦ ap is_some (going.stateds place row.0 row.1)
-        | inr gone ↦ going.alive place (among gone e) e
-      ]
-
-  gone_source : (rest : List Place) (sofar : Sofar) (place : Place) (row first : List Value) (foreign : ForeignSpec) → Going rest sofar → row_at stated place ≡ None → row ≡ Last place first → NamesAmong rest place first foreign → FromRow schema changes old stated ends place row foreign → dangles schema sofar.tables (spec_of schema place.0) row foreign ≡ false
-  gone_source rest sofar place row first foreign going gone is among (inl s) =
-      let same : cells_of (spec_of schema place.0) s.0 foreign.columns ≡ cells_of (spec_of schema place.0) (Last place first) foreign.columns = sym s.2 ∙ ap (λ r. cells_of (spec_of schema place.0) r foreign.columns) is in
-      moved schema old sofar.tables (spec_of schema place.0) row s.0 foreign s.2 s.3
-      (λ t target whole at.
-      subst (λ key. is_present sofar.tables (t, key) ≡ true) (sym same)
-      (named_stays rest sofar going (t, cells_of (spec_of schema place.0) (Last place first) foreign.columns)
-      (among t target (ap has_null (sym same) ∙ whole))
-      (ap (λ key. is_present old (t, key)) (sym same) ∙ at)))
-  gone_source rest sofar place row first foreign going gone is among (inr (inl s)) = absurd (none_some s.0 (sym gone ∙ s.1))
-  gone_source rest sofar place row first foreign going gone is among (inr (inr null)) = null_bound schema sofar.tables (spec_of schema place.0) row foreign null
-
-  bound_row : (rest : List Place) (sofar : Sofar) → Going rest sofar → Closed rest → (place : Place) (row : List Value) → Good schema changes old stated ends place row → (row_at stated place ≡ Some row) ⊎ (Member place rest × (row_at stated place ≡ None) × ((first : List Value) × (row_at old place ≡ Some first) × (row ≡ Last place first))) → AllByRecursion (λ foreign. dangles schema sofar.tables (spec_of schema place.0) row foreign ≡ false) (spec_of schema place.0).foreigns
-  bound_row rest sofar going closed place row good (inl at) =
-      all_map (λ foreign. dangles schema stated (spec_of schema place.0) row foreign ≡ false) (λ foreign. dangles schema sofar.tables (spec_of schema place.0) row foreign ≡ false)
-      (λ foreign named. moved schema stated sofar.tables (spec_of schema place.0) row row foreign refl named (λ t target whole there. stays rest sofar going (t, cells_of (spec_of schema place.0) row foreign.columns) there))
-      (spec_of schema place.0).foreigns (legal_bound schema stated ends.legal_stated place row at)
-  bound_row rest sofar going closed place row good (inr gone) =
-      all_both (NamesAmong rest place gone.2.0) (FromRow schema changes old stated ends place row) (λ foreign. dangles schema sofar.tables (spec_of schema place.0) row foreign ≡ false)
-      (λ foreign among source. gone_source rest sofar place row gone.2.0 foreign going gone.1 gone.2.2 among source)
-      (spec_of schema place.0).foreigns (closed place gone.2.0 gone.0 gone.2.1) (good_foreigns schema changes old stated ends place row good)
-
-  pub going_legal : (rest : List Place) (sofar : Sofar) → Going rest sofar → Closed rest → Legal schema sofar.tables
-  going_legal rest sofar going closed =
-      between_legal schema changes old stated ends sofar.tables (between_of rest sofar going)
-      (λ place row at. bound_row rest sofar going closed place row (good_row rest place row (going.rows place row at)) (going.rows place row at))
-
   drop_member : (place q : Place) (rest : List Place) → (place ≡ q → ⊥) → Member q (place ∷ rest) → Member q rest
   drop_member place q rest apart (inl here) = absurd (apart here)
   drop_member place q rest apart (inr more) = more
@@ -134,14 +75,7 @@ module _ (schema : Catalog) (changes : RowChanges) (old stated : Tables) (ends :
   keep_rows place q rest row apart (inl at) = inl at
   keep_rows place q rest row apart (inr gone) = inr (drop_member place q rest apart gone.0, gone.1, gone.2)
 
-  in_tables : (tables : Tables) (table : TableId) → is_created tables table ≡ true → (rows : Rows) × (rows_in tables table ≡ Some rows)
-  in_tables tables table e = some (rows_in tables table) e
-    where
-      some : (o : Option Rows) → is_some o ≡ true → (rows : Rows) × (o ≡ Some rows)
-      some None f = absurd (true_false (sym f))
-      some (Some rows) f = (rows, refl)
-
-  gone_then : (place : Place) (rest : List Place) (sofar : Sofar) (rows : Rows) → Going (place ∷ rest) sofar → row_at stated place ≡ None → (Member place rest → ⊥) → rows_in sofar.tables place.0 ≡ Some rows → Going rest (record { tables = edited sofar.tables (place, None); keys = sofar.keys })
+  pub gone_then : (place : Place) (rest : List Place) (sofar : Sofar) (rows : Rows) → Going (place ∷ rest) sofar → row_at stated place ≡ None → (Member place rest → ⊥) → rows_in sofar.tables place.0 ≡ Some rows → Going rest (record { tables = edited sofar.tables (place, None); keys = sofar.keys })
   gone_then place rest sofar rows going gone once table = record {
     sorted = edited_sorted sofar.tables (place, None) going.sorted;
     created = λ t. edited_created sofar.tables (place, None) t ∙ going.created t;
@@ -162,37 +96,10 @@ module _ (schema : Catalog) (changes : RowChanges) (old stated : Tables) (ends :
         ];
   }
 
-  -- where nothing stands, taking it out leaves the tables
-  unchanged : (place : Place) (sofar : Sofar) (rows : Rows) → IsSorted sofar.tables → rows_in sofar.tables place.0 ≡ Some rows → row_under rows place.1 ≡ None → edited sofar.tables (place, None) ≡ sofar.tables
-  unchanged place sofar rows sorted table free =
-      same_tables (edited sofar.tables (place, None)) sofar.tables (edited_sorted sofar.tables (place, None) sorted) sorted (edited_created sofar.tables (place, None))
-      (λ q. elim (place_cases place q) [
-        | inl same ↦ ap (row_at (edited sofar.tables (place, None))) (sym same) ∙ at_edit sofar.tables (place, None) rows sorted table ∙ sym (ap (option_and_then (λ r. row_under r place.1)) table ∙ free) ∙ ap (row_at sofar.tables) same
-        | inr apart ↦ at_other sofar.tables (place, None) q sorted apart
-      ])
-
-  sent_remove : (place : Place) (rest : List Place) (sofar : Sofar) → Ordered (place ∷ rest) → Going (place ∷ rest) sofar → (next : Sofar) × (send schema changes sofar (remove_at place) ≡ Ok next) × Going rest next
-  unfolding send
-  sent_remove place rest sofar ordered going =
-      let rows = in_tables sofar.tables place.0 (going.created place.0 ∙ ordered.1) in
-      let next : Sofar = record { tables = edited sofar.tables (place, None); keys = sofar.keys } in
-      let after : Going rest next = gone_then place rest sofar rows.0 going ordered.0 ordered.2 rows.1 in
-      let answer : apply schema sofar.tables (statement.Delete place.0 place.1) ≡ Ok (place.1 ∷ [], next.tables) =
-      delete_accepted schema sofar.tables place.0 rows.0 place.1 rows.1 (going_legal rest next after ordered.3) (unchanged place sofar rows.0 going.sorted rows.1) in
-      (next, ap (accepted schema changes sofar (remove_at place)) answer, after)
-
-  -- all DELETEs
-  pub deletes_go : (rest : List Place) (sofar : Sofar) → Closed rest → Ordered rest → Going rest sofar → (end : Sofar) × Goes schema changes sofar (map remove_at rest) end × Going [] end
-  deletes_go [] sofar closed ordered going = (sofar, (refl, going_legal [] sofar going closed), going)
-  deletes_go (place ∷ rest) sofar closed ordered going =
-      let next = sent_remove place rest sofar ordered going in
-      let more = deletes_go rest next.0 ordered.3 ordered.4 next.2 in
-      (more.0, (going_legal (place ∷ rest) sofar going closed, (next.0, next.1, more.1)), more.2)
-
   -- at the end the tables are the stated ones
-  pub going_stated : (sofar : Sofar) → Going [] sofar → ((table : TableId) → is_created stated table ≡ is_created old table) → sofar.tables ≡ stated
-  going_stated sofar going created =
-      same_tables sofar.tables stated going.sorted ends.sorted_stated (λ t. going.created t ∙ sym (created t))
+  pub going_stated : (sofar : Sofar) → IsSorted stated → Going [] sofar → ((table : TableId) → is_created stated table ≡ is_created old table) → sofar.tables ≡ stated
+  going_stated sofar sorted going created =
+      same_tables sofar.tables stated going.sorted sorted (λ t. going.created t ∙ sym (created t))
       (λ q. at_end q (row_at sofar.tables q) (row_at stated q) refl refl)
     where
       at_end : (q : Place) (o p : Option (List Value)) → row_at sofar.tables q ≡ o → row_at stated q ≡ p → row_at sofar.tables q ≡ row_at stated q
@@ -203,3 +110,79 @@ module _ (schema : Catalog) (changes : RowChanges) (old stated : Tables) (ends :
           only : (q : Place) (row : List Value) → row_at stated q ≡ None → (row_at stated q ≡ Some row) ⊎ (Member q [] × (row_at stated q ≡ None) × ((first : List Value) × (row_at old q ≡ Some first) × (row ≡ Last q first))) → row_at sofar.tables q ≡ row_at stated q
           only q row none (inl at) = absurd (none_some row (sym none ∙ at))
           only q row none (inr gone) = absurd gone.0
+
+  module _ (ends : Ends schema changes old stated) where
+    good_row : (rest : List Place) (place : Place) (row : List Value) → (row_at stated place ≡ Some row) ⊎ (Member place rest × (row_at stated place ≡ None) × ((first : List Value) × (row_at old place ≡ Some first) × (row ≡ Last place first))) → Good schema changes old stated ends place row
+    good_row rest place row (inl at) = record {
+      early = row;
+      late = row;
+      is = sym (blend_self (late_name schema changes place.0) (columns schema place) row (comes_long schema changes old stated ends place row (inr at)));
+      from = inr at;
+      after = inl (inr at);
+    }
+    good_row rest place row (inr gone) = record {
+      early = gone.2.0;
+      late = nulls (columns schema place);
+      is = gone.2.2;
+      from = inl gone.2.1;
+      after = inr (refl, inr gone.1);
+    }
+
+    between_of : (rest : List Place) (sofar : Sofar) → Going rest sofar → Between schema changes old stated ends sofar.tables
+    between_of rest sofar going = record { sorted = going.sorted; created = going.created; good = λ place row at. good_row rest place row (going.rows place row at) }
+
+    stays : (rest : List Place) (sofar : Sofar) → Going rest sofar → (place : Place) → is_present stated place ≡ true → is_present sofar.tables place ≡ true
+    stays rest sofar going place e = let row = some_of (row_at stated place) e in ap is_some (going.stateds place row.0 row.1)
+
+    -- a named old row is there still
+    named_stays : (rest : List Place) (sofar : Sofar) → Going rest sofar → (place : Place) → (row_at stated place ≡ None → is_present old place ≡ true → Member place rest) → is_present old place ≡ true → is_present sofar.tables place ≡ true
+    named_stays rest sofar going place among e =
+        elim (some_or_none (row_at stated place)) [
+          | inl row ↦ ap is_some (going.stateds place row.0 row.1)
+          | inr gone ↦ going.alive place (among gone e) e
+        ]
+
+    gone_source : (rest : List Place) (sofar : Sofar) (place : Place) (row first : List Value) (foreign : ForeignSpec) → Going rest sofar → row_at stated place ≡ None → row ≡ Last place first → NamesAmong rest place first foreign → FromRow schema changes old stated ends place row foreign → dangles schema sofar.tables (spec_of schema place.0) row foreign ≡ false
+    gone_source rest sofar place row first foreign going gone is among (inl s) =
+        let same : cells_of (spec_of schema place.0) s.0 foreign.columns ≡ cells_of (spec_of schema place.0) (Last place first) foreign.columns = sym s.2 ∙ ap (λ r. cells_of (spec_of schema place.0) r foreign.columns) is in
+        moved schema old sofar.tables (spec_of schema place.0) row s.0 foreign s.2 s.3
+        (λ t target whole at.
+        subst (λ key. is_present sofar.tables (t, key) ≡ true) (sym same)
+        (named_stays rest sofar going (t, cells_of (spec_of schema place.0) (Last place first) foreign.columns)
+        (among t target (ap has_null (sym same) ∙ whole))
+        (ap (λ key. is_present old (t, key)) (sym same) ∙ at)))
+    gone_source rest sofar place row first foreign going gone is among (inr (inl s)) = absurd (none_some s.0 (sym gone ∙ s.1))
+    gone_source rest sofar place row first foreign going gone is among (inr (inr null)) = null_bound schema sofar.tables (spec_of schema place.0) row foreign null
+
+    bound_row : (rest : List Place) (sofar : Sofar) → Going rest sofar → Closed rest → (place : Place) (row : List Value) → Good schema changes old stated ends place row → (row_at stated place ≡ Some row) ⊎ (Member place rest × (row_at stated place ≡ None) × ((first : List Value) × (row_at old place ≡ Some first) × (row ≡ Last place first))) → AllByRecursion (λ foreign. dangles schema sofar.tables (spec_of schema place.0) row foreign ≡ false) (spec_of schema place.0).foreigns
+    bound_row rest sofar going closed place row good (inl at) =
+        all_map (λ foreign. dangles schema stated (spec_of schema place.0) row foreign ≡ false) (λ foreign. dangles schema sofar.tables (spec_of schema place.0) row foreign ≡ false)
+        (λ foreign named. moved schema stated sofar.tables (spec_of schema place.0) row row foreign refl named (λ t target whole there. stays rest sofar going (t, cells_of (spec_of schema place.0) row foreign.columns) there))
+        (spec_of schema place.0).foreigns (legal_bound schema stated ends.legal_stated place row at)
+    bound_row rest sofar going closed place row good (inr gone) =
+        all_both (NamesAmong rest place gone.2.0) (FromRow schema changes old stated ends place row) (λ foreign. dangles schema sofar.tables (spec_of schema place.0) row foreign ≡ false)
+        (λ foreign among source. gone_source rest sofar place row gone.2.0 foreign going gone.1 gone.2.2 among source)
+        (spec_of schema place.0).foreigns (closed place gone.2.0 gone.0 gone.2.1) (good_foreigns schema changes old stated ends place row good)
+
+    pub going_legal : (rest : List Place) (sofar : Sofar) → Going rest sofar → Closed rest → Legal schema sofar.tables
+    going_legal rest sofar going closed =
+        between_legal schema changes old stated ends sofar.tables (between_of rest sofar going)
+        (λ place row at. bound_row rest sofar going closed place row (good_row rest place row (going.rows place row at)) (going.rows place row at))
+
+    sent_remove : (place : Place) (rest : List Place) (sofar : Sofar) → Ordered (place ∷ rest) → Going (place ∷ rest) sofar → (next : Sofar) × (send schema changes sofar (remove_at place) ≡ Ok next) × Going rest next
+    unfolding send
+    sent_remove place rest sofar ordered going =
+        let rows = some_of (rows_in sofar.tables place.0) (going.created place.0 ∙ ordered.1) in
+        let next : Sofar = record { tables = edited sofar.tables (place, None); keys = sofar.keys } in
+        let after : Going rest next = gone_then place rest sofar rows.0 going ordered.0 ordered.2 rows.1 in
+        let answer : apply schema sofar.tables (statement.Delete place.0 place.1) ≡ Ok (place.1 ∷ [], next.tables) =
+        delete_accepted schema sofar.tables place.0 rows.0 place.1 rows.1 (going_legal rest next after ordered.3) (unchanged place sofar.tables rows.0 going.sorted rows.1) in
+        (next, ap (accepted schema changes sofar (remove_at place)) answer, after)
+
+    -- all DELETEs
+    pub deletes_go : (rest : List Place) (sofar : Sofar) → Closed rest → Ordered rest → Going rest sofar → (end : Sofar) × Goes schema changes sofar (map remove_at rest) end × Going [] end
+    deletes_go [] sofar closed ordered going = (sofar, (refl, going_legal [] sofar going closed), going)
+    deletes_go (place ∷ rest) sofar closed ordered going =
+        let next = sent_remove place rest sofar ordered going in
+        let more = deletes_go rest next.0 ordered.3 ordered.4 next.2 in
+        (more.0, (going_legal (place ∷ rest) sofar going closed, (next.0, next.1, more.1)), more.2)

@@ -16,7 +16,7 @@ use Rattle.base_core.specs.declared.value.Kind.TheVariants as kinds
 use Rattle.schema_core.specs.Tables.{Rows, cell_of, cells_of, has_null, is_null, key_cells, key_of}
 use Rattle.table_laws.proofs.Entries.{all_map}
 use Rattle.table_laws.proofs.RowFits.{and_true, only_key}
-use Rattle.flush_plan.specs.Cells.{cleared, key_parts}
+use Rattle.flush_order.specs.Cells.{cleared, key_parts}
 use Rattle.flush_plan.specs.Flushing.{Keys, put}
 use Rattle.plan_laws.proofs.Drawn.{drawn_under}
 use Rattle.plan_laws.specs.Laws.{AreLoose, cell_named, is_given}

@@ -1,5 +1,5 @@
 -- Each new row names none that is left after it, under completeness's premises.
-use Rattle.std.proofs.Common.{◌≡◌, ◌⊎◌, inl, inr, ℕ, zero, suc, ◌<◌, ◌≤◌, Bool, true, false, cond, ◌&&◌, ◌||◌, eqb, List, [], ◌∷◌, ◌++◌, map, length, take, get_or, Some, refl, sym, ap, ◌∙◌, subst, append_assoc, arith}
+use Rattle.std.proofs.Common.{◌≡◌, ◌⊎◌, inl, inr, ℕ, ◌<◌, ◌≤◌, Bool, true, false, cond, ◌&&◌, ◌||◌, eqb, List, [], ◌∷◌, ◌++◌, map, length, take, Some, refl, sym, ap, ◌∙◌, subst, append_assoc, arith}
 use Rattle.std.proofs.lemmas.Bool.{cases_lt, eq-eqb, eqb-true}
 use Rattle.std.proofs.lemmas.List.Folds.{list_any-append}
 use Rattle.std.specs.Prelude.{slice_index_or}
@@ -14,27 +14,30 @@ use Rattle.schema_core.specs.declared.table.ColumnSpec.{ColumnSpec}
 use Rattle.schema_core.specs.declared.table.ForeignSpec.{ForeignSpec}
 use Rattle.schema_core.specs.Catalog.{Catalog, same_name, spec_of}
 use Rattle.schema_core.specs.Tables.{Tables, cells_of, has_null, key_of}
+use Rattle.base_core.proofs.Lists.{get_beyond}
+use Rattle.base_core.proofs.Tests.{or_then}
 use Rattle.table_laws.proofs.Entries.{all_map, any_none, none_any}
-use Rattle.flush_plan.specs.Cells.{cleared, first_cells, is_late, key_parts, known_row, late_name, new_at, no_row, table_at}
+use Rattle.flush_order.proofs.ReadyLemmas.{cleared_none, parts_none}
+use Rattle.flush_order.specs.Cells.{cleared, first_cells, is_late, key_parts, known_row, late_name, new_at, no_row, table_at}
+use Rattle.flush_order.specs.Places.{IsOrder, is_among, next_place}
+use Rattle.flush_order.specs.Refers.{comes_from, names, new_refers, refers_to}
+use Rattle.flush_order.specs.Sorted.{Place}
 use Rattle.flush_plan.specs.Flushing.{Keys, Sofar, key_of_new, put}
-use Rattle.flush_plan.specs.Places.{IsOrder, is_among, next_place}
-use Rattle.flush_plan.specs.Refers.{comes_from, names, new_refers, refers_to}
-use Rattle.flush_plan.specs.Sorted.{Place}
 use Rattle.schema_core.specs.Apply.{with_cells, with_own_key}
-use Rattle.flush_plan.specs.Stating.{given, guess, guesses, is_open, old_row, put_cells, row_at, written_rows}
-use Rattle.plan_laws.specs.Laws.{AreLoose, IsComplete, IsOneKind, before, cell_named, cells_named}
-use Rattle.plan_laws.specs.Premises.{Ends}
-use Rattle.plan_laws.proofs.Between.{comes_long}
+use Rattle.flush_plan.specs.Stating.{given, guess, guesses, is_open, old_row, place_of_new, put_cells, row_at, written_rows}
+use Rattle.plan_laws.specs.Laws.{AreLoose, IsOneKind, before, cell_named, cells_named}
+use Rattle.plan_laws.proofs.Between.{early_part}
 use Rattle.plan_laws.proofs.Blend.{Long, blend_late, nulls, nulls_are_long, nulls_null, same_names, test}
-use Rattle.plan_laws.proofs.Complete.{all_at, ends, found_placed, leads, new_long, news, once, stands, within}
+use Rattle.plan_laws.proofs.Complete.{IsStated, found_placed, leads, new_long, news, once, stands, told_long, within}
 use Rattle.plan_laws.proofs.Drawing.{LongCells, foreign_drawn, key_drawn, long_cleared, loose_cleared}
-use Rattle.plan_laws.proofs.Inserting.{First, InOrder, NamesNot, new_place}
+use Rattle.plan_laws.proofs.Inserting.{InOrder, NamesNot}
+use Rattle.plan_laws.proofs.Items.{all_at}
 use Rattle.plan_laws.proofs.Newness.{any_among, or_none}
 use Rattle.plan_laws.proofs.Ordering.{waits_not}
 use Rattle.plan_laws.proofs.Orders.{order_is}
 use Rattle.plan_laws.proofs.Placing.{Placed, keys_kept}
 use Rattle.plan_laws.proofs.Referring.{AllDrawn, Drawn, all_named, names_not}
-use Rattle.plan_laws.proofs.Facts.{bool_cases, or_false, or_right, same_some, true_false}
+use Rattle.plan_laws.proofs.Facts.{bool_cases, or_false, same_some, true_false}
 
 -- ---- lists
 
@@ -84,19 +87,6 @@ parts_some : (cs : List ColumnSpec) (cells : List RowCell) → LongCells cs cell
 parts_some [] cells l keyed e = true_false (sym keyed)
 parts_some (c ∷ cs) [] l keyed e = absurd l
 parts_some (c ∷ cs) (cell ∷ cells) l keyed e = some_step c.key cell (key_parts cs cells) (list_any (λ d. d.key) cs) (parts_some cs cells l) keyed e
-
-cleared_none : (t : ColumnSpec → Bool) (cs : List ColumnSpec) → cleared t (Given Null) cs [] ≡ []
-cleared_none t [] = refl
-cleared_none t (c ∷ cs) = refl
-
-parts_none : (cs : List ColumnSpec) → key_parts {A = RowCell} cs [] ≡ []
-parts_none [] = refl
-parts_none (c ∷ cs) = refl
-
-get_beyond : {A : Type 0} (xs : List A) (i : ℕ) (d : A) → length xs ≤ i → get_or xs i d ≡ d
-get_beyond [] i d h = refl
-get_beyond (x ∷ xs) zero d h = absurd (omega arith)
-get_beyond (x ∷ xs) (suc i) d h = get_beyond xs i d (omega arith)
 
 named_step : (s : Bool) (late : List ℕ → Bool) (c : ColumnSpec) (name : List ℕ) (cell other : RowCell) → same_name c.name name ≡ s → cond s (cond (late c.name) (Given Null) cell) (cond (late name) (Given Null) other) ≡ cond (late name) (Given Null) (cond s cell other)
 named_step true late c name cell other e = ap (λ n. cond (late n) (Given Null) cell) (same_names c.name name e)
@@ -149,7 +139,7 @@ all_zip : {A : Type 0} (P Q : A → Type 0) (xs : List A) → AllByRecursion P x
 all_zip P Q [] p q = tt
 all_zip P Q (x ∷ xs) p q = ((p.0, q.0), all_zip P Q xs p.1 q.1)
 
-module _ (schema : Catalog) (old : Tables) (changes : RowChanges) (order : List ℕ) (placed : Sofar) (after : Tables) (complete : IsComplete schema old changes order placed after) where
+module _ (schema : Catalog) (old : Tables) (changes : RowChanges) (order : List ℕ) (placed : Sofar) (after : Tables) (told : IsStated schema old changes order placed after) where
   abbrev columns_at : ℕ → List ColumnSpec
   columns_at place = (spec_of schema (table_at changes place)).columns
 
@@ -159,11 +149,8 @@ module _ (schema : Catalog) (old : Tables) (changes : RowChanges) (order : List 
   abbrev late_at : ℕ → List ℕ → Bool
   late_at place = late_name schema changes (table_at changes place)
 
-  abbrev its_ends : Ends schema changes old after
-  its_ends = ends schema old changes order placed after complete
-
   pub is_order : IsOrder (new_refers schema changes) (length changes.fresh) order
-  is_order = order_is (new_refers schema changes) (length changes.fresh) order complete.ordered
+  is_order = order_is (new_refers schema changes) (length changes.fresh) order told.ordered
 
   next_at : (ahead rest : List ℕ) (place : ℕ) → order ≡ ahead ++ place ∷ rest → next_place (new_refers schema changes) (length changes.fresh) ahead ≡ Some place
   next_at ahead rest place split =
@@ -173,14 +160,14 @@ module _ (schema : Catalog) (old : Tables) (changes : RowChanges) (order : List 
       ∙ ap (λ xs. slice_get xs (length ahead)) split ∙ get_seam ahead place rest
 
   among_split : (ahead rest : List ℕ) (q : ℕ) → order ≡ ahead ++ rest → is_among rest q ≡ true → is_among order q ≡ true
-  among_split ahead rest q split among = ap (λ xs. is_among xs q) split ∙ list_any-append (eqb q) ahead rest ∙ or_right (is_among ahead q) (is_among rest q) among
+  among_split ahead rest q split among = ap (λ xs. is_among xs q) split ∙ list_any-append (eqb q) ahead rest ∙ or_then (is_among ahead q) (is_among rest q) among
 
   -- no row refers to one that is left after it, nor to itself
   pub refers_not : (ahead rest : List ℕ) (place other : ℕ) → order ≡ ahead ++ place ∷ rest → is_among (place ∷ rest) other ≡ true → new_refers schema changes place other ≡ false
   refers_not ahead rest place other split among =
       waits_not (new_refers schema changes) (length changes.fresh) ahead place other (next_at ahead rest place split)
-      (within schema old changes order placed after complete other (among_split ahead (place ∷ rest) other split among))
-      (out_before ahead (place ∷ rest) other (subst (IsDistinct eqb) split (once schema old changes order placed after complete)) among)
+      (within schema old changes order placed after told other (among_split ahead (place ∷ rest) other split among))
+      (out_before ahead (place ∷ rest) other (subst (IsDistinct eqb) split (once schema old changes order placed after told)) among)
 
   part_not : (ahead rest : List ℕ) (place other : ℕ) → order ≡ ahead ++ place ∷ rest → is_among (place ∷ rest) other ≡ true → list_any (comes_from other) (first_cells schema changes place) ≡ false
   part_not ahead rest place other split among =
@@ -206,18 +193,18 @@ module _ (schema : Catalog) (old : Tables) (changes : RowChanges) (order : List 
       ∙ found.step.draws
 
   its_cells : (place : ℕ) → is_among order place ≡ true → LongCells (columns_at place) (raw place)
-  its_cells place among = long_cells (columns_at place) (raw place) (new_long schema old changes order placed after complete place among)
+  its_cells place among = long_cells (columns_at place) (raw place) (new_long schema old changes order placed after told place among)
 
   pub all_drawn : AllDrawn schema changes placed.keys
   all_drawn place =
       elim (bool_cases (is_among order place)) [
         | inl among ↦
-            let found = found_placed schema old changes order placed after complete place among in
+            let found = found_placed schema old changes order placed after told place among in
             subst (Drawn placed.keys (key_parts (columns_at place) (first_cells schema changes place))) (ap (λ q. q.1) found.key)
             (key_drawn (spec_of schema (table_at changes place)) found.step.rows placed.keys (first_cells schema changes place) found.step.row
             (long_cleared (is_late schema changes (table_at changes place)) (columns_at place) (raw place) (its_cells place among))
             (loose_cleared (spec_of schema (table_at changes place)).foreigns (is_late schema changes (table_at changes place)) (columns_at place) (raw place)
-            (all_at (λ (row : NewRow). AreLoose (spec_of schema row.name.table).foreigns (spec_of schema row.name.table).columns row.cells) changes.fresh place no_row complete.projected.new_loose (within schema old changes order placed after complete place among)))
+            (all_at (λ (row : NewRow). AreLoose (spec_of schema row.name.table).foreigns (spec_of schema row.name.table).columns row.cells) changes.fresh place no_row told.projected.new_loose (within schema old changes order placed after told place among)))
             (last_draws place found))
         | inr out ↦
             let past : length changes.fresh ≤ place = elim (cases_lt place (length changes.fresh)) [
@@ -227,9 +214,9 @@ module _ (schema : Catalog) (old : Tables) (changes : RowChanges) (order : List 
             let row : new_at changes place ≡ no_row = get_beyond changes.fresh place no_row past in
             let parts : key_parts (columns_at place) (first_cells schema changes place) ≡ [] =
             ap (λ (r : NewRow). key_parts (spec_of schema r.name.table).columns (cleared (is_late schema changes r.name.table) (Given Null) (spec_of schema r.name.table).columns r.cells)) row
-            ∙ ap (key_parts (spec_of schema no_row.name.table).columns) (cleared_none (is_late schema changes no_row.name.table) (spec_of schema no_row.name.table).columns)
+            ∙ ap (key_parts (spec_of schema no_row.name.table).columns) (cleared_none (is_late schema changes no_row.name.table) (Given Null) (spec_of schema no_row.name.table).columns)
             ∙ parts_none (spec_of schema no_row.name.table).columns in
-            let key : key_of_new placed.keys place ≡ [] = keys_kept schema changes order (before old) placed place (leads schema old changes order placed after complete) out in
+            let key : key_of_new placed.keys place ≡ [] = keys_kept schema changes order (before old) placed place (leads schema old changes order placed after told) out in
             subst (λ ps. Drawn placed.keys ps (key_of_new placed.keys place)) (sym parts) (subst (Drawn placed.keys []) (sym key) tt)
       ]
 
@@ -237,17 +224,8 @@ module _ (schema : Catalog) (old : Tables) (changes : RowChanges) (order : List 
   some_key other among none =
       parts_some (columns_at other) (first_cells schema changes other)
       (long_cleared (is_late schema changes (table_at changes other)) (columns_at other) (raw other) (its_cells other among))
-      (all_at (λ (row : NewRow). list_any (λ column. column.key) (spec_of schema row.name.table).columns ≡ true) changes.fresh other no_row complete.projected.new_keyed (within schema old changes order placed after complete other among))
+      (all_at (λ (row : NewRow). list_any (λ column. column.key) (spec_of schema row.name.table).columns ≡ true) changes.fresh other no_row told.projected.new_keyed (within schema old changes order placed after told other among))
       (drawn_nil placed.keys (key_parts (columns_at other) (first_cells schema changes other)) (key_of_new placed.keys other) none (all_drawn other))
-
-  no_guesses : (place : ℕ) → is_among order place ≡ true → guesses schema changes order placed.keys (table_at changes place) (map given (raw place)) ≡ false
-  unfolding guess
-  no_guesses place among =
-      any_among (λ p. guesses schema changes order placed.keys (table_at changes p) (map given (raw p))) order place
-      (or_false (list_any (λ p. guesses schema changes order placed.keys (table_at changes p) (map given (raw p))) order)
-      (list_any (λ row. guesses schema changes order placed.keys row.name.table (with_cells (old_row old row) (put_cells given row.cells))) (written_rows changes))
-      complete.no_guess).0
-      among
 
   -- what is known of each foreign key of a new row
   abbrev Known : ℕ → ℕ → List Value → ForeignSpec → Type 0
@@ -259,18 +237,18 @@ module _ (schema : Catalog) (old : Tables) (changes : RowChanges) (order : List 
       × (list_any (λ p. is_open schema changes p && names schema (map given (raw place)) (table_at changes place) (table_at changes p) (key_of_new placed.keys p) foreign) order ≡ false))))
 
   its_place : ℕ → Place
-  its_place = new_place schema changes old after its_ends placed
+  its_place = place_of_new changes placed.keys
 
-  late_not : (place other : ℕ) (written : List Value) (foreign : ForeignSpec) → is_among order other ≡ true → Long (columns_at place) written → list_all (late_at place) foreign.columns ≡ true → has_null (cells_of (spec_of schema (table_at changes place)) (First schema changes old after its_ends placed (new_place schema changes old after its_ends placed place) written) foreign.columns) ≡ false → cells_of (spec_of schema (table_at changes place)) (First schema changes old after its_ends placed (new_place schema changes old after its_ends placed place) written) foreign.columns ≡ key_of_new placed.keys other → ⊥
+  late_not : (place other : ℕ) (written : List Value) (foreign : ForeignSpec) → is_among order other ≡ true → Long (columns_at place) written → list_all (late_at place) foreign.columns ≡ true → has_null (cells_of (spec_of schema (table_at changes place)) (early_part schema changes (place_of_new changes placed.keys place) written) foreign.columns) ≡ false → cells_of (spec_of schema (table_at changes place)) (early_part schema changes (place_of_new changes placed.keys place) written) foreign.columns ≡ key_of_new placed.keys other → ⊥
   late_not place other written foreign among long whole none same =
-      let cells : cells_of (spec_of schema (table_at changes place)) (First schema changes old after its_ends placed (new_place schema changes old after its_ends placed place) written) foreign.columns ≡ cells_of (spec_of schema (table_at changes place)) (nulls (columns_at place)) foreign.columns =
+      let cells : cells_of (spec_of schema (table_at changes place)) (early_part schema changes (place_of_new changes placed.keys place) written) foreign.columns ≡ cells_of (spec_of schema (table_at changes place)) (nulls (columns_at place)) foreign.columns =
       blend_late (late_at place) (columns_at place) written (nulls (columns_at place)) foreign.columns long (nulls_are_long (columns_at place)) whole in
       elim (nulls_null (columns_at place) foreign.columns) [
         | inl empty ↦ some_key other among (sym same ∙ cells ∙ ap (cells_of (spec_of schema (table_at changes place)) (nulls (columns_at place))) empty)
         | inr null ↦ true_false (sym (ap has_null cells ∙ null) ∙ none)
       ]
 
-  by_kind : (ahead rest : List ℕ) (place other : ℕ) (row written : List Value) (foreign : ForeignSpec) → order ≡ ahead ++ place ∷ rest → is_among (place ∷ rest) other ≡ true → row ≡ First schema changes old after its_ends placed (new_place schema changes old after its_ends placed place) written → Long (columns_at place) written → Known place other row foreign → NamesNot schema changes old after its_ends placed (new_place schema changes old after its_ends placed other) (new_place schema changes old after its_ends placed place) written foreign
+  by_kind : (ahead rest : List ℕ) (place other : ℕ) (row written : List Value) (foreign : ForeignSpec) → order ≡ ahead ++ place ∷ rest → is_among (place ∷ rest) other ≡ true → row ≡ early_part schema changes (place_of_new changes placed.keys place) written → Long (columns_at place) written → Known place other row foreign → NamesNot schema changes old after placed (place_of_new changes placed.keys other) (place_of_new changes placed.keys place) written foreign
   by_kind ahead rest place other row written foreign split left is long (cells, (kind, (inl whole, (value, guessed)))) target none same =
       late_not place other written foreign (among_split ahead (place ∷ rest) other split left) long whole none same
   by_kind ahead rest place other row written foreign split left is long (cells, (kind, (inr early, (value, guessed)))) target none same =
@@ -285,54 +263,64 @@ module _ (schema : Catalog) (old : Tables) (changes : RowChanges) (order : List 
         no_value = value;
         no_part = part_not ahead rest place other split left;
         some_key = some_key other among;
-        one_key = λ q inside table key. (news schema old changes order placed after complete).apart q other (is_order.each q inside) among (λ i. (table i, key i));
+        one_key = λ q inside table key. (news schema old changes order placed after told).apart q other (is_order.each q inside) among (λ i. (table i, key i));
       })
       target
       (ap (λ r. has_null (cells_of (spec_of schema (table_at changes place)) r foreign.columns)) is ∙ none)
       (ap (λ r. cells_of (spec_of schema (table_at changes place)) r foreign.columns) is ∙ same)
 
-  names_none : (ahead rest : List ℕ) (place other : ℕ) (written : List Value) → order ≡ ahead ++ place ∷ rest → is_among (place ∷ rest) other ≡ true → row_at after (new_place schema changes old after its_ends placed place) ≡ Some written → AllByRecursion (NamesNot schema changes old after its_ends placed (new_place schema changes old after its_ends placed other) (new_place schema changes old after its_ends placed place) written) (spec_of schema (table_at changes place)).foreigns
-  names_none ahead rest place other written split left at =
-      let here : is_among order place ≡ true = among_split ahead (place ∷ rest) place split (ap (λ b. b || is_among rest place) (eq-eqb place place refl)) in
-      let found = found_placed schema old changes order placed after complete place here in
-      let stood = stands schema old changes order placed after complete place found.step.row here found.stands in
-      let same : stood.0 ≡ written = same_some stood.0 written (sym stood.1 ∙ at) in
-      let foreigns : List ForeignSpec = (spec_of schema (table_at changes place)).foreigns in
-      all_map (Known place other found.step.row) (NamesNot schema changes old after its_ends placed (new_place schema changes old after its_ends placed other) (new_place schema changes old after its_ends placed place) written)
-      (λ foreign known. by_kind ahead rest place other found.step.row written foreign
-      split left (stood.2 ∙ ap (First schema changes old after its_ends placed (new_place schema changes old after its_ends placed place)) same)
-      (comes_long schema changes old after its_ends (new_place schema changes old after its_ends placed place) written (inr at)) known)
-      foreigns
-      (all_zip
-      (λ foreign. cells_of (spec_of schema (table_at changes place)) found.step.row foreign.columns ≡ map (put placed.keys) (map (cell_named (columns_at place) (first_cells schema changes place)) foreign.columns))
-      (λ foreign. (IsOneKind schema changes foreign (cells_named schema (table_at changes place) (raw place) foreign.columns))
-      × (((list_all (late_at place) foreign.columns ≡ true) ⊎ (list_any (late_at place) foreign.columns ≡ false))
-      × ((names schema (known_row schema changes place) (table_at changes place) (table_at changes other) (key_of (spec_of schema (table_at changes other)) (known_row schema changes other)) foreign ≡ false)
-      × (list_any (λ p. is_open schema changes p && names schema (map given (raw place)) (table_at changes place) (table_at changes p) (key_of_new placed.keys p) foreign) order ≡ false))))
-      foreigns
-      (foreign_drawn (spec_of schema (table_at changes place)) found.step.rows placed.keys (first_cells schema changes place) found.step.row foreigns (λ c free. free) (last_draws place found))
-      (all_zip (λ foreign. IsOneKind schema changes foreign (cells_named schema (table_at changes place) (raw place) foreign.columns))
-      (λ foreign. ((list_all (late_at place) foreign.columns ≡ true) ⊎ (list_any (late_at place) foreign.columns ≡ false))
-      × ((names schema (known_row schema changes place) (table_at changes place) (table_at changes other) (key_of (spec_of schema (table_at changes other)) (known_row schema changes other)) foreign ≡ false)
-      × (list_any (λ p. is_open schema changes p && names schema (map given (raw place)) (table_at changes place) (table_at changes p) (key_of_new placed.keys p) foreign) order ≡ false)))
-      foreigns
-      (all_at (λ (row : NewRow). AllByRecursion (λ foreign. IsOneKind schema changes foreign (cells_named schema row.name.table row.cells foreign.columns)) (spec_of schema row.name.table).foreigns) changes.fresh place no_row complete.projected.new_foreigns (within schema old changes order placed after complete place here))
-      (all_zip (λ foreign. (list_all (late_at place) foreign.columns ≡ true) ⊎ (list_any (late_at place) foreign.columns ≡ false))
-      (λ foreign. (names schema (known_row schema changes place) (table_at changes place) (table_at changes other) (key_of (spec_of schema (table_at changes other)) (known_row schema changes other)) foreign ≡ false)
-      × (list_any (λ p. is_open schema changes p && names schema (map given (raw place)) (table_at changes place) (table_at changes p) (key_of_new placed.keys p) foreign) order ≡ false))
-      foreigns (complete.projected.fit.foreigns (table_at changes place))
-      (all_zip (λ foreign. names schema (known_row schema changes place) (table_at changes place) (table_at changes other) (key_of (spec_of schema (table_at changes other)) (known_row schema changes other)) foreign ≡ false)
-      (λ foreign. list_any (λ p. is_open schema changes p && names schema (map given (raw place)) (table_at changes place) (table_at changes p) (key_of_new placed.keys p) foreign) order ≡ false)
-      foreigns
-      (any_none (names schema (known_row schema changes place) (table_at changes place) (table_at changes other) (key_of (spec_of schema (table_at changes other)) (known_row schema changes other))) foreigns (value_not ahead rest place other split left))
-      (any_none (λ foreign. list_any (λ p. is_open schema changes p && names schema (map given (raw place)) (table_at changes place) (table_at changes p) (key_of_new placed.keys p) foreign) order) foreigns (no_guesses place here))))))
+  module _ (no_guess : guess schema old changes order placed.keys ≡ false) where
+    no_guesses : (place : ℕ) → is_among order place ≡ true → guesses schema changes order placed.keys (table_at changes place) (map given (raw place)) ≡ false
+    unfolding guess
+    no_guesses place among =
+        any_among (λ p. guesses schema changes order placed.keys (table_at changes p) (map given (raw p))) order place
+        (or_false (list_any (λ p. guesses schema changes order placed.keys (table_at changes p) (map given (raw p))) order)
+        (list_any (λ row. guesses schema changes order placed.keys row.name.table (with_cells (old_row old row) (put_cells given row.cells))) (written_rows changes))
+        no_guess).0
+        among
 
-  in_order : (ahead rest : List ℕ) → order ≡ ahead ++ rest → InOrder schema changes old after its_ends placed rest
-  in_order ahead [] split = tt
-  in_order ahead (place ∷ rest) split = (
-    λ row other at left. names_none ahead rest place other row split left at,
-    in_order (ahead ++ place ∷ []) rest (split ∙ sym (append_assoc ahead (place ∷ []) rest)),
-  )
+    names_none : (ahead rest : List ℕ) (place other : ℕ) (written : List Value) → order ≡ ahead ++ place ∷ rest → is_among (place ∷ rest) other ≡ true → row_at after (place_of_new changes placed.keys place) ≡ Some written → AllByRecursion (NamesNot schema changes old after placed (place_of_new changes placed.keys other) (place_of_new changes placed.keys place) written) (spec_of schema (table_at changes place)).foreigns
+    names_none ahead rest place other written split left at =
+        let here : is_among order place ≡ true = among_split ahead (place ∷ rest) place split (ap (λ b. b || is_among rest place) (eq-eqb place place refl)) in
+        let found = found_placed schema old changes order placed after told place here in
+        let stood = stands schema old changes order placed after told place found.step.row here found.stands in
+        let same : stood.0 ≡ written = same_some stood.0 written (sym stood.1 ∙ at) in
+        let foreigns : List ForeignSpec = (spec_of schema (table_at changes place)).foreigns in
+        all_map (Known place other found.step.row) (NamesNot schema changes old after placed (place_of_new changes placed.keys other) (place_of_new changes placed.keys place) written)
+        (λ foreign known. by_kind ahead rest place other found.step.row written foreign
+        split left (stood.2 ∙ ap (early_part schema changes (place_of_new changes placed.keys place)) same)
+        (told_long schema old changes order placed after told (place_of_new changes placed.keys place) written (inr at)) known)
+        foreigns
+        (all_zip
+        (λ foreign. cells_of (spec_of schema (table_at changes place)) found.step.row foreign.columns ≡ map (put placed.keys) (map (cell_named (columns_at place) (first_cells schema changes place)) foreign.columns))
+        (λ foreign. (IsOneKind schema changes foreign (cells_named schema (table_at changes place) (raw place) foreign.columns))
+        × (((list_all (late_at place) foreign.columns ≡ true) ⊎ (list_any (late_at place) foreign.columns ≡ false))
+        × ((names schema (known_row schema changes place) (table_at changes place) (table_at changes other) (key_of (spec_of schema (table_at changes other)) (known_row schema changes other)) foreign ≡ false)
+        × (list_any (λ p. is_open schema changes p && names schema (map given (raw place)) (table_at changes place) (table_at changes p) (key_of_new placed.keys p) foreign) order ≡ false))))
+        foreigns
+        (foreign_drawn (spec_of schema (table_at changes place)) found.step.rows placed.keys (first_cells schema changes place) found.step.row foreigns (λ c free. free) (last_draws place found))
+        (all_zip (λ foreign. IsOneKind schema changes foreign (cells_named schema (table_at changes place) (raw place) foreign.columns))
+        (λ foreign. ((list_all (late_at place) foreign.columns ≡ true) ⊎ (list_any (late_at place) foreign.columns ≡ false))
+        × ((names schema (known_row schema changes place) (table_at changes place) (table_at changes other) (key_of (spec_of schema (table_at changes other)) (known_row schema changes other)) foreign ≡ false)
+        × (list_any (λ p. is_open schema changes p && names schema (map given (raw place)) (table_at changes place) (table_at changes p) (key_of_new placed.keys p) foreign) order ≡ false)))
+        foreigns
+        (all_at (λ (row : NewRow). AllByRecursion (λ foreign. IsOneKind schema changes foreign (cells_named schema row.name.table row.cells foreign.columns)) (spec_of schema row.name.table).foreigns) changes.fresh place no_row told.projected.new_foreigns (within schema old changes order placed after told place here))
+        (all_zip (λ foreign. (list_all (late_at place) foreign.columns ≡ true) ⊎ (list_any (late_at place) foreign.columns ≡ false))
+        (λ foreign. (names schema (known_row schema changes place) (table_at changes place) (table_at changes other) (key_of (spec_of schema (table_at changes other)) (known_row schema changes other)) foreign ≡ false)
+        × (list_any (λ p. is_open schema changes p && names schema (map given (raw place)) (table_at changes place) (table_at changes p) (key_of_new placed.keys p) foreign) order ≡ false))
+        foreigns (told.projected.fit.foreigns (table_at changes place))
+        (all_zip (λ foreign. names schema (known_row schema changes place) (table_at changes place) (table_at changes other) (key_of (spec_of schema (table_at changes other)) (known_row schema changes other)) foreign ≡ false)
+        (λ foreign. list_any (λ p. is_open schema changes p && names schema (map given (raw place)) (table_at changes place) (table_at changes p) (key_of_new placed.keys p) foreign) order ≡ false)
+        foreigns
+        (any_none (names schema (known_row schema changes place) (table_at changes place) (table_at changes other) (key_of (spec_of schema (table_at changes other)) (known_row schema changes other))) foreigns (value_not ahead rest place other split left))
+        (any_none (λ foreign. list_any (λ p. is_open schema changes p && names schema (map given (raw place)) (table_at changes place) (table_at changes p) (key_of_new placed.keys p) foreign) order) foreigns (no_guesses place here))))))
 
-  pub news_ordered : InOrder schema changes old after its_ends placed order
-  news_ordered = in_order [] order refl
+    in_order : (ahead rest : List ℕ) → order ≡ ahead ++ rest → InOrder schema changes old after placed rest
+    in_order ahead [] split = tt
+    in_order ahead (place ∷ rest) split = (
+      λ row other at left. names_none ahead rest place other row split left at,
+      in_order (ahead ++ place ∷ []) rest (split ∙ sym (append_assoc ahead (place ∷ []) rest)),
+    )
+
+    pub news_ordered : InOrder schema changes old after placed order
+    news_ordered = in_order [] order refl

@@ -5,7 +5,7 @@ use Rattle.schema_core.specs.Catalog.{Catalog}
 use Rattle.schema_core.specs.Tables.{Tables}
 use Rattle.flush_plan.specs.Flushing.{Sofar}
 use Rattle.plan_laws.specs.Laws.{InsertPrefixesAreLegal, InsertsLeaveKeys, IsComplete, before, insert_of}
-use Rattle.plan_laws.proofs.Complete.{ends, leads, news}
+use Rattle.plan_laws.proofs.Complete.{IsStated, ends, leads, news, told_of}
 use Rattle.plan_laws.proofs.Prefixes.{Goes, prefix_of, goes_whole}
 use Rattle.plan_laws.proofs.InsertOrder.{news_ordered}
 use Rattle.plan_laws.proofs.Inserting.{inserts_go}
@@ -14,9 +14,10 @@ use Rattle.plan_laws.proofs.Whole.{start_putting}
 pub inserts : (schema : Catalog) (old : Tables) (changes : RowChanges) (order : List ℕ) (placed : Sofar) (after : Tables) → IsComplete schema old changes order placed after → Goes schema changes (before old) (map (insert_of changes) order) placed
 inserts schema old changes order placed after complete =
     let its = ends schema old changes order placed after complete in
-    (inserts_go schema changes old after its placed order order (news schema old changes order placed after complete) (before old) (λ other among. among)
-    (news schema old changes order placed after complete).once (news_ordered schema old changes order placed after complete)
-    (start_putting schema changes old after its placed order) (leads schema old changes order placed after complete)).0
+    let told : IsStated schema old changes order placed after = told_of schema old changes order placed after complete in
+    (inserts_go schema changes old after placed its order order (news schema old changes order placed after told) (before old) (λ other among. among)
+    (news schema old changes order placed after told).once (news_ordered schema old changes order placed after told complete.no_guess)
+    (start_putting schema changes old after placed its order) (leads schema old changes order placed after told)).0
 
 pub insert_prefixes : InsertPrefixesAreLegal
 insert_prefixes schema old changes order placed after complete n = prefix_of schema changes (before old) placed (map (insert_of changes) order) (inserts schema old changes order placed after complete) n

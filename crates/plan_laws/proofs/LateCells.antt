@@ -1,6 +1,6 @@
 -- The cells that the late UPDATEs write.
 use Rattle.std.proofs.Common.{◌≡◌, ℕ, suc, ◌+◌, ◌<◌, Bool, true, false, not, cond, ◌&&◌, eqb, List, [], ◌∷◌, map, length, get_or, Option, None, Some, refl, sym, ap, ◌∙◌, arith}
-use Rattle.std.proofs.lemmas.Bool.{eq-eqb, eqb-true}
+use Rattle.std.proofs.lemmas.Bool.{eq-eqb}
 use Rattle.std.specs.List.{filter}
 use Rattle.std.specs.Option.{unwrap_or}
 use Rattle.base_core.specs.declared.ids.ColumnNo.{ColumnNo}
@@ -13,6 +13,7 @@ use Rattle.flush_plan.specs.Stating.{blend, put_cells}
 use Rattle.plan_laws.proofs.Blend.{Long, test}
 use Rattle.schema_core.specs.Apply.{with_cells}
 use Rattle.plan_laws.proofs.Writing.{Agrees, IsOnce, cell_at, cell_filter, early_written, late_written, with_written, written}
+use Rattle.plan_laws.proofs.Facts.{apart_false}
 
 -- ---- filters
 
@@ -38,12 +39,8 @@ once_filter q (cell ∷ cells) once = once_step q (q cell.0.0) cell cells once.0
 
 -- ---- cells by the columns' numbers
 
-eq_apart : (a b : ℕ) (t : Bool) → eqb a b ≡ t → (a ≡ b → ⊥) → t ≡ false
-eq_apart a b true e far = absurd (far (eqb-true a b e))
-eq_apart a b false e far = refl
-
 behind_step : (b : Bool) (value : RowCell → Value) (place : ℕ) (cell : RowCell) (more : List (ColumnNo × RowCell)) (n : ℕ) → n < place → cell_at (put_cells value more) n ≡ None → cell_at (put_cells value (cond b ((record { 0 = place }, cell) ∷ more) more)) n ≡ None
-behind_step true value place cell more n h none = ap (λ b. cond b (Some (value cell)) (cell_at (put_cells value more) n)) (eq_apart place n (eqb place n) refl (λ same. omega (arith, same, h))) ∙ none
+behind_step true value place cell more n h none = ap (λ b. cond b (Some (value cell)) (cell_at (put_cells value more) n)) (apart_false place n (eqb place n) refl (λ same. omega (arith, same, h))) ∙ none
 behind_step false value place cell more n h none = none
 
 -- no cell is of a column before the first
@@ -71,7 +68,7 @@ here_step false value place cell more none = none
 skip_step : (b : Bool) (value : RowCell → Value) (place : ℕ) (cell : RowCell) (more : List (ColumnNo × RowCell)) (next : ℕ) (row : List Value) → place < next → written next row (put_cells value (cond b ((record { 0 = place }, cell) ∷ more) more)) ≡ written next row (put_cells value more)
 skip_step true value place cell more next [] h = refl
 skip_step true value place cell more next (v ∷ row) h =
-    let other : eqb place next ≡ false = eq_apart place next (eqb place next) refl (λ same. omega (arith, same, h)) in
+    let other : eqb place next ≡ false = apart_false place next (eqb place next) refl (λ same. omega (arith, same, h)) in
     λ i. unwrap_or (cond (other i) (Some (value cell)) (cell_at (put_cells value more) next)) v ∷ skip_step true value place cell more (suc next) row (omega arith) i
 skip_step false value place cell more next row h = refl
 

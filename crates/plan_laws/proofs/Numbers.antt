@@ -1,8 +1,8 @@
 -- The numbers of rows that are sorted by table and key: each once.
-use Rattle.std.proofs.Common.{◌≡◌, inl, inr, ℕ, zero, suc, ◌+◌, ◌<◌, Bool, true, false, cond, ◌&&◌, ◌||◌, eqb, T, List, [], ◌∷◌, length, get_or, Option, Some, Ordering, refl, sym, ap, ◌∙◌, subst, arith}
+use Rattle.std.proofs.Common.{◌≡◌, inl, inr, ℕ, zero, suc, ◌+◌, ◌<◌, Bool, true, false, cond, ◌||◌, eqb, T, List, [], ◌∷◌, length, get_or, Option, Some, refl, sym, ap, ◌∙◌, subst, arith}
 use Rattle.std.proofs.lemmas.Bool.{eq-eqb, eqb-true}
-use Rattle.std.specs.declared.cmp.Ordering.TheVariants.{Less, Equal, Greater}
-use Rattle.std.specs.Ordering.{is_eq, is_lt, ordering_then}
+use Rattle.std.specs.declared.cmp.Ordering.TheVariants.{Less, Equal}
+use Rattle.std.specs.Ordering.{is_eq, is_lt}
 use Rattle.std.specs.Cmp.{IsTotalOrder, on_total, then_total, tied_itself}
 use Rattle.std.specs.List.{AllByRecursion, IsDistinct, list_any}
 use Rattle.std.specs.Map.{lookup, values_of}
@@ -13,15 +13,17 @@ use Rattle.schema_core.specs.Declaration.{some_two}
 use Rattle.schema_core.specs.Tables.{table_cmp}
 use Rattle.table_laws.proofs.Entries.{all_insert}
 use Rattle.table_laws.proofs.SameValues.{same_key, same_table, both_equal, is_equal}
-use Rattle.flush_plan.specs.Places.{is_among}
-use Rattle.flush_plan.specs.Sorted.{Place, entered, place_cmp, same_place, sorted_numbers}
-use Rattle.plan_laws.proofs.At.{key_total, table_total}
 use Rattle.plan_laws.proofs.Lookups.{lookup_insert, sorted_insert, less, first, second}
 use Rattle.plan_laws.proofs.Newness.{place_same}
-use Rattle.plan_laws.proofs.Facts.{none_some, or_cases, or_false, true_false}
+use Rattle.plan_laws.proofs.Facts.{none_some, or_cases, or_false, true_false, apart_false}
+use Rattle.base_core.proofs.Exact.{values_total}
+use Rattle.schema_core.proofs.TableOrder.{tables_total}
+use Rattle.base_core.proofs.Tests.{or_then}
+use Rattle.flush_order.specs.Places.{is_among}
+use Rattle.flush_order.specs.Sorted.{Place, entered, place_cmp, same_place, sorted_numbers}
 
 pub place_total : IsTotalOrder place_cmp
-place_total = then_total (on_total (λ (p : Place). p.0) table_total) (on_total (λ (p : Place). p.1) key_total)
+place_total = then_total (on_total (λ (p : Place). p.0) tables_total) (on_total (λ (p : Place). p.1) values_total)
 
 pub place_is : (p q : Place) → place_cmp p q ≡ Equal → p ≡ q
 place_is p q e =
@@ -49,7 +51,7 @@ entered_all P entries number (p ∷ ps) d all each =
     plus_suc : (n k : ℕ) → n + suc k ≡ suc n + k
     plus_suc n k = omega arith
 
-entered_sorted : (entries : List (Place × ℕ)) (number : ℕ) (places : List Place) → T (is_sorted place_cmp entries) → T (is_sorted place_cmp (entered entries number places))
+pub entered_sorted : (entries : List (Place × ℕ)) (number : ℕ) (places : List Place) → T (is_sorted place_cmp entries) → T (is_sorted place_cmp (entered entries number places))
 entered_sorted entries number [] sorted = sorted
 entered_sorted entries number (p ∷ ps) sorted = entered_sorted (insert_entry place_cmp entries p number) (suc number) ps (sorted_insert place_cmp place_total entries p number sorted)
 
@@ -65,22 +67,23 @@ entered_keeps entries number (p ∷ ps) q d n e apart =
 abbrev pub AreOther : List Place → Place → Type 0
 AreOther places d = (i j : ℕ) → i < length places → j < length places → get_or places i d ≡ get_or places j d → i ≡ j
 
-entered_has : (entries : List (Place × ℕ)) (number : ℕ) (places : List Place) (d : Place) (k : ℕ) → k < length places → AreOther places d → lookup (is_at (place_cmp (get_or places k d))) (entered entries number places) ≡ Some (number + k)
-entered_has entries number [] d k h apart = absurd (omega arith)
-entered_has entries number (p ∷ ps) d zero h apart =
+-- no later place is that of the number
+abbrev IsLatest : List Place → Place → ℕ → Type 0
+IsLatest places d k = (j : ℕ) → k < j → j < length places → get_or places k d ≡ get_or places j d → ⊥
+
+entered_has : (entries : List (Place × ℕ)) (number : ℕ) (places : List Place) (d : Place) (k : ℕ) → k < length places → IsLatest places d k → lookup (is_at (place_cmp (get_or places k d))) (entered entries number places) ≡ Some (number + k)
+entered_has entries number [] d k h latest = absurd (omega arith)
+entered_has entries number (p ∷ ps) d zero h latest =
     entered_keeps (insert_entry place_cmp entries p number) (suc number) ps p d (number + 0)
     (lookup_insert place_cmp place_total entries p number p
     ∙ ap (λ o. cond (is_eq o) (Some number) (lookup (is_at (place_cmp p)) entries)) (tied_itself place_total p)
     ∙ ap Some (plus_zero number))
-    (λ k less same. absurd (zero_suc k (apart 0 (suc k) (omega arith) (omega arith) same)))
+    (λ k less same. latest (suc k) (omega arith) (omega arith) same)
   where
     plus_zero : (n : ℕ) → n ≡ n + 0
     plus_zero n = omega arith
-
-    zero_suc : (k : ℕ) → 0 ≡ suc k → ⊥
-    zero_suc k e = omega (arith, e)
-entered_has entries number (p ∷ ps) d (suc k) h apart =
-    entered_has (insert_entry place_cmp entries p number) (suc number) ps d k (omega arith) (λ i j less more same. omega (arith, apart (suc i) (suc j) (omega arith) (omega arith) same))
+entered_has entries number (p ∷ ps) d (suc k) h latest =
+    entered_has (insert_entry place_cmp entries p number) (suc number) ps d k (omega arith) (λ j less more same. latest (suc j) (omega arith) (omega arith) same)
     ∙ ap Some (plus_suc number k)
   where
     plus_suc : (n k : ℕ) → suc n + k ≡ n + suc k
@@ -93,17 +96,13 @@ value_step true v n rest vs more e = ap (λ b. b || is_among vs n) (eq-eqb n v (
   where
     some_same : (x y : ℕ) → Some x ≡ Some y → x ≡ y
     some_same x y f = cc
-value_step false v n rest vs more e = right (eqb n v) (is_among vs n) (more e)
-  where
-    right : (a b : Bool) → b ≡ true → (a || b) ≡ true
-    right true b f = refl
-    right false b f = f
+value_step false v n rest vs more e = or_then (eqb n v) (is_among vs n) (more e)
 
 value_among : (q : Place) (es : List (Place × ℕ)) (n : ℕ) → lookup (is_at (place_cmp q)) es ≡ Some n → is_among (values_of es) n ≡ true
 value_among q [] n e = absurd (none_some n e)
 value_among q (e ∷ es) n found = value_step (is_eq (place_cmp q e.0)) e.1 n (lookup (is_at (place_cmp q)) es) (values_of es) (value_among q es n) found
 
-values_all : (P : ℕ → Type 0) (es : List (Place × ℕ)) (n : ℕ) → AllByRecursion (λ e. P e.1) es → is_among (values_of es) n ≡ true → P n
+pub values_all : (P : ℕ → Type 0) (es : List (Place × ℕ)) (n : ℕ) → AllByRecursion (λ e. P e.1) es → is_among (values_of es) n ≡ true → P n
 values_all P [] n all among = absurd (true_false (sym among))
 values_all P (e ∷ es) n all among =
     elim (or_cases (eqb n e.1) (is_among (values_of es) n) among) [
@@ -111,17 +110,13 @@ values_all P (e ∷ es) n all among =
       | inr more ↦ values_all P es n all.1 more
     ]
 
-less_equal : Less ≡ Equal → ⊥
+pub less_equal : Less ≡ Equal → ⊥
 less_equal e = cc
-
-number_apart : (b : Bool) (m n : ℕ) → eqb m n ≡ b → (m ≡ n → ⊥) → b ≡ false
-number_apart true m n e apart = absurd (apart (eqb-true m n e))
-number_apart false m n e apart = refl
 
 values_apart : (at : ℕ → Place) (e : Place × ℕ) (es : List (Place × ℕ)) → e.0 ≡ at e.1 → AllByRecursion (λ f. f.0 ≡ at f.1) es → T (below_all place_cmp e.0 es) → AllByRecursion (λ n. eqb e.1 n ≡ false) (values_of es)
 values_apart at e [] here all below = tt
 values_apart at e (f ∷ es) here all below = (
-  number_apart (eqb e.1 f.1) e.1 f.1 refl (λ same. less_equal (sym (less (place_cmp e.0 f.0) (first (is_lt (place_cmp e.0 f.0)) (below_all place_cmp e.0 es) below)) ∙ ap (λ q. place_cmp q f.0) (here ∙ ap at same ∙ sym all.0) ∙ tied_itself place_total f.0)),
+  apart_false e.1 f.1 (eqb e.1 f.1) refl (λ same. less_equal (sym (less (place_cmp e.0 f.0) (first (is_lt (place_cmp e.0 f.0)) (below_all place_cmp e.0 es) below)) ∙ ap (λ q. place_cmp q f.0) (here ∙ ap at same ∙ sym all.0) ∙ tied_itself place_total f.0)),
   values_apart at e es here all.1 (second (is_lt (place_cmp e.0 f.0)) (below_all place_cmp e.0 es) below),
 )
 
@@ -138,9 +133,12 @@ values_distinct at (e ∷ es) all sorted = (
 zero_plus : (k : ℕ) → 0 + k ≡ k
 zero_plus k = omega arith
 
-pub numbers_have : (places : List Place) (d : Place) (k : ℕ) → k < length places → AreOther places d → is_among (sorted_numbers places) k ≡ true
+pub latest_have : (places : List Place) (d : Place) (k : ℕ) → k < length places → IsLatest places d k → is_among (sorted_numbers places) k ≡ true
 unfolding sorted_numbers
-numbers_have places d k h apart = value_among (get_or places k d) (entered [] 0 places) k (entered_has [] 0 places d k h apart ∙ ap Some (zero_plus k))
+latest_have places d k h latest = value_among (get_or places k d) (entered [] 0 places) k (entered_has [] 0 places d k h latest ∙ ap Some (zero_plus k))
+
+pub numbers_have : (places : List Place) (d : Place) (k : ℕ) → k < length places → AreOther places d → is_among (sorted_numbers places) k ≡ true
+numbers_have places d k h apart = latest_have places d k h (λ j less more same. let e = apart k j h more same in omega (arith, e, less))
 
 pub numbers_within : (places : List Place) (d : Place) (n : ℕ) → is_among (sorted_numbers places) n ≡ true → n < length places
 unfolding sorted_numbers

@@ -1,5 +1,5 @@
 -- What the keys of new rows are, step by step.
-use Rattle.std.proofs.Common.{◌≡◌, ◌⊎◌, inl, inr, ℕ, Bool, true, false, cond, ◌||◌, eqb, List, [], ◌∷◌, ◌++◌, map, Option, None, Some, refl, sym, ap, ◌∙◌, subst}
+use Rattle.std.proofs.Common.{◌≡◌, inl, inr, ℕ, true, false, cond, ◌||◌, eqb, List, [], ◌∷◌, ◌++◌, map, Option, None, Some, refl, sym, ap, ◌∙◌, subst}
 use Rattle.std.proofs.lemmas.Bool.{eq-eqb, eqb-true}
 use Rattle.std.specs.List.{IsDistinct, fold}
 use Rattle.std.specs.Map.{lookup}
@@ -10,14 +10,15 @@ use Rattle.schema_core.specs.Apply.{with_own_key}
 use Rattle.schema_core.specs.Catalog.{Catalog, spec_of}
 use Rattle.schema_core.specs.Tables.{Rows, key_of, rows_in, with_row, with_rows}
 use Rattle.table_laws.proofs.Entries.{none_any}
-use Rattle.flush_plan.specs.Cells.{first_cells, table_at}
+use Rattle.flush_order.specs.Cells.{first_cells, table_at}
+use Rattle.flush_order.specs.Places.{is_among}
+use Rattle.flush_order.specs.Sorted.{Place}
 use Rattle.flush_plan.specs.Flushing.{Keys, Sofar, key_of_new, put}
-use Rattle.flush_plan.specs.Places.{is_among}
-use Rattle.flush_plan.specs.Sorted.{Place}
 use Rattle.flush_plan.specs.Stating.{edited, place_new, place_of_new, place_on, placed_in, placed_under, row_at}
 use Rattle.plan_laws.specs.Premises.{IsSorted}
 use Rattle.plan_laws.proofs.At.{at_edit, at_other, edit_is, edited_sorted}
-use Rattle.plan_laws.proofs.Facts.{none_some}
+use Rattle.plan_laws.proofs.Facts.{none_some, or_cases, or_false, true_false}
+use Rattle.base_core.proofs.Tests.{or_then}
 
 same_some : (x y : Sofar) → Some x ≡ Some y → x ≡ y
 same_some x y e = cc
@@ -67,10 +68,6 @@ module _ (schema : Catalog) (changes : RowChanges) where
       let next = lead_on (place_new schema changes sofar place) rest placed e in
       (next.0, step_of sofar next.0 place next.1, next.2)
 
-  or_false : (a b : Bool) → (a || b) ≡ false → (a ≡ false) × (b ≡ false)
-  or_false true b e = cc
-  or_false false b e = (refl, e)
-
   -- a key that is known stays
   pub keys_kept : (rest : List ℕ) (sofar placed : Sofar) (place : ℕ) → Leads sofar rest placed → is_among rest place ≡ false → key_of_new placed.keys place ≡ key_of_new sofar.keys place
   keys_kept [] sofar placed place leads out = ap (λ s. key_of_new s.keys place) (sym (same_some sofar placed leads))
@@ -107,13 +104,9 @@ module _ (schema : Catalog) (changes : RowChanges) where
       let step = leads_step sofar placed first rest leads in
       let is = step_key sofar step.0 placed first rest step.1 step.2 (distinct_out first rest once) in
       let here : is_among (first ∷ rest) first ≡ true = ap (λ b. b || is_among rest first) (eq-eqb first first refl) in
-      rows_kept rest step.0 placed at (distinct_rest first rest once) (step_sorted sofar step.0 first step.1 sorted) step.2 (λ place among. apart place (later (eqb place first) (is_among rest place) among))
+      rows_kept rest step.0 placed at (distinct_rest first rest once) (step_sorted sofar step.0 first step.1 sorted) step.2 (λ place among. apart place (or_then (eqb place first) (is_among rest place) among))
       ∙ ap (λ s. row_at s.tables at) step.1.is
       ∙ at_other sofar.tables ((table_at changes first, key_of (spec_of schema (table_at changes first)) step.1.row), Some step.1.row) at sorted (λ same. apart first here (sym is ∙ same))
-    where
-      later : (a b : Bool) → b ≡ true → (a || b) ≡ true
-      later true b e = refl
-      later false b e = e
 
   -- the row that was placed stands at the end
   pub record Placed (whole : List ℕ) (placed : Sofar) (place : ℕ) : Type 0 where
@@ -126,17 +119,6 @@ module _ (schema : Catalog) (changes : RowChanges) where
     pub step : Step sofar place next
     pub stands : row_at placed.tables (place_of_new changes placed.keys place) ≡ Some step.row
     pub key : (table_at changes place, key_of (spec_of schema (table_at changes place)) step.row) ≡ place_of_new changes placed.keys place
-
-  or_cases : (a b : Bool) → (a || b) ≡ true → (a ≡ true) ⊎ (b ≡ true)
-  or_cases true b e = inl refl
-  or_cases false b e = inr e
-
-  or_later : (a b : Bool) → b ≡ true → (a || b) ≡ true
-  or_later true b e = refl
-  or_later false b e = e
-
-  clash : true ≡ false → ⊥
-  clash e = cc
 
   after_first : (first : ℕ) (rest : List ℕ) (placed : Sofar) (place : ℕ) → Placed rest placed place → Placed (first ∷ rest) placed place
   after_first first rest placed place p = record {
@@ -152,7 +134,7 @@ module _ (schema : Catalog) (changes : RowChanges) where
   }
 
   pub placed_step : (rest : List ℕ) (sofar placed : Sofar) (place : ℕ) → IsDistinct eqb rest → IsSorted sofar.tables → Leads sofar rest placed → ((a b : ℕ) → is_among rest a ≡ true → is_among rest b ≡ true → place_of_new changes placed.keys a ≡ place_of_new changes placed.keys b → a ≡ b) → is_among rest place ≡ true → Placed rest placed place
-  placed_step [] sofar placed place once sorted leads apart among = absurd (clash (sym among))
+  placed_step [] sofar placed place once sorted leads apart among = absurd (true_false (sym among))
   placed_step (first ∷ rest) sofar placed place once sorted leads apart among =
       let step = leads_step sofar placed first rest leads in
       elim (or_cases (eqb place first) (is_among rest place) among) [
@@ -169,11 +151,11 @@ module _ (schema : Catalog) (changes : RowChanges) where
               next = step.0;
               step = step.1;
               stands = rows_kept rest step.0 placed (place_of_new changes placed.keys first) (distinct_rest first rest once) (step_sorted sofar step.0 first step.1 sorted) step.2
-                  (λ other left is. clash (sym (subst (λ n. is_among rest n ≡ true) (apart other first (or_later (eqb other first) (is_among rest other) left) (ap (λ b. b || is_among rest first) (eq-eqb first first refl)) is) left) ∙ out))
+                  (λ other left is. true_false (sym (subst (λ n. is_among rest n ≡ true) (apart other first (or_then (eqb other first) (is_among rest other) left) (ap (λ b. b || is_among rest first) (eq-eqb first first refl)) is) left) ∙ out))
                   ∙ ap (λ s. row_at s.tables (place_of_new changes placed.keys first)) step.1.is
                   ∙ sym (ap (row_at (edited sofar.tables ((table_at changes first, key_of (spec_of schema (table_at changes first)) step.1.row), Some step.1.row))) key)
                   ∙ at_edit sofar.tables ((table_at changes first, key_of (spec_of schema (table_at changes first)) step.1.row), Some step.1.row) step.1.rows sorted step.1.table;
               key = key;
             })
-        | inr more ↦ after_first first rest placed place (placed_step rest step.0 placed place (distinct_rest first rest once) (step_sorted sofar step.0 first step.1 sorted) step.2 (λ a b p q. apart a b (or_later (eqb a first) (is_among rest a) p) (or_later (eqb b first) (is_among rest b) q)) more)
+        | inr more ↦ after_first first rest placed place (placed_step rest step.0 placed place (distinct_rest first rest once) (step_sorted sofar step.0 first step.1 sorted) step.2 (λ a b p q. apart a b (or_then (eqb a first) (is_among rest a) p) (or_then (eqb b first) (is_among rest b) q)) more)
       ]

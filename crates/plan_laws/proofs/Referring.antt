@@ -15,14 +15,14 @@ use Rattle.schema_core.specs.declared.table.ColumnSpec.{ColumnSpec}
 use Rattle.schema_core.specs.declared.table.ForeignSpec.{ForeignSpec}
 use Rattle.schema_core.specs.Catalog.{Catalog, same_name, spec_of, target_of}
 use Rattle.schema_core.specs.Tables.{cell_of, cells_of, has_null, is_null, key_cells, key_of, same_values}
-use Rattle.flush_plan.specs.Cells.{first_cells, key_parts, known, known_row, part_at, table_at}
+use Rattle.flush_order.specs.Cells.{first_cells, key_parts, known, known_row, part_at, table_at}
+use Rattle.flush_order.specs.Refers.{comes_from, is_table, names}
 use Rattle.flush_plan.specs.Flushing.{Keys, key_of_new, put}
 use Rattle.flush_plan.specs.Planning.{key_at}
-use Rattle.flush_plan.specs.Refers.{comes_from, is_table, names}
 use Rattle.flush_plan.specs.Stating.{given, is_open}
 use Rattle.plan_laws.specs.Laws.{IsOneKind, cell_named, cells_named, is_given}
-use Rattle.plan_laws.proofs.At.{key_total}
 use Rattle.plan_laws.proofs.Facts.{or_false, true_false}
+use Rattle.base_core.proofs.Exact.{values_total}
 
 or_none : (a b : Bool) → a ≡ false → b ≡ false → (a || b) ≡ false
 or_none true b e f = e
@@ -132,7 +132,7 @@ module _ (schema : Catalog) (changes : RowChanges) (keys : Keys) where
   table_is table target e = ap (is_table table) e ∙ eq-eqb table.0 table.0 refl
 
   pub key_same : (key other : List Value) → key ≡ other → same_values key other ≡ true
-  key_same key other e = ap (same_values key) (sym e) ∙ ap is_eq (tied_itself key_total key)
+  key_same key other e = ap (same_values key) (sym e) ∙ ap is_eq (tied_itself values_total key)
 
   -- values that equal a known key refer to it
   values_refer : (place other : ℕ) (foreign : ForeignSpec) (key : List Value) → target_of schema foreign ≡ Some (table_at changes other) → cells_of (spec_of schema (table_at changes place)) (known_row schema changes place) foreign.columns ≡ key → has_null key ≡ false → key ≡ key_of (spec_of schema (table_at changes other)) (known_row schema changes other) → names schema (known_row schema changes place) (table_at changes place) (table_at changes other) (key_of (spec_of schema (table_at changes other)) (known_row schema changes other)) foreign ≡ true

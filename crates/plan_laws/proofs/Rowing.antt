@@ -13,7 +13,7 @@ use Rattle.plan_laws.proofs.Drawn.{drawn_under}
 use Rattle.schema_core.specs.Catalog.{has_generated_key, is_required}
 use Rattle.schema_core.specs.Tables.{Rows, has_null, is_legal_row, is_null, key_of}
 use Rattle.table_laws.proofs.RowFits.{and_true}
-use Rattle.flush_plan.specs.Cells.{cleared}
+use Rattle.flush_order.specs.Cells.{cleared}
 use Rattle.flush_plan.specs.Flushing.{Keys, put}
 use Rattle.flush_plan.specs.Stating.{blend}
 use Rattle.plan_laws.proofs.Blend.{Long, legal_lacks_none, nulls, test}

@@ -20,17 +20,19 @@ use Rattle.schema_core.specs.Catalog.{Catalog, spec_of}
 use Rattle.schema_core.specs.Judged.{Judged, and_then, lacks_value, write_all}
 use Rattle.schema_core.specs.Tables.{Legal, Rows, Tables, rows_in}
 use Rattle.table_laws.specs.OneByOne.{one_by_one}
-use Rattle.table_laws.proofs.Entries.{all_both}
+use Rattle.table_laws.proofs.Entries.{all_both, all_map}
 use Rattle.table_laws.proofs.OneByOne.{as_one}
 use Rattle.table_laws.proofs.RowFits.{and_true}
-use Rattle.flush_plan.specs.Cells.{first_cells, table_at}
+use Rattle.flush_order.specs.Cells.{first_cells, table_at}
+use Rattle.flush_order.specs.Refers.{comes_from, new_refers}
 use Rattle.flush_plan.specs.Flushing.{Keys, Sofar, accepted, is_stale, put, row_sent, send, with_keys}
 use Rattle.flush_plan.specs.Planning.{insert_run}
-use Rattle.flush_plan.specs.Refers.{comes_from, new_refers}
 use Rattle.flush_plan.specs.Runs.{cut, ended, goes_with, joins, leaves_key, runs}
 use Rattle.plan_laws.specs.Laws.{insert_of}
+use Rattle.plan_laws.proofs.Items.{append_none}
 use Rattle.plan_laws.proofs.Prefixes.{Goes, goes_on}
 use Rattle.plan_laws.proofs.Facts.{not_true, or_false}
+use Rattle.plan_laws.proofs.Stated.{all_from}
 
 err_ok : {A B : Type 0} (e : B) (x : A) → Err e ≡ Ok x → ⊥
 err_ok e x f = cc
@@ -103,14 +105,14 @@ module _ (schema : Catalog) (changes : RowChanges) where
   -- ---- the rows of a run
 
   -- no row has a part of the key of a row before it
-  abbrev Apart : List ℕ → Type 0
+  abbrev pub Apart : List ℕ → Type 0
   Apart [] = Unit {0}
   Apart (place ∷ rest) = AllByRecursion (λ other. list_any (comes_from place) (first_cells schema changes other) ≡ false) rest × Apart rest
 
-  abbrev AreOf : TableId → List ℕ → Type 0
+  abbrev pub AreOf : TableId → List ℕ → Type 0
   AreOf table run = AllByRecursion (λ place. table_at changes place ≡ table) run
 
-  abbrev IsRun : List ℕ → Type 0
+  abbrev pub IsRun : List ℕ → Type 0
   IsRun run = Apart run × ((table : TableId) × AreOf table run)
 
   cell_kept : (keys : Keys) (place : ℕ) (key : List Value) (cell : RowCell) → comes_from place cell ≡ false → put ((place, key) ∷ keys) cell ≡ put keys cell
@@ -120,7 +122,7 @@ module _ (schema : Catalog) (changes : RowChanges) where
       put_under : List Value → ℕ → Value
       put_under known part = put ((0, known) ∷ []) (KeyOf 0 part)
 
-  row_kept : (keys : Keys) (place : ℕ) (key : List Value) (cells : List RowCell) → list_any (comes_from place) cells ≡ false → map (put ((place, key) ∷ keys)) cells ≡ map (put keys) cells
+  pub row_kept : (keys : Keys) (place : ℕ) (key : List Value) (cells : List RowCell) → list_any (comes_from place) cells ≡ false → map (put ((place, key) ∷ keys)) cells ≡ map (put keys) cells
   row_kept keys place key [] e = refl
   row_kept keys place key (cell ∷ cells) e =
       let both = or_false (comes_from place cell) (list_any (comes_from place) cells) e in
@@ -152,7 +154,7 @@ module _ (schema : Catalog) (changes : RowChanges) where
         is = more.is;
       }
 
-  all_same : (keys : Keys) (run : List ℕ) → AllByRecursion (λ place. row_sent schema changes keys place ≡ row_sent schema changes keys place) run
+  pub all_same : (keys : Keys) (run : List ℕ) → AllByRecursion (λ place. row_sent schema changes keys place ≡ row_sent schema changes keys place) run
   all_same keys [] = tt
   all_same keys (place ∷ run) = (refl, all_same keys run)
 
@@ -192,14 +194,6 @@ module _ (schema : Catalog) (changes : RowChanges) where
 
   -- ---- a row that joins a run
 
-  all_pass : (p : ℕ → Bool) (xs : List ℕ) → list_all p xs ≡ true → AllByRecursion (λ x. p x ≡ true) xs
-  all_pass p [] e = tt
-  all_pass p (x ∷ xs) e = let both = and_true (p x) (list_all p xs) e in (both.0, all_pass p xs both.1)
-
-  all_map_of : (P Q : ℕ → Type 0) → ((x : ℕ) → P x → Q x) → (xs : List ℕ) → AllByRecursion P xs → AllByRecursion Q xs
-  all_map_of P Q f [] all = tt
-  all_map_of P Q f (x ∷ xs) all = (f x all.0, all_map_of P Q f xs all.1)
-
   all_behind : (P : ℕ → Type 0) (xs : List ℕ) (x : ℕ) → AllByRecursion P xs → P x → AllByRecursion P (xs ++ x ∷ [])
   all_behind P [] x all here = (here, tt)
   all_behind P (y ∷ ys) x all here = (all.0, all_behind P ys x all.1 here)
@@ -223,19 +217,15 @@ module _ (schema : Catalog) (changes : RowChanges) where
   run_table [] place of with = (table_at changes place, (refl, tt))
   run_table (other ∷ rest) place of with = (of.0, all_behind (λ p. table_at changes p ≡ of.0) (other ∷ rest) place of.1 (sym with.0.0 ∙ of.1.0))
 
-  joins_run : (run : List ℕ) (place : ℕ) → IsRun run → joins schema changes run place ≡ true → IsRun (run ++ place ∷ [])
+  pub joins_run : (run : List ℕ) (place : ℕ) → IsRun run → joins schema changes run place ≡ true → IsRun (run ++ place ∷ [])
   joins_run run place is e =
-      let all = all_map_of (λ other. goes_with schema changes place other ≡ true) (GoesWith place) (λ other goes. with_one place other goes) run
-      (all_pass (goes_with schema changes place) run (and_true _ (list_all (goes_with schema changes place) run) e).1) in (
-        apart_behind run place is.0 (all_map_of (GoesWith place) (λ other. list_any (comes_from other) (first_cells schema changes place) ≡ false) (λ other both. both.1) run all),
+      let all = all_map (λ other. goes_with schema changes place other ≡ true) (GoesWith place) (λ other goes. with_one place other goes) run
+      (all_from (goes_with schema changes place) run (and_true _ (list_all (goes_with schema changes place) run) e).1) in (
+        apart_behind run place is.0 (all_map (GoesWith place) (λ other. list_any (comes_from other) (first_cells schema changes place) ≡ false) (λ other both. both.1) run all),
         run_table run place is.1 all,
       )
 
   -- ---- all runs
-
-  append_nothing : {A : Type 0} (xs : List A) → xs ++ [] ≡ xs
-  append_nothing [] = refl
-  append_nothing (x ∷ xs) = ap (λ ys. x ∷ ys) (append_nothing xs)
 
   abbrev Cuts : List Planned → Sofar → List ℕ → Type 0
   Cuts more end places = (run : List ℕ) (sofar : Sofar) → IsRun run → Goes schema changes sofar (map (insert_of changes) (run ++ places) ++ more) end → Goes schema changes sofar (map (insert_run changes) (cut schema changes run places) ++ more) end
@@ -257,7 +247,7 @@ module _ (schema : Catalog) (changes : RowChanges) where
 
   cut_goes : (more : List Planned) (end : Sofar) (places : List ℕ) → Cuts more end places
   cut_goes more end [] run sofar is goes =
-      let split = goes_split sofar end (map (insert_of changes) run) more (subst (λ ps. Goes schema changes sofar (map (insert_of changes) ps ++ more) end) (append_nothing run) goes) in
+      let split = goes_split sofar end (map (insert_of changes) run) more (subst (λ ps. Goes schema changes sofar (map (insert_of changes) ps ++ more) end) (append_none run) goes) in
       goes_on schema changes sofar split.0 end (map (insert_run changes) (ended run)) more (run_goes run sofar split.0 is split.1) split.2
   cut_goes more end (place ∷ places) run sofar is goes = cut_by more end place places run sofar (joins schema changes run place) refl (cut_goes more end places) is goes
 

@@ -1,24 +1,21 @@
 -- The runs of an order are its rows, in order.
-use Rattle.std.proofs.Common.{◌≡◌, ℕ, Bool, true, false, cond, List, [], ◌∷◌, ◌++◌, refl, sym, ap, ◌∙◌, append_assoc}
+use Rattle.std.proofs.Common.{◌≡◌, ℕ, Bool, true, false, cond, List, [], ◌∷◌, ◌++◌, refl, sym, ◌∙◌, append_assoc}
 use Rattle.std.proofs.lemmas.Grind.{flat_map-append}
 use Rattle.std.specs.List.{flat_map}
 use Rattle.schema_core.specs.declared.changes.RowChanges.{RowChanges}
 use Rattle.schema_core.specs.Catalog.{Catalog}
 use Rattle.flush_plan.specs.Runs.{cut, ended, joins, runs}
+use Rattle.plan_laws.proofs.Items.{append_none}
 
-behind_nothing : (xs : List ℕ) → xs ++ [] ≡ xs
-behind_nothing [] = refl
-behind_nothing (x ∷ xs) = ap (λ ys. x ∷ ys) (behind_nothing xs)
-
-abbrev all_rows : List (List ℕ) → List ℕ
+abbrev pub all_rows : List (List ℕ) → List ℕ
 all_rows parts = flat_map (λ part. part) parts
 
 ended_whole : (run : List ℕ) → all_rows (ended run) ≡ run
 ended_whole [] = refl
-ended_whole (place ∷ places) = behind_nothing (place ∷ places)
+ended_whole (place ∷ places) = append_none (place ∷ places)
 
 cut_whole : (schema : Catalog) (changes : RowChanges) (run places : List ℕ) → all_rows (cut schema changes run places) ≡ run ++ places
-cut_whole schema changes run [] = ended_whole run ∙ sym (behind_nothing run)
+cut_whole schema changes run [] = ended_whole run ∙ sym (append_none run)
 cut_whole schema changes run (place ∷ places) =
     by (joins schema changes run place) (cut_whole schema changes (run ++ place ∷ []) places) (cut_whole schema changes (place ∷ []) places)
   where

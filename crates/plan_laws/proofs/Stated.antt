@@ -8,18 +8,22 @@ use Rattle.schema_core.specs.declared.changes.ChangedRow.{ChangedRow}
 use Rattle.schema_core.specs.declared.changes.RowChanges.{RowChanges}
 use Rattle.schema_core.specs.Catalog.{Catalog}
 use Rattle.schema_core.specs.Declaration.{some_two}
-use Rattle.schema_core.specs.Tables.{Tables}
+use Rattle.schema_core.specs.Tables.{Tables, is_created}
+use Rattle.base_core.proofs.Lists.{every_append}
 use Rattle.table_laws.proofs.Entries.{all_map, all_swap, any_none}
 use Rattle.table_laws.proofs.RowFits.{and_true}
+use Rattle.flush_order.specs.Orders.{place_of_gone}
+use Rattle.flush_order.specs.Places.{is_among}
+use Rattle.flush_order.specs.Sorted.{Place, same_place}
 use Rattle.flush_plan.specs.Flushing.{Sofar}
-use Rattle.flush_plan.specs.Places.{is_among}
-use Rattle.flush_plan.specs.Planning.{late_gone, place_of_changed, place_of_gone, writes_some}
-use Rattle.flush_plan.specs.Sorted.{Place, same_place}
-use Rattle.flush_plan.specs.Stating.{Edit, edit_changed, edit_gone, edit_new, edits, is_created, is_present, place_of_new, row_at, written_rows}
+use Rattle.flush_plan.specs.Planning.{late_gone, place_of_changed, writes_some}
+use Rattle.flush_plan.specs.Stating.{Edit, edit_changed, edit_gone, edit_new, edits, is_present, place_of_new, row_at, written_rows}
 use Rattle.plan_laws.specs.Premises.{IsSorted}
-use Rattle.plan_laws.proofs.Editing.{AreApart, IsEdit, NoEdit, at_edits, edit_cases, edit_right, edit_split, fold_created, fold_sorted, mapped_edit, not_edited}
+use Rattle.plan_laws.proofs.Editing.{AreApart, IsEdit, NoEdit, at_edits, edit_cases, fold_created, fold_sorted, not_edited}
+use Rattle.plan_laws.proofs.Items.{all_members, all_map_of, mapped_member, member_right, member_split}
 use Rattle.plan_laws.proofs.Newness.{Facts, new_free, or_none, place_same}
 use Rattle.plan_laws.proofs.Facts.{or_false, true_false}
+use Rattle.base_core.proofs.Tests.{or_then}
 
 -- ---- edits of lists, apart
 
@@ -31,10 +35,6 @@ pub apart_join : (xs ys : List Edit) → AreApart xs → AreApart ys → AllByRe
 apart_join [] ys a b cross = b
 apart_join (x ∷ xs) ys a b cross = (no_edit_join x.0 xs ys a.0 cross.0, apart_join xs ys a.1 b cross.1)
 
-all_join : (P : Edit → Type 0) (xs ys : List Edit) → AllByRecursion P xs → AllByRecursion P ys → AllByRecursion P (xs ++ ys)
-all_join P [] ys a b = b
-all_join P (x ∷ xs) ys a b = (a.0, all_join P xs ys a.1 b)
-
 module _ {A : Type 0} (make : A → Edit) where
   no_edit_map : (q : Place) (xs : List A) → AllByRecursion (λ x. same_place (make x).0 q ≡ false) xs → NoEdit q (map make xs)
   no_edit_map q [] all = tt
@@ -45,10 +45,6 @@ module _ {A : Type 0} (make : A → Edit) where
   apart_map (x ∷ xs) e =
       let both = or_false (list_any (λ later. same_place (make later).0 (make x).0) xs) (some_two (λ one other. same_place (make one).0 (make other).0) xs) e in
       (no_edit_map (make x).0 xs (any_none (λ later. same_place (make later).0 (make x).0) xs both.0), apart_map xs both.1)
-
-  all_of_map : (P : Edit → Type 0) (xs : List A) → AllByRecursion (λ x. P (make x)) xs → AllByRecursion P (map make xs)
-  all_of_map P [] all = tt
-  all_of_map P (x ∷ xs) all = (all.0, all_of_map P xs all.1)
 
 any_filter : {A : Type 0} (test p : A → Bool) (xs : List A) → list_any test xs ≡ false → list_any test (filter p xs) ≡ false
 any_filter test p [] e = refl
@@ -74,21 +70,13 @@ pub all_from : {A : Type 0} (test : A → Bool) (xs : List A) → list_all test 
 all_from test [] e = tt
 all_from test (x ∷ xs) e = let both = and_true (test x) (list_all test xs) e in (both.0, all_from test xs both.1)
 
-all_each : (P : ℕ → Type 0) (xs : List ℕ) → ((x : ℕ) → is_among xs x ≡ true → P x) → AllByRecursion P xs
-all_each P [] each = tt
-all_each P (x ∷ xs) each = (each x (ap (λ b. b || is_among xs x) (eq-eqb x x refl)), all_each P xs (λ y among. each y (later (eqb y x) (is_among xs y) among)))
-  where
-    later : (a b : Bool) → b ≡ true → (a || b) ≡ true
-    later true b e = refl
-    later false b e = e
-
 module _ (schema : Catalog) (old : Tables) (changes : RowChanges) (order : List ℕ) (placed : Sofar) (after : Tables) (sorted : IsSorted old) (facts : Facts schema old changes order placed after) where
   abbrev all_edits : List Edit
   all_edits = edits schema old changes order placed
 
   gone_new : AllByRecursion (λ e. NoEdit e.0 (map (edit_new schema changes placed) order)) (map (edit_gone schema) changes.gone)
   gone_new =
-      all_of_map (edit_gone schema) (λ e. NoEdit e.0 (map (edit_new schema changes placed) order)) changes.gone
+      all_map_of (λ e. NoEdit e.0 (map (edit_new schema changes placed) order)) (edit_gone schema) changes.gone
       (all_map (λ row. AllByRecursion (λ place. same_place (place_of_gone schema row) (place_of_new changes placed.keys place) ≡ false) order) (λ row. NoEdit (place_of_gone schema row) (map (edit_new schema changes placed) order))
       (λ row all. new_not (place_of_gone schema row) order all) changes.gone
       (all_swap (λ place row. same_place (place_of_gone schema row) (place_of_new changes placed.keys place) ≡ false) order changes.gone
@@ -102,10 +90,10 @@ module _ (schema : Catalog) (old : Tables) (changes : RowChanges) (order : List 
 
   changed_new : AllByRecursion (λ e. NoEdit e.0 (map (edit_new schema changes placed) order)) (map (edit_changed old placed.keys) (written_rows changes))
   changed_new =
-      all_of_map (edit_changed old placed.keys) (λ e. NoEdit e.0 (map (edit_new schema changes placed) order)) (written_rows changes)
+      all_map_of (λ e. NoEdit e.0 (map (edit_new schema changes placed) order)) (edit_changed old placed.keys) (written_rows changes)
       (all_map (λ row. is_present old (place_of_changed row) ≡ true) (λ row. NoEdit (place_of_changed row) (map (edit_new schema changes placed) order))
-      (λ row there. all_of_map (edit_new schema changes placed) (λ e. e.0 ≡ place_of_changed row → ⊥) order
-      (all_each (λ p. place_of_new changes placed.keys p ≡ place_of_changed row → ⊥) order
+      (λ row there. all_map_of (λ e. e.0 ≡ place_of_changed row → ⊥) (edit_new schema changes placed) order
+      (all_members (λ p. place_of_new changes placed.keys p ≡ place_of_changed row → ⊥) order
       (λ p among e. true_false (sym there ∙ ap (is_present old) (sym e) ∙ ap is_some (new_free schema old changes order placed after facts p among)))))
       (written_rows changes)
       (all_from (λ row. is_present old (row.name.table, row.key)) (written_rows changes)
@@ -113,7 +101,7 @@ module _ (schema : Catalog) (old : Tables) (changes : RowChanges) (order : List 
 
   gone_changed : list_any (λ row. list_any (λ other. same_place (place_of_gone schema row) (place_of_changed other)) changes.changed) changes.gone ≡ false → AllByRecursion (λ e. NoEdit e.0 (map (edit_changed old placed.keys) (written_rows changes))) (map (edit_gone schema) changes.gone)
   gone_changed apart =
-      all_of_map (edit_gone schema) (λ e. NoEdit e.0 (map (edit_changed old placed.keys) (written_rows changes))) changes.gone
+      all_map_of (λ e. NoEdit e.0 (map (edit_changed old placed.keys) (written_rows changes))) (edit_gone schema) changes.gone
       (all_map (λ row. list_any (λ other. same_place (place_of_gone schema row) (place_of_changed other)) changes.changed ≡ false) (λ row. NoEdit (place_of_gone schema row) (map (edit_changed old placed.keys) (written_rows changes)))
       (λ row e. changed_not (place_of_gone schema row) (written_rows changes) (any_none (λ other. same_place (place_of_gone schema row) (place_of_changed other)) (written_rows changes) (any_filter (λ other. same_place (place_of_gone schema row) (place_of_changed other)) (λ r. writes_some r.cells) changes.changed e)))
       changes.gone (any_none (λ row. list_any (λ other. same_place (place_of_gone schema row) (place_of_changed other)) changes.changed) changes.gone apart))
@@ -131,7 +119,7 @@ module _ (schema : Catalog) (old : Tables) (changes : RowChanges) (order : List 
       (apart_map (edit_changed old placed.keys) (written_rows changes) (two_filter (λ one other. same_place (place_of_changed one) (place_of_changed other)) (λ r. writes_some r.cells) changes.changed changed_once))
       (gone_changed apart))
       (apart_map (edit_new schema changes placed) order facts.twice)
-      (all_join (λ e. NoEdit e.0 (map (edit_new schema changes placed) order)) (map (edit_gone schema) changes.gone) (map (edit_changed old placed.keys) (written_rows changes)) gone_new changed_new)
+      (every_append (λ e. NoEdit e.0 (map (edit_new schema changes placed) order)) (map (edit_gone schema) changes.gone) (map (edit_changed old placed.keys) (written_rows changes)) gone_new changed_new)
 
   new_edit : (places : List ℕ) (place : ℕ) → is_among places place ≡ true → IsEdit (edit_new schema changes placed place) (map (edit_new schema changes placed) places)
   new_edit [] place among = absurd (true_false (sym among))
@@ -150,7 +138,7 @@ module _ (schema : Catalog) (old : Tables) (changes : RowChanges) (order : List 
   stated_new apart place among created =
       ap (λ t. row_at t (place_of_new changes placed.keys place)) facts.is
       ∙ at_edits old all_edits (edit_new schema changes placed place) sorted created apart
-      (edit_right (edit_new schema changes placed place) (map (edit_gone schema) changes.gone ++ map (edit_changed old placed.keys) (written_rows changes)) (map (edit_new schema changes placed) order) (new_edit order place among))
+      (member_right (edit_new schema changes placed place) (map (edit_gone schema) changes.gone ++ map (edit_changed old placed.keys) (written_rows changes)) (map (edit_new schema changes placed) order) (new_edit order place among))
 
   pub stated_other : (q : Place) → NoEdit q (edits schema old changes order placed) → row_at after q ≡ row_at old q
   stated_other q none = ap (λ t. row_at t q) facts.is ∙ not_edited old all_edits q sorted none
@@ -161,14 +149,10 @@ module _ (schema : Catalog) (old : Tables) (changes : RowChanges) (order : List 
   pub stated_sorted : IsSorted after
   stated_sorted = subst IsSorted (sym facts.is) (fold_sorted old all_edits sorted)
 
-  new_case : (places : List ℕ) (edit : Edit) → IsEdit edit (map (edit_new schema changes placed) places) → (p : ℕ) × (is_among places p ≡ true) × (edit_new schema changes placed p ≡ edit)
+  pub new_case : (places : List ℕ) (edit : Edit) → IsEdit edit (map (edit_new schema changes placed) places) → (p : ℕ) × (is_among places p ≡ true) × (edit_new schema changes placed p ≡ edit)
   new_case [] edit is = absurd is
   new_case (p ∷ ps) edit (inl here) = (p, ap (λ b. b || is_among ps p) (eq-eqb p p refl), here)
-  new_case (p ∷ ps) edit (inr more) = let found = new_case ps edit more in (found.0, later (eqb found.0 p) (is_among ps found.0) found.1, found.2)
-    where
-      later : (a b : Bool) → b ≡ true → (a || b) ≡ true
-      later true b e = refl
-      later false b e = e
+  new_case (p ∷ ps) edit (inr more) = let found = new_case ps edit more in (found.0, or_then (eqb found.0 p) (is_among ps found.0) found.1, found.2)
 
   member_present : (rows : List ChangedRow) (edit : Edit) → AllByRecursion (λ row. is_present old (place_of_changed row) ≡ true) rows → IsEdit edit (map (edit_changed old placed.keys) rows) → is_present old edit.0 ≡ true
   member_present [] edit all is = absurd is
@@ -180,17 +164,17 @@ module _ (schema : Catalog) (old : Tables) (changes : RowChanges) (order : List 
   stated_cover apart created q there =
       elim (edit_cases all_edits q) [
         | inr none ↦ inl (sym (ap is_some (stated_other q none)) ∙ there)
-        | inl found ↦ elim (edit_split found.0 (map (edit_gone schema) changes.gone ++ map (edit_changed old placed.keys) (written_rows changes)) (map (edit_new schema changes placed) order) found.1) [
+        | inl found ↦ elim (member_split found.0 (map (edit_gone schema) changes.gone ++ map (edit_changed old placed.keys) (written_rows changes)) (map (edit_new schema changes placed) order) found.1) [
           | inr new ↦ let p = new_case order found.0 new in inr (p.0, p.1, ap (λ e. e.0) p.2 ∙ found.2)
-          | inl before ↦ elim (edit_split found.0 (map (edit_gone schema) changes.gone) (map (edit_changed old placed.keys) (written_rows changes)) before) [
+          | inl before ↦ elim (member_split found.0 (map (edit_gone schema) changes.gone) (map (edit_changed old placed.keys) (written_rows changes)) before) [
             | inr changed ↦ inl (ap (is_present old) (sym found.2) ∙ member_present (written_rows changes) found.0
                 (all_from (λ row. is_present old (row.name.table, row.key)) (written_rows changes)
                 (and_true (list_all (λ row. is_present old (row.name.table, row.key)) (written_rows changes)) (list_all (λ row. not (writes_some (late_gone schema changes row).1) || is_present old (place_of_gone schema row)) changes.gone) facts.rows).0) changed)
             | inl gone ↦
-                let g = mapped_edit (edit_gone schema) found.0 changes.gone gone in
+                let g = mapped_member (edit_gone schema) found.0 changes.gone gone in
                 let none : row_at after q ≡ None =
                 ap (row_at after) (sym found.2) ∙ ap (λ t. row_at t found.0.0) facts.is
-                ∙ at_edits old all_edits found.0 sorted (created found.0 found.1) apart found.1 ∙ sym (ap (λ e. e.1) g.1) in
+                ∙ at_edits old all_edits found.0 sorted (created found.0 found.1) apart found.1 ∙ sym (ap (λ e. e.1) g.2) in
                 absurd (true_false (sym there ∙ ap is_some none))
           ]
         ]

@@ -1,5 +1,5 @@
 -- The UPDATEs of a plan, early and late ones: each row has the stated cells, or an UPDATE of it is still to come.
-use Rattle.std.proofs.Common.{◌≡◌, ◌⊎◌, inl, inr, Bool, true, false, List, [], ◌∷◌, map, Option, None, Some, Ok, refl, sym, ap, ◌∙◌, subst}
+use Rattle.std.proofs.Common.{◌≡◌, ◌⊎◌, inl, inr, Bool, true, false, List, [], ◌∷◌, map, None, Some, Ok, refl, sym, ap, ◌∙◌, subst}
 use Rattle.std.specs.List.{AllByRecursion}
 use Rattle.std.specs.Option.{is_some}
 use Rattle.base_core.specs.declared.ids.ColumnNo.{ColumnNo}
@@ -12,18 +12,18 @@ use Rattle.schema_core.specs.declared.changes.RowChanges.{RowChanges}
 use Rattle.schema_core.specs.declared.statement.RowStmt.TheVariants as statement
 use Rattle.schema_core.specs.Apply.{apply, with_cells}
 use Rattle.schema_core.specs.Catalog.{Catalog}
-use Rattle.schema_core.specs.Tables.{Legal, Rows, Tables, rows_in}
-use Rattle.flush_plan.specs.Cells.{is_late}
+use Rattle.schema_core.specs.Tables.{Legal, Rows, Tables, is_created, rows_in}
+use Rattle.flush_order.specs.Cells.{is_late}
+use Rattle.flush_order.specs.Sorted.{Place}
 use Rattle.flush_plan.specs.Flushing.{Keys, Sofar, accepted, put, send}
-use Rattle.flush_plan.specs.Sorted.{Place}
-use Rattle.flush_plan.specs.Stating.{blend, edited, is_created, is_present, put_cells, row_at}
+use Rattle.flush_plan.specs.Stating.{blend, edited, is_present, put_cells, row_at}
 use Rattle.plan_laws.specs.Premises.{Ends, IsSorted}
 use Rattle.plan_laws.proofs.Accept.{update_accepted}
 use Rattle.plan_laws.proofs.At.{at_edit, at_other, edited_created, edited_sorted, place_cases}
 use Rattle.plan_laws.proofs.Between.{Between, Comes, Good, all_bound, between_legal, columns, found, good_legal}
 use Rattle.plan_laws.proofs.Blend.{nulls}
 use Rattle.plan_laws.proofs.Prefixes.{Goes}
-use Rattle.plan_laws.proofs.Facts.{same_some, true_false}
+use Rattle.plan_laws.proofs.Facts.{same_some, true_false, some_of}
 
 -- an UPDATE that is still to come: whether it is a late one, and where
 abbrev pub Step : Type 0
@@ -40,37 +40,34 @@ module _ (keys : Keys) where
   ToCome late place [] = ⊥
   ToCome late place (step ∷ steps) = ((step.0 ≡ late) × (step_place step ≡ place)) ⊎ ToCome late place steps
 
-module _ (schema : Catalog) (changes : RowChanges) (old stated : Tables) (ends : Ends schema changes old stated) (keys : Keys) where
+module _ (schema : Catalog) (changes : RowChanges) (old stated : Tables) (keys : Keys) where
   -- what the late columns of a row are to hold: those of the stated row, or nothing where the row is to be deleted
   abbrev pub IsLast : Place → List Value → Type 0
-  IsLast place late = (row_at stated place ≡ Some late) ⊎ ((row_at stated place ≡ None) × (late ≡ nulls (columns schema changes old stated ends place)))
+  IsLast place late = (row_at stated place ≡ Some late) ⊎ ((row_at stated place ≡ None) × (late ≡ nulls (columns schema place)))
 
   abbrev pub IsFirst : Place → List Value → Type 0
   IsFirst place early = (row_at stated place ≡ Some early) ⊎ (row_at stated place ≡ None)
 
   abbrev pub Blend : Place → List Value → List Value → List Value
-  Blend place early late = blend (is_late schema changes place.0) (columns schema changes old stated ends place) early late
+  Blend place early late = blend (is_late schema changes place.0) (columns schema place) early late
 
   abbrev pub After : Place → List Value → Type 0
-  After place late = Comes schema changes old stated ends place late ⊎ ((late ≡ nulls (columns schema changes old stated ends place)) × ((row_at old place ≡ None) ⊎ (row_at stated place ≡ None)))
+  After place late = Comes old stated place late ⊎ ((late ≡ nulls (columns schema place)) × ((row_at old place ≡ None) ⊎ (row_at stated place ≡ None)))
 
   -- a row on its way
   pub record OnWay (steps : List Step) (place : Place) (row : List Value) : Type 0 where
     pub early : List Value
     pub late : List Value
     pub is : row ≡ Blend place early late
-    pub from : Comes schema changes old stated ends place early
+    pub from : Comes old stated place early
     pub after : After place late
     pub early_done : IsFirst place early ⊎ ToCome keys false place steps
     pub late_done : IsLast place late ⊎ ToCome keys true place steps
 
-  pub good_of : (steps : List Step) (place : Place) (row : List Value) → OnWay steps place row → Good schema changes old stated ends place row
-  good_of steps place row way = record { early = way.early; late = way.late; is = way.is; from = way.from; after = way.after }
-
   -- an early UPDATE writes the early columns as they are stated, a late one the late columns
   abbrev pub Writes : Step → Type 0
-  Writes (false, update) = (stated_row : List Value) × (row_at stated (update.0, map (put keys) update.1) ≡ Some stated_row) × ((early late : List Value) → Comes schema changes old stated ends (update.0, map (put keys) update.1) early → After (update.0, map (put keys) update.1) late → with_cells (Blend (update.0, map (put keys) update.1) early late) (put_cells (put keys) update.2) ≡ Blend (update.0, map (put keys) update.1) stated_row late)
-  Writes (true, update) = (last : List Value) × IsLast (update.0, map (put keys) update.1) last × After (update.0, map (put keys) update.1) last × ((early late : List Value) → Comes schema changes old stated ends (update.0, map (put keys) update.1) early → After (update.0, map (put keys) update.1) late → with_cells (Blend (update.0, map (put keys) update.1) early late) (put_cells (put keys) update.2) ≡ Blend (update.0, map (put keys) update.1) early last)
+  Writes (false, update) = (stated_row : List Value) × (row_at stated (update.0, map (put keys) update.1) ≡ Some stated_row) × ((early late : List Value) → Comes old stated (update.0, map (put keys) update.1) early → After (update.0, map (put keys) update.1) late → with_cells (Blend (update.0, map (put keys) update.1) early late) (put_cells (put keys) update.2) ≡ Blend (update.0, map (put keys) update.1) stated_row late)
+  Writes (true, update) = (last : List Value) × IsLast (update.0, map (put keys) update.1) last × After (update.0, map (put keys) update.1) last × ((early late : List Value) → Comes old stated (update.0, map (put keys) update.1) early → After (update.0, map (put keys) update.1) late → with_cells (Blend (update.0, map (put keys) update.1) early late) (put_cells (put keys) update.2) ≡ Blend (update.0, map (put keys) update.1) early last)
 
   abbrev pub IsStep : Step → Type 0
   IsStep step = ((is_present old (step_place keys step) ≡ true) ⊎ (is_present stated (step_place keys step) ≡ true)) × Writes step
@@ -83,13 +80,6 @@ module _ (schema : Catalog) (changes : RowChanges) (old stated : Tables) (ends :
     pub olds : (place : Place) → is_present old place ≡ true → is_present sofar.tables place ≡ true
     pub stateds : (place : Place) → is_present stated place ≡ true → is_present sofar.tables place ≡ true
     pub rows : (place : Place) (row : List Value) → row_at sofar.tables place ≡ Some row → OnWay steps place row
-
-  between_of : (steps : List Step) (sofar : Sofar) → Middle steps sofar → Between schema changes old stated ends sofar.tables
-  between_of steps sofar middle = record { sorted = middle.sorted; created = middle.created; good = λ place row at. good_of steps place row (middle.rows place row at) }
-
-  pub middle_legal : (steps : List Step) (sofar : Sofar) → Middle steps sofar → Legal schema sofar.tables
-  middle_legal steps sofar middle =
-      between_legal schema changes old stated ends sofar.tables (between_of steps sofar middle) (all_bound schema changes old stated ends sofar.tables (between_of steps sofar middle) middle.olds middle.stateds)
 
   come_later : (late : Bool) (place : Place) (step : Step) (steps : List Step) {X : Type 0} → (step_place keys step ≡ place → ⊥) → X ⊎ ToCome keys late place (step ∷ steps) → X ⊎ ToCome keys late place steps
   come_later late place step steps apart (inl done) = inl done
@@ -137,13 +127,6 @@ module _ (schema : Catalog) (changes : RowChanges) (old stated : Tables) (ends :
     late_done = inl writes.1;
   }
 
-  present : (tables : Tables) (place : Place) → is_present tables place ≡ true → (row : List Value) × (row_at tables place ≡ Some row)
-  present tables place e = some (row_at tables place) e
-    where
-      some : (o : Option (List Value)) → is_some o ≡ true → (row : List Value) × (o ≡ Some row)
-      some None f = absurd (true_false (sym f))
-      some (Some row) f = (row, refl)
-
   pick : (P : Place → List Value → Type 0) (tables : Tables) (at : Place) (row : List Value) (rows : Rows) → IsSorted tables → rows_in tables at.0 ≡ Some rows → P at row → ((place : Place) (r : List Value) → (at ≡ place → ⊥) → row_at tables place ≡ Some r → P place r) → (place : Place) (r : List Value) → row_at (edited tables (at, Some row)) place ≡ Some r → P place r
   pick P tables at row rows sorted e here there place r is =
       elim (place_cases at place) [
@@ -158,7 +141,7 @@ module _ (schema : Catalog) (changes : RowChanges) (old stated : Tables) (ends :
         | inr apart ↦ ap is_some (at_other tables (at, Some row) place sorted apart) ∙ was
       ]
 
-  after_step : (step : Step) (steps : List Step) (sofar : Sofar) (row : List Value) (rows : Rows) → Middle (step ∷ steps) sofar → Writes step → rows_in sofar.tables step.1.0 ≡ Some rows → row_at sofar.tables (step_place keys step) ≡ Some row → Middle steps (record { tables = edited sofar.tables (step_place keys step, Some (with_cells row (put_cells (put keys) step.1.2))); keys = keys })
+  pub after_step : (step : Step) (steps : List Step) (sofar : Sofar) (row : List Value) (rows : Rows) → Middle (step ∷ steps) sofar → Writes step → rows_in sofar.tables step.1.0 ≡ Some rows → row_at sofar.tables (step_place keys step) ≡ Some row → Middle steps (record { tables = edited sofar.tables (step_place keys step, Some (with_cells row (put_cells (put keys) step.1.2))); keys = keys })
   after_step step steps sofar row rows middle writes table at =
       let new : List Value = with_cells row (put_cells (put keys) step.1.2) in
       record {
@@ -176,30 +159,41 @@ module _ (schema : Catalog) (changes : RowChanges) (old stated : Tables) (ends :
   there step sofar steps middle (inl was) = middle.olds (step_place keys step) was
   there step sofar steps middle (inr was) = middle.stateds (step_place keys step) was
 
-  sent_step : (step : Step) (steps : List Step) (sofar : Sofar) → IsStep step → Middle (step ∷ steps) sofar → (next : Sofar) × (send schema changes sofar (planned_of step) ≡ Ok next) × Middle steps next
-  unfolding send
-  sent_step step steps sofar is middle =
-      let row = present sofar.tables (step_place keys step) (there step sofar steps middle is.0) in
-      let f = found sofar.tables (step_place keys step) row.0 row.1 in
-      let new : List Value = with_cells row.0 (put_cells (put keys) step.1.2) in
-      let next : Sofar = record { tables = edited sofar.tables (step_place keys step, Some new); keys = keys } in
-      let after : Middle steps next = after_step step steps sofar row.0 f.rows middle is.1 f.table row.1 in
-      let legal : Legal schema next.tables = middle_legal steps next after in
-      let way : OnWay steps (step_place keys step) new = after.rows (step_place keys step) new (at_edit sofar.tables (step_place keys step, Some new) f.rows middle.sorted f.table) in
-      let answer : apply schema sofar.tables (statement.Update step.1.0 (map (put keys) step.1.1) (put_cells (put keys) step.1.2)) ≡ Ok (map (put keys) step.1.1 ∷ [], next.tables) =
-      update_accepted schema sofar.tables step.1.0 f.rows (map (put keys) step.1.1) row.0 (put_cells (put keys) step.1.2) middle.sorted f.table f.under
-      (good_legal schema changes old stated ends (step_place keys step) new (good_of steps (step_place keys step) new way)) legal in (
-        next,
-        ap (λ k. accepted schema changes sofar (planned_of step) (apply schema sofar.tables (statement.Update step.1.0 (map (put k) step.1.1) (put_cells (put k) step.1.2)))) middle.known
-            ∙ ap (accepted schema changes sofar (planned_of step)) answer
-            ∙ ap (λ k. Ok (record { tables = next.tables; keys = k })) middle.known,
-        after,
-      )
+  module _ (ends : Ends schema changes old stated) where
+    pub good_of : (steps : List Step) (place : Place) (row : List Value) → OnWay steps place row → Good schema changes old stated ends place row
+    good_of steps place row way = record { early = way.early; late = way.late; is = way.is; from = way.from; after = way.after }
 
-  -- all UPDATEs
-  pub updates_go : (steps : List Step) (sofar : Sofar) → AllByRecursion IsStep steps → Middle steps sofar → (end : Sofar) × Goes schema changes sofar (map planned_of steps) end × Middle [] end
-  updates_go [] sofar is middle = (sofar, (refl, middle_legal [] sofar middle), middle)
-  updates_go (step ∷ steps) sofar is middle =
-      let next = sent_step step steps sofar is.0 middle in
-      let rest = updates_go steps next.0 is.1 next.2 in
-      (rest.0, (middle_legal (step ∷ steps) sofar middle, (next.0, next.1, rest.1)), rest.2)
+    between_of : (steps : List Step) (sofar : Sofar) → Middle steps sofar → Between schema changes old stated ends sofar.tables
+    between_of steps sofar middle = record { sorted = middle.sorted; created = middle.created; good = λ place row at. good_of steps place row (middle.rows place row at) }
+
+    pub middle_legal : (steps : List Step) (sofar : Sofar) → Middle steps sofar → Legal schema sofar.tables
+    middle_legal steps sofar middle =
+        between_legal schema changes old stated ends sofar.tables (between_of steps sofar middle) (all_bound schema changes old stated ends sofar.tables (between_of steps sofar middle) middle.olds middle.stateds)
+
+    sent_step : (step : Step) (steps : List Step) (sofar : Sofar) → IsStep step → Middle (step ∷ steps) sofar → (next : Sofar) × (send schema changes sofar (planned_of step) ≡ Ok next) × Middle steps next
+    unfolding send
+    sent_step step steps sofar is middle =
+        let row = some_of (row_at sofar.tables (step_place keys step)) (there step sofar steps middle is.0) in
+        let f = found sofar.tables (step_place keys step) row.0 row.1 in
+        let new : List Value = with_cells row.0 (put_cells (put keys) step.1.2) in
+        let next : Sofar = record { tables = edited sofar.tables (step_place keys step, Some new); keys = keys } in
+        let after : Middle steps next = after_step step steps sofar row.0 f.rows middle is.1 f.table row.1 in
+        let legal : Legal schema next.tables = middle_legal steps next after in
+        let way : OnWay steps (step_place keys step) new = after.rows (step_place keys step) new (at_edit sofar.tables (step_place keys step, Some new) f.rows middle.sorted f.table) in
+        let answer : apply schema sofar.tables (statement.Update step.1.0 (map (put keys) step.1.1) (put_cells (put keys) step.1.2)) ≡ Ok (map (put keys) step.1.1 ∷ [], next.tables) =
+        update_accepted schema sofar.tables step.1.0 f.rows (map (put keys) step.1.1) row.0 (put_cells (put keys) step.1.2) middle.sorted f.table f.under
+        (good_legal schema changes old stated ends (step_place keys step) new (good_of steps (step_place keys step) new way)) legal in (
+          next,
+          ap (λ k. accepted schema changes sofar (planned_of step) (apply schema sofar.tables (statement.Update step.1.0 (map (put k) step.1.1) (put_cells (put k) step.1.2)))) middle.known
+              ∙ ap (accepted schema changes sofar (planned_of step)) answer
+              ∙ ap (λ k. Ok (record { tables = next.tables; keys = k })) middle.known,
+          after,
+        )
+
+    -- all UPDATEs
+    pub updates_go : (steps : List Step) (sofar : Sofar) → AllByRecursion IsStep steps → Middle steps sofar → (end : Sofar) × Goes schema changes sofar (map planned_of steps) end × Middle [] end
+    updates_go [] sofar is middle = (sofar, (refl, middle_legal [] sofar middle), middle)
+    updates_go (step ∷ steps) sofar is middle =
+        let next = sent_step step steps sofar is.0 middle in
+        let rest = updates_go steps next.0 is.1 next.2 in
+        (rest.0, (middle_legal (step ∷ steps) sofar middle, (next.0, next.1, rest.1)), rest.2)

@@ -14,16 +14,17 @@ use Rattle.schema_core.specs.declared.changes.RowCell.TheVariants.{Given, KeyOf}
 use Rattle.schema_core.specs.declared.changes.RowChanges.{RowChanges}
 use Rattle.schema_core.specs.declared.table.ColumnSpec.{ColumnSpec}
 use Rattle.schema_core.specs.declared.table.ForeignSpec.{ForeignSpec}
-use Rattle.schema_core.specs.Catalog.{Catalog, has_name, same_name, spec_of, target_of}
+use Rattle.schema_core.specs.Catalog.{Catalog, IsTable, has_name, same_name, spec_of, target_of}
 use Rattle.schema_core.specs.Declaration.{some_two}
-use Rattle.schema_core.specs.Tables.{Legal, Tables, cells_of}
-use Rattle.schema_core.specs.WellFormed.{is_row}
-use Rattle.flush_plan.specs.Cells.{table_at}
-use Rattle.flush_plan.specs.Flushing.{Sofar, flushed}
+use Rattle.schema_core.specs.Tables.{Legal, Tables, cells_of, is_created}
+use Rattle.schema_core.specs.WellFormed.{IsWellFormed, is_row}
+use Rattle.flush_order.specs.Cells.{is_late, table_at}
+use Rattle.flush_order.specs.Orders.{insert_order, place_of_gone}
+use Rattle.flush_order.specs.Sorted.{same_place}
+use Rattle.flush_plan.specs.Flushing.{Sofar, flushed, send, sent}
 use Rattle.schema_core.specs.declared.changes.Planned.TheVariants.{Insert}
-use Rattle.flush_plan.specs.Planning.{insert_order, key_at, place_of_changed, place_of_gone, plan}
-use Rattle.flush_plan.specs.Sorted.{same_place}
-use Rattle.flush_plan.specs.Stating.{all_placed, given, guess, row_at, stated}
+use Rattle.flush_plan.specs.Planning.{key_at, place_of_changed, plan, writes_some}
+use Rattle.flush_plan.specs.Stating.{all_placed, blend, given, guess, row_at, stated}
 use Rattle.plan_laws.specs.Premises.{IsClear, IsFit, IsSorted}
 
 -- the INSERT of one row
@@ -83,6 +84,8 @@ pub record IsProjected (schema : Catalog) (old : Tables) (changes : RowChanges) 
   pub gone_apart : list_any (λ row. list_any (λ other. same_place (place_of_gone schema row) (place_of_changed other)) changes.changed) changes.gone ≡ false
   -- the foreign keys of a deleted row are those of its base
   pub gone_base : AllByRecursion (λ (row : GoneRow). (stands : List Value) → row_at old (place_of_gone schema row) ≡ Some stands → AllByRecursion (λ foreign. cells_of (spec_of schema row.name.table) stands foreign.columns ≡ cells_of (spec_of schema row.name.table) row.base foreign.columns) (spec_of schema row.name.table).foreigns) changes.gone
+  -- and what is written late of it is that of its base
+  pub gone_late : AllByRecursion (λ (row : GoneRow). (stands : List Value) → row_at old (place_of_gone schema row) ≡ Some stands → blend (is_late schema changes row.name.table) (spec_of schema row.name.table).columns stands row.base ≡ stands) changes.gone
 
 -- what completeness asks
 pub record IsComplete (schema : Catalog) (old : Tables) (changes : RowChanges) (order : List ℕ) (placed : Sofar) (after : Tables) : Type 0 where
@@ -110,28 +113,44 @@ InsertsLeaveKeys =
     → IsComplete schema old changes order placed after
     → flushed schema changes (Ok (before old)) (map (insert_of changes) order) ≡ Ok placed
 
--- the same of a plan where no foreign key is written after all rows, and the whole leaves the stated tables
-abbrev pub PlainPrefixesAreLegal : Type 0
-PlainPrefixesAreLegal =
+-- every prefix of the plan is accepted and leaves legal tables
+abbrev pub PrefixesAreLegal : Type 0
+PrefixesAreLegal =
     (schema : Catalog) (old : Tables) (changes : RowChanges) (order : List ℕ) (placed : Sofar) (after : Tables) (statements : List Planned)
-    → changes.post ≡ [] → IsComplete schema old changes order placed after → plan schema changes ≡ Ok statements
+    → IsComplete schema old changes order placed after → plan schema changes ≡ Ok statements
     → (n : ℕ) → (sofar : Sofar) × (flushed schema changes (Ok (before old)) (take n statements) ≡ Ok sofar) × Legal schema sofar.tables
 
-abbrev pub PlainWholeIsStated : Type 0
-PlainWholeIsStated =
+-- the whole leaves the stated tables
+abbrev pub WholeIsStated : Type 0
+WholeIsStated =
     (schema : Catalog) (old : Tables) (changes : RowChanges) (order : List ℕ) (placed : Sofar) (after : Tables) (statements : List Planned)
-    → changes.post ≡ [] → IsComplete schema old changes order placed after → plan schema changes ≡ Ok statements
+    → IsComplete schema old changes order placed after → plan schema changes ≡ Ok statements
     → (sofar : Sofar) × (flushed schema changes (Ok (before old)) statements ≡ Ok sofar) × (sofar.tables ≡ after)
 
--- the same where rows are only new
-abbrev pub LatePrefixesAreLegal : Type 0
-LatePrefixesAreLegal =
-    (schema : Catalog) (old : Tables) (changes : RowChanges) (order : List ℕ) (placed : Sofar) (after : Tables) (statements : List Planned)
-    → changes.changed ≡ [] → changes.gone ≡ [] → IsComplete schema old changes order placed after → plan schema changes ≡ Ok statements
-    → (n : ℕ) → (sofar : Sofar) × (flushed schema changes (Ok (before old)) (take n statements) ≡ Ok sofar) × Legal schema sofar.tables
+-- each statement fits the schema when it is sent
+abbrev pub AreWellFormed : Catalog → RowChanges → Sofar → List Planned → Type 0
+AreWellFormed schema changes sofar [] = Unit {0}
+AreWellFormed schema changes sofar (planned ∷ plan) =
+    IsWellFormed schema (sent schema changes sofar.keys planned) × ((next : Sofar) → send schema changes sofar planned ≡ Ok next → AreWellFormed schema changes next plan)
 
-abbrev pub LateWholeIsStated : Type 0
-LateWholeIsStated =
-    (schema : Catalog) (old : Tables) (changes : RowChanges) (order : List ℕ) (placed : Sofar) (after : Tables) (statements : List Planned)
-    → changes.changed ≡ [] → changes.gone ≡ [] → IsComplete schema old changes order placed after → plan schema changes ≡ Ok statements
-    → (sofar : Sofar) × (flushed schema changes (Ok (before old)) statements ≡ Ok sofar) × (sofar.tables ≡ after)
+-- a changed row is of a declared table; one without cells, of which nothing is sent, of a created one
+pub record AreNamed (schema : Catalog) (old : Tables) (changes : RowChanges) : Type 0 where
+  pub declared : AllByRecursion (λ (row : ChangedRow). IsTable schema row.name.table) changes.changed
+  pub created : AllByRecursion (λ (row : ChangedRow). (writes_some row.cells || is_created old row.name.table) ≡ true) changes.changed
+
+-- where a plan is accepted, it leaves the stated tables
+abbrev pub AcceptedIsStated : Type 0
+AcceptedIsStated =
+    (schema : Catalog) (old : Tables) (changes : RowChanges) (order : List ℕ) (statements : List Planned) (sofar : Sofar)
+    → IsProjected schema old changes → IsSorted old → Legal schema old → AreNamed schema old changes
+    → insert_order schema changes ≡ Ok order → plan schema changes ≡ Ok statements
+    → flushed schema changes (Ok (before old)) statements ≡ Ok sofar
+    → stated schema old changes order ≡ Some sofar.tables
+
+-- and legal ones, where its statements fit the schema
+abbrev pub AcceptedIsLegal : Type 0
+AcceptedIsLegal =
+    (schema : Catalog) (old : Tables) (changes : RowChanges) (statements : List Planned) (sofar : Sofar)
+    → Legal schema old → AreWellFormed schema changes (before old) statements
+    → flushed schema changes (Ok (before old)) statements ≡ Ok sofar
+    → Legal schema sofar.tables

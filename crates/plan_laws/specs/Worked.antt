@@ -152,6 +152,25 @@ changed_nodes changed post = record { fresh = []; changed = changed; gone = []; 
 abbrev pub next_is : RowCell → List (ColumnNo × RowCell)
 next_is cell = (record { 0 = 1 }, cell) ∷ []
 
+-- node 1 is to refer to a new node, as this does to itself, and node 2, which refers to node 1, is deleted; all that is written last
+abbrev pub mixed : RowChanges
+mixed = record {
+  fresh = new_node 3 nothing (to_new 0) ∷ [];
+  changed = changed_node 1 (next_is (to_new 0)) ∷ [];
+  gone = gone_node 2 (int 1) ∷ [];
+  post = late_next;
+  warnings = [];
+}
+
+abbrev pub node_row : ℕ → Value → List Value × List Value
+node_row key next = (int key ∷ [], int key ∷ next ∷ [])
+
+abbrev pub mixed_old : Tables
+mixed_old = (of_nodes, node_row 1 value.Null ∷ node_row 2 (int 1) ∷ []) ∷ []
+
+abbrev pub mixed_rows : Tables
+mixed_rows = (of_nodes, node_row 1 (int 3) ∷ node_row 3 (int 3) ∷ []) ∷ []
+
 abbrev pub put_nodes : List ℕ → Planned
 put_nodes places = Insert of_nodes places
 
@@ -160,6 +179,12 @@ remove_node key = Remove of_nodes (int key ∷ [])
 
 abbrev pub change_node : RowCell → RowCell → Planned
 change_node key next = Update of_nodes (key ∷ []) (next_is next)
+
+abbrev pub mixed_keys : Keys
+mixed_keys = (0, int 3 ∷ []) ∷ []
+
+abbrev pub mixed_plan : List Planned
+mixed_plan = put_nodes (0 ∷ []) ∷ change_node (to_new 0) (to_new 0) ∷ change_node (Given (int 1)) (to_new 0) ∷ change_node (Given (int 2)) nothing ∷ remove_node 2 ∷ []
 
 -- the refusal of a cycle of nodes
 abbrev pub cycle_of : List ℕ → Refusal

@@ -1,9 +1,10 @@
 //! The prefixes of a plan.
 
-ghost use Rattle.std.specs.Prelude.{[], ◌∷◌};
-ghost use Rattle.flush_plan.specs.Flushing.{Sofar};
-ghost use Rattle.plan_laws.specs.Laws.{InsertPrefixesAreLegal, InsertsLeaveKeys, IsComplete, LatePrefixesAreLegal, LateWholeIsStated, PlainPrefixesAreLegal, PlainWholeIsStated};
-ghost use Rattle.plan_laws.specs.Worked.{by_value, no_rows, schema, value_rows};
+ghost use Rattle.std.specs.Prelude.{◌≡◌, [], ◌∷◌, Ok};
+ghost use Rattle.flush_plan.specs.Planning.{plan};
+ghost use Rattle.flush_plan.specs.Flushing.{Sofar, flushed};
+ghost use Rattle.plan_laws.specs.Laws.{AcceptedIsLegal, AcceptedIsStated, AreNamed, AreWellFormed, InsertPrefixesAreLegal, InsertsLeaveKeys, IsComplete, PrefixesAreLegal, WholeIsStated, before};
+ghost use Rattle.plan_laws.specs.Worked.{by_value, mixed, mixed_keys, mixed_old, mixed_plan, mixed_rows, no_rows, schema, value_rows};
 
 /// Under completeness's premises every prefix of the INSERTs is accepted and leaves legal tables, and all of them leave the
 /// keys that are told beforehand.
@@ -12,20 +13,31 @@ pub fn inserts_are_legal()
     ensures whole { InsertsLeaveKeys }
 {}
 
-/// Where no foreign key is written after all rows, under completeness's premises: every prefix of the plan is accepted and
-/// leaves legal tables, and the whole leaves the stated ones.
-pub fn plain_plans_are_legal()
-    ensures prefixes { PlainPrefixesAreLegal }
-    ensures whole { PlainWholeIsStated }
+/// Under completeness's premises every prefix of a plan is accepted and leaves legal tables, and the whole leaves the stated
+/// ones.
+pub fn plans_are_legal()
+    ensures prefixes { PrefixesAreLegal }
+    ensures whole { WholeIsStated }
 {}
 
-/// The same where rows are only new, with foreign keys that are written after all rows.
-pub fn late_plans_are_legal()
-    ensures prefixes { LatePrefixesAreLegal }
-    ensures whole { LateWholeIsStated }
+/// Where a plan is accepted from legal tables, it leaves the stated tables, and legal ones where its statements fit the
+/// schema.
+pub fn accepted_plans_are_stated()
+    ensures stated { AcceptedIsStated }
+    ensures legal { AcceptedIsLegal }
 {}
 
-/// The premises can be met: by an entry and the widget that its values name, both new.
+/// The premises can be met: by an entry and the widget that its values name, both new; and by a new, a changed and a deleted
+/// row at once, each with a foreign key that is written after all rows. The plan of these is accepted and leaves what is
+/// stated.
 pub fn premises_are_met()
-    ensures { (placed : Sofar) × IsComplete schema no_rows by_value (1 ∷ 0 ∷ []) placed value_rows }
+    ensures new { (placed : Sofar)
+        × IsComplete schema no_rows by_value (1 ∷ 0 ∷ []) placed value_rows }
+    ensures late { (placed : Sofar)
+        × IsComplete schema mixed_old mixed (0 ∷ []) placed mixed_rows }
+    ensures late_plan { plan schema mixed ≡ Ok mixed_plan }
+    ensures named { AreNamed schema mixed_old mixed }
+    ensures formed { AreWellFormed schema mixed (before mixed_old) mixed_plan }
+    ensures sent { flushed schema mixed (Ok (before mixed_old)) mixed_plan
+        ≡ Ok (record { tables = mixed_rows; keys = mixed_keys }) }
 {}

@@ -6,7 +6,7 @@ mod order;
 mod worked;
 
 pub use legal_prefixes::{
-    inserts_are_legal, late_plans_are_legal, plain_plans_are_legal, premises_are_met,
+    accepted_plans_are_stated, inserts_are_legal, plans_are_legal, premises_are_met,
 };
-pub use order::{order_or_cycle, runs_are_whole};
+pub use order::{numbers_are_by_place, order_or_cycle, runs_are_longest, runs_are_whole};
 pub use worked::{worked_cycles, worked_old, worked_plans, worked_runs};

@@ -1,12 +1,9 @@
 -- What a keeper that tells has: its tables, and those at the start of each scope in progress.
-use Rattle.std.specs.Prelude.{ℕ, Bool, List, [], ◌∷◌, length, is_some}
+use Rattle.std.specs.Prelude.{ℕ, List, [], ◌∷◌, length}
 use Rattle.std.specs.BTreeMap.{is_at}
 use Rattle.std.specs.Map.{remove_entry}
 use Rattle.base_core.specs.declared.ids.TableId.{TableId}
-use Rattle.schema_core.specs.Tables.{Tables, rows_in, table_cmp, with_rows}
-
-abbrev pub is_created : Tables → TableId → Bool
-is_created tables table = is_some (rows_in tables table)
+use Rattle.schema_core.specs.Tables.{Tables, table_cmp, with_rows}
 
 -- the tables with one more, which has no rows
 abbrev pub created : Tables → TableId → Tables

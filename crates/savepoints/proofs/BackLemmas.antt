@@ -37,7 +37,7 @@ stands_back object Deleted identity = refl
 stands_back object Detached identity = refl
 
 -- an object of a graph in which each was changed
-each_at : (change : ℕ → Object → Object) (graph : Graph) (i : ℕ) (d e : Object) → i < length graph.objects → get_or (each_placed change graph).objects i d ≡ change i (get_or graph.objects i e)
+pub each_at : (change : ℕ → Object → Object) (graph : Graph) (i : ℕ) (d e : Object) → i < length graph.objects → get_or (each_placed change graph).objects i d ≡ change i (get_or graph.objects i e)
 each_at change graph i d e less =
     let one : ℕ × Object → Object = λ placed. change placed.0 placed.1 in
     let inside : i < length (enumerate_from 0 graph.objects) = rw length-enumerate_from less in
@@ -46,7 +46,7 @@ each_at change graph i d e less =
     ∙ ap one (get_or-enumerate_from 0 graph.objects i (0, e) less)
     ∙ ap (λ (p : ℕ). change p (get_or graph.objects i e)) place
 
-each_long : (change : ℕ → Object → Object) (graph : Graph) → length (each_placed change graph).objects ≡ length graph.objects
+pub each_long : (change : ℕ → Object → Object) (graph : Graph) → length (each_placed change graph).objects ≡ length graph.objects
 each_long change graph = length-map (enumerate_from 0 graph.objects) (λ placed. change placed.0 placed.1) ∙ length-enumerate_from 0 graph.objects
 
 -- an object is to stand where a scope with the same standing of it says
@@ -57,7 +57,7 @@ wanted_same old now traces i p object place same long =
     ∙ ap (λ (s : Standing). if nat_lt i (length old.standings) then s else since (trace_in traces i).loaded object.identity) same
 
 -- who holds, by where it stands
-abbrev stands_under : ClassId → List Value → ClassId → Standing → Bool
+abbrev pub stands_under : ClassId → List Value → ClassId → Standing → Bool
 stands_under root key own standing = is_persistent standing.state && (own.0 == root.0 && has_key key standing.identity)
 
 -- ---- some place below
@@ -78,7 +78,7 @@ below_from test (suc n) j less h =
     second true b e = refl
     second false b e = e
 
-below_some : (test : ℕ → Bool) (n : ℕ) → any_below test n ≡ true → (j : ℕ) × (j < n) × (test j ≡ true)
+pub below_some : (test : ℕ → Bool) (n : ℕ) → any_below test n ≡ true → (j : ℕ) × (j < n) × (test j ≡ true)
 below_some test zero h = absurd cc
 below_some test (suc n) h =
     ⊎_elim
@@ -152,23 +152,23 @@ freed_none object (Some key) is h = absurd cc
 -- ---- who is persistent in the end
 
 module _ (scope : Scope) (traces : List Trace) (graph : Graph) where
-  abbrev change : ℕ → Object → Object
+  abbrev pub change : ℕ → Object → Object
   change = stood_again scope traces graph
 
-  abbrev there : Graph
+  abbrev pub there : Graph
   there = all_wanted scope traces graph
 
-  abbrev want : ℕ → Standing
+  abbrev pub want : ℕ → Standing
   want i = wanted scope traces i (get_or graph.objects i no_object)
 
-  abbrev own : ℕ → ClassId
+  abbrev pub own : ℕ → ClassId
   own i = get_or graph.roots i no_class_id
 
-  abbrev lost : ℕ → Bool
+  abbrev pub lost : ℕ → Bool
   lost i = is_lost there i (want i).identity
 
   -- the object at a place is persistent in the end
-  abbrev ends_under : ClassId → List Value → ℕ → Type 0
+  abbrev pub ends_under : ClassId → List Value → ℕ → Type 0
   ends_under root key j = holds root key (change j (get_or graph.objects j no_object), own j) ≡ true
 
   wanted_is : (root : ClassId) (key : List Value) (j : ℕ) → j < length graph.objects → holds_at there.objects graph.roots root key j ≡ stands_under root key (own j) (want j)
@@ -206,7 +206,7 @@ module _ (scope : Scope) (traces : List Trace) (graph : Graph) where
       (found.0, found.1, key_along there.objects graph.roots (own j) root it key found.0 same has found.2)
 
   -- where one was to be persistent, one of no greater number is
-  first_ends : (n : ℕ) (root : ClassId) (key : List Value) (j : ℕ) → j < n → j < length graph.objects → holds_at there.objects graph.roots root key j ≡ true → (m : ℕ) × (m ≤ j) × ends_under root key m
+  pub first_ends : (n : ℕ) (root : ClassId) (key : List Value) (j : ℕ) → j < n → j < length graph.objects → holds_at there.objects graph.roots root key j ≡ true → (m : ℕ) × (m ≤ j) × ends_under root key m
   first_ends zero root key j below less held = absurd (omega arith)
   first_ends (suc n) root key j below less held =
       let stands : stands_under root key (own j) (want j) ≡ true = sym (wanted_is root key j less) ∙ held in

@@ -7,7 +7,7 @@ use Rattle.std.proofs.lemmas.List.{get_or-map, get_or_append_left, get_or_past, 
 use Rattle.std.proofs.lemmas.List.Elements.{All-drop, All-map, All-nil}
 use Rattle.base_core.specs.declared.ids.ClassId.{ClassId}
 use Rattle.base_core.specs.declared.value.Value.{Value}
-use Rattle.mapper_core.specs.Mapped.{Mapped}
+use Rattle.class_mapping.specs.Mapped.{Mapped}
 use Rattle.object_arena.specs.declared.object.Object.{Object}
 use Rattle.object_arena.specs.declared.object.State.{State}
 use Rattle.object_arena.specs.declared.object.State.TheVariants.{Transient, Pending, Persistent, Deleted, Detached}

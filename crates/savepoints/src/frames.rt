@@ -4,7 +4,7 @@ ghost use Rattle.std.specs.Prelude.{◌≡◌, ◌<◌, ◌≤◌, ◌∷◌, �
 ghost use Rattle.std.specs.List.{All};
 ghost use Rattle.base_core.specs.Answers.{Takes};
 ghost use Rattle.base_core.specs.declared.refusal.Refusal.TheVariants.{Memory};
-ghost use Rattle.mapper_core.specs.Mapped.{Mapped};
+ghost use Rattle.class_mapping.specs.Mapped.{Mapped};
 ghost use Rattle.object_arena.specs.Graph.{IsObject, is_persistent};
 ghost use Rattle.object_arena.specs.Fit.{IsFit, KeepsWith};
 ghost use Rattle.savepoints.specs.Scopes as spec;

@@ -3,7 +3,7 @@
 ghost use Rattle.std.specs.Prelude.{◌≡◌, ◌≢◌, ◌<◌, ℕ, IfOk, IfErr, length, slice_set};
 ghost use Rattle.std.specs.List.{All};
 ghost use Rattle.base_core.specs.declared.refusal.Refusal.TheVariants.{Memory};
-ghost use Rattle.mapper_core.specs.Mapped.{Mapped};
+ghost use Rattle.class_mapping.specs.Mapped.{Mapped};
 ghost use Rattle.object_arena.specs.Fit.{IsFit};
 ghost use Rattle.savepoints.specs.Scopes as spec;
 

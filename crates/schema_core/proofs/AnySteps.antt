@@ -36,7 +36,7 @@ named schema tables foreign key target rows found there =
     sym (ap (λ t. has_row key (option_and_then (rows_in tables) t)) found ∙ ap (has_row key) there)
 
 -- no item passes a test that nothing passes
-any_never : {A : Type 0} (xs : List A) → list_any (λ x. false) xs ≡ false
+pub any_never : {A : Type 0} (xs : List A) → list_any (λ x. false) xs ≡ false
 any_never [] = refl
 any_never (x ∷ xs) = any_never xs
 

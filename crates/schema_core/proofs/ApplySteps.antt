@@ -207,7 +207,7 @@ is_there : {A : Type 0} (found : Option A) → is_some found ≡ true → (x : A
 is_there None there = cc
 is_there (Some x) there = (x, refl)
 
-is_absent : {A : Type 0} (found : Option A) → is_some found ≡ false → found ≡ None
+pub is_absent : {A : Type 0} (found : Option A) → is_some found ≡ false → found ≡ None
 is_absent None absent = refl
 is_absent (Some x) absent = cc
 

@@ -5,5 +5,6 @@ pub mod NextKey
 pub mod Placing
 pub mod SomeTwo
 pub mod Steps
+pub mod TableOrder
 pub mod Targets
 pub mod Violations

@@ -5,6 +5,7 @@ use Rattle.std.proofs.lemmas.List.Sums.{sum_by-cons}
 use Rattle.std.specs.List.{list_all, list_any, filter, count_by}
 use Rattle.std.specs.Option.{option_map}
 use Rattle.std.specs.Cmp.Lexicographic.{pointwise}
+use Rattle.base_core.proofs.Tests.{and_true, or_false}
 use Rattle.base_core.specs.declared.ids.ColumnNo.{ColumnNo}
 use Rattle.base_core.specs.declared.ids.TableId.{TableId}
 use Rattle.base_core.specs.declared.value.Value.{Value}
@@ -131,14 +132,6 @@ no_free_key free (c ∷ cs) none = by c.key refl (no_free_key free cs)
     by true is rest = absurd (not_one (count cs) (sym (ap (λ b. cond b 1 0 + count cs) is) ∙ none))
     by false is rest =
         ap (λ b. (b && free c) || list_any (λ column. column.key && free column) cs) is ∙ rest (sym (none_more (count cs)) ∙ sym (ap (λ b. cond b 1 0 + count cs) is) ∙ none)
-
-or_false : (b : Bool) → (b || false) ≡ b
-or_false true = refl
-or_false false = refl
-
-and_true : (b : Bool) → (b && true) ≡ b
-and_true true = refl
-and_true false = refl
 
 -- the one column of a generated key takes an integer
 drawn_fits : (foreigns : List ForeignSpec) (columns : List ColumnSpec) (row : List Value) (n : ℤ) → count columns ≡ 1 → list_any (λ column. column.key && is_free_integer foreigns column) columns ≡ true

@@ -35,6 +35,9 @@ table_cmp one other = nat_cmp one.0 other.0
 abbrev pub rows_in : Tables → TableId → Option Rows
 rows_in tables table = lookup (is_at (table_cmp table)) tables
 
+abbrev pub is_created : Tables → TableId → Bool
+is_created tables table = is_some (rows_in tables table)
+
 -- the tables with these rows in one of them
 abbrev pub with_rows : Tables → TableId → Rows → Tables
 with_rows tables table rows = insert_entry table_cmp tables table rows
@@ -54,6 +57,11 @@ without_row rows key = remove_entry (is_at (values_cmp key)) rows
 abbrev pub is_null : Value → Bool
 is_null Null = true
 is_null value = false
+
+-- the value that is known, or NULL
+abbrev pub value_or_null : Option Value → Value
+value_or_null None = Null
+value_or_null (Some value) = value
 
 -- the value's kind; NULL has none
 abbrev pub kind_of_value : Value → Option Kind

@@ -1,5 +1,5 @@
 -- Which statements on rows, and which keys, fit a schema: what a keeper may be sent.
-use Rattle.std.specs.Prelude.{◌≡◌, ◌<◌, ◌≤◌, ℕ, Bool, true, false, not, ◌&&◌, ◌||◌, List, [], ◌∷◌, length, nat_lt, nat_eq, suc, filter}
+use Rattle.std.specs.Prelude.{◌≡◌, ◌<◌, ◌≤◌, ℕ, Bool, true, false, not, ◌&&◌, ◌||◌, List, [], ◌∷◌, length, nat_lt, nat_eq, suc}
 use Rattle.std.specs.List.{list_all, list_any}
 use Rattle.std.specs.Cmp.Lexicographic.{pointwise}
 use Rattle.base_core.specs.declared.ids.ColumnNo.{ColumnNo}
@@ -12,7 +12,7 @@ use Rattle.schema_core.specs.declared.statement.Violation.TheVariants as violati
 use Rattle.schema_core.specs.declared.table.ColumnSpec.{ColumnSpec}
 use Rattle.schema_core.specs.declared.table.TableSpec.{TableSpec}
 use Rattle.schema_core.specs.Apply.{table_of, wants_key}
-use Rattle.schema_core.specs.Catalog.{Catalog, IsTable, spec_of}
+use Rattle.schema_core.specs.Catalog.{Catalog, IsTable, key_columns, spec_of}
 use Rattle.schema_core.specs.Tables.{fits, is_null, key_of}
 
 -- the value is NULL or of the column's kind
@@ -22,9 +22,6 @@ may_hold column value = is_null value || fits column value
 -- a row has one value for each column, NULL or of its kind
 abbrev pub is_row : TableSpec → List Value → Bool
 is_row spec row = pointwise may_hold spec.columns row
-
-abbrev pub key_columns : TableSpec → List ColumnSpec
-key_columns spec = filter (λ column. column.key) spec.columns
 
 -- a key has one value for each key column, of its kind and not NULL
 abbrev pub is_key : TableSpec → List Value → Bool

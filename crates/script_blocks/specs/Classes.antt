@@ -8,7 +8,7 @@ use Rattle.script_tokens.specs.Input.{Reader, ◌>>=◌, ◌>>◌, ◌<$>◌, pu
 use Rattle.script_tokens.specs.Names.{name, names}
 use Rattle.std.specs.Prelude.{zero, suc, not}
 use Rattle.base_core.specs.declared.value.Value.{Value}
-use Rattle.mapper_types.specs.declared.declared.Cascade.{Cascade}
+use Rattle.class_types.specs.declared.declared.Cascade.{Cascade}
 use Rattle.std.specs.Prelude.{◌||◌}
 use Rattle.script_tokens.specs.Input.{Input, turns, next}
 use Rattle.script_tokens.specs.Literals.{literal}

@@ -5,7 +5,7 @@ ghost use Rattle.script_tokens.specs.Input.{Reads};
 ghost use Rattle.script_blocks.specs.Classes as spec;
 
 use base_core::{ListOf, Name, Value};
-use mapper_types::{Cascade, RelationSpec};
+use class_types::{Cascade, RelationSpec};
 use script_lex::Kind;
 use script_tokens::literals::literal;
 use script_tokens::names::{name, names};

@@ -1,7 +1,7 @@
 -- Lines are read steadily.
 use Rattle.std.proofs.Common.{◌≡◌, ℕ, ◌||◌, Bool, true, false, if◌then◌else◌, List, [], Some, None, Ok, refl, ap, sym, ◌∙◌}
 use Rattle.schema_core.specs.declared.table.ColumnKind.TheVariants as column
-use Rattle.mapper_types.specs.declared.declared.Cascade.{Cascade}
+use Rattle.class_types.specs.declared.declared.Cascade.{Cascade}
 use Rattle.script_types.specs.declared.command.Command.{Command}
 use Rattle.script_types.specs.declared.command.Command.TheVariants as c
 use Rattle.script_types.specs.declared.command.Dialect.{Dialect}

@@ -2,7 +2,7 @@
 
 use crate::{SynBulk, SynQuery, SynSelect};
 use base_core::{Copied, ListOf, Name, RowValues, Value};
-use mapper_types::RelationSpec;
+use class_types::RelationSpec;
 use schema_core::{ColumnSpec, ForeignSpec};
 use std::alloc::AllocError;
 

@@ -2,35 +2,28 @@
 use Rattle.std.proofs.Common.{◌≡◌, ◌<◌, ◌≤◌, suc, Bool, true, not, ◌&&◌, nat_lt, List, [], ◌∷◌, length, map, Option, Some, None, refl, sym, ap, subst, ◌∙◌, arith, length-append}
 use Rattle.std.proofs.lemmas.Bool.{and_parts, lt-ltb, ltb-true}
 use Rattle.std.specs.List.{list_all, AllByRecursion}
+use Rattle.sql_semantics.proofs.Equations.{full_rolled}
 use Rattle.base_core.proofs.Lists.{every_append}
 use Rattle.expr_types.specs.declared.expr.Func.TheVariants.{Lower}
 use Rattle.expr_types.specs.declared.expr.Expr.{Expr, out-Expr, roll-Expr}
 use Rattle.expr_types.specs.declared.expr.Expr.TheOpen.{Expr-F}
 use Rattle.expr_types.specs.declared.expr.Expr.TheVariants as expr
-use Rattle.expr_types.specs.declared.expr.Expr.TheFolds.{fold-roll-Expr, map-Expr}
-use Rattle.expr_types.specs.Level.{operands}
+use Rattle.expr_types.specs.declared.expr.Expr.TheFolds.{map-Expr}
 use Rattle.expr_types.specs.Normal.{normal, negated_at, like_by, joined_parts, and_parts as parts_of_and, and_parts_at, or_parts, or_parts_at, lowered, opposite}
 use Rattle.expr_types.proofs.Folds.{bare, by_levels, whole_is}
 use Rattle.expr_normal.proofs.Steps.{normal-Column, normal-Lit, normal-Compare, normal-IsNull, normal-And, normal-Or, normal-Not, normal-Arith, normal-Neg, normal-Concat, normal-Like, normal-Ilike, normal-InList, normal-Between, normal-Distinct, normal-Call, normal-CountAll, normal-Exists}
-use Rattle.sql_semantics.specs.Plain.{has_full_lists, several}
+use Rattle.sql_semantics.specs.Plain.{full_level, has_full_lists}
 use Rattle.select_laws.proofs.Several.{first_true, one_true, rest_true, three_true, two_true}
 use Rattle.select_laws.proofs.Forms.{and_parts_by, liked_is, lowered_whole, negated_is, or_parts_by}
-
-abbrev full_step : Expr-F Bool → Bool
-full_step level = several level && list_all (λ has. has) (operands level)
-
-full_rolled : (x : Expr-F Expr) → has_full_lists (roll-Expr x) ≡ full_step (map-Expr Expr Bool has_full_lists x)
-unfolding has_full_lists
-full_rolled x = fold-roll-Expr Bool full_step x
 
 abbrev Full : Expr → Type 0
 Full e = has_full_lists e ≡ true
 
 -- a level is full where what it is made of is
-of_level : (x : Expr-F Expr) (e : Expr) → roll-Expr x ≡ e → full_step (map-Expr Expr Bool has_full_lists x) ≡ true → Full e
+of_level : (x : Expr-F Expr) (e : Expr) → roll-Expr x ≡ e → full_level (map-Expr Expr Bool has_full_lists x) ≡ true → Full e
 of_level x e is h = ap has_full_lists (sym is) ∙ full_rolled x ∙ h
 
-to_level : (x : Expr-F Expr) (e : Expr) → roll-Expr x ≡ e → Full e → full_step (map-Expr Expr Bool has_full_lists x) ≡ true
+to_level : (x : Expr-F Expr) (e : Expr) → roll-Expr x ≡ e → Full e → full_level (map-Expr Expr Bool has_full_lists x) ≡ true
 to_level x e is h = sym (full_rolled x) ∙ ap has_full_lists is ∙ h
 
 -- ---- lists
@@ -128,7 +121,7 @@ plain_length (k ∷ ks) = ap suc (plain_length ks)
 formed : (e n : Expr) → normal e ≡ n → Full n → Full (normal e)
 formed e n is h = ap has_full_lists is ∙ h
 
-level : (y : Expr-F Known) → full_step (map-Expr Expr Bool has_full_lists (bare y)) ≡ true → Full (normal (roll-Expr (bare y)))
+level : (y : Expr-F Known) → full_level (map-Expr Expr Bool has_full_lists (bare y)) ≡ true → Full (normal (roll-Expr (bare y)))
 level (Expr-F.Column s c) h = formed _ _ (ap normal (expr.rolls-Column s c) ∙ normal-Column s c) (of_level (Expr-F.Column s c) _ (expr.rolls-Column s c) refl)
 level (Expr-F.Lit v) h = formed _ _ (ap normal (expr.rolls-Lit v) ∙ normal-Lit v) (of_level (Expr-F.Lit v) _ (expr.rolls-Lit v) refl)
 level Expr-F.CountAll h = formed _ _ (ap normal expr.rolls-CountAll ∙ normal-CountAll) (of_level Expr-F.CountAll _ expr.rolls-CountAll refl)

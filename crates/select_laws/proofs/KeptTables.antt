@@ -1,17 +1,13 @@
 -- The normal form of a select names the same tables, in the same order.
 use Rattle.std.proofs.Common.{◌≡◌, ℕ, List, [], ◌∷◌, ◌++◌, map, Option, Some, None, refl, sym, ap, ◌∙◌, append_assoc, append-nil}
+use Rattle.select_rows.proofs.Declared.{named_step}
 use Rattle.expr_types.specs.declared.expr.Expr.{Expr}
-use Rattle.expr_types.specs.declared.expr.Expr.TheOpen.{Expr-F}
 use Rattle.expr_types.specs.declared.select.Joined.{Joined}
 use Rattle.expr_types.specs.declared.select.Select.{Select}
-use Rattle.expr_types.specs.Level.{operands}
 use Rattle.expr_types.specs.Normal.{normal}
 use Rattle.expr_types.specs.NormalSelect.{normal_join, normal_select, normal_where}
-use Rattle.sql_semantics.specs.Rows.{flat, named, named_where, own_table, tables_of}
+use Rattle.sql_semantics.specs.Rows.{flat, named, named_where, tables_of}
 use Rattle.select_laws.proofs.KeptFolds.{Keeps, kept}
-
-abbrev step : Expr-F (List ℕ) → List ℕ
-step level = own_table level ++ flat (operands level)
 
 flat_append : (xs ys : List (List ℕ)) → flat (xs ++ ys) ≡ flat xs ++ flat ys
 flat_append [] ys = refl
@@ -24,7 +20,7 @@ flat_flat (x ∷ xs) ys zs = ap (λ l. x ++ l) (flat_flat xs ys zs)
 pair : (a b : List ℕ) → (a ++ (b ++ [])) ≡ ((a ++ []) ++ ((b ++ []) ++ []))
 pair a b = ap (λ l. a ++ l) (sym (append-nil (b ++ []))) ∙ ap (λ l. l ++ ((b ++ []) ++ [])) (sym (append-nil a))
 
-tables_keep : Keeps (List ℕ) step
+tables_keep : Keeps (List ℕ) named_step
 tables_keep = record {
   ands = flat_flat;
   ors = flat_flat;
@@ -42,7 +38,7 @@ tables_keep = record {
 
 named_kept : (e : Expr) → named (normal e) ≡ named e
 unfolding named
-named_kept e = kept (List ℕ) step tables_keep e
+named_kept e = kept (List ℕ) named_step tables_keep e
 
 where_kept : (o : Option Expr) → named_where (normal_where o) ≡ named_where o
 where_kept None = refl

@@ -2,6 +2,7 @@
 use Rattle.std.proofs.Common.{◌≡◌, ◌<◌, ℕ, Bool, true, false, ◌||◌, ◌==◌, List, [], ◌∷◌, ◌++◌, length, map, Option, Some, None, Result, Ok, Err, IfErr, IsTrue, refl, sym, ap, subst, ◌∙◌}
 use Rattle.std.proofs.lemmas.Bool.{and_parts, eqb-true, ltb-true}
 use Rattle.std.specs.List.{list_all, list_any, AllByRecursion}
+use Rattle.expr_types.proofs.Operands.{operands_map}
 use Rattle.base_core.proofs.Lists.{every_append}
 use Rattle.base_core.specs.declared.ids.TableId.{TableId}
 use Rattle.base_core.specs.declared.refusal.Refusal.{Refusal}
@@ -42,28 +43,8 @@ Known = (e : Expr) × NamesTables e
 abbrev plain : List Known → List Expr
 plain = map (λ k. k.0)
 
-abbrev named_step : Expr-F (List ℕ) → List ℕ
+abbrev pub named_step : Expr-F (List ℕ) → List ℕ
 named_step level = own_table level ++ flat (operands level)
-
-operands_map : {A B : Type 0} (f : A → B) (x : Expr-F A) → operands (map-Expr A B f x) ≡ map f (operands x)
-operands_map f (Expr-F.Column s c) = refl
-operands_map f (Expr-F.Lit v) = refl
-operands_map f (Expr-F.Compare op a b) = refl
-operands_map f (Expr-F.IsNull g a) = refl
-operands_map f (Expr-F.And es) = refl
-operands_map f (Expr-F.Or es) = refl
-operands_map f (Expr-F.Not a) = refl
-operands_map f (Expr-F.Arith op a b) = refl
-operands_map f (Expr-F.Neg a) = refl
-operands_map f (Expr-F.Concat a b) = refl
-operands_map f (Expr-F.Like g a b) = refl
-operands_map f (Expr-F.Ilike g a b) = refl
-operands_map f (Expr-F.InList g a vs) = refl
-operands_map f (Expr-F.Between g a b c) = refl
-operands_map f (Expr-F.Distinct g a b) = refl
-operands_map f (Expr-F.Call g es) = refl
-operands_map f Expr-F.CountAll = refl
-operands_map f (Expr-F.Exists g o a) = refl
 
 own_tables : (schema : Catalog) (scope : Scope) (x : Expr-F Expr) → fits_level schema scope (map-Expr Expr (Scope → Bool) (fits schema) x) ≡ true → AreTables schema (own_table (map-Expr Expr (List ℕ) named x))
 own_tables schema scope (Expr-F.Exists g o a) h = (ltb-true o.table.0 (length schema.tables) h, tt)

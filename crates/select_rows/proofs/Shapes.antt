@@ -1,11 +1,11 @@
 -- What holds of the rows of a select's sources and of the values of its items holds of its rows.
-use Rattle.std.proofs.Common.{◌≡◌, ℕ, zero, suc, ◌+◌, Bool, true, false, if◌then◌else◌, List, [], ◌∷◌, ◌++◌, length, map, filter, take, drop, Option, Some, None, Result, Ok, Err, IfOk, subst, arith, length-append, cond, ◌||◌, refl}
+use Rattle.std.proofs.Common.{◌≡◌, ℕ, zero, suc, ◌+◌, Bool, true, false, if◌then◌else◌, List, [], ◌∷◌, ◌++◌, length, map, filter, take, drop, Option, Some, None, Result, Ok, Err, IfOk, subst, arith, length-append, cond, refl}
 use Rattle.std.specs.List.{list_any, AllByRecursion}
 use Rattle.std.specs.BTreeMap.{insert_entry}
 use Rattle.std.specs.declared.cmp.Ordering.{Ordering}
 use Rattle.std.specs.declared.cmp.Ordering.TheVariants.{Less, Equal, Greater}
 use Rattle.std.specs.Ordering.{match_ordering}
-use Rattle.base_core.proofs.Tests.{or_first, or_then}
+use Rattle.base_core.proofs.Tests.{or_first, or_rest, or_then}
 use Rattle.base_core.specs.declared.value.Value.{Value}
 use Rattle.base_core.specs.declared.refusal.Refusal.{Refusal}
 use Rattle.schema_core.specs.Catalog.{Catalog}
@@ -111,10 +111,6 @@ keyed_sure P f es r p = bind_sure (λ _. Unit {0}) (λ (k : Keyed). P k.1) (all_
 -- a row has the key
 abbrev IsKey : List Keyed → List Value → Type 0
 IsKey all key = list_any (λ k. same_row key k.0) all ≡ true
-
-or_rest : (a b : Bool) → (a || b) ≡ true → a ≡ false → b ≡ true
-or_rest true b h e = absurd (cc)
-or_rest false b h e = h
 
 still_keys : (k : Keyed) (all : List Keyed) (keys : List (List Value)) → AllByRecursion (IsKey all) keys → AllByRecursion (IsKey (k ∷ all)) keys
 still_keys k all [] h = tt

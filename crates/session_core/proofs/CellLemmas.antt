@@ -7,7 +7,7 @@ use Rattle.base_core.specs.declared.ids.AttrNo.{AttrNo}
 use Rattle.base_core.specs.declared.ids.ClassId.{ClassId}
 use Rattle.base_core.specs.declared.ids.ObjId.{ObjId}
 use Rattle.base_core.specs.declared.value.Value.{Value}
-use Rattle.mapper_core.specs.Mapped.{Mapped, key_attributes}
+use Rattle.class_mapping.specs.Mapped.{Mapped, key_attributes}
 use Rattle.object_arena.specs.declared.object.Cell.{Cell}
 use Rattle.object_arena.specs.declared.object.Object.{Object}
 use Rattle.object_arena.specs.Graph.{Graph, IsObject, cell_at, cell_in, cell_put, expired_cell, object_at, with_cell, with_object}

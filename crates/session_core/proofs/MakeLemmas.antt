@@ -1,24 +1,27 @@
 -- Values that are taken for an object, and the cells that hold them.
-use Rattle.std.proofs.Common.{◌≡◌, ℕ, ◌+◌, ◌<◌, ◌≤◌, Bool, true, false, List, [], ◌∷◌, length, get_or, take, drop, zero, suc, Option, None, Some, refl, sym, ap, ◌∙◌, arith}
+use Rattle.std.proofs.Common.{◌≡◌, ℕ, ◌+◌, ◌<◌, ◌≤◌, Bool, true, false, List, [], ◌∷◌, length, get_or, take, drop, zero, suc, Option, None, Some, Ok, refl, sym, ap, ◌∙◌, subst, arith}
 use Rattle.std.specs.Prelude.{slice_get, if◌then◌else◌}
 use Rattle.std.proofs.lemmas.List.{drop_all, drop_more, set_past}
 use Rattle.std.proofs.lemmas.List.Sums.{fold_more}
 use Rattle.std.proofs.lemmas.Option.{slice_get-get_or}
 use Rattle.std.proofs.lemmas.Bool.{and_from}
 use Rattle.base_core.specs.declared.ids.AttrNo.{AttrNo}
+use Rattle.base_core.specs.declared.ids.ClassId.{ClassId}
 use Rattle.base_core.specs.declared.ids.ObjId.{ObjId}
 use Rattle.base_core.specs.declared.value.Kind.{Kind}
 use Rattle.base_core.specs.declared.value.Value.{Value}
 use Rattle.base_core.specs.declared.value.Value.TheVariants.{Null}
 use Rattle.schema_core.specs.Catalog.{same_kind}
 use Rattle.schema_core.specs.Tables.{kind_of_value}
-use Rattle.mapper_types.specs.declared.mapped.Attribute.{Attribute}
-use Rattle.mapper_core.specs.Mapped.{Mapped, attribute_of, attributes_of, no_attribute}
+use Rattle.class_types.specs.declared.mapped.Attribute.{Attribute}
+use Rattle.class_mapping.specs.Mapped.{Mapped, attribute_of, attributes_of, no_attribute}
 use Rattle.object_arena.specs.declared.object.Cell.{Cell}
-use Rattle.object_arena.specs.Graph.{Graph, IsCell, IsObject, object_at, with_cell, with_object}
+use Rattle.object_arena.specs.Graph.{Graph, IsCell, IsObject, make, object_at, with_cell, with_object}
 use Rattle.object_arena.specs.Fit.{IsFit, cell_fits, is_of_kind, value_fits}
 use Rattle.object_arena.proofs.FitLemmas.{fit_cells}
-use Rattle.session_core.specs.Making.{first_of_two, kinds_apart, mismatch, mismatch_at, with_values}
+use Rattle.programs.specs.Programs.{Run, quiet}
+use Rattle.session_core.specs.Making.{first_of_two, kinds_apart, made_as, made_unless, mismatch, mismatch_at, object_made, with_values}
+use Rattle.session_core.specs.SessionState.{SessionState}
 use Rattle.object_arena.proofs.TurnLemmas.{with_same}
 
 -- ---- the first mismatch
@@ -81,5 +84,20 @@ taken_fits mapped graph object attr value fit made inside taken =
 pub past_cell : (graph : Graph) (object : ObjId) (attr : AttrNo) (cell : Cell) → length (object_at graph object).cells ≤ attr.0 → graph ≡ with_cell graph object attr cell
 past_cell graph object attr cell past =
     sym (ap (λ (cells : List Cell). with_object graph object (record (object_at graph object) { cells = cells })) (set_past (object_at graph object).cells attr.0 cell past) ∙ with_same graph object)
+
+-- ---- an object with values
+
+abbrev answered : ObjId → SessionState → Graph → Run SessionState ObjId
+answered object old last = quiet (Ok object) (record old { graph = last })
+
+-- an object was made, and has the values
+pub made_seen : (class : ClassId) (cells values : List (AttrNo × Value)) (old now : SessionState) (object : ObjId) (mid last : Graph) → old ≡ now → mismatch (attributes_of old.mapping class) cells ≡ None → make old.graph old.mapping class ≡ Ok (object, mid)
+    → values ≡ cells → last ≡ with_values mid object values → object_made class cells now ≡ quiet (Ok object) (record old { graph = last })
+unfolding object_made
+made_seen class cells values old now object mid last seen none made copied put =
+    subst (λ (s : SessionState). object_made class cells s ≡ answered object old last) seen
+    (ap (λ (found : Option (Kind × Kind)). made_unless found old cells (make old.graph old.mapping class)) none
+    ∙ ap (made_as old cells) made
+    ∙ sym (ap (answered object old) (put ∙ ap (with_values mid object) copied)))
 
 pub ruleset mismatches = (mismatch_passed, mismatch_found, mismatch_none)

@@ -1,18 +1,13 @@
 -- A statement of one row: that it is one, and its key.
-use Rattle.std.proofs.Common.{◌≡◌, ◌<◌, ◌≤◌, Bool, true, false, not, ◌&&◌, ◌||◌, List, [], ◌∷◌, length, refl, sym, ap, ◌∙◌, arith}
-use Rattle.std.specs.List.{list_all, list_any}
+use Rattle.std.proofs.Common.{◌≡◌, true, ◌&&◌, List, [], ◌∷◌, refl, ap, arith}
+use Rattle.base_core.proofs.Tests.{alike}
 use Rattle.base_core.specs.declared.ids.TableId.{TableId}
 use Rattle.base_core.specs.declared.value.Value.{Value}
 use Rattle.schema_core.specs.declared.statement.RowStmt.TheVariants.{Insert}
-use Rattle.schema_core.specs.declared.table.TableSpec.{TableSpec}
 use Rattle.schema_core.specs.Apply.{wants_key}
 use Rattle.schema_core.specs.Catalog.{Catalog, IsTable, spec_of}
-use Rattle.schema_core.specs.WellFormed.{AreKeysFor, AreNewRows, IsWellFormed, is_key, is_row}
+use Rattle.schema_core.specs.WellFormed.{AreKeysFor, IsWellFormed, is_key, is_row}
 use Rattle.session_core.specs.Flush.{key_alone}
-
-alike : (b : Bool) → ((b && true) || not (b || false)) ≡ true
-alike true = refl
-alike false = refl
 
 pub one_row : (schema : Catalog) (table : TableId) (row : List Value) → IsTable schema table → is_row (spec_of schema table) row ≡ true → IsWellFormed schema (Insert table (row ∷ []))
 one_row schema table row declared holds = (

@@ -7,7 +7,8 @@ use Rattle.base_core.specs.Answers.{Takes}
 use Rattle.base_core.specs.declared.ids.ClassId.{ClassId}
 use Rattle.base_core.specs.declared.ids.ObjId.{ObjId}
 use Rattle.base_core.specs.declared.refusal.Refusal.{Refusal}
-use Rattle.mapper_core.specs.Mapped.{Mapped}
+use Rattle.class_mapping.specs.Mapped.{Mapped}
+use Rattle.class_mapping.specs.PlainClass.{ArePlain}
 use Rattle.object_arena.specs.declared.object.Object.{Object}
 use Rattle.object_arena.specs.Graph.{Graph, IsObject, fresh_object, no_object, object_at, object_limit, place_of, with_fresh}
 use Rattle.object_arena.specs.Fit.{IsFit}
@@ -22,6 +23,7 @@ use Rattle.session_core.specs.SessionState.{IsOfClass, IsSession, ObjectsStay, S
 pub session_kept : (mapped : Mapped) (old new : Graph) (frames : Framed) → IsFit mapped new → classes_of new ≡ classes_of old → IsSession mapped old frames.scopes → IsSession mapped new frames.scopes
 session_kept mapped old new frames fit same session = record {
   configured = session.configured;
+  plain = session.plain;
   fit = fit;
   keys = all_kept mapped old new frames.scopes same session.keys;
   one = session.one;
@@ -31,15 +33,17 @@ session_kept mapped old new frames fit same session = record {
 pub session_made : (mapped : Mapped) (old new : Graph) (class : ClassId) (frames : Framed) → IsFit mapped new → new ≡ with_fresh old mapped class → length old.objects < object_limit → IsSession mapped old frames.scopes → IsSession mapped new frames.scopes
 session_made mapped old new class frames fit is room session = record {
   configured = session.configured;
+  plain = session.plain;
   fit = fit;
   keys = all_made mapped old new class frames.scopes is session.keys;
   one = session.one;
 }
 
 -- no scope is left
-pub session_outside : (mapped : Mapped) (graph : Graph) → mapped.configured ≡ true → IsFit mapped graph → IsSession mapped graph []
-session_outside mapped graph configured fit = record {
+pub session_outside : (mapped : Mapped) (graph : Graph) → mapped.configured ≡ true → ArePlain mapped → IsFit mapped graph → IsSession mapped graph []
+session_outside mapped graph configured plain fit = record {
   configured = configured;
+  plain = plain;
   fit = fit;
   keys = All-nil (HasKeys mapped graph);
   one = omega arith;
@@ -49,9 +53,9 @@ session_outside mapped graph configured fit = record {
 pub session_entered : (mapped : Mapped) (graph : Graph) (old new : Framed) (r : Result (Unit {0}) Refusal) → old.scopes ≡ [] → Takes (λ _. tt) (push graph old) old r new → OnOk r (new ≡ record old { scopes = begun_at graph ∷ old.scopes }) → All (HasKeys mapped graph) new.scopes → IsSession mapped graph old.scopes → IsSession mapped graph new.scopes
 session_entered mapped graph old new (Ok u) outside step is keys session =
     let long : length new.scopes ≡ 1 = ap (λ (frames : Framed). length frames.scopes) is ∙ ap (λ (scopes : List Scope). length (begun_at graph ∷ scopes)) outside in
-    record { configured = session.configured; fit = session.fit; keys = keys; one = omega (arith, long) }
+    record { configured = session.configured; plain = session.plain; fit = session.fit; keys = keys; one = omega (arith, long) }
 session_entered mapped graph old new (Err e) outside step is keys session =
-    record { configured = session.configured; fit = session.fit; keys = keys; one = rw step.0 session.one }
+    record { configured = session.configured; plain = session.plain; fit = session.fit; keys = keys; one = rw step.0 session.one }
 
 -- a scope is in progress or none is
 pub inside : (scopes : List Scope) → 0 < length scopes → has_scope scopes ≡ true

@@ -12,12 +12,12 @@ use Rattle.base_core.specs.declared.ids.ClassId.{ClassId}
 use Rattle.base_core.specs.declared.ids.ObjId.{ObjId}
 use Rattle.base_core.specs.declared.value.Kind.{Kind}
 use Rattle.base_core.specs.declared.value.Value.{Value}
-use Rattle.schema_core.specs.Tables.{kind_of_value}
-use Rattle.mapper_types.specs.declared.mapped.Attribute.{Attribute}
-use Rattle.mapper_core.specs.Mapped.{Mapped, attribute_of, attributes_of, key_attributes, no_attribute}
+use Rattle.schema_core.specs.Tables.{kind_of_value, value_or_null}
+use Rattle.class_types.specs.declared.mapped.Attribute.{Attribute}
+use Rattle.class_mapping.specs.Mapped.{Mapped, attribute_of, attributes_of, key_attributes, no_attribute}
 use Rattle.object_arena.specs.declared.object.Cell.{Cell}
 use Rattle.object_arena.specs.declared.object.Object.{Object}
-use Rattle.object_arena.specs.Graph.{Graph, IsCell, IsObject, cell_at, expired_cell, kept_identity, no_object, object_at, place_of, root_at, value_or_null, with_cell, with_object, with_state}
+use Rattle.object_arena.specs.Graph.{Graph, IsCell, IsObject, cell_at, expired_cell, kept_identity, no_object, object_at, place_of, root_at, with_cell, with_object, with_state}
 use Rattle.object_arena.specs.Identity.{find_identity, is_other, is_taken}
 use Rattle.object_arena.specs.declared.object.State.TheVariants.{Detached, Persistent}
 use Rattle.object_arena.specs.Fit.{IsFit, cell_fits, is_just_of_kind, is_of_kind, key_fits, key_value_fits, value_fits}

@@ -9,12 +9,13 @@ use Rattle.base_core.specs.declared.ids.ObjId.{ObjId}
 use Rattle.base_core.specs.declared.value.Value.{Value}
 use Rattle.schema_core.specs.declared.statement.RowStmt.{RowStmt}
 use Rattle.schema_core.specs.declared.statement.RowStmt.TheVariants.{Insert}
-use Rattle.mapper_core.specs.Mapped.{Mapped, key_attributes, root_table}
+use Rattle.class_mapping.specs.Mapped.{Mapped, key_attributes, root_table}
 use Rattle.object_arena.specs.declared.object.Cell.{Cell}
 use Rattle.object_arena.specs.declared.object.Object.{Object}
 use Rattle.object_arena.specs.declared.object.State.{State}
 use Rattle.object_arena.specs.declared.object.State.TheVariants.{Transient, Pending, Persistent, Deleted, Detached}
-use Rattle.object_arena.specs.Graph.{Graph, IsObject, expired, kept_identity, object_at, root_at, row_of, value_or_null, with_object, with_state}
+use Rattle.schema_core.specs.Tables.{value_or_null}
+use Rattle.object_arena.specs.Graph.{Graph, IsObject, expired, kept_identity, object_at, root_at, row_of, with_object, with_state}
 use Rattle.object_arena.specs.Identity.{find_identity, registered}
 use Rattle.object_arena.specs.Fit.{key_fits}
 

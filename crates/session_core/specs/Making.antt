@@ -9,8 +9,8 @@ use Rattle.base_core.specs.declared.refusal.Refusal.{Refusal}
 use Rattle.base_core.specs.declared.refusal.Refusal.TheVariants.{TypeMismatch}
 use Rattle.schema_core.specs.Catalog.{same_kind}
 use Rattle.schema_core.specs.Tables.{kind_of_value}
-use Rattle.mapper_types.specs.declared.mapped.Attribute.{Attribute}
-use Rattle.mapper_core.specs.Mapped.{attributes_of}
+use Rattle.class_types.specs.declared.mapped.Attribute.{Attribute}
+use Rattle.class_mapping.specs.Mapped.{attributes_of}
 use Rattle.object_arena.specs.Graph.{Graph, make, with_cell}
 use Rattle.programs.specs.Programs.{Run, quiet}
 use Rattle.session_core.specs.SessionState.{SessionState}

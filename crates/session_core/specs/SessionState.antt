@@ -4,7 +4,8 @@ use Rattle.std.specs.List.{All}
 use Rattle.base_core.specs.declared.refusal.Refusal.{Refusal}
 use Rattle.base_core.specs.declared.ids.ClassId.{ClassId}
 use Rattle.base_core.specs.declared.ids.ObjId.{ObjId}
-use Rattle.mapper_core.specs.Mapped.{Mapped}
+use Rattle.class_mapping.specs.Mapped.{Mapped}
+use Rattle.class_mapping.specs.PlainClass.{ArePlain}
 use Rattle.object_arena.specs.Every.{classes_of}
 use Rattle.object_arena.specs.Graph.{Graph, IsObject, empty_graph, object_at}
 use Rattle.object_arena.specs.Fit.{IsFit}
@@ -24,10 +25,11 @@ pub record SessionState : Type 0 where
   pub failed : Bool
   pub added : ℕ
 
--- What every session keeps: its mapping is configured, its objects fit it, and had keys of their classes at each scope's
--- start. The only scope is the transaction.
+-- What every session keeps: its mapping is configured, and each class in it a plain root; its objects fit it, and had keys of
+-- their classes at each scope's start. The only scope is the transaction.
 pub record IsSession (mapped : Mapped) (graph : Graph) (scopes : List Scope) : Type 0 where
   pub configured : mapped.configured ≡ true
+  pub plain : ArePlain mapped
   pub fit : IsFit mapped graph
   pub keys : All (HasKeys mapped graph) scopes
   pub one : length scopes ≤ 1

@@ -1,10 +1,11 @@
 //! The flush: what is pending is written in the order in which it was added.
 
 ghost use Rattle.std.specs.Prelude.{◌≡◌, [], true, length, IfOk, IfErr, OnOk, List, fold};
-ghost use Rattle.schema_core.specs.WellFormed.{IsWellFormed, is_key};
+ghost use Rattle.schema_core.specs.Catalog.{IsTable, spec_of};
+ghost use Rattle.schema_core.specs.WellFormed.{IsWellFormed, is_key, is_row};
 ghost use Rattle.base_core.specs.declared.value.Value.{Value};
-ghost use Rattle.mapper_core.specs.Mapped.{root_spec};
-ghost use Rattle.object_arena.specs.Graph.{IsObject, object_at};
+ghost use Rattle.class_mapping.specs.Mapped.{root_spec, root_table};
+ghost use Rattle.object_arena.specs.Graph.{IsObject, object_at, row_of};
 ghost use Rattle.programs.specs.Programs.{ends_early};
 ghost use Rattle.programs.specs.Beside.{moment_beside, on_store, unnoted, unnoted, by_own};
 ghost use Rattle.programs.specs.Moment.{Runs};
@@ -18,7 +19,7 @@ ghost use Rattle.session_core.specs.Steps as steps;
 use crate::Session;
 use crate::rows::row_of;
 use crate::settling::settle;
-use base_core::{Key, KeyList, ListOf, ObjId, Refusal};
+use base_core::{Key, KeyList, ListOf, ObjId, Refusal, TableId};
 use keeper_core::{Keeper, calls};
 use object_arena::State;
 use schema_core::RowStmt;
@@ -261,11 +262,28 @@ impl Session {
             ≡ is_key (root_spec self.now.mapping (object_at self.now.graph object).class) key }
     {
         let record = self.arena.object(object);
-        let table = self.mapping.root_table(self.arena.class_of(object));
+        let table = self.table_of(object);
         let row = row_of(self.alloc, record.cells.as_slice())?;
         let mut rows = ListOf::new(self.alloc);
         rows.push(row)?;
         Ok(RowStmt::Insert { table, rows })
+    }
+
+    /// The table of an object's class, which is a plain root: the object makes a row of it, and its keys are the class's.
+    #[tactic(auto, using(object_arena::proofs::FitLemmas::fit_class))]
+    fn table_of(&self, object: ObjId) -> TableId
+        requires object { IsObject self.now.graph object }
+        ensures table { result
+            ≡ root_table self.now.mapping (object_at self.now.graph object).class }
+        ensures exists { IsTable self.now.mapping.schema result }
+        ensures row { is_row (spec_of self.now.mapping.schema result)
+            (row_of (object_at self.now.graph object))
+            ≡ true }
+        ensures keys { (key : List Value)
+            → key_fits self.now.mapping (object_at self.now.graph object).class key
+            ≡ is_key (root_spec self.now.mapping (object_at self.now.graph object).class) key }
+    {
+        self.mapping.root_table(self.arena.class_of(object))
     }
 
     /// The objects whose rows were written are persistent under their keys. The only refusal is `Memory`.

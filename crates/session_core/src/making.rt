@@ -1,14 +1,14 @@
 //! The values with which an object is made.
 
 ghost use Rattle.std.specs.Prelude.{◌≡◌, None, Some, length, slice_get, IfErr, IfOk};
-ghost use Rattle.mapper_core.specs.Mapped.{Mapped, attributes_of};
+ghost use Rattle.class_mapping.specs.Mapped.{Mapped, attributes_of};
 ghost use Rattle.object_arena.specs.Graph.{IsObject, object_at, with_cell};
 ghost use Rattle.object_arena.specs.Fit.{IsFit};
 ghost use Rattle.object_arena.specs.Every.{classes_of};
 ghost use Rattle.session_core.specs.Making as spec;
 
 use base_core::{AttrNo, Copied, Kind, ObjId, Refusal, Value};
-use mapper_core::Attribute;
+use class_mapping::Attribute;
 use object_arena::{Arena, Cell};
 use schema_core::{kind_of_value, same_kind};
 use std::alloc::Global;

@@ -1,7 +1,7 @@
 //! The rows that objects make.
 
 ghost use Rattle.std.specs.Prelude.{◌≡◌, map, IfOk, IfErr};
-ghost use Rattle.object_arena.specs.Graph.{value_or_null};
+ghost use Rattle.schema_core.specs.Tables.{value_or_null};
 
 use base_core::{Copied, ListOf, Refusal, RowValues, Value};
 use object_arena::Cell;

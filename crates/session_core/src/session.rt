@@ -1,7 +1,8 @@
 //! The session and its calls.
 
 ghost use Rattle.std.specs.Prelude.{◌≡◌, ◌≢◌, [], true, length, OnErr, OnOk, IfOk, IfErr};
-ghost use Rattle.mapper_core.specs.Mapped.{IsClass};
+ghost use Rattle.class_mapping.specs.Mapped.{IsClass};
+ghost use Rattle.class_mapping.specs.PlainClass.{ArePlain};
 ghost use Rattle.object_arena.specs.Graph.{IsObject, object_at};
 ghost use Rattle.programs.specs.Programs.{ends_early};
 ghost use Rattle.programs.specs.Beside.{moment_beside, on_store, unnoted, unnoted};
@@ -15,15 +16,15 @@ ghost use Rattle.session_core.specs.Steps as steps;
 use crate::making::{mismatch, put_values, values_of};
 use crate::settling::{commit_all, let_go_all, put_pending, unmark};
 use base_core::{AttrNo, ClassId, ObjId, Refusal, RequestKind, Value};
+use class_mapping::Mapping;
 use keeper_core::{Keeper, calls};
-use mapper_core::Mapping;
 use object_arena::{Arena, State};
 use savepoints::Frames;
 use std::alloc::Global;
 use std::marker::Model;
 
-/// A session over a configured mapping: its objects, the scopes in progress, and whether a flush failed that was not
-/// rolled back yet.
+/// A session over a configured mapping of plain roots: its objects, the scopes in progress, and whether a flush failed that
+/// was not rolled back yet.
 #[derive(Drop)]
 pub struct Session {
     pub(crate) alloc: Global,
@@ -46,9 +47,10 @@ impl Model for Session {
 }
 
 impl Session {
-    /// No objects and no transaction.
+    /// No objects and no transaction. Each class is to be a plain root.
     pub fn new(alloc: Global, mapping: Mapping) -> Session
-        requires { mapping.configured ≡ true }
+        requires configured { mapping.configured ≡ true }
+        requires plain { ArePlain mapping }
         ensures { result ≡ new_session mapping }
     {
         Session {
@@ -65,6 +67,7 @@ impl Session {
     pub fn mapping(&self) -> &Mapping
         ensures mapping { result.now ≡ self.now.mapping }
         ensures configured { self.now.mapping.configured ≡ true }
+        ensures plain { ArePlain self.now.mapping }
     {
         &self.mapping
     }

@@ -2,8 +2,9 @@
 
 ghost use Rattle.std.specs.Prelude.{◌≡◌, true, false, length, IfOk, IfErr, OnOk, ◌==◌};
 ghost use Rattle.std.specs.List.{position};
-ghost use Rattle.mapper_core.specs.Mapped.{Mapped, key_attributes};
-ghost use Rattle.object_arena.specs.Graph.{IsCell, IsObject, object_at, root_at, value_or_null, with_cell, with_marks, with_object, with_state, cell_at};
+ghost use Rattle.class_mapping.specs.Mapped.{Mapped, key_attributes};
+ghost use Rattle.schema_core.specs.Tables.{value_or_null};
+ghost use Rattle.object_arena.specs.Graph.{IsCell, IsObject, object_at, root_at, with_cell, with_marks, with_object, with_state, cell_at};
 ghost use Rattle.object_arena.specs.declared.object.State.TheVariants.{Pending};
 ghost use Rattle.object_arena.specs.Identity.{find_identity, is_taken};
 ghost use Rattle.object_arena.specs.Fit.{IsFit, key_fits};
@@ -12,7 +13,7 @@ ghost use Rattle.session_core.specs.Flush as spec;
 
 use crate::rows::value_or_null;
 use base_core::{AttrNo, Copied, Key, ObjId, Refusal, Value};
-use mapper_core::Mapping;
+use class_mapping::Mapping;
 use object_arena::{Arena, Cell, State};
 use std::alloc::AllocError;
 

@@ -1,14 +1,19 @@
 -- What a declaration is refused with.
-use Rattle.std.proofs.Common.{Option, None, Some, Result, IfErr, subst}
+use Rattle.std.proofs.Common.{◌≡◌, true, Option, None, Some, Result, IfErr, subst, sym}
 use Rattle.base_core.specs.Answers.{Refuses}
 use Rattle.base_core.specs.declared.refusal.ArgumentKind.{ArgumentKind}
 use Rattle.base_core.specs.declared.refusal.Refusal.{Refusal}
 use Rattle.base_core.specs.declared.refusal.Refusal.TheVariants.{Memory}
 use Rattle.schema_core.specs.declared.table.TableSpec.{TableSpec}
 use Rattle.schema_core.specs.Declaration.{declare, declared_unless, declaration_fault}
-use Rattle.mapper_types.specs.declared.declared.ClassSpec.{ClassSpec}
-use Rattle.mapper_core.specs.Mapped.{Mapped}
-use Rattle.mapper_core.specs.Declaring.{class_fault, class_unless, declare_class, declare_table, over_tables}
+use Rattle.class_types.specs.declared.declared.ClassSpec.{ClassSpec}
+use Rattle.class_types.specs.Rules.{Rules}
+use Rattle.class_layouts.specs.Faults.{class_fault}
+use Rattle.class_mapping.specs.Mapped.{Mapped}
+use Rattle.class_mapping.specs.Plain.{is_plain_root}
+use Rattle.class_mapping.specs.PlainClass.{ArePlain}
+use Rattle.class_mapping.specs.Declaring.{class_unless, declare_class, declare_table, over_tables, with_class, with_table}
+use Rattle.class_mapping.proofs.PlainLemmas.{all_plain}
 use Rattle.shell_parts.specs.Blocks.{IsOfDeclaring}
 
 -- a refusal that is what is told is of the told kind, or `Memory`
@@ -30,6 +35,19 @@ class_told mapped spec None = tt
 class_told mapped spec (Some fault) = tt
 
 -- a declaration of a class is refused with a fault of its own
-pub class_refused : (mapped : Mapped) (spec : ClassSpec) (e : Refusal) → Refuses e (declare_class mapped spec) → IsOfDeclaring e
+pub class_refused : (rules : Rules) (mapped : Mapped) (spec : ClassSpec) (e : Refusal) → Refuses e (declare_class rules mapped spec) → IsOfDeclaring e
 unfolding declare_class
-class_refused mapped spec e r = of_told (declare_class mapped spec) (class_told mapped spec (class_fault mapped.schema.tables mapped.classes spec)) e r
+class_refused rules mapped spec e r = of_told (declare_class rules mapped spec) (class_told mapped spec (class_fault rules mapped.schema.tables mapped.classes spec)) e r
+
+-- ---- classes stay plain roots
+
+pub table_plain : (old new : Mapped) (spec : TableSpec) → new ≡ with_table old spec → ArePlain old → ArePlain new
+table_plain old new spec is plain = subst ArePlain (sym is) plain
+
+pub class_plain : (old new : Mapped) (spec : ClassSpec) → new ≡ with_class old spec → is_plain_root spec ≡ true → ArePlain old → ArePlain new
+class_plain old new spec is one plain = subst ArePlain (sym is) (all_plain old.classes.specs spec plain one)
+
+pub plain_same : (old new : Mapped) → new ≡ old → ArePlain old → ArePlain new
+plain_same old new is plain = subst ArePlain (sym is) plain
+
+pub ruleset staying = (table_plain, class_plain, plain_same)

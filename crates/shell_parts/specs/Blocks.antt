@@ -7,9 +7,11 @@ use Rattle.schema_core.specs.declared.table.ColumnKind.{ColumnKind}
 use Rattle.schema_core.specs.declared.table.ColumnKind.TheVariants.{Integer}
 use Rattle.schema_core.specs.declared.table.ColumnSpec.{ColumnSpec}
 use Rattle.schema_core.specs.declared.table.TableSpec.{TableSpec}
-use Rattle.mapper_types.specs.declared.declared.ClassSpec.{ClassSpec}
-use Rattle.mapper_core.specs.Mapped.{Mapped}
-use Rattle.mapper_core.specs.Declaring.{declare_class, declare_table, is_empty, is_plain_root}
+use Rattle.class_types.specs.declared.declared.ClassSpec.{ClassSpec}
+use Rattle.class_types.specs.Rules.{Rules}
+use Rattle.class_mapping.specs.Mapped.{Mapped}
+use Rattle.class_mapping.specs.Plain.{is_empty, is_plain_root}
+use Rattle.class_mapping.specs.Declaring.{declare_class, declare_table}
 use Rattle.script_types.specs.declared.command.Command.{Command}
 use Rattle.script_types.specs.declared.command.Command.TheVariants as line
 use Rattle.script_types.specs.declared.command.Inside.{Inside}
@@ -73,10 +75,10 @@ abbrev pub without_number : {A : Type 0} → Result (A × Mapped) Refusal → Re
 without_number (Ok p) = Ok (tt, p.1)
 without_number (Err e) = Err e
 
--- the mapping's answer to what the block declares
-abbrev pub declare : Declared → Mapped → Result (Unit {0} × Mapped) Refusal
-declare (Table spec) mapped = without_number (declare_table mapped spec)
-declare (Class spec) mapped = without_number (declare_class mapped spec)
+-- the mapping's answer to what the block declares, where these validators are known
+abbrev pub declare : Rules → Declared → Mapped → Result (Unit {0} × Mapped) Refusal
+declare rules (Table spec) mapped = without_number (declare_table mapped spec)
+declare rules (Class spec) mapped = without_number (declare_class rules mapped spec)
 
 -- a refusal of a declaration, or `Memory`
 abbrev pub IsOfDeclaring : Refusal → Type 0

@@ -3,12 +3,15 @@
 ghost use Rattle.std.specs.Prelude.{◌≡◌, ◌&&◌, ◌==◌, ◌<◌, ◌↔◌, true, IfErr, OnErr, OnOk, IsTrue};
 ghost use Rattle.std.specs.List.{count_by, list_any};
 ghost use Rattle.base_core.specs.Answers.{Takes};
-ghost use Rattle.mapper_core.specs.Declaring.{declare_class as classes_then, declare_table as tables_then, is_plain_root};
+ghost use Rattle.class_types.specs.Shown.{rules_of};
+ghost use Rattle.class_mapping.specs.Plain.{is_plain_root};
+ghost use Rattle.class_mapping.specs.PlainClass.{ArePlain};
+ghost use Rattle.class_mapping.specs.Declaring.{declare_class as classes_then, declare_table as tables_then};
 ghost use Rattle.shell_parts.specs.Blocks.{IsOfDeclaring, block_of, declare, forms_of, has_one_integer_key, is_built_block, is_integer, with_class_line, with_line, with_table_line, without_number};
 
 use base_core::{ListOf, Refusal};
-use mapper_core::{Mapping, is_plain_root};
-use mapper_types::ClassSpec;
+use class_mapping::{Mapping, is_plain_root};
+use class_types::{ClassSpec, Hooks};
 use schema_core::{ColumnKind, ColumnSpec, TableSpec};
 use script_types::{Command, Inside};
 use std::alloc::Global;
@@ -133,19 +136,21 @@ impl Block {
         }
     }
 
-    /// Declares what the block says in a mapping.
+    /// Declares what the block says in a mapping, where these validators are known.
     ///
     /// # Errors
     /// The declaration's own refusals. A refused block declares nothing.
-    pub fn declare(self, mapping: &mut Mapping) -> Result<(), Refusal>
+    pub fn declare(self, hooks: &Hooks, mapping: &mut Mapping) -> Result<(), Refusal>
         requires built { is_built_block self.declared ≡ true }
         ensures step { Takes (λ _. tt)
-            (declare self.declared mapping.old) mapping.old result mapping.new }
+            (declare (rules_of hooks.now) self.declared mapping.old) mapping.old result
+            mapping.new }
+        ensures plain { ArePlain mapping.old → ArePlain mapping.new }
         ensures cause { IfErr result IsOfDeclaring }
     {
         match self.declared {
             Declared::Table(spec) => declare_table(spec, mapping),
-            Declared::Class(spec) => declare_class(spec, mapping),
+            Declared::Class(spec) => declare_class(spec, hooks, mapping),
         }
     }
 }
@@ -190,10 +195,12 @@ fn has_room(count: u32) -> bool
     count < u32::MAX
 }
 
+#[tactic(auto, using(crate::proofs::DeclaringLemmas::staying))]
 /// Declares a table in a mapping.
 fn declare_table(spec: TableSpec, mapping: &mut Mapping) -> Result<(), Refusal>
     ensures step { Takes (λ _. tt)
         (without_number (tables_then mapping.old spec)) mapping.old result mapping.new }
+    ensures plain { ArePlain mapping.old → ArePlain mapping.new }
     ensures cause { IfErr result IsOfDeclaring }
 {
     if !has_room(mapping.schema().count()) {
@@ -205,17 +212,20 @@ fn declare_table(spec: TableSpec, mapping: &mut Mapping) -> Result<(), Refusal>
     }
 }
 
+#[tactic(auto, using(crate::proofs::DeclaringLemmas::staying))]
 /// Declares a class in a mapping.
-fn declare_class(spec: ClassSpec, mapping: &mut Mapping) -> Result<(), Refusal>
+fn declare_class(spec: ClassSpec, hooks: &Hooks, mapping: &mut Mapping) -> Result<(), Refusal>
     requires plain { is_plain_root spec ≡ true }
     ensures step { Takes (λ _. tt)
-        (without_number (classes_then mapping.old spec)) mapping.old result mapping.new }
+        (without_number (classes_then (rules_of hooks.now) mapping.old spec)) mapping.old result
+        mapping.new }
+    ensures plain { ArePlain mapping.old → ArePlain mapping.new }
     ensures cause { IfErr result IsOfDeclaring }
 {
     if !has_room(mapping.count()) {
         return Err(Refusal::Memory);
     }
-    match mapping.declare_class(spec) {
+    match mapping.declare_class(spec, hooks) {
         Ok(_) => Ok(()),
         Err(refusal) => Err(refusal),
     }

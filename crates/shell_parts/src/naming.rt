@@ -4,7 +4,7 @@ ghost use Rattle.std.specs.Prelude.{◌≡◌};
 ghost use Rattle.shell_parts.specs.TableNames.{table_names};
 
 use base_core::{AttrNo, ClassId, ColumnNo, ObjId, RelNo, TableId};
-use mapper_core::Mapping;
+use class_mapping::Mapping;
 use printing::Naming;
 
 /// The names of a mapping's tables. Refusals have nothing else by number yet, and every other number gets the empty name.

@@ -8,7 +8,7 @@ ghost use Rattle.shell_parts.specs.TableNames.{table_names};
 
 use crate::naming::TableNames;
 use base_core::{Refusal, RowList, RowValues};
-use mapper_core::Mapping;
+use class_mapping::Mapping;
 use printing::{RefusalText, RowText};
 use schema_core::{ColumnSpec, TableSpec};
 use std::alloc::Global;

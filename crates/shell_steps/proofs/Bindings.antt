@@ -8,6 +8,7 @@ use Rattle.base_core.specs.declared.refusal.Refusal.{Refusal}
 use Rattle.schema_core.specs.Catalog.{same_name}
 use Rattle.object_arena.specs.Graph.{Graph, empty_graph}
 use Rattle.programs.specs.Moment.{Moment}
+use Rattle.class_mapping.specs.Mapped.{Mapped}
 use Rattle.session_core.specs.SessionState.{IsKept as KeepsSession, IsOfClass, ObjectsStay, SessionState, Stay}
 use Rattle.session_core.proofs.SessionLemmas.{stay_changed, stay_same}
 use Rattle.shell_parts.specs.declared.names.Bound.{Bound}
@@ -16,11 +17,11 @@ use Rattle.shell_parts.specs.Bindings.{bind, bound_to}
 use Rattle.shell_steps.specs.declared.stage.Stage.{Stage}
 use Rattle.shell_steps.specs.declared.stage.Stage.TheVariants.{Declaring, Configured}
 use Rattle.shell_steps.specs.Naming.{StandsFor}
-use Rattle.shell_steps.specs.ShellState.{AreBound, HasObject, IsKept, graph_of}
+use Rattle.shell_steps.specs.ShellState.{AreBound, HasObject, IsKept, IsPlainStage, graph_of, new_mapping}
 
 -- no name is bound
-pub none_bound : (stage : Stage) (names : List (List ℕ × Bound)) → names ≡ [] → AreBound stage names
-none_bound stage names none = rw none (record { made = λ name object class is. absurd cc })
+pub none_bound : (mapping : Mapped) (names : List (List ℕ × Bound)) → names ≡ [] → mapping ≡ new_mapping → AreBound (Declaring mapping) names
+none_bound mapping names none is = rw none (rw is (record { plain = refl; made = λ name object class bound. absurd cc }))
 
 -- ---- a binding more
 
@@ -56,6 +57,7 @@ same_object one two first second is = (cc, cc)
 -- a name is bound to an object that has been made
 bound_one : (stage : Stage) (names : List (List ℕ × Bound)) (name : List ℕ) (object : ObjId) (class : ClassId) → IsOfClass (graph_of stage) object class → AreBound stage names → AreBound stage (bind names name (Object object class))
 bound_one stage names name object class made bound = record {
+  plain = bound.plain;
   made = λ other found kind is.
       ⊎_elim
       (λ (now : Object found kind ≡ Object object class).
@@ -77,11 +79,11 @@ stays_of : {old new : Graph} {object : ObjId} {class : ClassId} → ObjectsStay 
 stays_of {new = new} {object = object} (Stay f) there =
     subst (λ (k : ClassId). IsOfClass new object k) there.1 (f object there.0)
 
-pub bound_stays : (old new : Stage) {names : List (List ℕ × Bound)} → ObjectsStay (graph_of old) (graph_of new) → AreBound old names → AreBound new names
-bound_stays old new stay bound = record { made = λ name object class is. stays_of stay (bound.made name object class is) }
+pub bound_stays : (old new : Stage) {names : List (List ℕ × Bound)} → IsPlainStage new → ObjectsStay (graph_of old) (graph_of new) → AreBound old names → AreBound new names
+bound_stays old new plain stay bound = record { plain = plain; made = λ name object class is. stays_of stay (bound.made name object class is) }
 
 kept_at : (stage : Stage) → IsKept stage stage
-kept_at (Declaring mapping) = tt
+kept_at (Declaring mapping) = λ plain. plain
 kept_at (Configured session) = (refl, refl, stay_same session.graph session.graph refl)
 
 -- the stage is what it was
@@ -90,19 +92,19 @@ kept_same {old = old} is = subst (IsKept old) (sym is) (kept_at old)
 
 -- the stage turned
 pub bound_kept : {old new : Stage} {names : List (List ℕ × Bound)} → IsKept old new → AreBound old names → AreBound new names
-bound_kept {old = Declaring a} {new = Declaring b} kept bound = record { made = bound.made }
-bound_kept {old = Declaring a} {new = Configured b} kept bound = bound_stays (Declaring a) (Configured b) (stay_same empty_graph b.graph kept.2) bound
+bound_kept {old = Declaring a} {new = Declaring b} kept bound = record { plain = kept bound.plain; made = bound.made }
+bound_kept {old = Declaring a} {new = Configured b} kept bound = bound_stays (Declaring a) (Configured b) tt (stay_same empty_graph b.graph kept.2) bound
 bound_kept {old = Configured a} {new = Declaring b} kept bound = absurd kept
-bound_kept {old = Configured a} {new = Configured b} kept bound = bound_stays (Configured a) (Configured b) kept.2 bound
+bound_kept {old = Configured a} {new = Configured b} kept bound = bound_stays (Configured a) (Configured b) tt kept.2 bound
 
 -- the session in the stage kept its objects
 pub bound_in_session : {A W : Type 0} {r : Result A Refusal} {moment : Moment W} {stage : Stage} {old new : SessionState} {names : List (List ℕ × Bound)} → stage ≡ Configured old → KeepsSession r old new moment → AreBound stage names → AreBound (Configured new) names
 bound_in_session {old = old} {new = new} {names = names} is kept bound =
-    bound_stays (Configured old) (Configured new) (stay_changed old.graph new.graph kept.same.classes) (subst (λ (s : Stage). AreBound s names) is bound)
+    bound_stays (Configured old) (Configured new) tt (stay_changed old.graph new.graph kept.same.classes) (subst (λ (s : Stage). AreBound s names) is bound)
 
 -- an object of the session was made
 pub bound_made : {stage : Stage} {old new : SessionState} {names : List (List ℕ × Bound)} → stage ≡ Configured old → ObjectsStay old.graph new.graph → AreBound stage names → AreBound (Configured new) names
-bound_made {old = old} {new = new} {names = names} is stay bound = bound_stays (Configured old) (Configured new) stay (subst (λ (s : Stage). AreBound s names) is bound)
+bound_made {old = old} {new = new} {names = names} is stay bound = bound_stays (Configured old) (Configured new) tt stay (subst (λ (s : Stage). AreBound s names) is bound)
 
 -- ---- the object that a name stands for
 

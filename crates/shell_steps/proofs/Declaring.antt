@@ -4,7 +4,10 @@ use Rattle.base_core.specs.declared.refusal.Refusal.{Refusal}
 use Rattle.base_core.specs.declared.refusal.Refusal.TheVariants.{Memory, ArgumentError, NotBuilt, ScriptError}
 use Rattle.base_core.specs.Answers.{Gives, Takes}
 use Rattle.programs.specs.Moment.{Runs}
-use Rattle.mapper_core.specs.Mapped.{Mapped}
+use Rattle.class_types.specs.Rules.{Rules}
+use Rattle.class_mapping.specs.Mapped.{Mapped}
+use Rattle.class_mapping.specs.Declaring.{closed}
+use Rattle.class_mapping.specs.PlainClass.{ArePlain}
 use Rattle.shell_parts.specs.Lines.{IsOfReading}
 use Rattle.shell_parts.specs.declared.block.Block.{Block}
 use Rattle.script_types.specs.declared.command.Command.{Command}
@@ -14,7 +17,7 @@ use Rattle.shell_steps.specs.declared.stage.Stage.{Stage}
 use Rattle.shell_steps.specs.declared.stage.Stage.TheVariants.{Declaring}
 use Rattle.programs.specs.Alone.{alone, Turns, Turned}
 use Rattle.programs.specs.Programs.{asked}
-use Rattle.shell_steps.specs.ShellState.{ShellState}
+use Rattle.shell_steps.specs.ShellState.{IsKept, IsPlainStage, ShellState, no_rules}
 use Rattle.session_core.proofs.SessionLemmas.{stay_same}
 use Rattle.shell_steps.proofs.Bindings.{kept_same}
 use Rattle.shell_steps.specs.Step.{declared_stage, declared_stage_at, stage_over, block_opened}
@@ -41,19 +44,28 @@ opens head {own = own} {r = Err e} p =
 
 -- the mapping took the declaration of a block, or refused it
 declares_at : (block : Block) (mapping now : Mapped) (r : Result (Unit {0}) Refusal)
-    → Takes (λ (u : Unit {0}). tt) (declare block.declared mapping) mapping r now → IfErr r IsOfDeclaring → Turns (declared_stage_at block (Declaring mapping)) (Declaring mapping) r (Declaring now)
+    → Takes (λ (u : Unit {0}). tt) (declare no_rules block.declared mapping) mapping r now → IfErr r IsOfDeclaring → Turns (declared_stage_at block (Declaring mapping)) (Declaring mapping) r (Declaring now)
 declares_at block mapping now (Ok u) p cause = Turned (ap stage_over p)
 declares_at block mapping now (Err Memory) p cause = Turned tt
 declares_at block mapping now (Err (ArgumentError kind)) p cause = Turned (ap stage_over p.1, ap Declaring p.0, (refl, refl))
 declares_at block mapping now (Err e) p cause = absurd cause
 
-pub declares : (block : Block) {stage after : Stage} {mapping now : Mapped} {r : Result (Unit {0}) Refusal}
-    → is_built_block block.declared ≡ true → stage ≡ Declaring mapping → after ≡ Declaring now
-    → Takes (λ (u : Unit {0}). tt) (declare block.declared mapping) mapping r now → IfErr r IsOfDeclaring → Turns (declared_stage block stage) stage r after
+pub declares : (block : Block) {rules : Rules} {stage after : Stage} {mapping now : Mapped} {r : Result (Unit {0}) Refusal}
+    → is_built_block block.declared ≡ true → rules ≡ no_rules → stage ≡ Declaring mapping → after ≡ Declaring now
+    → Takes (λ (u : Unit {0}). tt) (declare rules block.declared mapping) mapping r now → IfErr r IsOfDeclaring → Turns (declared_stage block stage) stage r after
 unfolding declared_stage
-declares block {stage = stage} {after = after} {mapping = mapping} {now = now} {r = r} built is next p cause =
+declares block {stage = stage} {after = after} {mapping = mapping} {now = now} {r = r} built known is next p cause =
+    let taken = subst (λ (known : Rules). Takes (λ (u : Unit {0}). tt) (declare known block.declared mapping) mapping r now) known p in
     subst (λ (s : Stage). Turns (declared_stage block stage) stage r s) (sym next)
     (subst (λ (s : Stage). Turns (declared_stage block s) s r (Declaring now)) (sym is)
-    (subst (λ b. Turns (if b then declared_stage_at block (Declaring mapping) else Err NotBuilt) (Declaring mapping) r (Declaring now)) (sym built) (declares_at block mapping now r p cause)))
+    (subst (λ b. Turns (if b then declared_stage_at block (Declaring mapping) else Err NotBuilt) (Declaring mapping) r (Declaring now)) (sym built) (declares_at block mapping now r taken cause)))
 
-pub ruleset declaring = (kept_same, stay_same, declares, turns_ok, turns_err, turns_lost)
+-- classes stay plain roots
+pub kept_declared : {stage after : Stage} {mapping now : Mapped} → stage ≡ Declaring mapping → after ≡ Declaring now → (ArePlain mapping → ArePlain now) → IsKept stage after
+kept_declared {stage = stage} {after = after} {mapping = mapping} {now = now} is next plain =
+    subst (λ (s : Stage). IsKept s after) (sym is) (subst (λ (s : Stage). IsKept (Declaring mapping) s) (sym next) plain)
+
+pub plain_closed : {stage : Stage} {mapping now : Mapped} → stage ≡ Declaring mapping → now ≡ closed mapping → IsPlainStage stage → ArePlain now
+plain_closed is next plain = subst ArePlain (sym next) (subst IsPlainStage is plain)
+
+pub ruleset declaring = (kept_same, kept_declared, stay_same, declares, turns_ok, turns_err, turns_lost)

@@ -6,7 +6,7 @@ use Rattle.base_core.specs.declared.refusal.Refusal.{Refusal}
 use Rattle.base_core.specs.declared.refusal.Refusal.TheVariants.{InvalidRequestError}
 use Rattle.base_core.specs.declared.refusal.RequestKind.TheVariants.{NotConfigured}
 use Rattle.programs.specs.Moment.{Runs}
-use Rattle.mapper_core.specs.Mapped.{Mapped, find_class}
+use Rattle.class_mapping.specs.Mapped.{Mapped, find_class}
 use Rattle.session_core.specs.SessionState.{SessionState}
 use Rattle.shell_parts.specs.declared.names.Bound.{Bound}
 use Rattle.shell_parts.specs.Bindings.{bound_to}
@@ -19,13 +19,13 @@ use Rattle.shell_steps.specs.ShellState.{ShellState}
 use Rattle.programs.proofs.AloneLemmas.{alone_lost, asked_err, asked_tells, tells_ok, tells_err, tells_lost}
 
 pub class_asked : (name : List ℕ) {own : ShellState} {session : SessionState} {r : Result ClassId Refusal}
-    → own.stage ≡ Configured session → Tells (λ (class : ClassId). class) (found_or_unknown name (find_class session.mapping.classes name)) r → Runs alone (λ (class : ClassId). class) (asked (class_named name)) own r own
+    → own.stage ≡ Configured session → Tells (λ (class : ClassId). class) (found_or_unknown name (find_class session.mapping name)) r → Runs alone (λ (class : ClassId). class) (asked (class_named name)) own r own
 class_asked name {r = r} opened p = asked_tells (class_named name)
-    (subst (λ (stage : Stage). Tells (λ (class : ClassId). class) (of_session (λ session. found_or_unknown name (find_class session.mapping.classes name)) stage) r) (sym opened) p)
+    (subst (λ (stage : Stage). Tells (λ (class : ClassId). class) (of_session (λ session. found_or_unknown name (find_class session.mapping name)) stage) r) (sym opened) p)
 
 pub class_unasked : {X : Type 0} {v : X → ClassId} (name : List ℕ) {own : ShellState} {mapping : Mapped}
     → own.stage ≡ Declaring mapping → Runs alone v (asked (class_named name)) own (Err (InvalidRequestError NotConfigured)) own
-class_unasked {v = v} name closed = asked_err {v = v} (class_named name) refl refl (ap (of_session (λ session. found_or_unknown name (find_class session.mapping.classes name))) closed)
+class_unasked {v = v} name closed = asked_err {v = v} (class_named name) refl refl (ap (of_session (λ session. found_or_unknown name (find_class session.mapping name))) closed)
 
 pub object_asked : (name : List ℕ) {own : ShellState} {session : SessionState} {bound : Option Bound} {r : Result ObjId Refusal}
     → own.stage ≡ Configured session → bound ≡ bound_to own.names name → Tells (λ (object : ObjId). object) (object_bound name bound) r → Runs alone (λ (object : ObjId). object) (asked (object_named name)) own r own

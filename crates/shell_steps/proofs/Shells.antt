@@ -11,7 +11,7 @@ use Rattle.programs.specs.Moment.{Told, Moment, IsRun, IsCutOff, Outcome, AsTold
 use Rattle.programs.specs.Beside.{Beside, by_own, on_own, on_store, unnoted, told_beside, moment_beside, moment_answering}
 use Rattle.programs.proofs.Sequence.{then_ok, then_err, refused, done as given, no_memory, ran_out, guard_ok, guard_early, guard_refused}
 use Rattle.programs.proofs.Lifting.{on_keeper, same_beside, then_store_err, then_store_ok}
-use Rattle.mapper_core.specs.Mapped.{Mapped}
+use Rattle.class_mapping.specs.Mapped.{Mapped}
 use Rattle.script_types.specs.declared.command.Command.{Command}
 use Rattle.script_types.specs.declared.command.Command.TheVariants as line
 use Rattle.script_types.specs.declared.command.Term.{Term}

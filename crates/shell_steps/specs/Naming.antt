@@ -10,8 +10,8 @@ use Rattle.base_core.specs.declared.refusal.RequestKind.TheVariants.{NotConfigur
 use Rattle.base_core.specs.declared.refusal.Refusal.{Refusal}
 use Rattle.base_core.specs.declared.refusal.Refusal.TheVariants.{InvalidRequestError}
 use Rattle.schema_core.specs.Catalog.{same_name}
-use Rattle.mapper_types.specs.declared.mapped.Attribute.{Attribute}
-use Rattle.mapper_core.specs.Mapped.{attributes_of, find_class}
+use Rattle.class_types.specs.declared.mapped.Attribute.{Attribute}
+use Rattle.class_mapping.specs.Mapped.{attributes_of, find_class}
 use Rattle.programs.specs.Programs.{Run, each, asked}
 use Rattle.session_core.specs.SessionState.{SessionState}
 use Rattle.shell_parts.specs.declared.names.Bound.{Bound}
@@ -55,7 +55,7 @@ found_or_unknown name None = unknown name
 found_or_unknown name (Some a) = Ok a
 
 abbrev pub class_named : List ℕ → ShellState → Result ClassId Refusal
-class_named name shell = of_session (λ session. found_or_unknown name (find_class session.mapping.classes name)) shell.stage
+class_named name shell = of_session (λ session. found_or_unknown name (find_class session.mapping name)) shell.stage
 
 -- the attribute of a name
 abbrev pub find_attribute : List Attribute → List ℕ → Option AttrNo

@@ -3,7 +3,9 @@ use Rattle.std.specs.Prelude.{◌≡◌, ℕ, Bool, true, false, List, [], Optio
 use Rattle.base_core.specs.declared.refusal.Refusal.{Refusal}
 use Rattle.base_core.specs.declared.ids.ClassId.{ClassId}
 use Rattle.base_core.specs.declared.ids.ObjId.{ObjId}
-use Rattle.mapper_core.specs.Mapped.{IsClass, Mapped}
+use Rattle.class_types.specs.Rules.{Rules}
+use Rattle.class_mapping.specs.Mapped.{IsClass, Mapped}
+use Rattle.class_mapping.specs.PlainClass.{ArePlain}
 use Rattle.object_arena.specs.Graph.{Graph, IsObject, empty_graph}
 use Rattle.programs.specs.Programs.{ends_early}
 use Rattle.programs.specs.Moment.{Moment}
@@ -26,7 +28,11 @@ pub record ShellState : Type 0 where
 
 -- a mapping that declares nothing
 abbrev pub new_mapping : Mapped
-new_mapping = record { schema = record { tables = []; resolved = false }; classes = []; configured = false }
+new_mapping = record { schema = record { tables = []; resolved = false }; classes = record { specs = []; lines = [] }; configured = false }
+
+-- no validators are known
+abbrev pub no_rules : Rules
+no_rules = record { names = []; asks = [] }
 
 -- a shell before the first line
 abbrev pub new_shell : ShellState
@@ -42,8 +48,15 @@ abbrev pub graph_of : Stage → Graph
 graph_of (Declaring mapping) = empty_graph
 graph_of (Configured session) = session.graph
 
--- what every shell keeps: a name that is bound to an object stands for one that has been made, of the class with which it is bound
+-- each class that is declared is a plain root
+abbrev pub IsPlainStage : Stage → Type 0
+IsPlainStage (Declaring mapping) = ArePlain mapping
+IsPlainStage (Configured session) = Unit {0}
+
+-- what every shell keeps: a name that is bound to an object stands for one that has been made, of the class with which it is
+-- bound; and each class that is declared is a plain root
 pub record AreBound (stage : Stage) (names : List (List ℕ × Bound)) : Type 0 where
+  pub plain : IsPlainStage stage
   pub made : (name : List ℕ) (object : ObjId) (class : ClassId) → bound_to names name ≡ Some (Object object class) → IsOfClass (graph_of stage) object class
 
 -- the keeper took its target and is in step with the session, whose tables have their targets; before there is a session it
@@ -58,9 +71,9 @@ StaysReady (Ok x) stage moment = IsReady stage moment
 StaysReady (Err e) stage moment = ends_early e ≡ false → IsReady stage moment
 
 -- A keeper that was ready is so still, and every object is there still: a session that opened has no transaction and no
--- objects, and one that was open has the same mapping and scopes.
+-- objects, and one that was open has the same mapping and scopes. Before there is a session, classes stay plain roots.
 abbrev pub IsKept : Stage → Stage → Type 0
-IsKept (Declaring old) (Declaring new) = Unit {0}
+IsKept (Declaring old) (Declaring new) = ArePlain old → ArePlain new
 IsKept (Declaring old) (Configured new) = (new.mapping.schema.resolved ≡ true) × (new.scopes ≡ []) × (new.graph ≡ empty_graph)
 IsKept (Configured old) (Declaring new) = ⊥
 IsKept (Configured old) (Configured new) = (new.mapping ≡ old.mapping) × (new.scopes ≡ old.scopes) × ObjectsStay old.graph new.graph

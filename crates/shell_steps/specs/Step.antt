@@ -9,8 +9,8 @@ use Rattle.base_core.specs.declared.refusal.Refusal.{Refusal}
 use Rattle.base_core.specs.declared.refusal.Refusal.TheVariants.{InvalidRequestError, NotBuilt, ScriptError}
 use Rattle.schema_core.specs.Catalog.{Catalog, spec_of}
 use Rattle.schema_core.specs.DependencyOrder.{dependency_order, table_ids}
-use Rattle.mapper_core.specs.Mapped.{Mapped}
-use Rattle.mapper_core.specs.Declaring as declaring
+use Rattle.class_mapping.specs.Mapped.{Mapped}
+use Rattle.class_mapping.specs.Declaring as declaring
 use Rattle.script_types.specs.declared.command.Command.{Command}
 use Rattle.script_types.specs.declared.command.Command.TheVariants as line
 use Rattle.script_types.specs.declared.command.Inside.{Inside}
@@ -33,7 +33,7 @@ use Rattle.session_core.specs.Steps as session
 use Rattle.shell_steps.specs.declared.stage.Stage.{Stage}
 use Rattle.shell_steps.specs.declared.stage.Stage.TheVariants.{Declaring, Configured}
 use Rattle.shell_steps.specs.Naming.{cells_named, class_named, object_named}
-use Rattle.shell_steps.specs.ShellState.{ShellState, mapping_of}
+use Rattle.shell_steps.specs.ShellState.{ShellState, mapping_of, no_rules}
 
 -- the world of a line: the shell, and the store
 abbrev pub World : Type 0
@@ -98,7 +98,7 @@ stage_over (Ok p) = Ok (Declaring p.1)
 stage_over (Err e) = Err e
 
 abbrev pub declared_stage_at : Block → Stage → Result Stage Refusal
-declared_stage_at block (Declaring mapping) = stage_over (declare block.declared mapping)
+declared_stage_at block (Declaring mapping) = stage_over (declare no_rules block.declared mapping)
 declared_stage_at block (Configured session) = Err (InvalidRequestError IsConfigured)
 
 -- what a block says is declared, where its form is built

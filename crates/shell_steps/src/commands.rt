@@ -11,7 +11,7 @@ ghost use Rattle.session_core.specs.SessionState.{IsInStep, IsOfClass, StaysInSt
 ghost use Rattle.session_core.specs.Making.{object_made};
 ghost use Rattle.session_core.specs.Steps as session;
 ghost use Rattle.programs.specs.Alone.{Turns, alone};
-ghost use Rattle.shell_steps.specs.ShellState.{DepthStays, HasClass, HasObject, IsKept, IsReady, StaysReady, graph_of};
+ghost use Rattle.shell_steps.specs.ShellState.{DepthStays, HasClass, HasObject, IsKept, IsPlainStage, IsReady, StaysReady, graph_of};
 ghost use Rattle.shell_steps.specs.Step as step;
 
 use crate::shell::Shell;
@@ -19,8 +19,8 @@ use crate::stage::Stage;
 use base_core::{
     AttrNo, ClassId, ListOf, Name, ObjId, Refusal, RequestKind, RowList, TableId, Value,
 };
+use class_mapping::Mapping;
 use keeper_core::{Keeper, calls};
-use mapper_core::Mapping;
 use schema_core::Schema;
 use session_core::Session;
 use shell_parts::{Bound, Reply};
@@ -201,8 +201,9 @@ impl Shell {
 }
 
 /// Checks all declarations, closes the mapping and opens the session.
-#[tactic(auto, using(programs::proofs::AloneLemmas::standing, crate::proofs::Bindings::bindings), unfolding(crate::specs::Step::opened_stage))]
+#[tactic(auto, using(programs::proofs::AloneLemmas::standing, crate::proofs::Bindings::bindings, crate::proofs::Declaring::plain_closed), unfolding(crate::specs::Step::opened_stage))]
 fn open_session(alloc: Global, stage: &mut Stage) -> Result<(), Refusal>
+    requires plain { IsPlainStage stage.old }
     ensures step { Turns (step.opened_stage stage.old) stage.old result stage.new }
     ensures kept { IsKept stage.old stage.new }
 {

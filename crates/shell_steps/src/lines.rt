@@ -12,9 +12,11 @@ ghost use Rattle.shell_steps.specs.Step as step;
 use crate::shell::Shell;
 use crate::stage::Stage;
 use base_core::{Refusal, RequestKind};
+use class_types::Hooks;
 use keeper_core::{Keeper, calls};
 use script_types::{Command, Inside};
 use shell_parts::{Block, Reply, is_built, is_end, read};
+use std::alloc::Global;
 use std::mem::{self, drop};
 
 impl Shell {
@@ -277,7 +279,7 @@ impl Shell {
             (λ u. u) (step.goes (step.declared_stage block)) self.old result self.new }
         ensures kept { IsKept self.old.stage self.new.stage }
     {
-        declare(&mut self.stage, block)
+        declare(self.alloc, &mut self.stage, block)
     }
 }
 
@@ -286,7 +288,7 @@ impl Shell {
 /// # Errors
 /// `NotBuilt` where its form is not built; `Configured` where the mapping is; then the declaration's own refusals.
 #[tactic(auto, using(crate::proofs::Declaring::declaring), unfolding(crate::specs::Step::declared_stage))]
-fn declare(stage: &mut Stage, block: Block) -> Result<(), Refusal>
+fn declare(alloc: Global, stage: &mut Stage, block: Block) -> Result<(), Refusal>
     ensures step { Turns (step.declared_stage block stage.old) stage.old result stage.new }
     ensures kept { IsKept stage.old stage.new }
 {
@@ -295,7 +297,7 @@ fn declare(stage: &mut Stage, block: Block) -> Result<(), Refusal>
         return Err(Refusal::NotBuilt);
     }
     match stage {
-        Stage::Declaring(mapping) => block.declare(mapping),
+        Stage::Declaring(mapping) => block.declare(&Hooks::new(alloc), mapping),
         Stage::Configured(_) => {
             drop(block);
             Err(Refusal::InvalidRequestError(RequestKind::Configured))

@@ -5,7 +5,7 @@ ghost use Rattle.std.specs.List.{position};
 ghost use Rattle.std.specs.Option.{option_copied};
 ghost use Rattle.programs.specs.Moment.{Runs};
 ghost use Rattle.schema_core.specs.Catalog.{same_name};
-ghost use Rattle.mapper_core.specs.Mapped.{IsClass, find_class};
+ghost use Rattle.class_mapping.specs.Mapped.{IsClass, find_class};
 ghost use Rattle.programs.specs.Alone.{Tells, alone};
 ghost use Rattle.programs.specs.Programs.{asked};
 ghost use Rattle.shell_steps.specs.Naming as naming;
@@ -14,8 +14,8 @@ ghost use Rattle.shell_steps.specs.ShellState.{HasClass, HasObject};
 use crate::shell::Shell;
 use crate::stage::Stage;
 use base_core::{AttrNo, ClassId, Copied, ListOf, Name, ObjId, Refusal, RequestKind, Value};
-use mapper_core::Mapping;
-use mapper_types::Attribute;
+use class_mapping::Mapping;
+use class_types::Attribute;
 use shell_parts::Bound;
 
 /// Values for attributes.
@@ -42,7 +42,7 @@ fn object_bound(name: &Name, bound: Option<&Bound>) -> Result<ObjId, Refusal>
 #[tactic(auto, using(programs::proofs::AloneLemmas::standing))]
 fn class_known(mapping: &Mapping, name: &Name) -> Result<ClassId, Refusal>
     ensures told { Tells (λ class. class)
-        (naming.found_or_unknown name.now (find_class mapping.now.classes name.now)) result }
+        (naming.found_or_unknown name.now (find_class mapping.now name.now)) result }
     ensures found { IfOk result (IsClass mapping.now) }
 {
     match mapping.find_class(name) {

@@ -10,8 +10,8 @@ ghost use Rattle.shell_steps.specs.Step as step;
 
 use crate::stage::Stage;
 use base_core::Refusal;
+use class_mapping::Mapping;
 use keeper_core::{Keeper, calls};
-use mapper_core::Mapping;
 use shell_parts::{Block, Names, Reply};
 use std::alloc::Global;
 use std::marker::Model;

@@ -1,6 +1,6 @@
 //! Declarations, and then the session.
 
-use mapper_core::Mapping;
+use class_mapping::Mapping;
 use session_core::Session;
 
 /// Declarations until `configure`, and from then on the session.

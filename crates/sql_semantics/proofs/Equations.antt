@@ -15,7 +15,7 @@ use Rattle.expr_types.specs.declared.expr.Expr.TheVariants as expr
 use Rattle.expr_types.specs.Level.{operands, scope_below}
 use Rattle.expr_types.proofs.Folds.{fold-Column, fold-Lit, fold-Compare, fold-IsNull, fold-And, fold-Or, fold-Not, fold-Arith, fold-Neg, fold-Concat, fold-Like, fold-Ilike, fold-InList, fold-Between, fold-Distinct, fold-Call, fold-CountAll, fold-Exists}
 use Rattle.sql_semantics.specs.Kinds.{Scope, Judged, judged, judged_level}
-use Rattle.sql_semantics.specs.Plain.{Found, fits, fits_level, settled, settled_level}
+use Rattle.sql_semantics.specs.Plain.{Found, fits, fits_level, full_level, has_full_lists, settled, settled_level}
 use Rattle.sql_semantics.specs.Eval.{Meaning, evaluated, meaning}
 
 abbrev pub enter : Scope → Origin → Scope
@@ -262,3 +262,7 @@ judged-Exists schema scope g o a = ap (λ (j : Scope → Judged). j scope) (fold
 pub fits-Exists : (schema : Catalog) (scope : Scope) (g : Bool) (o : Origin) (a : Expr) → fits schema (expr.Exists g o a) scope ≡ fits_step schema (Expr-F.Exists g o (fits schema a)) scope
 unfolding fits
 fits-Exists schema scope g o a = ap (λ (f : Scope → Bool). f scope) (fold-Exists (Scope → Bool) (fits_step schema) g o a)
+
+pub full_rolled : (x : Expr-F Expr) → has_full_lists (roll-Expr x) ≡ full_level (map-Expr Expr Bool has_full_lists x)
+unfolding has_full_lists
+full_rolled x = fold-roll-Expr Bool full_level x

@@ -53,9 +53,12 @@ several (Expr-F.And parts) = nat_lt 1 (length parts)
 several (Expr-F.Or parts) = nat_lt 1 (length parts)
 several level = true
 
+abbrev pub full_level : Expr-F Bool → Bool
+full_level level = several level && list_all (λ has. has) (operands level)
+
 -- every `and` and `or` has at least two parts
 unfoldable pub has_full_lists : Expr → Bool
-has_full_lists = fold-Expr Bool (λ level. several level && list_all (λ has. has) (operands level))
+has_full_lists = fold-Expr Bool full_level
 
 abbrev pub name_or : List ℕ → Option (List ℕ) → List ℕ
 name_or name None = name

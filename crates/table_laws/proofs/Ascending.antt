@@ -8,6 +8,7 @@ use Rattle.std.specs.List.{AllByRecursion, list_any}
 use Rattle.std.specs.List.Sorted.{IsStrictlySortedBy}
 use Rattle.std.specs.Map.{keys_of, remove_entry}
 use Rattle.std.specs.BTreeMap.{insert_entry, is_at}
+use Rattle.schema_core.proofs.TableOrder.{tables_total}
 use Rattle.base_core.specs.declared.ids.ColumnNo.{ColumnNo}
 use Rattle.base_core.specs.declared.ids.TableId.{TableId}
 use Rattle.base_core.specs.declared.value.Value.{Value}
@@ -22,7 +23,7 @@ use Rattle.schema_core.specs.Judged.{and_then, change_all, lacks_value, remove_a
 use Rattle.schema_core.specs.Tables.{AreAscending, Rows, Tables, row_under, rows_in, table_cmp, with_row, with_rows, without_row}
 use Rattle.table_laws.proofs.Entries.{all_insert, all_lookup, all_map}
 use Rattle.table_laws.proofs.Legality.{and_ok, guard_ok, keys_ok, no_ok, same_ok}
-use Rattle.table_laws.proofs.SameValues.{same_table, tables_total}
+use Rattle.table_laws.proofs.SameValues.{same_table}
 
 -- ---- entries
 

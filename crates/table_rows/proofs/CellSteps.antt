@@ -1,7 +1,8 @@
 -- Steps of loops over the columns of a table beside the cells of a row.
-use Rattle.std.proofs.Common.{◌≡◌, ℕ, zero, suc, ℤ, ◌+◌, ◌<◌, ◌≤◌, Bool, true, false, not, cond, ◌&&◌, ◌||◌, List, [], ◌∷◌, ◌++◌, map, length, get_or, drop, take, slice_get, slice_set, Option, None, Some, refl, sym, ap, ◌∙◌, add-one, drop-cons, append_assoc, append-nil, arith}
+use Rattle.std.proofs.Common.{◌≡◌, ℕ, zero, suc, ◌+◌, ◌<◌, ◌≤◌, Bool, true, false, not, cond, ◌&&◌, ◌||◌, List, [], ◌∷◌, ◌++◌, map, length, get_or, drop, take, slice_get, slice_set, None, Some, refl, sym, ap, ◌∙◌, add-one, drop-cons, append_assoc, append-nil, arith}
 use Rattle.std.proofs.lemmas.List.{drop_all, take_more, map-append}
 use Rattle.std.proofs.lemmas.Option.{slice_get_within, get_or_from_slice_get}
+use Rattle.base_core.proofs.Tests.{and_false}
 use Rattle.base_core.specs.declared.ids.ColumnNo.{ColumnNo}
 use Rattle.base_core.specs.declared.value.Value.{Value}
 use Rattle.base_core.specs.declared.value.Value.TheVariants.{Null}
@@ -99,10 +100,6 @@ pub lack_free : (required : ColumnSpec → Bool) (columns : List ColumnSpec) (ro
     → required (get_or columns i d) ≡ false → lacks_value required (drop (i + 1) columns) (drop (i + 1) row) ≡ lacks_value required (drop i columns) (drop i row)
 lack_free required columns row i d cell h is free =
     sym (both (lacks_value required) columns row i d cell h is ∙ ap (λ b. (b && is_null cell) || lacks_value required (drop (i + 1) columns) (drop (i + 1) row)) free)
-
-and_false : (a : Bool) → (a && false) ≡ false
-and_false true = refl
-and_false false = refl
 
 pub lack_held : (required : ColumnSpec → Bool) (columns : List ColumnSpec) (row : List Value) (i : ℕ) (d : ColumnSpec) (cell : Value) → i < length columns → slice_get row i ≡ Some cell
     → is_null cell ≡ false → lacks_value required (drop (i + 1) columns) (drop (i + 1) row) ≡ lacks_value required (drop i columns) (drop i row)

@@ -2,7 +2,7 @@
 use Rattle.std.proofs.Common.{◌≡◌, Bool, true, false, not, ◌&&◌, ◌||◌, List, [], ◌∷◌, Option, None, Some, is_some, refl, sym, ap, ◌∙◌}
 use Rattle.std.specs.declared.cmp.Ordering.{Ordering}
 use Rattle.std.specs.declared.cmp.Ordering.TheVariants.{Less, Equal, Greater}
-use Rattle.std.specs.Ordering.{is_eq, nat_cmp}
+use Rattle.std.specs.Ordering.{is_eq}
 use Rattle.std.specs.Borrow.{Bor}
 use Rattle.std.specs.Option.{option_and_then, unwrap_or}
 use Rattle.std.specs.List.{list_any}
@@ -17,13 +17,13 @@ use Rattle.schema_core.specs.declared.table.ForeignSpec.{ForeignSpec}
 use Rattle.schema_core.specs.declared.table.TableSpec.{TableSpec}
 use Rattle.schema_core.specs.Catalog.{Catalog, spec_of, target_of}
 use Rattle.schema_core.specs.Judged.{loses_row, some_loses_row}
-use Rattle.schema_core.specs.Tables.{Rows, Tables, cells_of, dangles, has_null, has_row, names_row, row_under, rows_in, same_values, table_cmp, with_rows, without_row}
+use Rattle.schema_core.specs.Tables.{Rows, Tables, cells_of, has_null, has_row, names_row, row_under, rows_in, same_values, table_cmp, with_rows, without_row}
 use Rattle.table_rows.specs.Rows.{rows_at}
-use Rattle.table_rows.specs.Lost.{is_lost, is_table, refers_to, some_lost, was_named}
-use Rattle.table_rows.specs.declared.judging.Before.{Before}
+use Rattle.table_rows.specs.Lost.{is_lost, is_table, refers_to, some_lost}
 use Rattle.table_rows.specs.declared.judging.Before.TheVariants as before
 use Rattle.table_rows.proofs.Entries.{found_put}
-use Rattle.table_rows.proofs.Laws.{exact_values, tables_total}
+use Rattle.base_core.proofs.Exact.{exact_values}
+use Rattle.schema_core.proofs.TableOrder.{tables_total}
 
 exact_tables : CmpEqualImpliesEq table_cmp
 exact_tables a b e = ap (λ n. record { 0 = n }) (ranked a.0 b.0 Equal (sym e))

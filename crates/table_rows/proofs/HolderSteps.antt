@@ -1,17 +1,19 @@
 -- Steps of a search for unique values in a map.
-use Rattle.std.proofs.Common.{◌≡◌, ℕ, Bool, true, false, not, ◌&&◌, ◌||◌, cond, if◌then◌else◌, List, [], ◌∷◌, ◌++◌, Option, None, Some, refl, sym, ap, ◌∙◌, append_assoc, append-nil}
+use Rattle.std.proofs.Common.{◌≡◌, ℕ, Bool, true, false, not, ◌&&◌, ◌||◌, cond, if◌then◌else◌, List, [], ◌∷◌, ◌++◌, None, Some, refl, sym, ap, ◌∙◌, append_assoc, append-nil}
 use Rattle.std.specs.List.{list_any}
 use Rattle.std.specs.Option.{unwrap_or}
 use Rattle.std.specs.HashMap.Eq.{lookup_congr}
 use Rattle.std.specs.BTreeMap.{BTreeMap, get}
 use Rattle.std.specs.Cmp.{IsEquivalence, eq_by_cmp_equiv}
 use Rattle.std.specs.Cmp.Lexicographic.{lists_total}
+use Rattle.base_core.proofs.Tests.{and_false, and_true}
+use Rattle.schema_core.proofs.AnySteps.{any_never}
 use Rattle.base_core.specs.declared.value.Value.{Value}
 use Rattle.base_core.specs.Order.{values_cmp}
 use Rattle.base_core.specs.OrderLaws.{value_cmp_total}
 use Rattle.schema_core.specs.declared.table.TableSpec.{TableSpec}
 use Rattle.schema_core.specs.Judged.{some_repeats}
-use Rattle.schema_core.specs.Tables.{Rows, cells_of, collide, has_null, same_values}
+use Rattle.schema_core.specs.Tables.{Rows, cells_of, has_null, same_values}
 use Rattle.table_rows.specs.Holders.{IsHolders, holders, is_held, is_held_by, keys_at}
 
 abbrev Index : Type 0
@@ -55,14 +57,6 @@ holders_more spec unique index new key row rows value q is more =
 
 -- ---- a value that another key has
 
-and_false : (a : Bool) → (a && false) ≡ false
-and_false true = refl
-and_false false = refl
-
-and_true : (a : Bool) → (a && true) ≡ a
-and_true true = refl
-and_true false = refl
-
 null_held : (key : List Value) (rows : Rows) → false ≡ list_any (λ other. not (same_values key other.0) && false) rows
 null_held key [] = refl
 null_held key (row ∷ rows) = null_held key rows ∙ ap (λ b. b || list_any (λ (other : List Value × List Value). not (same_values key other.0) && false) rows) (sym (and_false (not (same_values key row.0))))
@@ -101,10 +95,6 @@ all_held spec unique rows (entry ∷ entries) index h =
 
 -- ---- constraint by constraint
 
-never : {A : Type 0} (xs : List A) → list_any (λ x. false) xs ≡ false
-never [] = refl
-never (x ∷ xs) = never xs
-
 shuffle : (a b c d : Bool) → ((a || c) || (b || d)) ≡ ((a || b) || (c || d))
 shuffle true b c d = refl
 shuffle false true true d = refl
@@ -116,7 +106,7 @@ or_any p q [] = refl
 or_any p q (x ∷ xs) = shuffle (p x) (q x) (list_any p xs) (list_any q xs) ∙ ap (λ b. (p x || q x) || b) (or_any p q xs)
 
 turned : {A B : Type 0} (f : A → B → Bool) (xs : List A) (ys : List B) → list_any (λ x. list_any (f x) ys) xs ≡ list_any (λ y. list_any (λ x. f x y) xs) ys
-turned f [] ys = sym (never ys)
+turned f [] ys = sym (any_never ys)
 turned f (x ∷ xs) ys = ap (λ b. list_any (f x) ys || b) (turned f xs ys) ∙ or_any (f x) (λ y. list_any (λ z. f z y) xs) ys
 
 pub uniques_first : (spec : TableSpec) (rows entries : Rows) → list_any (λ unique. list_any (λ entry. is_held spec unique rows entry.0 entry.1) entries) spec.uniques ≡ some_repeats spec rows entries

@@ -2,66 +2,18 @@
 use Rattle.std.proofs.lemmas.Bool.{true≢false}
 use Rattle.std.proofs.lemmas.Map.Steps.{set_value_same}
 use Rattle.std.specs.Option.{unwrap_or}
-use Rattle.std.proofs.Common.{◌≡◌, Bool, true, false, is_some, Result, Ok, Err, OnErr, List, [], Option, None, Some, refl, sym, ap, ◌∙◌}
-use Rattle.std.specs.declared.cmp.Ordering.TheVariants.{Equal}
-use Rattle.std.specs.Ordering.{bool_cmp}
-use Rattle.std.specs.Cmp.{IsTotalOrder, on_total, nat_cmp_total}
-use Rattle.std.specs.Cmp.Lexicographic.{lists_total}
+use Rattle.std.proofs.Common.{◌≡◌, true, is_some, Result, Ok, Err, OnErr, List, [], Option, None, Some, refl, sym, ap, ◌∙◌}
 use Rattle.std.specs.BTreeMap.{is_at}
 use Rattle.std.specs.Map.{keys_of, set_value}
 use Rattle.std.specs.List.Sorted.{IsStrictlySortedBy}
-use Rattle.std.specs.FinMap.{slice_cmp-IsAntisymmetric}
-use Rattle.std.proofs.lemmas.Map.Lookups.{CmpEqualImpliesEq, exact_bytes, exact_signed}
+use Rattle.base_core.proofs.Exact.{exact_values, values_total}
+use Rattle.schema_core.proofs.TableOrder.{tables_total}
 use Rattle.base_core.specs.declared.ids.TableId.{TableId}
 use Rattle.base_core.specs.declared.value.Value.{Value}
-use Rattle.base_core.specs.declared.value.Value.TheVariants.{Null, Int, Text, Bool as BoolValue, Bytes}
-use Rattle.base_core.specs.Order.{value_cmp, values_cmp}
-use Rattle.base_core.specs.OrderLaws.{value_cmp_total}
+use Rattle.base_core.specs.Order.{values_cmp}
 use Rattle.schema_core.specs.Tables.{Rows, Tables, table_cmp, row_under, rows_in, with_row, with_rows, without_row}
 use Rattle.table_rows.specs.Rows.{AreSorted, restored, rows_at}
 use Rattle.table_rows.proofs.Entries.{put_in_place, put_again, put_old, take_new, put_taken, put_back, found_put}
-
-pub values_total : IsTotalOrder values_cmp
-values_total = lists_total value_cmp_total
-
-pub tables_total : IsTotalOrder table_cmp
-tables_total = on_total (λ table. table.0) nat_cmp_total
-
-exact_bool : (a b : Bool) → bool_cmp a b ≡ Equal → a ≡ b
-exact_bool true true e = refl
-exact_bool true false e = cc
-exact_bool false true e = cc
-exact_bool false false e = refl
-
-exact_value : (a b : Value) → value_cmp a b ≡ Equal → a ≡ b
-exact_value Null Null e = refl
-exact_value Null (BoolValue b) e = cc
-exact_value Null (Int b) e = cc
-exact_value Null (Text b) e = cc
-exact_value Null (Bytes b) e = cc
-exact_value (BoolValue a) Null e = cc
-exact_value (BoolValue a) (BoolValue b) e = ap BoolValue (exact_bool a b e)
-exact_value (BoolValue a) (Int b) e = cc
-exact_value (BoolValue a) (Text b) e = cc
-exact_value (BoolValue a) (Bytes b) e = cc
-exact_value (Int a) Null e = cc
-exact_value (Int a) (BoolValue b) e = cc
-exact_value (Int a) (Int b) e = ap Int (exact_signed a b e)
-exact_value (Int a) (Text b) e = cc
-exact_value (Int a) (Bytes b) e = cc
-exact_value (Text a) Null e = cc
-exact_value (Text a) (BoolValue b) e = cc
-exact_value (Text a) (Int b) e = cc
-exact_value (Text a) (Text b) e = ap Text (exact_bytes a b e)
-exact_value (Text a) (Bytes b) e = cc
-exact_value (Bytes a) Null e = cc
-exact_value (Bytes a) (BoolValue b) e = cc
-exact_value (Bytes a) (Int b) e = cc
-exact_value (Bytes a) (Text b) e = cc
-exact_value (Bytes a) (Bytes b) e = ap Bytes (exact_bytes a b e)
-
-pub exact_values : CmpEqualImpliesEq values_cmp
-exact_values = slice_cmp-IsAntisymmetric exact_value
 
 -- rows written in the place of a table's are the tables with these rows
 pub rows_written : (tables : Tables) (table : TableId) (old rows : Rows) → IsStrictlySortedBy table_cmp (keys_of tables) → rows_in tables table ≡ Some old

@@ -1,6 +1,7 @@
 -- Steps of a bulk statement.
 use Rattle.std.specs.Borrow.{Bor}
-use Rattle.std.proofs.Common.{◌≡◌, ◌≢◌, ℕ, suc, ◌&&◌, Bool, true, false, List, [], ◌∷◌, length, Option, None, Some, IsTrue, Ok, Err, refl, sym, ap, subst, ◌∙◌, arith}
+use Rattle.std.proofs.Common.{◌≡◌, ◌≢◌, ℕ, suc, true, false, List, [], ◌∷◌, length, Option, None, Some, IsTrue, Ok, Err, refl, sym, ap, subst, ◌∙◌, arith}
+use Rattle.base_core.proofs.Tests.{and_then as both_true}
 use Rattle.base_core.specs.declared.ids.ColumnNo.{ColumnNo}
 use Rattle.base_core.specs.declared.ids.TableId.{TableId}
 use Rattle.base_core.specs.declared.value.Value.{Value}
@@ -187,10 +188,6 @@ delete_refused schema tables table filter rows e r told is =
 pub ruleset taking_steps = (updates_evaluated, updated_rows, update_refused, deletes_evaluated, deleted_rows, delete_refused)
 
 -- ---- the statement
-
-both_true : (a b : Bool) → (a && b) ≡ true → b ≡ true
-both_true true b e = e
-both_true false b e = cc
 
 -- there are as many values as columns
 as_many : (schema : Catalog) (table : TableId) (columns : List ColumnNo) (values : List Value) → IsTrue (are_for schema table columns values) → length columns ≡ length values

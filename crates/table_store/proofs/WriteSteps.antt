@@ -1,7 +1,10 @@
 -- Steps of a statement on rows, done on tables that are held.
-use Rattle.std.proofs.Common.{◌≡◌, ◌<◌, Bool, true, false, ◌||◌, List, [], ◌∷◌, ◌++◌, length, Option, None, Some, is_some, Result, Ok, Err, if◌then◌else◌, refl, sym, ap, subst, ◌∙◌, append-nil, append_assoc, arith}
+use Rattle.std.proofs.Common.{◌≡◌, ◌<◌, Bool, true, false, List, [], ◌∷◌, ◌++◌, length, Option, None, Some, is_some, Result, Ok, Err, if◌then◌else◌, refl, sym, ap, subst, ◌∙◌, append-nil, append_assoc, arith}
 use Rattle.std.specs.List.{list_any}
 use Rattle.std.specs.Option.{unwrap_or}
+use Rattle.schema_core.proofs.TableOrder.{tables_total}
+use Rattle.base_core.proofs.Tests.{or_false}
+use Rattle.schema_core.proofs.ApplySteps.{is_absent}
 use Rattle.base_core.specs.declared.ids.ColumnNo.{ColumnNo}
 use Rattle.base_core.specs.declared.ids.TableId.{TableId}
 use Rattle.base_core.specs.declared.value.Value.{Value}
@@ -19,7 +22,7 @@ use Rattle.schema_core.proofs.ApplySteps as steps
 use Rattle.table_rows.specs.Rows.{AreSorted, restored, rows_at}
 use Rattle.table_store.specs.Held.{Did, is_violation, put_from, stand, taken_back, with_entry}
 use Rattle.table_rows.proofs.Entries.{found_put, put_again}
-use Rattle.table_rows.proofs.Laws.{put_undone, row_restored, rows_found, rows_restored, tables_total, taking_undone, values_total}
+use Rattle.table_rows.proofs.Laws.{put_undone, rows_found, taking_undone}
 use Rattle.table_rows.proofs.Gone.{lost_alone}
 
 -- a table whose rows were changed is still created
@@ -138,10 +141,6 @@ absent_by spec rows row false entry is found =
 new_absent : (spec : TableSpec) (rows : Rows) (keyed : Option (List Value)) (entry : List Value × List Value) → entry_of spec rows keyed ≡ Ok entry → is_some (row_under rows entry.0) ≡ false
 new_absent spec rows None entry is = cc
 new_absent spec rows (Some row) entry is = absent_by spec rows row (is_some (row_under rows (key_of spec row))) entry refl is
-
-is_absent : {A : Type 0} (found : Option A) → is_some found ≡ false → found ≡ None
-is_absent None absent = refl
-is_absent (Some x) absent = cc
 
 -- a new row that was put in, taken out again
 entry_undone : (tables : Tables) (table : TableId) (entry : List Value × List Value) → AreSorted tables table → is_some (rows_in tables table) ≡ true → is_some (row_under (rows_at tables table) entry.0) ≡ false
@@ -287,10 +286,6 @@ pub ruleset insert_steps = (insert_put, steps.insert_lacks)
 
 abbrev updated : List Value → List Value → List (ColumnNo × Value) → Rows
 updated key row cells = (key, with_cells row cells) ∷ []
-
-or_false : (b : Bool) → (b || false) ≡ b
-or_false true = refl
-or_false false = refl
 
 pub update_lacks : (schema : Catalog) (tables : Tables) (table : TableId) (rows : Rows) (key row : List Value) (cells : List (ColumnNo × Value)) → row_under rows key ≡ Some row
     → lacks_value is_required (spec_of schema table).columns (with_cells row cells) ≡ true → update_row schema tables table rows key cells ≡ Err NotNull

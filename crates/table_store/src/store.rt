@@ -3,7 +3,7 @@
 ghost use Rattle.std.specs.Prelude.{◌≡◌, ◌-◌, ◌<◌, [], ◌∷◌, length, map, drop, slice_index_or, IfOk, IfErr, OnOk, OnErr};
 ghost use Rattle.std.specs.Option.{option_map};
 ghost use Rattle.schema_core.specs.Apply.{table_of};
-ghost use Rattle.schema_core.specs.Tables.{rows_in};
+ghost use Rattle.schema_core.specs.Tables.{is_created, rows_in};
 ghost use Rattle.schema_core.specs.WellFormed.{AreKeysFor, IsWellFormed};
 ghost use Rattle.sql_semantics.specs.Applied as bulk;
 ghost use Rattle.sql_semantics.specs.Plain.{IsPlainBulk, IsPlainSelect};
@@ -11,7 +11,7 @@ ghost use Rattle.sql_semantics.specs.Created.{bare};
 ghost use Rattle.sql_semantics.specs.Shapes.{AreGiven, AreLegalRows, AreOfItems, AreRows, AreWide};
 ghost use Rattle.programs.specs.declared.sent.Sent.TheVariants as sent;
 ghost use Rattle.programs.specs.Programs.{as_refusal};
-ghost use Rattle.programs.specs.Store.{created, dropped, is_created};
+ghost use Rattle.programs.specs.Store.{created, dropped};
 ghost use Rattle.keeper_core.specs.Calls as call;
 ghost use Rattle.keeper_core.specs.Calls.{query_refusal, write_refusal};
 ghost use Rattle.keeper_core.specs.Keeping.{RefusesBulk, RefusesRow, RefusesSelect};

@@ -1,6 +1,6 @@
 use Rattle.std.proofs.Common.{◌≡◌, drop}
 use Rattle.std.specs.List.{list_any}
-use Rattle.hooks.specs.Shown.{rules_of}
+use Rattle.class_types.specs.Shown.{rules_of}
 use Rattle.class_layouts.specs.Faults.{is_bad_hook}
 use Rattle.class_layouts.proofs.faults.some_bad_hook.Given as goal
 

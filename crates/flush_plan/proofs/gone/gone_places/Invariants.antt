@@ -1,5 +1,5 @@
 use Rattle.std.proofs.Common.{◌≡◌, map, take}
-use Rattle.flush_plan.specs.Planning.{place_of_gone}
+use Rattle.flush_order.specs.Orders.{place_of_gone}
 use Rattle.flush_plan.proofs.gone.gone_places.Given as goal
 
 abbrev pub invariant-loop-row : goal.invariant-loop-row

@@ -1,6 +1,6 @@
 use Rattle.std.proofs.Common.{◌≡◌, map, take}
-use Rattle.flush_plan.specs.Planning.{gone_at}
-use Rattle.flush_plan.specs.Ready.{ready_gone}
+use Rattle.flush_order.specs.Orders.{gone_at}
+use Rattle.flush_order.specs.Ready.{ready_gone}
 use Rattle.flush_plan.proofs.gone.ready_in_order.Given as goal
 
 abbrev pub invariant-loop-number : goal.invariant-loop-number

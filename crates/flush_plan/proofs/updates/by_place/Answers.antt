@@ -1,7 +1,7 @@
 use Rattle.std.proofs.Common.{◌≡◌, List, map, ap, ◌∙◌, subst}
 use Rattle.std.specs.Prelude.{slice_index_or, IfOk}
 use Rattle.flush_plan.specs.Planning.{no_writing}
-use Rattle.flush_plan.specs.Sorted.{sorted_numbers}
+use Rattle.flush_order.specs.Sorted.{sorted_numbers}
 use Rattle.flush_plan.proofs.updates.by_place.Goals as goal
 
 pub returns-clause-sorted : goal.returns-clause-sorted

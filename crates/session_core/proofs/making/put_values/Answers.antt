@@ -4,7 +4,7 @@ use Rattle.std.specs.Vec.Iter.{into_iter_items}
 use Rattle.base_core.specs.declared.ids.AttrNo.{AttrNo}
 use Rattle.base_core.specs.declared.ids.ClassId.{ClassId}
 use Rattle.base_core.specs.declared.value.Value.{Value}
-use Rattle.mapper_core.specs.Mapped.{attributes_of}
+use Rattle.class_mapping.specs.Mapped.{attributes_of}
 use Rattle.object_arena.specs.Graph.{Graph, object_at}
 use Rattle.session_core.specs.Making.{mismatch_at, with_values}
 use Rattle.session_core.proofs.MakeLemmas.{mismatch_cons}

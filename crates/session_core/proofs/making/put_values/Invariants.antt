@@ -1,6 +1,6 @@
 use Rattle.std.proofs.Common.{◌≡◌, None, length}
 use Rattle.std.specs.Vec.Iter.{into_iter_items}
-use Rattle.mapper_core.specs.Mapped.{Mapped, attributes_of}
+use Rattle.class_mapping.specs.Mapped.{Mapped, attributes_of}
 use Rattle.object_arena.specs.Graph.{object_at}
 use Rattle.object_arena.specs.Fit.{IsFit}
 use Rattle.object_arena.specs.Every.{classes_of}

@@ -1,5 +1,5 @@
 use Rattle.std.proofs.Common.{◌≡◌, map, take}
-use Rattle.object_arena.specs.Graph.{value_or_null}
+use Rattle.schema_core.specs.Tables.{value_or_null}
 use Rattle.session_core.proofs.rows.row_of.Given as goal
 
 abbrev pub invariant-loop-cell : goal.invariant-loop-cell

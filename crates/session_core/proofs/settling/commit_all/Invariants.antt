@@ -1,5 +1,5 @@
 use Rattle.std.proofs.Common.{◌≡◌, length}
-use Rattle.mapper_core.specs.Mapped.{Mapped}
+use Rattle.class_mapping.specs.Mapped.{Mapped}
 use Rattle.object_arena.specs.Every.{classes_of}
 use Rattle.object_arena.specs.Fit.{IsFit}
 use Rattle.session_core.specs.Flush.{object_committed}

@@ -1,6 +1,6 @@
 use Rattle.std.proofs.Common.{◌≡◌}
 use Rattle.base_core.specs.declared.value.Value.{Value}
-use Rattle.mapper_core.specs.Mapped.{attribute_of, key_attributes}
+use Rattle.class_mapping.specs.Mapped.{attribute_of, key_attributes}
 use Rattle.object_arena.specs.Graph.{cell_at, object_at}
 use Rattle.session_core.specs.Flush.{written_value}
 use Rattle.session_core.proofs.ObjectLemmas.{on_ok}

@@ -15,7 +15,7 @@ invariant_of-self-2 c =
     let none : c.in_ok-found.found.fault ≡ None = grind (arith, common_steps) in
     laid_by c.self.inside.schema c.resolve.new.self c.self.inside.classes c.in_ok-found.found.fault
     c.in_ok-found.found.layouts c.in_ok-found.found.relations c.in_ok-found.found.validators
-    c.self.invariant.few c.self.invariant.lined c.self.invariant.orphans c.in_ok-resolve.ensures.step c.in_ok-found.ensures.fault none
+    c.self.invariant.few c.self.invariant.lined c.self.invariant.alone c.self.invariant.over c.self.invariant.orphans c.in_ok-resolve.ensures.step c.in_ok-found.ensures.fault none
     c.in_ok-found.ensures.layouts c.in_ok-found.ensures.relations c.in_ok-found.ensures.validators
 
 pub returns-clause-valid : goal.returns-clause-valid

@@ -1,25 +1,11 @@
-use Rattle.std.proofs.Common.{◌<◌, length, ap, subst, sym}
-use Rattle.class_layouts.specs.declared.classes.Classes.{Classes}
-use Rattle.class_mapping.specs.Mapped.{IsLaid, Mapped}
-use Rattle.class_mapping.proofs.MappingLemmas.{few_more, lined_more, orphans_more, taken_is}
+use Rattle.std.proofs.Common.{refl}
+use Rattle.class_mapping.proofs.PlainClassLemmas.{not_early, told_early}
 use Rattle.class_mapping.proofs.mapping.Mapping.declare_class.Goals as goal
 
-pub invariant_of-self-2 : goal.invariant_of-self-2
-invariant_of-self-2 g c =
-    let less : length c.self.inside.classes.specs < 4294967295 = rw (ap (λ (m : Mapped). m.classes) c.self.view_is) c.requires in
-    let new = taken_is _ c.self.inside.classes c.args.spec c.declare.new.classes c.in_ok-declare.ensures in
-    record {
-      few = few_more c.self.inside.classes c.args.spec c.declare.new.classes new less;
-      lined = lined_more c.self.inside.classes c.args.spec c.declare.new.classes new c.self.invariant.lined;
-      orphans = orphans_more _ c.self.inside.schema.tables c.self.inside.classes c.args.spec c.declare.new.classes c.in_ok-declare.ensures c.self.invariant.orphans;
-      valid = λ h. absurd cc;
-      resolved = λ h. absurd cc;
-      laid = λ h. absurd cc;
-      linked = λ h. absurd cc;
-      validated = λ h. absurd cc;
-    }
+pub returns-in-Some-clause-step : goal.returns-in-Some-clause-step
+returns-in-Some-clause-step g c =
+    (refl, told_early _ c.self.inside.schema c.self.inside.classes c.self.inside.configured c.args.self.now c.args.spec c.as_slice.result.now c.in-Some.fault c.self.view_is c.as_slice.ensures c.in-Some.ensures)
 
-pub invariant_of-self : goal.invariant_of-self
-invariant_of-self g c =
-    subst (λ (classes : Classes). IsLaid c.self.inside.schema classes c.self.inside.configured c.self.inside.layouts c.self.inside.relations c.self.inside.validators)
-    (sym c.in_err-declare.ensures.0) c.self.invariant
+pub take_class-requires-clause-early : goal.take_class-requires-clause-early
+take_class-requires-clause-early g c =
+    not_early c.self.inside.schema c.self.inside.classes c.self.inside.configured c.args.self.now c.args.spec c.as_slice.result.now c.self.view_is c.as_slice.ensures c.in-None.ensures

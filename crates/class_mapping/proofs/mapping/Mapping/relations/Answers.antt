@@ -1,6 +1,6 @@
 use Rattle.std.proofs.Common.{◌≡◌, ◌∙◌, true, List, ap}
 use Rattle.std.specs.Prelude.{slice_get}
-use Rattle.mapper_types.specs.declared.mapped.Relation.{Relation}
+use Rattle.class_types.specs.declared.mapped.Relation.{Relation}
 use Rattle.class_mapping.specs.Mapped.{Mapped, list_or_none, relations_of}
 use Rattle.class_mapping.proofs.mapping.Mapping.relations.Goals as goal
 

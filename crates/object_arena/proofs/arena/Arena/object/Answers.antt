@@ -15,4 +15,4 @@ returns-clause-row c =
     c.index.ensures
     ∙ get_or_default c.self.inside.objects.items (c.args.object.0 - 1) c.index.result.now no_object less
     ∙ ap (λ (g : Graph). object_at g c.args.object) c.self.view_is in
-    λ mapped fit. object_row mapped c.index.result.now (subst (λ (o : Object). ObjectFits mapped o) (sym is) (fit_at mapped c.args.self.now c.args.object fit c.requires))
+    λ mapped fit plain. object_row mapped c.index.result.now plain (subst (λ (o : Object). ObjectFits mapped o) (sym is) (fit_at mapped c.args.self.now c.args.object fit c.requires))

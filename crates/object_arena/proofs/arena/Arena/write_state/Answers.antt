@@ -11,5 +11,5 @@ returns-clause-frees c =
     let within = subst (λ (g : Graph). IsObject g c.args.object) (sym c.self.view_is) c.requires.object in
     let less : c.args.object.0 - 1 < length c.self.inside.objects.items = omega (arith, within.0, within.1) in
     let left : is_persistent c.put_state.new.object.state ≡ false = ap (λ (o : Object). is_persistent o.state) c.put_state.ensures ∙ c.requires.state in
-    holder_left c.self.inside.objects.items c.self.inside.roots.items c.args.object c.put_state.new.object root key c.self.invariant less left
+    holder_left c.self.inside.objects.items c.self.inside.roots.items c.args.object c.put_state.new.object root key c.self.invariant.graph less left
     (subst (λ (g : Graph). find_identity g root key ≡ Some c.args.object) (sym c.self.view_is) is)

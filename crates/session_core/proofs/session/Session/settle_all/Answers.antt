@@ -2,7 +2,7 @@ use Rattle.std.proofs.Common.{◌≡◌, ◌∙◌, ◌∷◌, List, ap, subst, 
 use Rattle.std.specs.List.{All}
 use Rattle.std.specs.Vec.Iter.{into_iter_items}
 use Rattle.std.proofs.lemmas.List.Elements.{All-head}
-use Rattle.mapper_core.specs.Mapped.{Mapped}
+use Rattle.class_mapping.specs.Mapped.{Mapped}
 use Rattle.session_core.specs.Flush.{IsUnderKey, Written}
 use Rattle.session_core.specs.SessionState.{SessionState}
 use Rattle.session_core.specs.Steps.{session_flushed}

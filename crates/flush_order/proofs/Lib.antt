@@ -1,0 +1,11 @@
+pub mod Alike
+pub mod CellLemmas
+pub mod Cycles
+pub mod GoneLemmas
+pub mod ListSteps
+pub mod Ranges
+pub mod ReadyLemmas
+pub mod SearchLemmas
+pub mod SearchSteps
+pub mod Sorting
+pub mod WaitingSteps

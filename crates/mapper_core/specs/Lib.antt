@@ -1,3 +1,0 @@
-pub mod Mapped
-pub mod Declaring
-pub mod Layouts

@@ -1,0 +1,127 @@
+-- The UPDATEs and DELETEs of an accepted plan.
+use Rattle.std.proofs.Common.{◌≡◌, inl, inr, true, List, [], ◌∷◌, map, None, Some, sym, ap, ◌∙◌, subst}
+use Rattle.std.specs.List.{AllByRecursion}
+use Rattle.std.specs.Option.{is_some}
+use Rattle.base_core.specs.declared.ids.TableId.{TableId}
+use Rattle.base_core.specs.declared.value.Value.{Value}
+use Rattle.schema_core.specs.declared.changes.RowChanges.{RowChanges}
+use Rattle.schema_core.specs.Apply.{with_cells}
+use Rattle.schema_core.specs.Catalog.{Catalog}
+use Rattle.schema_core.specs.Tables.{Rows, Tables, is_created, rows_in}
+use Rattle.table_laws.proofs.Entries.{all_map}
+use Rattle.flush_order.specs.Sorted.{Place}
+use Rattle.flush_plan.specs.Flushing.{Keys, Sofar, put}
+use Rattle.flush_plan.specs.Stating.{edited, is_present, put_cells, row_at}
+use Rattle.plan_laws.specs.Premises.{IsSorted}
+use Rattle.plan_laws.proofs.Accepted.{Accepts, sent_of}
+use Rattle.plan_laws.proofs.At.{at_other, edited_created, edited_sorted, place_cases}
+use Rattle.plan_laws.proofs.Between.{at_found}
+use Rattle.plan_laws.proofs.Deleting.{Going, Ordered, gone_then, remove_at}
+use Rattle.plan_laws.proofs.ReadBack.{delete_read, update_read}
+use Rattle.plan_laws.proofs.Updating.{IsStep, Middle, Step, after_step, planned_of, step_place}
+
+-- an UPDATE that was accepted
+record Read (sofar : Sofar) (step : Step) (next : Sofar) : Type 0 where
+  rows : Rows
+  table : rows_in sofar.tables step.1.0 ≡ Some rows
+  row : List Value
+  at : row_at sofar.tables (step_place sofar.keys step) ≡ Some row
+  is : next ≡ record { tables = edited sofar.tables (step_place sofar.keys step, Some (with_cells row (put_cells (put sofar.keys) step.1.2))); keys = sofar.keys }
+
+module _ (schema : Catalog) (changes : RowChanges) where
+  read : (sofar end : Sofar) (step : Step) (steps : List Step) → (a : Accepts schema changes sofar (map planned_of (step ∷ steps)) end) → Read sofar step a.0
+  read sofar end step steps a =
+      let one = sent_of schema changes sofar a.0 (planned_of step) a.1 in
+      let u = update_read schema sofar.tables step.1.0 (map (put sofar.keys) step.1.1) (put_cells (put sofar.keys) step.1.2) one.answer one.done in
+      record {
+        rows = u.rows;
+        table = u.table_rows;
+        row = u.row;
+        at = at_found sofar.tables step.1.0 (map (put sofar.keys) step.1.1) u.row u.rows u.table_rows u.under;
+        is = one.is ∙ ap (λ t. record { tables = t; keys = sofar.keys }) u.is;
+      }
+
+  pub updates_keys : (steps : List Step) (sofar end : Sofar) → Accepts schema changes sofar (map planned_of steps) end → end.keys ≡ sofar.keys
+  updates_keys [] sofar end a = ap (λ s. s.keys) (sym a)
+  updates_keys (step ∷ steps) sofar end a = updates_keys steps a.0 end a.2 ∙ ap (λ s. s.keys) (read sofar end step steps a).is
+
+  sorted_then : (sofar end : Sofar) (step : Step) (steps : List Step) → (a : Accepts schema changes sofar (map planned_of (step ∷ steps)) end) → IsSorted sofar.tables → IsSorted a.0.tables
+  sorted_then sofar end step steps a sorted =
+      let r = read sofar end step steps a in
+      subst (λ s. IsSorted s.tables) (sym r.is) (edited_sorted sofar.tables (step_place sofar.keys step, Some (with_cells r.row (put_cells (put sofar.keys) step.1.2))) sorted)
+
+  pub updates_sorted : (steps : List Step) (sofar end : Sofar) → IsSorted sofar.tables → Accepts schema changes sofar (map planned_of steps) end → IsSorted end.tables
+  updates_sorted [] sofar end sorted a = subst (λ s. IsSorted s.tables) a sorted
+  updates_sorted (step ∷ steps) sofar end sorted a = updates_sorted steps a.0 end (sorted_then sofar end step steps a sorted) a.2
+
+  pub updates_created : (steps : List Step) (sofar end : Sofar) (table : TableId) → Accepts schema changes sofar (map planned_of steps) end → is_created end.tables table ≡ is_created sofar.tables table
+  updates_created [] sofar end table a = ap (λ s. is_created s.tables table) (sym a)
+  updates_created (step ∷ steps) sofar end table a =
+      let r = read sofar end step steps a in
+      updates_created steps a.0 end table a.2 ∙ ap (λ s. is_created s.tables table) r.is
+      ∙ edited_created sofar.tables (step_place sofar.keys step, Some (with_cells r.row (put_cells (put sofar.keys) step.1.2))) table
+
+  -- an UPDATE writes a row that is there, and brings no other
+  was_there : (sofar end : Sofar) (step : Step) (steps : List Step) (q : Place) → (a : Accepts schema changes sofar (map planned_of (step ∷ steps)) end) → IsSorted sofar.tables → is_present a.0.tables q ≡ true → is_present sofar.tables q ≡ true
+  was_there sofar end step steps q a sorted there =
+      let r = read sofar end step steps a in
+      elim (place_cases (step_place sofar.keys step) q) [
+        | inl same ↦ ap (is_present sofar.tables) (sym same) ∙ ap is_some r.at
+        | inr apart ↦
+            ap is_some (sym (ap (λ s. row_at s.tables q) r.is ∙ at_other sofar.tables (step_place sofar.keys step, Some (with_cells r.row (put_cells (put sofar.keys) step.1.2))) q sorted apart)) ∙ there
+      ]
+
+  -- each row that is written is there
+  pub updates_present : (steps : List Step) (sofar end : Sofar) → IsSorted sofar.tables → Accepts schema changes sofar (map planned_of steps) end → AllByRecursion (λ step. is_present sofar.tables (step_place sofar.keys step) ≡ true) steps
+  updates_present [] sofar end sorted a = tt
+  updates_present (step ∷ steps) sofar end sorted a =
+      let r = read sofar end step steps a in (
+        ap is_some r.at,
+        all_map (λ s. is_present a.0.tables (step_place a.0.keys s) ≡ true) (λ s. is_present sofar.tables (step_place sofar.keys s) ≡ true)
+            (λ s there. was_there sofar end step steps (step_place sofar.keys s) a sorted (ap (λ t. is_present a.0.tables (step_place t.keys s)) (sym r.is) ∙ there))
+            steps (updates_present steps a.0 end (sorted_then sofar end step steps a sorted) a.2),
+      )
+
+  module _ (old stated : Tables) (keys : Keys) where
+    -- the rows on their way arrive
+    pub updates_end : (steps : List Step) (sofar end : Sofar) → AllByRecursion (IsStep schema changes old stated keys) steps → Middle schema changes old stated keys steps sofar → Accepts schema changes sofar (map planned_of steps) end → Middle schema changes old stated keys [] end
+    updates_end [] sofar end are middle a = subst (Middle schema changes old stated keys []) a middle
+    updates_end (step ∷ steps) sofar end are middle a =
+        let r = read sofar end step steps a in
+        let at : row_at sofar.tables (step_place keys step) ≡ Some r.row = ap (λ k. row_at sofar.tables (step_place k step)) (sym middle.known) ∙ r.at in
+        let then : Middle schema changes old stated keys steps (record { tables = edited sofar.tables (step_place keys step, Some (with_cells r.row (put_cells (put keys) step.1.2))); keys = keys }) =
+        after_step schema changes old stated keys step steps sofar r.row r.rows middle are.0.1 r.table at in
+        let is : a.0 ≡ record { tables = edited sofar.tables (step_place keys step, Some (with_cells r.row (put_cells (put keys) step.1.2))); keys = keys } =
+        r.is ∙ ap (λ k. record { tables = edited sofar.tables (step_place k step, Some (with_cells r.row (put_cells (put k) step.1.2))); keys = k }) middle.known in
+        updates_end steps a.0 end are.1 (subst (Middle schema changes old stated keys steps) (sym is) then) a.2
+
+  -- ---- DELETEs
+
+  record Gone (sofar : Sofar) (place : Place) (next : Sofar) : Type 0 where
+    rows : Rows
+    table : rows_in sofar.tables place.0 ≡ Some rows
+    is : next ≡ record { tables = edited sofar.tables (place, None); keys = sofar.keys }
+
+  gone : (sofar end : Sofar) (place : Place) (places : List Place) → IsSorted sofar.tables → (a : Accepts schema changes sofar (map remove_at (place ∷ places)) end) → Gone sofar place a.0
+  gone sofar end place places sorted a =
+      let one = sent_of schema changes sofar a.0 (remove_at place) a.1 in
+      let d = delete_read schema sofar.tables place.0 place.1 one.answer sorted one.done in
+      record { rows = d.rows; table = d.table_rows; is = one.is ∙ ap (λ t. record { tables = t; keys = sofar.keys }) d.is }
+
+  -- each table of which a row is deleted is created
+  pub deletes_created : (places : List Place) (sofar end : Sofar) → IsSorted sofar.tables → Accepts schema changes sofar (map remove_at places) end → AllByRecursion (λ place. is_created sofar.tables place.0 ≡ true) places
+  deletes_created [] sofar end sorted a = tt
+  deletes_created (place ∷ places) sofar end sorted a =
+      let g = gone sofar end place places sorted a in (
+        ap is_some g.table,
+        all_map (λ q. is_created a.0.tables q.0 ≡ true) (λ q. is_created sofar.tables q.0 ≡ true)
+            (λ q created. sym (ap (λ s. is_created s.tables q.0) g.is ∙ edited_created sofar.tables (place, None) q.0) ∙ created)
+            places (deletes_created places a.0 end (subst (λ s. IsSorted s.tables) (sym g.is) (edited_sorted sofar.tables (place, None) sorted)) a.2),
+      )
+
+  pub deletes_end : (old stated : Tables) (places : List Place) (sofar end : Sofar) → Ordered schema changes old stated places → Going schema changes old stated places sofar → Accepts schema changes sofar (map remove_at places) end → Going schema changes old stated [] end
+  deletes_end old stated [] sofar end ordered going a = subst (Going schema changes old stated []) a going
+  deletes_end old stated (place ∷ places) sofar end ordered going a =
+      let g = gone sofar end place places going.sorted a in
+      let then = gone_then schema changes old stated place places sofar g.rows going ordered.0 ordered.2 g.table in
+      deletes_end old stated places a.0 end ordered.4 (subst (Going schema changes old stated places) (sym g.is) then) a.2

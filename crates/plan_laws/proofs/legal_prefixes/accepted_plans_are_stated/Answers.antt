@@ -1,0 +1,8 @@
+use Rattle.plan_laws.proofs.FlushLaw.{accepted_legal, accepted_stated}
+use Rattle.plan_laws.proofs.legal_prefixes.accepted_plans_are_stated.Goals as goal
+
+pub returns-clause-stated : goal.returns-clause-stated
+returns-clause-stated c = accepted_stated
+
+pub returns-clause-legal : goal.returns-clause-legal
+returns-clause-legal c = accepted_legal

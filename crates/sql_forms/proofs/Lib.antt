@@ -1,0 +1,4 @@
+pub mod Bulks
+pub mod Parts
+pub mod Rows
+pub mod Selects

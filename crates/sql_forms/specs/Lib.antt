@@ -1,0 +1,4 @@
+pub mod Clauses
+pub mod Form
+pub mod Forms
+pub mod Read

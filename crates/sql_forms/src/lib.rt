@@ -1,0 +1,19 @@
+//! The forms of statements in three dialects of SQL: what their texts and values are read as.
+#![tactic(auto)]
+
+ghost use Rattle.sql_forms.specs.Read.{BulksAreRead, RowsAreRead, SelectsAreRead};
+
+/// The text of a plain select and its values in the order of their marks are read as the select's form, in each dialect.
+pub fn selects_are_read()
+    ensures { SelectsAreRead }
+{}
+
+/// The same of a plain bulk statement.
+pub fn bulks_are_read()
+    ensures { BulksAreRead }
+{}
+
+/// The same of a well-formed statement on rows.
+pub fn rows_are_read()
+    ensures { RowsAreRead }
+{}

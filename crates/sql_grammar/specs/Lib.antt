@@ -1,0 +1,4 @@
+pub mod OneTree
+pub mod Reads
+pub mod Trees
+pub mod Words

@@ -1,0 +1,9 @@
+pub mod Agreeing
+pub mod Back
+pub mod Bulks
+pub mod Cuts
+pub mod Names
+pub mod Places
+pub mod Rows
+pub mod Selects
+pub mod Trees
