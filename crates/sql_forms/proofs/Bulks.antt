@@ -12,7 +12,8 @@ use Rattle.expr_types.specs.declared.select.Bulk.{Bulk}
 use Rattle.expr_types.specs.declared.select.Bulk.TheVariants as bulk
 use Rattle.expr_types.specs.declared.select.Statement.TheVariants.{Bulk as of_bulk}
 use Rattle.sql_semantics.specs.Kinds.{column_in}
-use Rattle.sql_semantics.specs.Plain.{StandsIn, IsFilter, IsWritten, IsPlainBulk, IfSet, alone, are_for, has_kind}
+use Rattle.sql_semantics.specs.Plain.{StandsIn, IsFilter, IsWritten, IfSet, alone, are_for, has_kind}
+use Rattle.sql_semantics.specs.PlainStatement.{IsFittingBulk}
 use Rattle.sql_text.specs.declared.names.Quoting.{Quoting}
 use Rattle.sql_text.specs.declared.names.Quoting.TheVariants.{Sqlite, Postgresql, Mysql}
 use Rattle.sql_text.specs.Columns.{column_name}
@@ -121,17 +122,17 @@ module _ (q : Quoting) (schema : Catalog) where
     all_sets table cs h.1,
   )
 
-  bulk_read : (it : Bulk) → IsPlainBulk schema it → (t : List ℕ) (v : List Value) → Writes q (bulk_pieces q schema it) t v → ReadsBulk q t v (bulk_form q schema it)
+  bulk_read : (it : Bulk) → IsFittingBulk schema it → (t : List ℕ) (v : List Value) → Writes q (bulk_pieces q schema it) t v → ReadsBulk q t v (bulk_form q schema it)
   unfolding bulk_pieces
-  bulk_read (bulk.Insert table columns vs) h t v w = insert_read table columns vs h.2 t v w
+  bulk_read (bulk.Insert table columns vs) h t v w = insert_read table columns vs h.1 t v w
   bulk_read (bulk.Update table cells filter) h t v w =
       let form : BulkForm = bulk_form q schema (bulk.Update table cells filter) in
       after_words (λ p u. ReadsBulk q p u form) w (λ p rest. after_name (λ p u. ReadsBulk q (codes "UPDATE " ++ p) u form) rest
       (λ a r is past. after_words (λ r u. ReadsBulk q (codes "UPDATE " ++ (a ++ r)) u form) past
       (λ r setsw. split (λ r u. ReadsBulk q (codes "UPDATE " ++ (a ++ (codes " SET " ++ r))) u form) (joined (codes ", ") (b.set_pieces q schema table) cells) (b.filter_pieces q schema table filter) setsw
       (λ m n u z first last.
-      update_rows is (items_read q (b.set_pieces q schema table) (Set q) (λ c. (column_name schema table c.0, set_tree q schema table c.1)) (codes ", ") cells (all_sets table cells h.3) m u first)
-      (clause_read q schema (alone table) (codes " WHERE ") filter (filter_stands table filter h.4) n z last)))))
+      update_rows is (items_read q (b.set_pieces q schema table) (Set q) (λ c. (column_name schema table c.0, set_tree q schema table c.1)) (codes ", ") cells (all_sets table cells h.2) m u first)
+      (clause_read q schema (alone table) (codes " WHERE ") filter (filter_stands table filter h.3) n z last)))))
   bulk_read (bulk.Delete table filter) h t v w =
       let form : BulkForm = bulk_form q schema (bulk.Delete table filter) in
       after_words (λ p u. ReadsBulk q p u form) w (λ p rest. after_name (λ p u. ReadsBulk q (codes "DELETE FROM " ++ p) u form) rest

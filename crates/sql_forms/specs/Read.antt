@@ -5,7 +5,8 @@ use Rattle.schema_core.specs.WellFormed.{IsWellFormed}
 use Rattle.expr_types.specs.declared.select.Bulk.{Bulk}
 use Rattle.expr_types.specs.declared.select.Select.{Select}
 use Rattle.expr_types.specs.declared.select.Statement.TheVariants.{Select as of_select, Bulk as of_bulk, Row as of_row}
-use Rattle.sql_semantics.specs.Plain.{IsPlainSelect, IsPlainBulk}
+use Rattle.sql_semantics.specs.Plain.{IsPlainSelect}
+use Rattle.sql_semantics.specs.PlainStatement.{IsFittingBulk}
 use Rattle.sql_text.specs.declared.names.Quoting.{Quoting}
 use Rattle.sql_statements.specs.Texts.{text_of}
 use Rattle.sql_forms.specs.Clauses.{ReadsSelect, ReadsBulk, ReadsRow}
@@ -16,9 +17,9 @@ abbrev pub SelectsAreRead : Type 0
 SelectsAreRead = (quoting : Quoting) (schema : Catalog) (it : Select) → IsPlainSelect schema it
     → ReadsSelect quoting (text_of quoting schema (of_select it)).text (text_of quoting schema (of_select it)).values (select_form quoting schema it)
 
--- The text and the values of a plain bulk statement are read as its form.
+-- The text and the values of a bulk statement whose parts fit its table are read as its form.
 abbrev pub BulksAreRead : Type 0
-BulksAreRead = (quoting : Quoting) (schema : Catalog) (it : Bulk) → IsPlainBulk schema it
+BulksAreRead = (quoting : Quoting) (schema : Catalog) (it : Bulk) → IsFittingBulk schema it
     → ReadsBulk quoting (text_of quoting schema (of_bulk it)).text (text_of quoting schema (of_bulk it)).values (bulk_form quoting schema it)
 
 -- The text and the values of a well-formed statement on rows are read as its form.

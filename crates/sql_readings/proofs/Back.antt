@@ -9,6 +9,7 @@ use Rattle.base_core.specs.declared.ids.ColumnNo.{ColumnNo}
 use Rattle.base_core.specs.declared.ids.TableId.{TableId}
 use Rattle.base_core.specs.declared.value.ArithOp.{ArithOp}
 use Rattle.base_core.specs.declared.value.ArithOp.TheVariants.{Add, Sub, Mul}
+use Rattle.base_core.specs.declared.value.Value.{Value}
 use Rattle.schema_core.specs.declared.table.ColumnSpec.{ColumnSpec}
 use Rattle.schema_core.specs.declared.table.TableSpec.{TableSpec}
 use Rattle.schema_core.specs.Catalog.{Catalog, spec_of, no_table, has_name}
@@ -39,17 +40,17 @@ use Rattle.sql_readings.proofs.Places.{is_false, place, place_is, distinct_more,
 
 -- ---- from a tree
 
-abbrev source_names : Catalog → List Origin → List (List ℕ)
+abbrev pub source_names : Catalog → List Origin → List (List ℕ)
 source_names schema scope = map (name_of schema) scope
 
-abbrev tables_in : List Origin → Scope
+abbrev pub tables_in : List Origin → Scope
 tables_in scope = map (λ origin. origin.table) scope
 
 abbrev column_names : Catalog → Option Origin → List (List ℕ)
 column_names schema None = []
 column_names schema (Some origin) = map (λ c. c.name) (spec_of schema origin.table).columns
 
-abbrev numbered : ℕ → ColumnNo
+abbrev pub numbered : ℕ → ColumnNo
 numbered n = record { 0 = n }
 
 abbrev column_back : Catalog → List Origin → ℕ → List ℕ → Expr
@@ -58,7 +59,7 @@ column_back schema scope source name = normal_level (Expr-F.Column source (numbe
 abbrev origin_made : ℕ → Option (List ℕ) → Origin
 origin_made table alias = record { table = record { 0 = table }; alias = alias }
 
-abbrev origin_back : Catalog → Source → Origin
+abbrev pub origin_back : Catalog → Source → Origin
 origin_back schema source = record { table = record { 0 = place source.table (map (λ spec. spec.name) schema.tables) }; alias = source.alias }
 
 abbrev test_back : Test → Expr → Expr → Expr
@@ -93,7 +94,7 @@ call_back Coalesce es = normal_level (Expr-F.Call func.Coalesce es)
 call_back Concat es = concat_back es
 
 mutual
-  back : Catalog → Sql → List Origin → Expr
+  pub back : Catalog → Sql → List Origin → Expr
   back schema (column source name) scope = column_back schema scope (place source (source_names schema scope)) name
   back schema (mark v) scope = normal_level (Expr-F.Lit v)
   back schema (test by a b) scope = test_back by (back schema a scope) (back schema b scope)
@@ -158,12 +159,12 @@ module _ (q : Quoting) (schema : Catalog) (named : has_distinct_names schema ≡
   tables_distinct : are_distinct (map (λ (spec : TableSpec). spec.name) schema.tables) ≡ true
   tables_distinct = (and_parts (are_distinct (map (λ (spec : TableSpec). spec.name) schema.tables)) (list_all has_distinct_columns schema.tables) named).0
 
-  columns_distinct : (table : TableId) → has_distinct_columns (spec_of schema table) ≡ true
+  pub columns_distinct : (table : TableId) → has_distinct_columns (spec_of schema table) ≡ true
   columns_distinct table = all_at has_distinct_columns schema.tables table.0 no_table (and_parts (are_distinct (map (λ (spec : TableSpec). spec.name) schema.tables)) (list_all has_distinct_columns schema.tables) named).1 refl
 
   -- ---- columns
 
-  column_place : (columns : List ColumnSpec) (i : ℕ) → are_distinct (map (λ (s : ColumnSpec). s.name) columns) ≡ true → is_some (slice_get columns i) ≡ true
+  pub column_place : (columns : List ColumnSpec) (i : ℕ) → are_distinct (map (λ (s : ColumnSpec). s.name) columns) ≡ true → is_some (slice_get columns i) ≡ true
       → place (named_as (slice_get columns i)) (map (λ (s : ColumnSpec). s.name) columns) ≡ i
   column_place columns i d there = by (slice_get columns i) refl there
     where
@@ -191,7 +192,7 @@ module _ (q : Quoting) (schema : Catalog) (named : has_distinct_names schema ≡
 
   -- ---- sources
 
-  origin_told : (origin : Origin) → nat_lt origin.table.0 (length schema.tables) ≡ true → origin_back schema (source_tree schema origin) ≡ origin
+  pub origin_told : (origin : Origin) → nat_lt origin.table.0 (length schema.tables) ≡ true → origin_back schema (source_tree schema origin) ≡ origin
   origin_told origin there =
       ap (λ (n : ℕ). origin_made n origin.alias)
       (place_is (map (λ (spec : TableSpec). spec.name) schema.tables) origin.table.0 (spec_of schema origin.table).name tables_distinct (within (λ (spec : TableSpec). spec.name) schema.tables origin.table.0 no_table there))
@@ -359,8 +360,16 @@ module _ (q : Quoting) (schema : Catalog) (named : has_distinct_names schema ≡
   told : (sources : List Origin) (e : Expr) → are_distinct (source_names schema sources) ≡ true → StandsIn schema sources e → IsTold schema sources e
   told sources e d s = record { fitting = s.fitting; apart = s.apart; distinct = d }
 
+  -- an expression that stands under sources of distinct names is had from its tree
+  pub from_tree : (sources : List Origin) (e : Expr) → are_distinct (source_names schema sources) ≡ true → StandsIn schema sources e → back schema (tree q schema e sources) sources ≡ e
+  from_tree sources e d s = to_normal e sources (told sources e d s) ∙ s.in_normal_form
+
+  pub from_mark : (v : Value) (sources : List Origin) → back schema (mark v) sources ≡ normal_level (Expr-F.Lit v)
+  unfolding back
+  from_mark v sources = refl
+
 pub texts_tell_expressions : TextsTellExpressions
 texts_tell_expressions quoting schema sources base other_base e other named distinct h g texts values =
-    sym (to_normal quoting schema named e sources (told quoting schema named sources e distinct h) ∙ h.in_normal_form)
+    sym (from_tree quoting schema named sources e distinct h)
     ∙ (ap (λ (x : Sql). back schema x sources) (texts_tell_trees quoting schema schema sources sources base other_base e other h g texts values)
-    ∙ (to_normal quoting schema named other sources (told quoting schema named sources other distinct g) ∙ g.in_normal_form))
+    ∙ from_tree quoting schema named sources other distinct g)

@@ -35,7 +35,7 @@ name_same : (n : List ℕ) → same_name n n ≡ true
 name_same [] = refl
 name_same (c ∷ cs) = ap (λ b. b && same_name cs cs) (eq-eqb c c refl) ∙ name_same cs
 
-unlike : (n m : List ℕ) → same_name n m ≡ false → same_name m n ≡ false
+pub unlike : (n m : List ℕ) → same_name n m ≡ false → same_name m n ≡ false
 unlike n m e = by (same_name m n) refl
   where
     by : (b : Bool) → same_name m n ≡ b → same_name m n ≡ false

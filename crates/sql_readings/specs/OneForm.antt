@@ -7,7 +7,8 @@ use Rattle.schema_core.specs.WellFormed.{IsWellFormed}
 use Rattle.expr_types.specs.declared.select.Bulk.{Bulk}
 use Rattle.expr_types.specs.declared.select.Select.{Select}
 use Rattle.expr_types.specs.declared.select.Statement.TheVariants.{Select as of_select, Bulk as of_bulk, Row as of_row}
-use Rattle.sql_semantics.specs.Plain.{IsPlainSelect, IsPlainBulk}
+use Rattle.sql_semantics.specs.Plain.{IsPlainSelect}
+use Rattle.sql_semantics.specs.PlainStatement.{IsFittingBulk}
 use Rattle.sql_text.specs.declared.names.Quoting.{Quoting}
 use Rattle.sql_statements.specs.Texts.{text_of}
 use Rattle.sql_forms.specs.Forms.{SelectForm, BulkForm, RowForm}
@@ -36,7 +37,7 @@ IsOneBulkForm = (quoting : Quoting) (text : List ℕ) (values : List Value) (x y
 -- Two plain bulk statements that a dialect writes as one text with one list of values have one form, each under its own schema.
 abbrev pub BulkTextsTellForms : Type 0
 BulkTextsTellForms =
-    (quoting : Quoting) (schema other_schema : Catalog) (it other : Bulk) → IsPlainBulk schema it → IsPlainBulk other_schema other
+    (quoting : Quoting) (schema other_schema : Catalog) (it other : Bulk) → IsFittingBulk schema it → IsFittingBulk other_schema other
     → (text_of quoting schema (of_bulk it)).text ≡ (text_of quoting other_schema (of_bulk other)).text → (text_of quoting schema (of_bulk it)).values ≡ (text_of quoting other_schema (of_bulk other)).values
     → bulk_form quoting schema it ≡ bulk_form quoting other_schema other
 

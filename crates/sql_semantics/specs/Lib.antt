@@ -1,5 +1,6 @@
 pub mod Kinds
 pub mod Plain
+pub mod PlainStatement
 pub mod Typed
 pub mod Checked
 pub mod Truth

@@ -337,6 +337,18 @@ fn offset_alone(writer: &mut Writer, offset: u64) -> Result<(), Refusal>
     }
 }
 
+/// MySQL's cut by both.
+#[tactic(auto, using(sql_text::proofs::Steps::steps))]
+fn offset_first(writer: &mut Writer, offset: u64, limit: u64) -> Result<(), Refusal>
+    requires offset { offset < 2 ^ 63 }
+    requires limit { limit < 2 ^ 63 }
+    ensures { Wrote (spec.counted (codes " LIMIT ") offset ++ spec.counted (codes ", ") limit)
+        result writer.old writer.new }
+{
+    counted(writer, " LIMIT ", offset)?;
+    counted(writer, ", ", limit)
+}
+
 /// The cut by a limit and an offset, which MySQL writes first.
 #[tactic(auto, using(sql_text::proofs::Steps::steps))]
 fn both_cuts(writer: &mut Writer, limit: u64, offset: u64) -> Result<(), Refusal>
@@ -350,10 +362,7 @@ fn both_cuts(writer: &mut Writer, limit: u64, offset: u64) -> Result<(), Refusal
             counted(writer, " LIMIT ", limit)?;
             counted(writer, " OFFSET ", offset)
         }
-        Quoting::Mysql => {
-            counted(writer, " LIMIT ", offset)?;
-            counted(writer, ", ", limit)
-        }
+        Quoting::Mysql => offset_first(writer, offset, limit),
     }
 }
 

@@ -1,0 +1,6 @@
+mod Bulks
+mod Declared
+mod Parts
+mod Rows
+mod Selects
+mod Statements

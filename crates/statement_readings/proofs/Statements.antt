@@ -1,0 +1,52 @@
+-- A text with its values is one plain statement of a kind.
+use Rattle.std.proofs.Common.{◌≡◌, true, not, List, [], ◌∷◌, Option, Some, None, refl, ap}
+use Rattle.std.specs.Prelude.{is_some}
+use Rattle.std.specs.List.{list_all}
+use Rattle.std.proofs.lemmas.Bool.{and_parts, and_from}
+use Rattle.base_core.specs.declared.ids.ColumnNo.{ColumnNo}
+use Rattle.base_core.specs.declared.ids.TableId.{TableId}
+use Rattle.schema_core.specs.declared.table.ColumnSpec.{ColumnSpec}
+use Rattle.schema_core.specs.Catalog.{Catalog}
+use Rattle.expr_types.specs.declared.expr.Expr.{Expr}
+use Rattle.expr_types.specs.declared.select.Bulk.TheVariants as bulk
+use Rattle.expr_types.specs.declared.select.Statement.TheVariants.{Select as of_select, Bulk as of_bulk, Row as of_row}
+use Rattle.sql_semantics.specs.Kinds.{column_in}
+use Rattle.sql_semantics.specs.Plain.{is_free_column, is_key_column}
+use Rattle.statement_readings.specs.OneStatement.{SentIsPlain, TextsTellStatements}
+use Rattle.statement_readings.proofs.Selects.{select_texts_tell_statements}
+use Rattle.statement_readings.proofs.Bulks.{bulk_texts_tell_statements}
+use Rattle.statement_readings.proofs.Rows.{row_texts_tell_statements}
+use Rattle.statement_readings.proofs.Declared.{declared_names_are_distinct}
+
+pub texts_tell_statements : TextsTellStatements
+texts_tell_statements quoting schema (of_select it) (of_select other) declared plain other_plain one alike =
+    ap of_select (select_texts_tell_statements quoting schema it other (declared_names_are_distinct schema declared).0 plain other_plain alike)
+texts_tell_statements quoting schema (of_select it) (of_bulk other) declared plain other_plain one alike = absurd one
+texts_tell_statements quoting schema (of_select it) (of_row other) declared plain other_plain one alike = absurd one
+texts_tell_statements quoting schema (of_bulk it) (of_select other) declared plain other_plain one alike = absurd one
+texts_tell_statements quoting schema (of_bulk it) (of_bulk other) declared plain other_plain one alike =
+    ap of_bulk (bulk_texts_tell_statements quoting schema it other (declared_names_are_distinct schema declared).0 plain other_plain alike)
+texts_tell_statements quoting schema (of_bulk it) (of_row other) declared plain other_plain one alike = absurd one
+texts_tell_statements quoting schema (of_row it) (of_select other) declared plain other_plain one alike = absurd one
+texts_tell_statements quoting schema (of_row it) (of_bulk other) declared plain other_plain one alike = absurd one
+texts_tell_statements quoting schema (of_row it) (of_row other) declared plain other_plain one alike =
+    let names = declared_names_are_distinct schema declared in
+    ap of_row (row_texts_tell_statements quoting schema it other names.0 names.1 plain other_plain alike)
+
+-- ---- what a keeper may be sent
+
+there : (o : Option ColumnSpec) → not (is_key_column o) ≡ true → is_some o ≡ true
+there None h = absurd (cc)
+there (Some column) h = refl
+
+all_there : (schema : Catalog) (table : TableId) (cells : List (ColumnNo × Option Expr)) → list_all (λ c. is_free_column schema table c.0) cells ≡ true → list_all (λ c. is_some (column_in schema (table ∷ []) 0 c.0)) cells ≡ true
+all_there schema table [] h = refl
+all_there schema table (c ∷ cs) h =
+    let both = and_parts (is_free_column schema table c.0) (list_all (λ (d : ColumnNo × Option Expr). is_free_column schema table d.0) cs) h in
+    and_from (is_some (column_in schema (table ∷ []) 0 c.0)) (list_all (λ (d : ColumnNo × Option Expr). is_some (column_in schema (table ∷ []) 0 d.0)) cs) (there (column_in schema (table ∷ []) 0 c.0) both.0)
+    (all_there schema table cs both.1)
+
+pub sent_is_plain : SentIsPlain
+sent_is_plain schema (bulk.Insert table columns values) sent = (sent.0, sent.2)
+sent_is_plain schema (bulk.Update table cells filter) sent = (sent.0, all_there schema table cells sent.2, sent.3, sent.4)
+sent_is_plain schema (bulk.Delete table filter) sent = sent

@@ -1,0 +1,63 @@
+-- A text with its values is one statement of a kind, where names tell tables and columns.
+use Rattle.std.specs.Prelude.{◌≡◌, Bool, length, nat_lt, IsTrue}
+use Rattle.std.specs.List.{list_all}
+use Rattle.schema_core.specs.Catalog.{Catalog}
+use Rattle.schema_core.specs.Declaration.{IsDeclared}
+use Rattle.schema_core.specs.WellFormed.{IsWellFormed}
+use Rattle.schema_core.specs.declared.statement.RowStmt.{RowStmt}
+use Rattle.expr_types.specs.declared.select.Bulk.{Bulk}
+use Rattle.expr_types.specs.declared.select.Select.{Select}
+use Rattle.expr_types.specs.declared.select.Statement.{Statement}
+use Rattle.expr_types.specs.declared.select.Statement.TheVariants.{Select as of_select, Bulk as of_bulk, Row as of_row}
+use Rattle.sql_semantics.specs.Plain.{IsPlainBulk, IsPlainSelect}
+use Rattle.sql_semantics.specs.PlainStatement.{IsFittingBulk, IsPlain}
+use Rattle.sql_text.specs.declared.names.Quoting.{Quoting}
+use Rattle.sql_statements.specs.Texts.{text_of}
+use Rattle.sql_readings.specs.OneReading.{has_distinct_names}
+
+-- every table has a column
+abbrev pub has_columns : Catalog → Bool
+has_columns schema = list_all (λ spec. nat_lt 0 (length spec.columns)) schema.tables
+
+-- a dialect writes both statements as one text with one list of values
+abbrev pub AreWrittenAlike : Quoting → Catalog → Statement → Statement → Type 0
+AreWrittenAlike quoting schema it other = ((text_of quoting schema it).text ≡ (text_of quoting schema other).text) × ((text_of quoting schema it).values ≡ (text_of quoting schema other).values)
+
+-- Two plain selects that a dialect writes alike are one select.
+abbrev pub SelectTextsTellStatements : Type 0
+SelectTextsTellStatements =
+    (quoting : Quoting) (schema : Catalog) (it other : Select) → IsTrue (has_distinct_names schema) → IsPlainSelect schema it → IsPlainSelect schema other
+    → AreWrittenAlike quoting schema (of_select it) (of_select other) → it ≡ other
+
+-- Two bulk statements that a dialect writes alike are one statement; they may name a column twice, or write a key.
+abbrev pub BulkTextsTellStatements : Type 0
+BulkTextsTellStatements =
+    (quoting : Quoting) (schema : Catalog) (it other : Bulk) → IsTrue (has_distinct_names schema) → IsFittingBulk schema it → IsFittingBulk schema other
+    → AreWrittenAlike quoting schema (of_bulk it) (of_bulk other) → it ≡ other
+
+-- Two statements on rows that a dialect writes alike are one statement. New rows of a table without columns would all have one text.
+abbrev pub RowTextsTellStatements : Type 0
+RowTextsTellStatements =
+    (quoting : Quoting) (schema : Catalog) (it other : RowStmt) → IsTrue (has_distinct_names schema) → IsTrue (has_columns schema) → IsWellFormed schema it → IsWellFormed schema other
+    → AreWrittenAlike quoting schema (of_row it) (of_row other) → it ≡ other
+
+-- both are selects, both bulk statements, or both statements on rows
+abbrev pub AreOfOneKind : Statement → Statement → Type 0
+AreOfOneKind (of_select it) (of_select other) = Unit {0}
+AreOfOneKind (of_bulk it) (of_bulk other) = Unit {0}
+AreOfOneKind (of_row it) (of_row other) = Unit {0}
+AreOfOneKind it other = ⊥
+
+-- Two plain statements of one kind that a dialect writes alike, under the tables that a schema declares, are one statement.
+abbrev pub TextsTellStatements : Type 0
+TextsTellStatements =
+    (quoting : Quoting) (schema : Catalog) (it other : Statement) → IsDeclared schema.tables schema.resolved → IsPlain schema it → IsPlain schema other → AreOfOneKind it other
+    → AreWrittenAlike quoting schema it other → it ≡ other
+
+-- Declared tables have names of which no two are the same, and so have their columns, and each has a column.
+abbrev pub DeclaredNamesAreDistinct : Type 0
+DeclaredNamesAreDistinct = (schema : Catalog) → IsDeclared schema.tables schema.resolved → IsTrue (has_distinct_names schema) × IsTrue (has_columns schema)
+
+-- What a keeper may be sent of bulk statements is plain.
+abbrev pub SentIsPlain : Type 0
+SentIsPlain = (schema : Catalog) (it : Bulk) → IsPlainBulk schema it → IsPlain schema (of_bulk it)
