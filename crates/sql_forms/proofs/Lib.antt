@@ -2,3 +2,4 @@ pub mod Bulks
 pub mod Parts
 pub mod Rows
 pub mod Selects
+pub mod Statements

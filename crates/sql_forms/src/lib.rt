@@ -1,7 +1,7 @@
 //! The forms of statements in three dialects of SQL: what their texts and values are read as.
 #![tactic(auto)]
 
-ghost use Rattle.sql_forms.specs.Read.{BulksAreRead, RowsAreRead, SelectsAreRead};
+ghost use Rattle.sql_forms.specs.Read.{BulksAreRead, RowsAreRead, SelectsAreRead, StatementsAreRead};
 
 /// The text of a plain select and its values in the order of their marks are read as the select's form, in each dialect.
 pub fn selects_are_read()
@@ -16,4 +16,9 @@ pub fn bulks_are_read()
 /// The same of a well-formed statement on rows.
 pub fn rows_are_read()
     ensures { RowsAreRead }
+{}
+
+/// The text of a plain statement and its values in the order of their marks are read as the statement, in each dialect.
+pub fn statements_are_read()
+    ensures { StatementsAreRead }
 {}

@@ -27,9 +27,9 @@ use Rattle.sql_forms.specs.Forms.{BulkForm, insert, update, delete}
 use Rattle.sql_forms.specs.Form.{bulk_form, set_tree}
 use Rattle.sql_readings.specs.OneReading.{has_distinct_names}
 use Rattle.sql_readings.proofs.Back.{back, column_place, columns_distinct, from_mark, from_tree, numbered, origin_back, origin_told}
-use Rattle.sql_readings.proofs.Bulks.{bulk_texts_tell_forms}
+use Rattle.sql_readings.proofs.Bulks.{one_bulk_form}
 use Rattle.sql_readings.proofs.Places.{place}
-use Rattle.statement_readings.specs.OneStatement.{BulkTextsTellStatements}
+use Rattle.statement_readings.specs.OneStatement.{IsOneBulk}
 use Rattle.statement_readings.proofs.Parts.{one_more, option_told}
 
 -- ---- from a form
@@ -128,7 +128,7 @@ module _ (q : Quoting) (schema : Catalog) (named : has_distinct_names schema ≡
   bulk_told (bulk.Delete table filter) fit =
       ap (λ (t : TableId). delete_back schema t (option_map (λ (e : Expr). tree q schema e (alone table)) filter)) (table_told table fit.0) ∙ ap (bulk.Delete table) (filter_told table filter fit.1)
 
-pub bulk_texts_tell_statements : BulkTextsTellStatements
-bulk_texts_tell_statements quoting schema it other named fit other_fit alike =
+pub one_bulk : IsOneBulk
+one_bulk quoting schema text values it other named fit other_fit reads other_reads =
     sym (bulk_told quoting schema named it fit)
-    ∙ (ap (bulk_back schema) (bulk_texts_tell_forms quoting schema schema it other fit other_fit alike.0 alike.1) ∙ bulk_told quoting schema named other other_fit)
+    ∙ (ap (bulk_back schema) (one_bulk_form quoting text values (bulk_form quoting schema it) (bulk_form quoting schema other) reads other_reads) ∙ bulk_told quoting schema named other other_fit)

@@ -22,8 +22,8 @@ use Rattle.sql_text.specs.Columns.{column_name}
 use Rattle.sql_forms.specs.Forms.{RowForm, fill, add, change, remove}
 use Rattle.sql_forms.specs.Form.{given, given_cells, given_values, is_drawn, key_values, row_form, told}
 use Rattle.sql_readings.specs.OneReading.{has_distinct_names}
-use Rattle.sql_readings.proofs.Rows.{row_texts_tell_forms}
-use Rattle.statement_readings.specs.OneStatement.{RowTextsTellStatements, has_columns}
+use Rattle.sql_readings.proofs.Rows.{one_row_form}
+use Rattle.statement_readings.specs.OneStatement.{IsOneRow, has_columns}
 use Rattle.statement_readings.proofs.Bulks.{table_back, table_told, column_back, column_told}
 use Rattle.statement_readings.proofs.Parts.{list_told, one_more}
 
@@ -322,7 +322,7 @@ module _ (q : Quoting) (schema : Catalog) (named : has_distinct_names schema ≡
       ap (λ (t : TableId). row.Delete t (key_back (key_values (spec_of schema table).name (spec_of schema table).columns key))) (table_told q schema named table formed.0)
       ∙ ap (row.Delete table) (keys_told (spec_of schema table).name (spec_of schema table).columns key formed.1)
 
-pub row_texts_tell_statements : RowTextsTellStatements
-row_texts_tell_statements quoting schema it other named full formed other_formed alike =
+pub one_row : IsOneRow
+one_row quoting schema text values it other named full formed other_formed reads other_reads =
     sym (row_told quoting schema named full it formed)
-    ∙ (ap (row_back schema) (row_texts_tell_forms quoting schema schema it other formed other_formed alike.0 alike.1) ∙ row_told quoting schema named full other other_formed)
+    ∙ (ap (row_back schema) (one_row_form quoting text values (row_form quoting schema it) (row_form quoting schema other) reads other_reads) ∙ row_told quoting schema named full other other_formed)

@@ -19,8 +19,8 @@ use Rattle.sql_forms.specs.Forms.{JoinForm, SelectForm}
 use Rattle.sql_forms.specs.Form.{joins_form, number, select_form}
 use Rattle.sql_readings.specs.OneReading.{has_distinct_names}
 use Rattle.sql_readings.proofs.Back.{back, from_tree, origin_back, origin_told, source_names}
-use Rattle.sql_readings.proofs.Selects.{select_texts_tell_forms}
-use Rattle.statement_readings.specs.OneStatement.{SelectTextsTellStatements}
+use Rattle.sql_readings.proofs.Selects.{one_select_form}
+use Rattle.statement_readings.specs.OneStatement.{IsOneSelect}
 use Rattle.statement_readings.proofs.Parts.{with_next, one_more, list_told, option_told, front_distinct}
 
 -- ---- from a form
@@ -116,7 +116,7 @@ module _ (q : Quoting) (schema : Catalog) (named : has_distinct_names schema ≡
       (number_told s.limit))
       (number_told s.offset)
 
-pub select_texts_tell_statements : SelectTextsTellStatements
-select_texts_tell_statements quoting schema it other named plain other_plain alike =
+pub one_select : IsOneSelect
+one_select quoting schema text values it other named plain other_plain reads other_reads =
     sym (select_told quoting schema named it plain)
-    ∙ (ap (select_back schema) (select_texts_tell_forms quoting schema schema it other plain other_plain alike.0 alike.1) ∙ select_told quoting schema named other other_plain)
+    ∙ (ap (select_back schema) (one_select_form quoting text values (select_form quoting schema it) (select_form quoting schema other) reads other_reads) ∙ select_told quoting schema named other other_plain)

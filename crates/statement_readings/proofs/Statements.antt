@@ -1,9 +1,10 @@
 -- A text with its values is one plain statement of a kind.
-use Rattle.std.proofs.Common.{◌≡◌, true, not, List, [], ◌∷◌, Option, Some, None, refl, ap}
+use Rattle.std.proofs.Common.{◌≡◌, ℕ, true, not, List, [], ◌∷◌, Option, Some, None, refl, sym, ap, subst}
 use Rattle.std.specs.Prelude.{is_some}
 use Rattle.std.specs.List.{list_all}
 use Rattle.std.proofs.lemmas.Bool.{and_parts, and_from}
 use Rattle.base_core.specs.declared.ids.ColumnNo.{ColumnNo}
+use Rattle.base_core.specs.declared.value.Value.{Value}
 use Rattle.base_core.specs.declared.ids.TableId.{TableId}
 use Rattle.schema_core.specs.declared.table.ColumnSpec.{ColumnSpec}
 use Rattle.schema_core.specs.Catalog.{Catalog}
@@ -12,26 +13,35 @@ use Rattle.expr_types.specs.declared.select.Bulk.TheVariants as bulk
 use Rattle.expr_types.specs.declared.select.Statement.TheVariants.{Select as of_select, Bulk as of_bulk, Row as of_row}
 use Rattle.sql_semantics.specs.Kinds.{column_in}
 use Rattle.sql_semantics.specs.Plain.{is_free_column, is_key_column}
-use Rattle.statement_readings.specs.OneStatement.{SentIsPlain, TextsTellStatements}
-use Rattle.statement_readings.proofs.Selects.{select_texts_tell_statements}
-use Rattle.statement_readings.proofs.Bulks.{bulk_texts_tell_statements}
-use Rattle.statement_readings.proofs.Rows.{row_texts_tell_statements}
+use Rattle.sql_statements.specs.Texts.{text_of}
+use Rattle.sql_forms.specs.Read.{ReadsStatement}
+use Rattle.sql_forms.proofs.Statements.{statements_are_read}
+use Rattle.statement_readings.specs.OneStatement.{IsOneStatement, SentIsPlain, TextsTellStatements}
+use Rattle.statement_readings.proofs.Selects.{one_select}
+use Rattle.statement_readings.proofs.Bulks.{one_bulk}
+use Rattle.statement_readings.proofs.Rows.{one_row}
 use Rattle.statement_readings.proofs.Declared.{declared_names_are_distinct}
 
-pub texts_tell_statements : TextsTellStatements
-texts_tell_statements quoting schema (of_select it) (of_select other) declared plain other_plain one alike =
-    ap of_select (select_texts_tell_statements quoting schema it other (declared_names_are_distinct schema declared).0 plain other_plain alike)
-texts_tell_statements quoting schema (of_select it) (of_bulk other) declared plain other_plain one alike = absurd one
-texts_tell_statements quoting schema (of_select it) (of_row other) declared plain other_plain one alike = absurd one
-texts_tell_statements quoting schema (of_bulk it) (of_select other) declared plain other_plain one alike = absurd one
-texts_tell_statements quoting schema (of_bulk it) (of_bulk other) declared plain other_plain one alike =
-    ap of_bulk (bulk_texts_tell_statements quoting schema it other (declared_names_are_distinct schema declared).0 plain other_plain alike)
-texts_tell_statements quoting schema (of_bulk it) (of_row other) declared plain other_plain one alike = absurd one
-texts_tell_statements quoting schema (of_row it) (of_select other) declared plain other_plain one alike = absurd one
-texts_tell_statements quoting schema (of_row it) (of_bulk other) declared plain other_plain one alike = absurd one
-texts_tell_statements quoting schema (of_row it) (of_row other) declared plain other_plain one alike =
+pub one_statement : IsOneStatement
+one_statement quoting schema text values (of_select it) (of_select other) declared plain other_plain one reads other_reads =
+    ap of_select (one_select quoting schema text values it other (declared_names_are_distinct schema declared).0 plain other_plain reads other_reads)
+one_statement quoting schema text values (of_select it) (of_bulk other) declared plain other_plain one reads other_reads = absurd one
+one_statement quoting schema text values (of_select it) (of_row other) declared plain other_plain one reads other_reads = absurd one
+one_statement quoting schema text values (of_bulk it) (of_select other) declared plain other_plain one reads other_reads = absurd one
+one_statement quoting schema text values (of_bulk it) (of_bulk other) declared plain other_plain one reads other_reads =
+    ap of_bulk (one_bulk quoting schema text values it other (declared_names_are_distinct schema declared).0 plain other_plain reads other_reads)
+one_statement quoting schema text values (of_bulk it) (of_row other) declared plain other_plain one reads other_reads = absurd one
+one_statement quoting schema text values (of_row it) (of_select other) declared plain other_plain one reads other_reads = absurd one
+one_statement quoting schema text values (of_row it) (of_bulk other) declared plain other_plain one reads other_reads = absurd one
+one_statement quoting schema text values (of_row it) (of_row other) declared plain other_plain one reads other_reads =
     let names = declared_names_are_distinct schema declared in
-    ap of_row (row_texts_tell_statements quoting schema it other names.0 names.1 plain other_plain alike)
+    ap of_row (one_row quoting schema text values it other names.0 names.1 plain other_plain reads other_reads)
+
+pub texts_tell_statements : TextsTellStatements
+texts_tell_statements quoting schema it other declared plain other_plain one texts values =
+    one_statement quoting schema (text_of quoting schema it).text (text_of quoting schema it).values it other declared plain other_plain one (statements_are_read quoting schema it plain)
+    (subst (λ (text : List ℕ). ReadsStatement quoting schema text (text_of quoting schema it).values other) (sym texts)
+    (subst (λ (vs : List Value). ReadsStatement quoting schema (text_of quoting schema other).text vs other) (sym values) (statements_are_read quoting schema other other_plain)))
 
 -- ---- what a keeper may be sent
 

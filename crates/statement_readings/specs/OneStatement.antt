@@ -1,6 +1,7 @@
 -- A text with its values is one statement of a kind, where names tell tables and columns.
-use Rattle.std.specs.Prelude.{◌≡◌, Bool, length, nat_lt, IsTrue}
+use Rattle.std.specs.Prelude.{◌≡◌, ℕ, List, Bool, length, nat_lt, IsTrue}
 use Rattle.std.specs.List.{list_all}
+use Rattle.base_core.specs.declared.value.Value.{Value}
 use Rattle.schema_core.specs.Catalog.{Catalog}
 use Rattle.schema_core.specs.Declaration.{IsDeclared}
 use Rattle.schema_core.specs.WellFormed.{IsWellFormed}
@@ -13,33 +14,32 @@ use Rattle.sql_semantics.specs.Plain.{IsPlainBulk, IsPlainSelect}
 use Rattle.sql_semantics.specs.PlainStatement.{IsFittingBulk, IsPlain}
 use Rattle.sql_text.specs.declared.names.Quoting.{Quoting}
 use Rattle.sql_statements.specs.Texts.{text_of}
+use Rattle.sql_forms.specs.Clauses.{ReadsSelect, ReadsBulk, ReadsRow}
+use Rattle.sql_forms.specs.Form.{select_form, bulk_form, row_form}
+use Rattle.sql_forms.specs.Read.{ReadsStatement}
 use Rattle.sql_readings.specs.OneReading.{has_distinct_names}
 
 -- every table has a column
 abbrev pub has_columns : Catalog → Bool
 has_columns schema = list_all (λ spec. nat_lt 0 (length spec.columns)) schema.tables
 
--- a dialect writes both statements as one text with one list of values
-abbrev pub AreWrittenAlike : Quoting → Catalog → Statement → Statement → Type 0
-AreWrittenAlike quoting schema it other = ((text_of quoting schema it).text ≡ (text_of quoting schema other).text) × ((text_of quoting schema it).values ≡ (text_of quoting schema other).values)
+-- A text with its values is read as one plain select at most.
+abbrev pub IsOneSelect : Type 0
+IsOneSelect =
+    (quoting : Quoting) (schema : Catalog) (text : List ℕ) (values : List Value) (it other : Select) → IsTrue (has_distinct_names schema) → IsPlainSelect schema it → IsPlainSelect schema other
+    → ReadsSelect quoting text values (select_form quoting schema it) → ReadsSelect quoting text values (select_form quoting schema other) → it ≡ other
 
--- Two plain selects that a dialect writes alike are one select.
-abbrev pub SelectTextsTellStatements : Type 0
-SelectTextsTellStatements =
-    (quoting : Quoting) (schema : Catalog) (it other : Select) → IsTrue (has_distinct_names schema) → IsPlainSelect schema it → IsPlainSelect schema other
-    → AreWrittenAlike quoting schema (of_select it) (of_select other) → it ≡ other
+-- A text with its values is read as one bulk statement at most; it may name a column twice, or write a key.
+abbrev pub IsOneBulk : Type 0
+IsOneBulk =
+    (quoting : Quoting) (schema : Catalog) (text : List ℕ) (values : List Value) (it other : Bulk) → IsTrue (has_distinct_names schema) → IsFittingBulk schema it → IsFittingBulk schema other
+    → ReadsBulk quoting text values (bulk_form quoting schema it) → ReadsBulk quoting text values (bulk_form quoting schema other) → it ≡ other
 
--- Two bulk statements that a dialect writes alike are one statement; they may name a column twice, or write a key.
-abbrev pub BulkTextsTellStatements : Type 0
-BulkTextsTellStatements =
-    (quoting : Quoting) (schema : Catalog) (it other : Bulk) → IsTrue (has_distinct_names schema) → IsFittingBulk schema it → IsFittingBulk schema other
-    → AreWrittenAlike quoting schema (of_bulk it) (of_bulk other) → it ≡ other
-
--- Two statements on rows that a dialect writes alike are one statement. New rows of a table without columns would all have one text.
-abbrev pub RowTextsTellStatements : Type 0
-RowTextsTellStatements =
-    (quoting : Quoting) (schema : Catalog) (it other : RowStmt) → IsTrue (has_distinct_names schema) → IsTrue (has_columns schema) → IsWellFormed schema it → IsWellFormed schema other
-    → AreWrittenAlike quoting schema (of_row it) (of_row other) → it ≡ other
+-- A text with its values is read as one statement on rows at most. New rows of a table without columns would all have one text.
+abbrev pub IsOneRow : Type 0
+IsOneRow =
+    (quoting : Quoting) (schema : Catalog) (text : List ℕ) (values : List Value) (it other : RowStmt) → IsTrue (has_distinct_names schema) → IsTrue (has_columns schema) → IsWellFormed schema it
+    → IsWellFormed schema other → ReadsRow quoting text values (row_form quoting schema it) → ReadsRow quoting text values (row_form quoting schema other) → it ≡ other
 
 -- both are selects, both bulk statements, or both statements on rows
 abbrev pub AreOfOneKind : Statement → Statement → Type 0
@@ -48,11 +48,17 @@ AreOfOneKind (of_bulk it) (of_bulk other) = Unit {0}
 AreOfOneKind (of_row it) (of_row other) = Unit {0}
 AreOfOneKind it other = ⊥
 
--- Two plain statements of one kind that a dialect writes alike, under the tables that a schema declares, are one statement.
+-- Under the tables that a schema declares, a text with its values is read as one plain statement of a kind at most.
+abbrev pub IsOneStatement : Type 0
+IsOneStatement =
+    (quoting : Quoting) (schema : Catalog) (text : List ℕ) (values : List Value) (it other : Statement) → IsDeclared schema.tables schema.resolved → IsPlain schema it → IsPlain schema other → AreOfOneKind it other
+    → ReadsStatement quoting schema text values it → ReadsStatement quoting schema text values other → it ≡ other
+
+-- So two that a dialect writes as one text with one list of values are one statement.
 abbrev pub TextsTellStatements : Type 0
 TextsTellStatements =
     (quoting : Quoting) (schema : Catalog) (it other : Statement) → IsDeclared schema.tables schema.resolved → IsPlain schema it → IsPlain schema other → AreOfOneKind it other
-    → AreWrittenAlike quoting schema it other → it ≡ other
+    → (text_of quoting schema it).text ≡ (text_of quoting schema other).text → (text_of quoting schema it).values ≡ (text_of quoting schema other).values → it ≡ other
 
 -- Declared tables have names of which no two are the same, and so have their columns, and each has a column.
 abbrev pub DeclaredNamesAreDistinct : Type 0

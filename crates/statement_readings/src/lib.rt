@@ -1,7 +1,7 @@
 //! A text with its values is one statement of a kind at most, in three dialects of SQL.
 #![tactic(auto)]
 
-ghost use Rattle.statement_readings.specs.OneStatement.{BulkTextsTellStatements, DeclaredNamesAreDistinct, RowTextsTellStatements, SelectTextsTellStatements, SentIsPlain, TextsTellStatements};
+ghost use Rattle.statement_readings.specs.OneStatement.{DeclaredNamesAreDistinct, IsOneBulk, IsOneRow, IsOneSelect, IsOneStatement, SentIsPlain, TextsTellStatements};
 
 /// No two tables that were declared have one name, no two columns of a table have one, and each table has a column.
 pub fn declared_names_are_distinct()
@@ -13,20 +13,25 @@ pub fn sent_is_plain()
     ensures { SentIsPlain }
 {}
 
-/// Two plain selects that have one text and one list of values in a dialect are one select.
-pub fn select_texts_tell_statements()
-    ensures { SelectTextsTellStatements }
+/// A text is read with its values as one plain select at most, in each dialect.
+pub fn one_select()
+    ensures { IsOneSelect }
 {}
 
-/// Two plain bulk statements that have one text and one list of values in a dialect are one statement, also where they name
-/// a column twice or write a key.
-pub fn bulk_texts_tell_statements()
-    ensures { BulkTextsTellStatements }
+/// A text is read with its values as one plain bulk statement at most, in each dialect, also where it names a column twice or
+/// writes a key.
+pub fn one_bulk()
+    ensures { IsOneBulk }
 {}
 
-/// Two well-formed statements on rows that have one text and one list of values in a dialect are one statement.
-pub fn row_texts_tell_statements()
-    ensures { RowTextsTellStatements }
+/// A text is read with its values as one well-formed statement on rows at most, in each dialect.
+pub fn one_row()
+    ensures { IsOneRow }
+{}
+
+/// A text is read with its values as one plain statement of a kind at most, under the tables of a schema.
+pub fn one_statement()
+    ensures { IsOneStatement }
 {}
 
 /// Two plain statements of one kind over the tables of a schema that have one text and one list of values in a dialect are

@@ -1,0 +1,5 @@
+use Rattle.statement_readings.proofs.Statements.{one_statement}
+use Rattle.statement_readings.proofs.one_statement.Goals as goal
+
+pub returns : goal.returns
+returns c = one_statement
