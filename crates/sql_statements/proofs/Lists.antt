@@ -8,7 +8,7 @@ use Rattle.schema_core.specs.declared.table.ColumnSpec.{ColumnSpec}
 use Rattle.expr_types.specs.declared.expr.Origin.{Origin}
 use Rattle.expr_types.specs.declared.select.Joined.{Joined}
 use Rattle.sql_text.specs.declared.names.Quoting.{Quoting}
-use Rattle.sql_text.specs.Written.{Piece, words, name, value, Written, put_all}
+use Rattle.sql_text.specs.Written.{words, name, value, Written, put_all}
 use Rattle.sql_text.proofs.Behind.{more_next, written_behind}
 use Rattle.sql_text.proofs.Steps.{same_quoting}
 use Rattle.sql_statements.specs.Bulks.{cell_piece, cells_pieces}

@@ -1,4 +1,4 @@
-use Rattle.std.proofs.Common.{◌≡◌, ℕ, ◌<◌, List, [], ◌∷◌, length, drop, refl, sym, ap, ◌∙◌, arith}
+use Rattle.std.proofs.Common.{ℕ, ◌<◌, List, [], ◌∷◌, length, drop, refl, sym, ap, ◌∙◌, arith}
 use Rattle.sql_text.specs.Written.{value, put_all}
 use Rattle.sql_text.proofs.Led.{dropped}
 use Rattle.sql_statements.proofs.Lists.{cell_next, no_columns}

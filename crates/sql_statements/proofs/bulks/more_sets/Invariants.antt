@@ -1,4 +1,4 @@
-use Rattle.std.proofs.Common.{◌≡◌, ◌∷◌, [], drop, codes}
+use Rattle.std.proofs.Common.{◌≡◌, drop, codes}
 use Rattle.sql_statements.specs.Bulks.{set_pieces}
 use Rattle.sql_text.specs.Written.{put_all, led}
 use Rattle.sql_statements.proofs.bulks.more_sets.Given as goal

@@ -1,4 +1,4 @@
-use Rattle.std.proofs.Common.{◌≡◌, ℕ, ◌<◌, Bool, true, List, [], ◌∷◌, length, refl, arith, rules}
+use Rattle.std.proofs.Common.{◌≡◌, ◌<◌, true, [], ◌∷◌, length, refl, arith, rules}
 use Rattle.sql_text.proofs.Led.{dropped}
 use Rattle.sql_statements.proofs.Lists.{key_cell_next}
 use Rattle.sql_statements.proofs.rows.by_key.Goals as goal

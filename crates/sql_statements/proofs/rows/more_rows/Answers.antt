@@ -1,4 +1,4 @@
-use Rattle.std.proofs.Common.{◌≡◌, ℕ, ◌+◌, ◌<◌, List, length, drop, codes, ap, ◌∙◌, arith}
+use Rattle.std.proofs.Common.{◌+◌, ◌<◌, List, length, drop, codes, ap, ◌∙◌, arith}
 use Rattle.base_core.specs.declared.value.Value.{Value}
 use Rattle.sql_text.specs.Written.{put_all}
 use Rattle.sql_text.proofs.Led.{dropped}

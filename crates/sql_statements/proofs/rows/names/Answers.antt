@@ -1,4 +1,4 @@
-use Rattle.std.proofs.Common.{◌≡◌, ℕ, ◌<◌, Bool, false, List, [], ◌∷◌, length, refl, sym, ◌∙◌, arith}
+use Rattle.std.proofs.Common.{◌≡◌, ◌<◌, false, [], ◌∷◌, length, refl, sym, ◌∙◌, arith}
 use Rattle.sql_text.proofs.Led.{dropped}
 use Rattle.sql_statements.specs.Rows.{is_left_out}
 use Rattle.sql_statements.proofs.Lists.{name_next}

@@ -1,4 +1,4 @@
-use Rattle.std.proofs.Common.{◌≡◌, ℕ, ◌<◌, List, length, ap, ◌∙◌, arith}
+use Rattle.std.proofs.Common.{◌<◌, List, length, ap, ◌∙◌, arith}
 use Rattle.expr_types.specs.declared.expr.Origin.{Origin}
 use Rattle.sql_text.specs.Written.{put_all}
 use Rattle.sql_text.proofs.Led.{dropped}

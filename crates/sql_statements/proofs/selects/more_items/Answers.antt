@@ -1,4 +1,4 @@
-use Rattle.std.proofs.Common.{ℕ, ◌<◌, length, codes, arith}
+use Rattle.std.proofs.Common.{◌<◌, length, codes, arith}
 use Rattle.sql_text.specs.declared.names.Quoting.{Quoting}
 use Rattle.sql_text.proofs.Led.{dropped, led_next}
 use Rattle.sql_statements.specs.Selects.{item_pieces}

@@ -1,4 +1,4 @@
-use Rattle.std.proofs.Common.{◌≡◌, ◌∷◌, [], drop, codes}
+use Rattle.std.proofs.Common.{◌≡◌, drop, codes}
 use Rattle.sql_statements.specs.Selects.{item_pieces}
 use Rattle.sql_text.specs.Written.{put_all, led}
 use Rattle.sql_statements.proofs.selects.more_items.Given as goal
