@@ -323,10 +323,11 @@ impl<'a> Target<'a> {
             (lacks_value (is_demanded (spec_of self.now.schema.now self.now.table))
             (spec_of self.now.schema.now self.now.table).columns) new.now }
     {
+        let Some((row, new)) = new.split_first() else {
+            return false;
+        };
         let generated = self.schema.generated(self.table);
-        let columns = self.columns();
-        new.iter()
-            .any(|row| lacks_value(columns, row.as_slice(), generated))
+        lacks_value(self.columns(), row.as_slice(), generated) || self.some_lacks_demanded(new)
     }
 
     #[tactic(auto, using(schema_core::proofs::ApplySteps::insert_steps))]

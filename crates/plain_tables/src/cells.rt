@@ -25,7 +25,10 @@ fn is_null(cell: Option<&Value>) -> bool
 pub fn has_null(values: &[Value]) -> bool
     ensures { result ≡ has_null values.now }
 {
-    values.iter().any(|value| is_null(Some(value)))
+    let Some((value, values)) = values.split_first() else {
+        return false;
+    };
+    is_null(Some(value)) || has_null(values)
 }
 
 /// Whether two cells are the same; one that is not there is NULL.
@@ -129,10 +132,10 @@ fn lacks_required(columns: &[ColumnSpec], row: &[Value]) -> bool
 pub fn some_lacks(spec: &TableSpec, entries: &[(Key, RowValues)]) -> bool
     ensures { result ≡ some_lacks spec.now entries.now }
 {
-    let columns = spec.columns.as_slice();
-    entries
-        .iter()
-        .any(|entry| lacks_required(columns, entry.1.as_slice()))
+    let Some((entry, entries)) = entries.split_first() else {
+        return false;
+    };
+    lacks_required(spec.columns.as_slice(), entry.1.as_slice()) || some_lacks(spec, entries)
 }
 
 /// The cells of the primary key.

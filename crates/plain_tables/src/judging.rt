@@ -4,7 +4,7 @@ ghost use Rattle.std.specs.Prelude.{◌≡◌, ◌&&◌, not, map, is_some};
 ghost use Rattle.std.specs.List.{list_any};
 ghost use Rattle.schema_core.specs.Catalog.{spec_of};
 ghost use Rattle.schema_core.specs.Judged.{loses_row, some_loses_row, some_repeats, some_written_dangles};
-ghost use Rattle.schema_core.specs.Tables.{cell_of, cells_of, collide, dangles, names_row, repeats_unique, row_under, same_values, some_dangles};
+ghost use Rattle.schema_core.specs.Tables.{cell_of, cells_of, collide, dangles, names_row, repeats_unique, row_under, same_values};
 
 use crate::applying::{PlainRows, rows_in};
 use crate::cells::{are_cells, has_null_in, same_cells};
@@ -32,7 +32,11 @@ fn some_collides(
         (λ other. not (same_values key.now other.0)
         && collide spec.now unique.now row.now other.1) rows.now }
 {
-    rows.iter().any(|other| !key.cmp(&other.0).is_eq() && collide(spec, unique, row, &other.1))
+    let Some((other, rows)) = rows.split_first() else {
+        return false;
+    };
+    (!key.cmp(&other.0).is_eq() && collide(spec, unique, row, &other.1))
+        || some_collides(spec, unique, rows, key, row)
 }
 
 #[tactic(auto, using(schema_core::proofs::AnySteps::any_steps))]
@@ -105,19 +109,20 @@ fn dangles(
         && !names_row(schema, tables, spec, row, foreign)
 }
 
-/// Whether some foreign key of a row dangles.
+/// Whether some of these foreign keys of a row dangles.
 fn some_dangles(
     schema: &Schema,
     tables: &[(TableId, PlainRows)],
     spec: &TableSpec,
     row: &RowValues,
+    foreigns: &[ForeignSpec],
 ) -> bool
-    ensures { result ≡ some_dangles schema.now tables.now spec.now row.now }
+    ensures { result ≡ list_any (dangles schema.now tables.now spec.now row.now) foreigns.now }
 {
-    let foreigns = spec.foreigns.as_slice();
-    foreigns
-        .iter()
-        .any(|foreign| dangles(schema, tables, spec, row, foreign))
+    let Some((foreign, foreigns)) = foreigns.split_first() else {
+        return false;
+    };
+    dangles(schema, tables, spec, row, foreign) || some_dangles(schema, tables, spec, row, foreigns)
 }
 
 /// Whether a written row has a unique value of another row that is left.
@@ -128,9 +133,10 @@ pub fn some_repeats(
 ) -> bool
     ensures { result ≡ some_repeats spec.now left.now entries.now }
 {
-    entries
-        .iter()
-        .any(|entry| repeats_unique(spec, left, &entry.0, &entry.1))
+    let Some((entry, entries)) = entries.split_first() else {
+        return false;
+    };
+    repeats_unique(spec, left, &entry.0, &entry.1) || some_repeats(spec, left, entries)
 }
 
 /// Whether a foreign key of a written row names no row of the tables that are left.
@@ -142,9 +148,11 @@ pub fn some_written_dangles(
 ) -> bool
     ensures { result ≡ some_written_dangles schema.now left.now spec.now entries.now }
 {
-    entries
-        .iter()
-        .any(|entry| some_dangles(schema, left, spec, &entry.1))
+    let Some((entry, entries)) = entries.split_first() else {
+        return false;
+    };
+    some_dangles(schema, left, spec, &entry.1, spec.foreigns.as_slice())
+        || some_written_dangles(schema, left, spec, entries)
 }
 
 /// Whether a row's foreign key named a row before, and names none of the tables that are left.
@@ -161,19 +169,42 @@ fn loses_row(
     names_row(schema, before, spec, row, foreign) && dangles(schema, left, spec, row, foreign)
 }
 
-/// Whether one of a row's foreign keys does.
+/// Whether one of these foreign keys of a row does.
 fn row_loses(
     schema: &Schema,
     before: &[(TableId, PlainRows)],
     left: &[(TableId, PlainRows)],
     spec: &TableSpec,
     row: &RowValues,
+    foreigns: &[ForeignSpec],
 ) -> bool
     ensures { result ≡ list_any
-        (loses_row schema.now before.now left.now spec.now row.now) spec.now.foreigns }
+        (loses_row schema.now before.now left.now spec.now row.now) foreigns.now }
 {
-    let foreigns = spec.foreigns.as_slice();
-    foreigns.iter().any(|foreign| loses_row(schema, before, left, spec, row, foreign))
+    let Some((foreign, foreigns)) = foreigns.split_first() else {
+        return false;
+    };
+    loses_row(schema, before, left, spec, row, foreign)
+        || row_loses(schema, before, left, spec, row, foreigns)
+}
+
+/// Whether one of these rows does.
+fn some_row_loses(
+    schema: &Schema,
+    before: &[(TableId, PlainRows)],
+    left: &[(TableId, PlainRows)],
+    spec: &TableSpec,
+    rows: &[(Key, RowValues)],
+) -> bool
+    ensures { result ≡ list_any
+        (λ row. list_any (loses_row schema.now before.now left.now spec.now row.1)
+        spec.now.foreigns) rows.now }
+{
+    let Some((row, rows)) = rows.split_first() else {
+        return false;
+    };
+    row_loses(schema, before, left, spec, &row.1, spec.foreigns.as_slice())
+        || some_row_loses(schema, before, left, spec, rows)
 }
 
 /// Whether a row of a created table does; a table that is not declared has no foreign keys.
@@ -191,9 +222,7 @@ fn table_loses(
     if schema.count() <= table.0 {
         return false;
     }
-    let spec = schema.spec(table);
-    rows.iter()
-        .any(|row| row_loses(schema, before, left, spec, &row.1))
+    some_row_loses(schema, before, left, schema.spec(table), rows)
 }
 
 #[tactic(auto, using(schema_core::proofs::AnySteps::any_steps))]
