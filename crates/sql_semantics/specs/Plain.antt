@@ -228,7 +228,7 @@ pub record IsWritten (schema : Catalog) (table : TableId) (column : ColumnNo) (e
   pub no_aggregate : IsTrue (lacks_aggregate e)
   pub of_kind : (kind : Kind) × (judged schema e (table ∷ []) ≡ Ok kind) × is_kind_where (column_in schema (table ∷ []) 0 column) kind
 
--- a plain bulk statement
+-- what a keeper may be sent of bulk statements: the parts fit the table, no column is named twice, and an UPDATE spares the key
 abbrev pub IsPlainBulk : Catalog → Bulk → Type 0
 IsPlainBulk schema (bulk.Insert table columns values) =
     (table.0 < length schema.tables) × IsTrue (are_apart columns) × IsTrue (are_for schema table columns values)
