@@ -3,7 +3,7 @@
 ghost use Rattle.std.specs.Prelude.{◌≡◌, ◌<◌, ◌++◌, [], ◌∷◌, length, true, false, Some, None, Err, IfErr};
 ghost use Rattle.base_core.specs.Answers.{Takes};
 ghost use Rattle.schema_core.specs.Catalog.{find_table, spec_of, foreign_of, target_of, IsTable, has_generated_key};
-ghost use Rattle.schema_core.specs.Declaration.{declaration_fault, declare, has_targets, resolve};
+ghost use Rattle.schema_core.specs.Declaration.{IsDeclared, declaration_fault, declare, has_targets, resolve};
 ghost use Rattle.base_core.specs.declared.refusal.Refusal.TheVariants.{ArgumentError, Memory};
 ghost use Rattle.base_core.specs.declared.refusal.ArgumentKind.TheVariants.{BadTarget};
 
@@ -49,6 +49,14 @@ impl Schema {
             tables: ListOf::new(alloc),
             resolved: false,
         }
+    }
+
+    /// Each table was free of faults beside those declared before it, and where they are resolved every foreign key has
+    /// its target. It does nothing when it runs.
+    pub fn declared_one_by_one(&self)
+        ensures { IsDeclared self.now.tables self.now.resolved }
+    {
+        let _ = &self.resolved;
     }
 
     /// How many tables are declared.

@@ -8,6 +8,7 @@ use Rattle.base_core.specs.declared.value.Value.{Value}
 use Rattle.base_core.specs.declared.ids.TableId.{TableId}
 use Rattle.schema_core.specs.declared.table.ColumnSpec.{ColumnSpec}
 use Rattle.schema_core.specs.Catalog.{Catalog}
+use Rattle.schema_core.specs.Declaration.{IsDeclared}
 use Rattle.expr_types.specs.declared.expr.Expr.{Expr}
 use Rattle.expr_types.specs.declared.select.Bulk.TheVariants as bulk
 use Rattle.expr_types.specs.declared.select.Statement.TheVariants.{Select as of_select, Bulk as of_bulk, Row as of_row}
@@ -22,24 +23,24 @@ use Rattle.statement_readings.proofs.Bulks.{one_bulk}
 use Rattle.statement_readings.proofs.Rows.{one_row}
 use Rattle.statement_readings.proofs.Declared.{declared_names_are_distinct}
 
-pub one_statement : IsOneStatement
-one_statement quoting schema text values (of_select it) (of_select other) declared plain other_plain one reads other_reads =
+pub one_statement : (schema : Catalog) → IsDeclared schema.tables schema.resolved → IsOneStatement schema
+one_statement schema declared quoting text values (of_select it) (of_select other) plain other_plain one reads other_reads =
     ap of_select (one_select quoting schema text values it other (declared_names_are_distinct schema declared).0 plain other_plain reads other_reads)
-one_statement quoting schema text values (of_select it) (of_bulk other) declared plain other_plain one reads other_reads = absurd one
-one_statement quoting schema text values (of_select it) (of_row other) declared plain other_plain one reads other_reads = absurd one
-one_statement quoting schema text values (of_bulk it) (of_select other) declared plain other_plain one reads other_reads = absurd one
-one_statement quoting schema text values (of_bulk it) (of_bulk other) declared plain other_plain one reads other_reads =
+one_statement schema declared quoting text values (of_select it) (of_bulk other) plain other_plain one reads other_reads = absurd one
+one_statement schema declared quoting text values (of_select it) (of_row other) plain other_plain one reads other_reads = absurd one
+one_statement schema declared quoting text values (of_bulk it) (of_select other) plain other_plain one reads other_reads = absurd one
+one_statement schema declared quoting text values (of_bulk it) (of_bulk other) plain other_plain one reads other_reads =
     ap of_bulk (one_bulk quoting schema text values it other (declared_names_are_distinct schema declared).0 plain other_plain reads other_reads)
-one_statement quoting schema text values (of_bulk it) (of_row other) declared plain other_plain one reads other_reads = absurd one
-one_statement quoting schema text values (of_row it) (of_select other) declared plain other_plain one reads other_reads = absurd one
-one_statement quoting schema text values (of_row it) (of_bulk other) declared plain other_plain one reads other_reads = absurd one
-one_statement quoting schema text values (of_row it) (of_row other) declared plain other_plain one reads other_reads =
+one_statement schema declared quoting text values (of_bulk it) (of_row other) plain other_plain one reads other_reads = absurd one
+one_statement schema declared quoting text values (of_row it) (of_select other) plain other_plain one reads other_reads = absurd one
+one_statement schema declared quoting text values (of_row it) (of_bulk other) plain other_plain one reads other_reads = absurd one
+one_statement schema declared quoting text values (of_row it) (of_row other) plain other_plain one reads other_reads =
     let names = declared_names_are_distinct schema declared in
     ap of_row (one_row quoting schema text values it other names.0 names.1 plain other_plain reads other_reads)
 
-pub texts_tell_statements : TextsTellStatements
-texts_tell_statements quoting schema it other declared plain other_plain one texts values =
-    one_statement quoting schema (text_of quoting schema it).text (text_of quoting schema it).values it other declared plain other_plain one (statements_are_read quoting schema it plain)
+pub texts_tell_statements : (schema : Catalog) → IsDeclared schema.tables schema.resolved → TextsTellStatements schema
+texts_tell_statements schema declared quoting it other plain other_plain one texts values =
+    one_statement schema declared quoting (text_of quoting schema it).text (text_of quoting schema it).values it other plain other_plain one (statements_are_read quoting schema it plain)
     (subst (λ (text : List ℕ). ReadsStatement quoting schema text (text_of quoting schema it).values other) (sym texts)
     (subst (λ (vs : List Value). ReadsStatement quoting schema (text_of quoting schema other).text vs other) (sym values) (statements_are_read quoting schema other other_plain)))
 

@@ -48,17 +48,17 @@ AreOfOneKind (of_bulk it) (of_bulk other) = Unit {0}
 AreOfOneKind (of_row it) (of_row other) = Unit {0}
 AreOfOneKind it other = ⊥
 
--- Under the tables that a schema declares, a text with its values is read as one plain statement of a kind at most.
-abbrev pub IsOneStatement : Type 0
-IsOneStatement =
-    (quoting : Quoting) (schema : Catalog) (text : List ℕ) (values : List Value) (it other : Statement) → IsDeclared schema.tables schema.resolved → IsPlain schema it → IsPlain schema other → AreOfOneKind it other
+-- Under these tables a text with its values is read as one plain statement of a kind at most.
+abbrev pub IsOneStatement : Catalog → Type 0
+IsOneStatement schema =
+    (quoting : Quoting) (text : List ℕ) (values : List Value) (it other : Statement) → IsPlain schema it → IsPlain schema other → AreOfOneKind it other
     → ReadsStatement quoting schema text values it → ReadsStatement quoting schema text values other → it ≡ other
 
 -- So two that a dialect writes as one text with one list of values are one statement.
-abbrev pub TextsTellStatements : Type 0
-TextsTellStatements =
-    (quoting : Quoting) (schema : Catalog) (it other : Statement) → IsDeclared schema.tables schema.resolved → IsPlain schema it → IsPlain schema other → AreOfOneKind it other
-    → (text_of quoting schema it).text ≡ (text_of quoting schema other).text → (text_of quoting schema it).values ≡ (text_of quoting schema other).values → it ≡ other
+abbrev pub TextsTellStatements : Catalog → Type 0
+TextsTellStatements schema =
+    (quoting : Quoting) (it other : Statement) → IsPlain schema it → IsPlain schema other → AreOfOneKind it other → (text_of quoting schema it).text ≡ (text_of quoting schema other).text
+    → (text_of quoting schema it).values ≡ (text_of quoting schema other).values → it ≡ other
 
 -- Declared tables have names of which no two are the same, and so have their columns, and each has a column.
 abbrev pub DeclaredNamesAreDistinct : Type 0

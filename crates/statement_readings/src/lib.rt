@@ -3,6 +3,8 @@
 
 ghost use Rattle.statement_readings.specs.OneStatement.{DeclaredNamesAreDistinct, IsOneBulk, IsOneRow, IsOneSelect, IsOneStatement, SentIsPlain, TextsTellStatements};
 
+use schema_core::Schema;
+
 /// No two tables that were declared have one name, no two columns of a table have one, and each table has a column.
 pub fn declared_names_are_distinct()
     ensures { DeclaredNamesAreDistinct }
@@ -30,12 +32,16 @@ pub fn one_row()
 {}
 
 /// A text is read with its values as one plain statement of a kind at most, under the tables of a schema.
-pub fn one_statement()
-    ensures { IsOneStatement }
-{}
+pub fn one_statement(schema: &Schema)
+    ensures { IsOneStatement schema.now }
+{
+    schema.declared_one_by_one();
+}
 
 /// Two plain statements of one kind over the tables of a schema that have one text and one list of values in a dialect are
 /// one statement.
-pub fn texts_tell_statements()
-    ensures { TextsTellStatements }
-{}
+pub fn texts_tell_statements(schema: &Schema)
+    ensures { TextsTellStatements schema.now }
+{
+    schema.declared_one_by_one();
+}
