@@ -1,28 +1,18 @@
 -- What is written once all rows stand, row by row and table by table.
-use Rattle.std.proofs.Common.{◌≡◌, ℕ, suc, zero, ◌+◌, ◌<◌, ◌≤◌, Bool, true, false, cond, List, [], ◌∷◌, ◌++◌, length, map, get_or, take, drop, Some, refl, sym, ap, ◌∙◌, subst, append_assoc, arith}
-use Rattle.std.proofs.Math.Seq.{take-suc}
-use Rattle.std.proofs.lemmas.Grind.{common_steps, flat_map-append}
+use Rattle.std.proofs.Common.{◌≡◌, ℕ, suc, zero, ◌+◌, ◌<◌, ◌≤◌, Bool, true, false, cond, List, [], ◌∷◌, ◌++◌, length, map, get_or, take, Some, refl, sym, ap, ◌∙◌, subst, arith}
+use Rattle.std.proofs.lemmas.Grind.{flat_map-append}
 use Rattle.std.proofs.lemmas.List.{length-map, map-append, take_all}
-use Rattle.std.proofs.lemmas.List.Elements.{All-get_or, All-map, filter-append}
 use Rattle.std.proofs.lemmas.List.FromFn.{get_or-map-range_with_len, length-map-range_with_len}
 use Rattle.std.proofs.lemmas.Option.{get_or_from_slice_get}
 use Rattle.std.specs.Prelude.{slice_index_or}
-use Rattle.std.specs.List.{All, filter, flat_map, slice_get}
+use Rattle.std.specs.List.{filter, flat_map, slice_get}
 use Rattle.base_core.specs.declared.ids.TableId.{TableId}
-use Rattle.schema_core.specs.declared.changes.ChangedRow.{ChangedRow}
-use Rattle.schema_core.specs.declared.changes.GoneRow.{GoneRow}
 use Rattle.schema_core.specs.declared.changes.Planned.{Planned}
 use Rattle.schema_core.specs.declared.changes.RowChanges.{RowChanges}
-use Rattle.schema_core.specs.Catalog.{Catalog, IsTable}
+use Rattle.schema_core.specs.Catalog.{Catalog}
 use Rattle.schema_core.specs.DependencyOrder.{table_ids}
-use Rattle.flush_order.specs.Orders.{gone_at, no_gone, place_of_gone}
-use Rattle.flush_plan.specs.Planning.{Writing, cells_when, is_of, late_gone, late_in, late_old, late_updates_of, late_writings, no_changed, no_writing, update_of, updates_to, writing_some}
-use Rattle.flush_order.specs.declared.refers.ReadyGone.{ReadyGone}
-use Rattle.flush_order.specs.Cells.{new_at, no_row}
-use Rattle.flush_order.specs.Ready.{AreInRange, AreReadyGone, IsInTable, ready_gone}
-use Rattle.flush_order.specs.Sorted.{Place, sorted_numbers}
-use Rattle.flush_order.proofs.Sorting.{numbers_fewer, numbers_within}
-use Rattle.schema_core.specs.declared.changes.NewRow.{NewRow}
+use Rattle.flush_plan.specs.Planning.{Writing, cells_when, late_gone, late_in, late_writings, no_writing, writing_some}
+use Rattle.flush_order.specs.Ready.{AreInRange}
 use Rattle.flush_plan.proofs.UpdateSteps.{mapped_more, take_one}
 
 -- ---- what is written late

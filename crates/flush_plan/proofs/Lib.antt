@@ -1,4 +1,5 @@
 pub mod LateSteps
+pub mod PhaseSteps
 pub mod RunSteps
 pub mod UpdateSteps
 pub mod WritingSteps

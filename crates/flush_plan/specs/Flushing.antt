@@ -1,5 +1,5 @@
 -- A plan sent statement by statement: cells that name a key are put in as keys become known.
-use Rattle.std.specs.Prelude.{ℕ, Bool, true, false, cond, not, ◌&&◌, ◌||◌, List, [], ◌∷◌, map, slice_index_or, nat_eq, Option, None, Some, is_some, Result, Ok, Err, if◌then◌else◌}
+use Rattle.std.specs.Prelude.{ℕ, Bool, false, ◌&&◌, ◌||◌, List, [], ◌∷◌, map, slice_index_or, nat_eq, Result, Ok, Err, if◌then◌else◌}
 use Rattle.std.specs.List.{list_any}
 use Rattle.std.specs.Map.{lookup}
 use Rattle.std.specs.Option.{unwrap_or}
@@ -17,7 +17,7 @@ use Rattle.schema_core.specs.declared.statement.RowStmt.{RowStmt}
 use Rattle.schema_core.specs.declared.statement.RowStmt.TheVariants as statement
 use Rattle.schema_core.specs.Apply.{Outcome, apply}
 use Rattle.schema_core.specs.Catalog.{Catalog}
-use Rattle.schema_core.specs.Tables.{Tables, same_values}
+use Rattle.schema_core.specs.Tables.{Tables}
 use Rattle.flush_order.specs.Cells.{first_cells}
 use Rattle.flush_order.specs.Orders.{place_of_gone}
 use Rattle.flush_plan.specs.Planning.{place_of_changed, writes_some}

@@ -1,11 +1,10 @@
 -- The statements of a flush in their order, in which keys of new rows may still stand open.
-use Rattle.std.specs.Prelude.{ℕ, suc, zero, Bool, true, false, cond, not, ◌&&◌, List, [], ◌∷◌, ◌++◌, map, length, slice_index_or, nat_eq, Result, Ok, Err}
+use Rattle.std.specs.Prelude.{ℕ, suc, Bool, true, false, cond, not, ◌&&◌, List, [], ◌∷◌, ◌++◌, map, length, slice_index_or, nat_eq, Result, Ok, Err}
 use Rattle.std.specs.List.{filter, flat_map, range_with_len}
 use Rattle.base_core.specs.declared.ids.ColumnNo.{ColumnNo}
 use Rattle.base_core.specs.declared.ids.TableId.{TableId}
 use Rattle.base_core.specs.declared.refusal.Refusal.{Refusal}
 use Rattle.base_core.specs.declared.refusal.Refusal.TheVariants.{CircularDependencyError}
-use Rattle.base_core.specs.declared.value.Value.{Value}
 use Rattle.base_core.specs.declared.value.Value.TheVariants.{Null}
 use Rattle.schema_core.specs.declared.changes.ChangedRow.{ChangedRow}
 use Rattle.schema_core.specs.declared.changes.GoneRow.{GoneRow}

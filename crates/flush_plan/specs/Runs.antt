@@ -1,8 +1,6 @@
 -- New rows in their order, cut into those that one INSERT carries.
-use Rattle.std.specs.Prelude.{ℕ, suc, Bool, true, false, not, cond, ◌&&◌, ◌-◌, ◌*◌, List, [], ◌∷◌, ◌++◌, length, nat_eq, nat_lt, if◌then◌else◌}
+use Rattle.std.specs.Prelude.{ℕ, suc, Bool, false, not, cond, ◌&&◌, ◌-◌, ◌*◌, List, [], ◌∷◌, ◌++◌, length, nat_eq, nat_lt, if◌then◌else◌}
 use Rattle.std.specs.List.{list_all, list_any}
-use Rattle.base_core.specs.declared.value.Value.{Value}
-use Rattle.base_core.specs.declared.value.Value.TheVariants.{Null}
 use Rattle.schema_core.specs.declared.changes.RowCell.{RowCell}
 use Rattle.schema_core.specs.declared.changes.RowCell.TheVariants.{Given, KeyOf}
 use Rattle.schema_core.specs.declared.changes.RowChanges.{RowChanges}

@@ -1,29 +1,27 @@
 -- The keys of new rows, and the tables that the changes state, in one step.
-use Rattle.std.specs.Prelude.{ℕ, Bool, true, false, cond, not, ◌&&◌, ◌||◌, List, [], ◌∷◌, ◌++◌, map, length, nat_eq, Option, None, Some, is_some, if◌then◌else◌}
+use Rattle.std.specs.Prelude.{ℕ, Bool, cond, not, ◌&&◌, ◌||◌, List, [], ◌∷◌, ◌++◌, map, Option, None, Some, is_some, if◌then◌else◌}
 use Rattle.std.specs.List.{list_any, list_all, filter, fold}
-use Rattle.std.specs.Option.{option_and_then, option_map, unwrap_or}
+use Rattle.std.specs.Option.{option_and_then, unwrap_or}
 use Rattle.base_core.specs.declared.ids.ColumnNo.{ColumnNo}
 use Rattle.base_core.specs.declared.ids.TableId.{TableId}
 use Rattle.base_core.specs.declared.value.Value.{Value}
 use Rattle.base_core.specs.declared.value.Value.TheVariants.{Null}
 use Rattle.schema_core.specs.declared.changes.ChangedRow.{ChangedRow}
 use Rattle.schema_core.specs.declared.changes.GoneRow.{GoneRow}
-use Rattle.schema_core.specs.declared.changes.NewRow.{NewRow}
 use Rattle.schema_core.specs.declared.changes.RowCell.{RowCell}
 use Rattle.schema_core.specs.declared.changes.RowCell.TheVariants.{Given, KeyOf}
 use Rattle.schema_core.specs.declared.changes.RowChanges.{RowChanges}
 use Rattle.schema_core.specs.declared.table.ColumnSpec.{ColumnSpec}
-use Rattle.schema_core.specs.declared.table.ForeignSpec.{ForeignSpec}
 use Rattle.schema_core.specs.declared.table.TableSpec.{TableSpec}
 use Rattle.schema_core.specs.Apply.{with_cells, with_own_key}
-use Rattle.schema_core.specs.Catalog.{Catalog, spec_of, target_of}
+use Rattle.schema_core.specs.Catalog.{Catalog, spec_of}
 use Rattle.schema_core.specs.Declaration.{some_two}
-use Rattle.schema_core.specs.Tables.{Rows, Tables, cells_of, has_null, is_created, key_of, row_under, rows_in, same_values, with_row, with_rows, without_row}
+use Rattle.schema_core.specs.Tables.{Rows, Tables, has_null, is_created, key_of, row_under, rows_in, with_row, with_rows, without_row}
 use Rattle.flush_order.specs.Cells.{first_cells, is_late, known_row, new_at, table_at}
 use Rattle.flush_plan.specs.Flushing.{Keys, Sofar, key_of_new, put}
 use Rattle.flush_order.specs.Orders.{place_of_gone}
-use Rattle.flush_plan.specs.Planning.{is_of, late_gone, writes_some}
-use Rattle.flush_order.specs.Refers.{gone_key, names}
+use Rattle.flush_plan.specs.Planning.{late_gone, writes_some}
+use Rattle.flush_order.specs.Refers.{names}
 use Rattle.flush_order.specs.Sorted.{Place, same_place}
 
 -- ---- Keys

@@ -1,7 +1,4 @@
-use Rattle.std.proofs.Common.{◌≡◌, List, [], ◌∷◌, ◌++◌, map, get_or, sym, ap, ◌∙◌}
-use Rattle.std.proofs.lemmas.List.{map-append}
-use Rattle.std.proofs.lemmas.Option.{get_or_from_slice_get}
-use Rattle.flush_order.specs.Orders.{gone_at, no_gone}
+use Rattle.std.proofs.Common.{[], ◌∷◌, ◌++◌, sym, ap, ◌∙◌}
 use Rattle.flush_order.specs.Ready.{ready_gone}
 use Rattle.flush_plan.proofs.UpdateSteps.{ready_more}
 use Rattle.flush_plan.proofs.gone.ready_in_order.Goals as goal

@@ -1,4 +1,4 @@
-use Rattle.std.proofs.Common.{◌≡◌, List, map, ap, ◌∙◌, subst}
+use Rattle.std.proofs.Common.{◌≡◌, map, ap, ◌∙◌, subst}
 use Rattle.std.specs.Prelude.{slice_index_or, IfOk}
 use Rattle.flush_plan.specs.Planning.{no_writing}
 use Rattle.flush_order.specs.Sorted.{sorted_numbers}

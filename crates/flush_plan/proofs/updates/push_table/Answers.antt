@@ -1,4 +1,4 @@
-use Rattle.std.proofs.Common.{◌++◌, List, map, ◌∙◌, append_assoc}
+use Rattle.std.proofs.Common.{◌++◌, map, ◌∙◌, append_assoc}
 use Rattle.std.specs.List.{filter}
 use Rattle.flush_plan.specs.Planning.{is_of, late_old, late_updates_of, update_of}
 use Rattle.flush_plan.proofs.updates.push_table.Goals as goal

@@ -1,0 +1,14 @@
+use Rattle.std.proofs.Common.{ap, ◌∙◌}
+use Rattle.flush_plan.specs.Planning.{removes}
+use Rattle.flush_plan.proofs.PhaseSteps.{four_parts}
+use Rattle.flush_plan.proofs.phases.statements.Goals as goal
+
+pub returns-clause-statements : goal.returns-clause-statements
+returns-clause-statements c =
+    let schema = c.args.new.now.schema.now in
+    c.from_vec.ensures
+    ∙ four_parts _ _ _ _ _ _ _ _ _ _ _ c.in_ok-plan.ensures.inserts c.in_ok-updates.ensures.updates c.in_ok-late_updates.ensures.updates
+    (c.in_ok-removes.ensures.removes
+    ∙ ap (λ s. removes s c.args.gone.now.changes.now c.args.gone_order.now) c.requires.schema
+    ∙ ap (λ changes. removes schema changes c.args.gone_order.now) c.requires.changes)
+    c.in_ok-push_all.ensures.all c.in_ok-push_all-2.ensures.all c.in_ok-push_all-3.ensures.all
