@@ -1,5 +1,12 @@
 pub mod Lists
+pub mod Having
 pub mod ValidLemmas
 pub mod MappingLemmas
 pub mod PlainLemmas
 pub mod PlainClassLemmas
+pub mod LineLemmas
+pub mod RelatedLemmas
+pub mod RelatedKeys
+pub mod RootLemmas
+pub mod RelatedJoins
+pub mod RelatedPairs

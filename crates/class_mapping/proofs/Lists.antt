@@ -35,6 +35,19 @@ pub or_none : (a b : Bool) → a ≡ false → b ≡ false → (a || b) ≡ fals
 or_none true b p q = absurd cc
 or_none false b p q = q
 
+pub and_every : (a b c d : Bool) → a ≡ true → b ≡ true → c ≡ true → d ≡ true → (a && b && c && d) ≡ true
+and_every true true true d p q r s = s
+and_every true true false d p q r s = absurd cc
+and_every true false c d p q r s = absurd cc
+and_every false b c d p q r s = absurd cc
+
+-- what three that hold together give
+pub three_parts : {A : Type 0} (a b c : Bool) → (a && b && c) ≡ true → (a ≡ true → b ≡ true → c ≡ true → A) → A
+three_parts true true true h f = f refl refl refl
+three_parts true true false h f = absurd cc
+three_parts true false c h f = absurd cc
+three_parts false b c h f = absurd cc
+
 -- the first of a choice of four fails, and the second
 pub or_four : (a b c d : Bool) → (a || b || c || d) ≡ false → (a ≡ false) × (b ≡ false)
 or_four true b c d h = absurd cc

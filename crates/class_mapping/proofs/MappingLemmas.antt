@@ -30,6 +30,7 @@ use Rattle.class_sides.specs.Linking as linking
 use Rattle.schema_core.specs.Declaration.{has_targets, resolve, some_two}
 use Rattle.class_faults.specs.Faults.{fault_among, mapping_fault}
 use Rattle.class_mapping.specs.Valid.{IsValid}
+use Rattle.class_mapping.specs.Lines.{AreLines}
 use Rattle.class_mapping.specs.Mapped.{IsLaid, IsValidMapping, Mapped, all_validators, no_attribute}
 use Rattle.class_mapping.specs.Plain.{is_over_table, is_plain_root, lines_alone}
 use Rattle.class_mapping.specs.Declaring.{class_unless, closed_unless, configure}
@@ -141,29 +142,30 @@ pub refused_by_targets : (mapped : Mapped) → has_targets mapped.schema.tables 
 unfolding configure
 refused_by_targets mapped h = ap (λ (fault : Option ArgumentKind). closed_unless fault mapped) (no_targets mapped.schema.tables mapped.classes h)
 
-abbrev all_found : Catalog → Catalog
+abbrev pub all_found : Catalog → Catalog
 all_found schema = record { tables = schema.tables; resolved = true }
 
 resolved_by : (found : Bool) (schema new : Catalog) → (let answer : Result (Unit {0} × Catalog) Refusal = if found then Ok (tt, all_found schema) else Err (ArgumentError BadTarget) in answer ≡ Ok (tt, new)) → all_found schema ≡ new
 resolved_by true schema new h = ap (λ (p : Unit {0} × Catalog). p.1) (ok_inj {E = Refusal} (tt, all_found schema) (tt, new) h)
 resolved_by false schema new h = absurd cc
 
-resolved_is : (schema new : Catalog) → resolve schema ≡ Ok (tt, new) → all_found schema ≡ new
+pub resolved_is : (schema new : Catalog) → resolve schema ≡ Ok (tt, new) → all_found schema ≡ new
 unfolding resolve
 resolved_is schema new h = resolved_by (has_targets schema.tables) schema new h
 
 -- what is kept once all was checked
 pub laid_by : (schema new : Catalog) (classes : Classes) (fault : Option ArgumentKind) (layouts : List Layout) (relations : List (List Relation)) (validators : List (List (List ℕ × List ℕ)))
-    → length classes.specs ≤ 4294967295 → length classes.lines ≡ length classes.specs → (list_all is_plain_root classes.specs ≡ true → classes.lines ≡ lines_alone classes.specs)
+    → length classes.specs ≤ 4294967295 → length classes.lines ≡ length classes.specs → AreLines schema.tables classes → (list_all is_plain_root classes.specs ≡ true → classes.lines ≡ lines_alone classes.specs)
     → list_all (is_over_table schema.tables) classes.specs ≡ true → list_any (λ spec. list_any is_bad_cascade spec.relations) classes.specs ≡ false
     → resolve schema ≡ Ok (tt, new) → fault ≡ mapping_fault schema.tables classes → fault ≡ None
     → layouts ≡ layouts_of schema.tables classes → relations ≡ linking.relations_of schema.tables classes → validators ≡ all_validators classes
     → IsLaid new classes true layouts relations validators
-laid_by schema new classes fault layouts relations validators few lined alone over orphans h told none laid linked validated =
+laid_by schema new classes fault layouts relations validators few lined lines alone over orphans h told none laid linked validated =
     subst (λ (now : Catalog). IsLaid now classes true layouts relations validators) (resolved_is schema new h)
     (record {
       few = few;
       lined = lined;
+      lines = lines;
       alone = alone;
       over = over;
       orphans = orphans;

@@ -77,7 +77,7 @@ found_is false n = refl
 place_kept : {A : Type 0} (p : A → Bool) (xs : List A) (y : A) → nat_lt (position_or_len p xs) (length xs) ≡ true → nat_lt (position_or_len p (xs ++ y ∷ [])) (length (xs ++ y ∷ [])) ≡ true
 place_kept {A = A} p xs y h = grind (arith, nat_tests, position_or_len_push, length-append {A = A})
 
-over_kept : (tables : List TableSpec) (more : TableSpec) (name : Option (List ℕ)) → (is_none name || is_some (named_table tables name)) ≡ true → (is_none name || is_some (named_table (tables ++ more ∷ []) name)) ≡ true
+pub over_kept : (tables : List TableSpec) (more : TableSpec) (name : Option (List ℕ)) → (is_none name || is_some (named_table tables name)) ≡ true → (is_none name || is_some (named_table (tables ++ more ∷ []) name)) ≡ true
 over_kept tables more None h = refl
 over_kept tables more (Some name) h =
     let named : TableSpec → Bool = λ spec. same_name spec.name name in
@@ -176,13 +176,13 @@ from_place (Some i) n within table e =
     subst (λ (k : ℕ). k < n) same (within i refl)
 
 -- a table that is found is declared
-found_table : (tables : List TableSpec) (name : Option (List ℕ)) (table : TableId) → named_table tables name ≡ Some table → table.0 < length tables
+pub found_table : (tables : List TableSpec) (name : Option (List ℕ)) (table : TableId) → named_table tables name ≡ Some table → table.0 < length tables
 found_table tables None table e = absurd cc
 found_table tables (Some name) table e =
     from_place (position (λ spec. same_name spec.name name) tables) (length tables)
     (λ i at. (position-Some (λ (spec : TableSpec). same_name spec.name name) tables i no_table at).0) table e
 
-some_of : {A : Type 0} (o : Option A) → is_some o ≡ true → (x : A) × (o ≡ Some x)
+pub some_of : {A : Type 0} (o : Option A) → is_some o ≡ true → (x : A) × (o ≡ Some x)
 some_of None h = absurd cc
 some_of (Some x) h = (x, refl)
 

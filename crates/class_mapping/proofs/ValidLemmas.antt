@@ -24,8 +24,8 @@ use Rattle.class_sides.specs.Keys.{allows, columns_at, is_inherited, is_tied, re
 use Rattle.class_sides.specs.Sides.{Ends, candidates, ends_among, ends_by, ends_in, has_attribute, is_all_keys, key_at, layout_at, serves, side_of, sides_at, sides_of, table_candidates, target_of}
 use Rattle.class_sides.specs.Pairs.{differs, fits, is_partner, is_plain, is_taken_in, join_of, lacks_join}
 use Rattle.class_faults.specs.Faults.{fault_among, fault_of_keys, fault_of_pairs, inherits_badly, misses_ends, misses_table, misses_target, misses_tie_in, owns_rightly}
-use Rattle.class_mapping.specs.Valid.{IsValid, covers, extends_rightly, holds_of, is_among, is_covered, is_joined, is_paired, is_tied_in, joins, joins_ends, refers_by, refers_to_class}
-use Rattle.class_mapping.proofs.Lists.{all_better, all_flat, all_good, all_kept, all_map, all_numbered, all_true, all_unless, and_both, and_four, and_left, and_right, and_three, covered_if, found_holds, joined_if, led_if, none_flat, none_map, none_numbered, paired_if}
+use Rattle.class_mapping.specs.Valid.{IsValid, covers, covers_both, extends_rightly, holds_of, is_among, is_covered, is_joined, is_paired, is_tied_in, joins, joins_ends, refers_by}
+use Rattle.class_mapping.proofs.Lists.{all_better, all_flat, all_good, all_kept, all_map, all_numbered, all_true, all_unless, and_both, and_every, and_four, and_left, and_right, and_three, covered_if, found_holds, joined_if, led_if, none_flat, none_map, none_numbered, paired_if}
 
 -- ---- the keys that can serve a side
 
@@ -100,28 +100,24 @@ either_join false tables named own target = candidates_join tables named own tar
 
 -- ---- the keys of secondary tables
 
-abbrev covers_by : List TableSpec → Option Layout → Option Layout → Ends → Bool
-covers_by tables near far ends =
-    is_all_keys (columns_in tables ends.0.0) (foreigns_in tables ends.0.0)
-    && refers_to_class tables near ends.0
-    && refers_to_class tables far ends.1
-
 abbrev fine : List TableSpec → Option Layout → Option Layout → Option Ends → Bool
-fine tables near far ends = is_none ends || holds_of (covers_by tables near far) ends
+fine tables near far ends = is_none ends || holds_of (covers_both tables near far) ends
 
 first_covers : (tables : List TableSpec) (table : TableId) (near far : Layout) (one two : ForeignSpec) → foreigns_in tables table ≡ one ∷ two ∷ []
     → is_all_keys (columns_in tables table) (one ∷ two ∷ []) ≡ true → refers_into tables one near.tables ≡ true → refers_into tables two far.tables ≡ true
-    → covers_by tables (Some near) (Some far) ((table, 0), (table, 1)) ≡ true
+    → covers_both tables (Some near) (Some far) ((table, 0), (table, 1)) ≡ true
 first_covers tables table near far one two e all p q =
-    and_three _ _ _ (ap (is_all_keys (columns_in tables table)) e ∙ all)
+    and_every _ _ _ _ (nat_eq_equiv.refl table.0)
+    (ap (is_all_keys (columns_in tables table)) e ∙ all)
     (ap (λ (foreigns : List ForeignSpec). refers_by tables near.tables (slice_get foreigns 0)) e ∙ p)
     (ap (λ (foreigns : List ForeignSpec). refers_by tables far.tables (slice_get foreigns 1)) e ∙ q)
 
 second_covers : (tables : List TableSpec) (table : TableId) (near far : Layout) (one two : ForeignSpec) → foreigns_in tables table ≡ one ∷ two ∷ []
     → is_all_keys (columns_in tables table) (one ∷ two ∷ []) ≡ true → refers_into tables two near.tables ≡ true → refers_into tables one far.tables ≡ true
-    → covers_by tables (Some near) (Some far) ((table, 1), (table, 0)) ≡ true
+    → covers_both tables (Some near) (Some far) ((table, 1), (table, 0)) ≡ true
 second_covers tables table near far one two e all p q =
-    and_three _ _ _ (ap (is_all_keys (columns_in tables table)) e ∙ all)
+    and_every _ _ _ _ (nat_eq_equiv.refl table.0)
+    (ap (is_all_keys (columns_in tables table)) e ∙ all)
     (ap (λ (foreigns : List ForeignSpec). refers_by tables near.tables (slice_get foreigns 1)) e ∙ p)
     (ap (λ (foreigns : List ForeignSpec). refers_by tables far.tables (slice_get foreigns 0)) e ∙ q)
 
@@ -153,10 +149,10 @@ among_covers tables table near far [] e = refl
 among_covers tables table near far (one ∷ []) e = refl
 among_covers tables table near far (one ∷ two ∷ three ∷ more) e = refl
 among_covers tables table near far (one ∷ two ∷ []) e =
-    guarded (is_all_keys (columns_in tables table) (one ∷ two ∷ [])) _ (covers_by tables (Some near) (Some far)) (ends_by tables table one two near.tables far.tables)
+    guarded (is_all_keys (columns_in tables table) (one ∷ two ∷ [])) _ (covers_both tables (Some near) (Some far)) (ends_by tables table one two near.tables far.tables)
     (λ all.
     chosen (refers_into tables one near.tables) (refers_into tables two far.tables) (refers_into tables two near.tables) (refers_into tables one far.tables)
-    (covers_by tables (Some near) (Some far)) ((table, 0), (table, 1)) ((table, 1), (table, 0))
+    (covers_both tables (Some near) (Some far)) ((table, 0), (table, 1)) ((table, 1), (table, 0))
     (λ p q. first_covers tables table near far one two e all p q)
     (λ p q. second_covers tables table near far one two e all p q))
 
@@ -169,7 +165,7 @@ in_covers tables (Some table) (Some near) (Some far) = among_covers tables table
 ends_cover : (tables : List TableSpec) (specs : List ClassSpec) (secondary : Option (List ℕ)) (table : Option TableId) (near far : Option Layout)
     → fine tables near far (if maps_name specs secondary then None else ends_in tables table near far) ≡ true
 ends_cover tables specs secondary table near far =
-    unless_mapped (maps_name specs secondary) (covers_by tables near far) (ends_in tables table near far) (in_covers tables table near far)
+    unless_mapped (maps_name specs secondary) (covers_both tables near far) (ends_in tables table near far) (in_covers tables table near far)
 
 -- ---- all declared relationships
 
@@ -290,6 +286,7 @@ valid_by tables classes layouts sides joining covering orphans h =
       covered = all_covered tables layouts sides covering three.0;
       apart = six.0;
       paired = all_paired classes layouts sides seven.0;
+      differing = seven.0;
       orphans = orphans;
       keys = eight.0;
       posts = nine.0;

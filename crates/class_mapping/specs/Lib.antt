@@ -1,5 +1,7 @@
 pub mod Valid
 pub mod Plain
+pub mod Lines
 pub mod Mapped
+pub mod Related
 pub mod Declaring
 pub mod PlainClass

@@ -21,6 +21,7 @@ use Rattle.class_faults.specs.Faults.{mapping_fault}
 use Rattle.class_sides.specs.Sides.{sides_of}
 use Rattle.class_sides.specs.Linking as linking
 use Rattle.class_mapping.specs.Valid.{IsValid}
+use Rattle.class_mapping.specs.Lines.{AreLines}
 use Rattle.class_mapping.specs.Plain.{is_over_table, is_plain_root, lines_alone}
 
 -- the tables, the declared classes in order of number with their lines from the root down, and whether all was checked since the last declaration
@@ -149,12 +150,13 @@ IsValidMapping mapped =
     let layouts = columns.layouts_of mapped.schema.tables mapped.classes in
     IsValid mapped.schema.tables mapped.classes layouts (sides_of mapped.schema.tables mapped.classes layouts)
 
--- What every mapping keeps: there is a line for each class, which is the class alone where all are plain roots, the tables
--- that classes name are declared, delete-orphan is at one-to-many alone, and once it is configured it has no fault, and what
+-- What every mapping keeps: there is a line for each class, which begins with a root over a declared table, and which is the
+-- class alone where all are plain roots, the tables that classes name are declared, delete-orphan is at one-to-many alone, and once it is configured it has no fault, and what
 -- each class has is known.
 pub record IsLaid (schema : Catalog) (classes : Classes) (configured : Bool) (layouts : List Layout) (relations : List (List Relation)) (validators : List (List (List ℕ × List ℕ))) : Type 0 where
   pub few : length classes.specs ≤ 4294967295
   pub lined : length classes.lines ≡ length classes.specs
+  pub lines : AreLines schema.tables classes
   pub alone : list_all is_plain_root classes.specs ≡ true → classes.lines ≡ lines_alone classes.specs
   pub over : list_all (is_over_table schema.tables) classes.specs ≡ true
   pub orphans : list_any (λ spec. list_any is_bad_cascade spec.relations) classes.specs ≡ false

@@ -14,7 +14,7 @@ use Rattle.class_layouts.specs.Faults.{foreigns_in, is_bad_cascade}
 use Rattle.class_sides.specs.declared.side.Side.{Side}
 use Rattle.class_sides.specs.Keys.{TableKey, foreign_at, is_tied, names_of, refers_into}
 use Rattle.class_sides.specs.Sides.{Ends, has_attribute, is_all_keys, layout_at}
-use Rattle.class_sides.specs.Pairs.{is_partner, is_plain, join_of, overlaps}
+use Rattle.class_sides.specs.Pairs.{differs, is_partner, is_plain, join_of, overlaps}
 use Rattle.class_faults.specs.Faults.{misses_delete, posts_badly}
 
 -- ---- the keys of pairs
@@ -55,12 +55,17 @@ abbrev pub refers_to_class : List TableSpec → Option Layout → TableKey → B
 refers_to_class tables None key = false
 refers_to_class tables (Some layout) key = refers_by tables layout.tables (foreign_at tables key)
 
--- the two keys are all columns of the secondary table and its whole key, the first to the side's class, the second to the target
+-- two keys of one table are all its columns and its whole key, the first to the near class, the second to the far one
+abbrev pub covers_both : List TableSpec → Option Layout → Option Layout → Ends → Bool
+covers_both tables near far ends =
+    (ends.0.0.0 == ends.1.0.0)
+    && is_all_keys (columns_in tables ends.0.0) (foreigns_in tables ends.0.0)
+    && refers_to_class tables near ends.0
+    && refers_to_class tables far ends.1
+
+-- so are the keys of a side's secondary table, the first to the side's class, the second to the target
 abbrev pub covers : List TableSpec → List Layout → Side → Ends → Bool
-covers tables layouts side ends =
-    is_all_keys (columns_in tables ends.0.0) (foreigns_in tables ends.0.0)
-    && refers_to_class tables (layout_at layouts (Some side.class)) ends.0
-    && refers_to_class tables (layout_at layouts side.target) ends.1
+covers tables layouts side ends = covers_both tables (layout_at layouts (Some side.class)) (layout_at layouts side.target) ends
 
 -- a side with a secondary table has such keys
 abbrev pub is_covered : List TableSpec → List Layout → Side → Bool
@@ -96,6 +101,8 @@ pub record IsValid (tables : List TableSpec) (classes : Classes) (layouts : List
   pub apart : some_two (overlaps tables classes sides) sides ≡ false
   -- partners name each other back
   pub paired : list_all (is_paired sides) sides ≡ true
+  -- the name of a backref is taken nowhere at its target or below
+  pub differing : list_any (differs classes layouts sides) sides ≡ false
   -- delete-orphan is at one-to-many alone, with delete
   pub orphans : list_any (λ side. is_bad_cascade side.spec) sides ≡ false
   -- a foreign key with a key column has a many side with delete and delete-orphan

@@ -4,6 +4,7 @@ ghost use Rattle.std.specs.Prelude.{◌≡◌, ◌<◌, ◌≤◌, [], length, t
 ghost use Rattle.std.specs.List.{All};
 ghost use Rattle.base_core.specs.Answers.{Takes};
 ghost use Rattle.base_core.specs.declared.refusal.Refusal.TheVariants.{Memory};
+ghost use Rattle.schema_core.specs.Catalog.{IsTable};
 ghost use Rattle.schema_core.specs.Declaration.{declaration_fault, has_targets};
 ghost use Rattle.class_types.specs.Shown.{rules_of};
 ghost use Rattle.class_layouts.specs.Columns.{layouts_of};
@@ -13,6 +14,7 @@ ghost use Rattle.class_layouts.specs.Faults.{class_fault};
 ghost use Rattle.class_mapping.specs.Mapped.{IsAttribute, IsClass, IsValidMapping, all_validators, attributes_of, class_spec, find_class, key_attributes, layout_of, parent_of, relations_of, root_of, root_table, tables_of, validators_of};
 ghost use Rattle.class_mapping.specs.Plain.{early_fault};
 ghost use Rattle.class_mapping.specs.PlainClass.{ArePlain, IsPlainClass};
+ghost use Rattle.class_mapping.specs.Related.{AreRelated};
 ghost use Rattle.class_mapping.specs.Declaring.{closed, configure, declare_class, declare_table, with_class, with_table};
 
 use crate::lookup::{before_last, class_or, table_or_none};
@@ -117,10 +119,12 @@ impl Mapping {
         &self.schema
     }
 
-    /// Whether all was checked since the last declaration. If so there is no fault, and each foreign key has its target.
+    /// Whether all was checked since the last declaration. If so there is no fault, each foreign key has its target, and each
+    /// relationship of each class has its partner and its keys.
     pub fn is_configured(&self) -> bool
         ensures configured { result ≡ self.now.configured }
         ensures valid { self.now.configured ≡ true → IsValidMapping self.now }
+        ensures related { self.now.configured ≡ true → AreRelated self.now }
         ensures resolved { self.now.configured ≡ true → self.now.schema.resolved ≡ true }
     {
         self.configured
@@ -155,16 +159,19 @@ impl Mapping {
     /// The class without a base at the head of a class's hierarchy.
     pub fn root_of(&self, class: ClassId) -> ClassId
         requires { IsClass self.now class }
-        ensures { result ≡ root_of self.now class }
+        ensures class { result ≡ root_of self.now class }
+        ensures declared { IsClass self.now result }
+        ensures alone { (class_spec self.now result).base ≡ None }
     {
         class_or(root_in(line_of(&self.classes, class.0 as usize)), class)
     }
 
-    /// The table of a class's root. Where each class is a plain root, the class is its own root and has the columns of this
-    /// table, which is declared.
+    /// The table of a class's root, which is declared. Where each class is a plain root, the class is its own root and has the
+    /// columns of this table.
     pub fn root_table(&self, class: ClassId) -> TableId
         requires { IsClass self.now class }
         ensures table { result ≡ root_table self.now class }
+        ensures exists { IsTable self.now.schema result }
         ensures plain { ArePlain self.now → IsPlainClass self.now class }
     {
         let root = self.root_of(class);
@@ -317,6 +324,7 @@ impl Mapping {
         ensures step { Takes (λ _. tt) (configure self.old) self.old result self.new }
         ensures closed { OnOk result (self.new ≡ closed self.old) }
         ensures valid { OnOk result (IsValidMapping self.new) }
+        ensures related { OnOk result (AreRelated self.new) }
         ensures sound { result ≡ Err Memory → has_targets self.old.schema.tables ≡ true }
     {
         if !self.schema.has_targets() {

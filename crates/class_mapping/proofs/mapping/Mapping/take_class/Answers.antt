@@ -1,6 +1,7 @@
 use Rattle.std.proofs.Common.{◌<◌, length, ap, subst, sym}
 use Rattle.class_layouts.specs.declared.classes.Classes.{Classes}
 use Rattle.class_mapping.specs.Mapped.{IsLaid, Mapped}
+use Rattle.class_mapping.proofs.LineLemmas.{lines_class}
 use Rattle.class_mapping.proofs.MappingLemmas.{few_more, lined_more, orphans_more, taken_is}
 use Rattle.class_mapping.proofs.PlainClassLemmas.{alone_more, over_more}
 use Rattle.class_mapping.proofs.mapping.Mapping.take_class.Goals as goal
@@ -12,6 +13,7 @@ invariant_of-self-2 g c =
     record {
       few = few_more c.self.inside.classes c.args.spec c.declare.new.classes new less;
       lined = lined_more c.self.inside.classes c.args.spec c.declare.new.classes new c.self.invariant.lined;
+      lines = lines_class _ c.self.inside.schema.tables c.self.inside.classes c.args.spec c.declare.new.classes c.in_ok-declare.ensures c.self.invariant.lined c.self.invariant.lines;
       alone = alone_more c.self.inside.classes c.args.spec c.declare.new.classes new c.self.invariant.alone;
       over = over_more _ c.self.inside.schema.tables c.self.inside.classes c.args.spec c.declare.new.classes c.in_ok-declare.ensures c.self.invariant.over;
       orphans = orphans_more _ c.self.inside.schema.tables c.self.inside.classes c.args.spec c.declare.new.classes c.in_ok-declare.ensures c.self.invariant.orphans;

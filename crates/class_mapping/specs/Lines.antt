@@ -1,0 +1,46 @@
+-- What the lines of declared classes have.
+use Rattle.std.specs.Prelude.{◌≡◌, ◌<◌, ℕ, Bool, true, false, ◌&&◌, List, length, map, slice_get, Option, None, Some, is_none, is_some}
+use Rattle.std.specs.List.{flat_map, list_all, list_any}
+use Rattle.base_core.specs.declared.ids.ClassId.{ClassId}
+use Rattle.schema_core.specs.declared.table.TableSpec.{TableSpec}
+use Rattle.schema_core.specs.Catalog.{same_name}
+use Rattle.schema_core.specs.Declaration.{some_two}
+use Rattle.class_types.specs.declared.declared.ClassSpec.{ClassSpec}
+use Rattle.class_layouts.specs.declared.classes.Classes.{Classes}
+use Rattle.class_layouts.specs.Columns.{named_table}
+use Rattle.class_layouts.specs.Hierarchy.{has_class, line_of, relations_at, root_in}
+
+-- the declaration is of a class that extends none, over a declared table
+abbrev pub is_root_over : List TableSpec → Option ClassSpec → Bool
+is_root_over tables None = false
+is_root_over tables (Some spec) = is_none spec.base && is_some (named_table tables spec.table)
+
+abbrev pub spec_at : List ClassSpec → Option ClassId → Option ClassSpec
+spec_at specs None = None
+spec_at specs (Some class) = slice_get specs class.0
+
+-- the line begins with such a class
+abbrev pub is_rooted : List TableSpec → List ClassSpec → List ClassId → Bool
+is_rooted tables specs line = is_root_over tables (spec_at specs (root_in line))
+
+-- each class of the line is declared
+abbrev pub are_declared : List ClassSpec → List ClassId → Bool
+are_declared specs line = list_all (λ class. is_some (slice_get specs class.0)) line
+
+-- the names of the relationships of a class's own block
+abbrev pub names_at : Classes → ClassId → List (List ℕ)
+names_at classes class = map (λ relation. relation.name) (relations_at classes class.0)
+
+-- those of the classes of a line
+abbrev pub names_on : Classes → List ClassId → List (List ℕ)
+names_on classes line = flat_map (names_at classes) line
+
+-- what every mapping's lines have
+pub record AreLines (tables : List TableSpec) (classes : Classes) : Type 0 where
+  -- each begins with a root over a declared table
+  pub rooted : list_all (is_rooted tables classes.specs) classes.lines ≡ true
+  pub declared : list_all (are_declared classes.specs) classes.lines ≡ true
+  -- a class stands in its own line
+  pub own : (class : ℕ) → class < length classes.lines → has_class (line_of classes class) class ≡ true
+  -- no two relationships of the blocks of a line have one name
+  pub named : list_any (λ line. some_two same_name (names_on classes line)) classes.lines ≡ false
