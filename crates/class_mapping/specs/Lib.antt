@@ -5,3 +5,4 @@ pub mod Mapped
 pub mod Related
 pub mod Declaring
 pub mod PlainClass
+pub mod Paired

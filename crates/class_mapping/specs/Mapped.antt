@@ -117,6 +117,10 @@ list_or_none (Some list) = list
 abbrev pub relations_of : Mapped → ClassId → List Relation
 relations_of mapped class = list_or_none (slice_get (linking.relations_of mapped.schema.tables mapped.classes) class.0)
 
+-- the partner of a relationship: the one of its target that leads back
+abbrev pub partner_of : Mapped → Relation → Option Relation
+partner_of mapped relation = slice_get (relations_of mapped relation.target) relation.partner.0
+
 abbrev pub validators_in : Option ClassSpec → List (List ℕ × List ℕ)
 validators_in None = []
 validators_in (Some spec) = spec.validators

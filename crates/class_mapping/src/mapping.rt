@@ -1,6 +1,7 @@
 //! A mapping: tables and the classes over them.
 
 ghost use Rattle.std.specs.Prelude.{◌≡◌, ◌<◌, ◌≤◌, [], length, true, false, None, Err, OnOk, IfOk, IfErr, IfSome};
+ghost use Rattle.std.specs.Option.{option_copied};
 ghost use Rattle.std.specs.List.{All};
 ghost use Rattle.base_core.specs.Answers.{Takes};
 ghost use Rattle.base_core.specs.declared.refusal.Refusal.TheVariants.{Memory};
@@ -11,7 +12,7 @@ ghost use Rattle.class_layouts.specs.Columns.{layouts_of};
 ghost use Rattle.class_faults.specs.Faults.{mapping_fault};
 ghost use Rattle.class_sides.specs.Linking as linking;
 ghost use Rattle.class_layouts.specs.Faults.{class_fault};
-ghost use Rattle.class_mapping.specs.Mapped.{IsAttribute, IsClass, IsValidMapping, all_validators, attributes_of, class_spec, find_class, key_attributes, layout_of, parent_of, relations_of, root_of, root_table, tables_of, validators_of};
+ghost use Rattle.class_mapping.specs.Mapped.{IsAttribute, IsClass, IsValidMapping, all_validators, attributes_of, class_spec, find_class, key_attributes, layout_of, line_of, parent_of, partner_of, relations_of, root_of, root_table, tables_of, validators_of};
 ghost use Rattle.class_mapping.specs.Plain.{early_fault};
 ghost use Rattle.class_mapping.specs.PlainClass.{ArePlain, IsPlainClass};
 ghost use Rattle.class_mapping.specs.Related.{AreRelated};
@@ -186,6 +187,13 @@ impl Mapping {
         before_last(line_of(&self.classes, class.0 as usize))
     }
 
+    /// The root of a class, and so on down to the class itself.
+    pub fn line_of(&self, class: ClassId) -> &[ClassId]
+        ensures { result.now ≡ line_of self.now class }
+    {
+        line_of(&self.classes, class.0 as usize)
+    }
+
     /// What is kept of a class.
     fn layout(&self, class: ClassId) -> &Layout
         requires declared { IsClass self.now class }
@@ -229,10 +237,27 @@ impl Mapping {
         requires configured { self.now.configured ≡ true }
         ensures { result.now ≡ relations_of self.now class }
     {
+        self.linked(class)
+    }
+
+    /// The relationships of a class, if it is declared.
+    fn linked(&self, class: ClassId) -> &[Relation]
+        requires { self.now.configured ≡ true }
+        ensures { result.now ≡ relations_of self.now class }
+    {
         match self.relations.get(class.0 as usize) {
             Some(list) => list.as_slice(),
             None => &[],
         }
+    }
+
+    /// The partner of a relationship: the one of its target that leads back.
+    pub fn partner_of(&self, relation: &Relation) -> Option<&Relation>
+        requires { self.now.configured ≡ true }
+        ensures { option_copied result ≡ partner_of self.now relation.now }
+    {
+        self.linked(relation.target)
+            .get(relation.partner.0 as usize)
     }
 
     /// The validators of a class and of those that it extends, from its root's on and in order of declaration: attributes,

@@ -356,13 +356,12 @@ impl Arena {
         let _old = target.cells.replace(attr.0 as usize, cell);
     }
 
-    /// Replaces a link of an object. The only refusal is out of memory, and it changes nothing.
+    /// Replaces a link of an object. It is never refused.
     pub fn put_link(&mut self, object: ObjId, relation: RelNo, link: Link) -> Result<(), Refusal>
         requires object { IsObject self.old object }
         requires relation { IsLink self.old object relation }
         ensures ok { OnOk result (self.new ≡ with_link self.old object relation link) }
-        ensures err { OnErr result (self.new ≡ self.old) }
-        ensures cause { IfErr result (λ e. e ≡ Memory) }
+        ensures done { IsOk result }
         ensures keeps { KeepsWith
             (λ mapped. link_fits mapped self.old.roots
             (relation_of mapped (object_at self.old object).class relation) link ≡ true)
@@ -382,7 +381,7 @@ impl Arena {
         let _old = target.links.replace(relation.0 as usize, link);
     }
 
-    /// Replaces an object's add number and marks. The only refusal is out of memory, and it changes nothing.
+    /// Replaces an object's add number and marks. It is never refused.
     pub fn put_marks(
         &mut self,
         object: ObjId,
@@ -392,6 +391,7 @@ impl Arena {
     ) -> Result<(), Refusal>
         requires { IsObject self.old object }
         ensures ok { OnOk result (self.new ≡ with_marks self.old object added marked orphan) }
+        ensures done { IsOk result }
         ensures err { OnErr result (self.new ≡ self.old) }
         ensures cause { IfErr result (λ e. e ≡ Memory) }
         ensures keeps { Keeps self.old self.new }
