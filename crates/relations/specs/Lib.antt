@@ -1,1 +1,6 @@
 pub mod Sides
+pub mod Parents
+pub mod Keys
+pub mod Mirror
+pub mod Places
+pub mod Fits

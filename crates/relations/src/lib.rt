@@ -1,6 +1,12 @@
-//! Relationships: what becomes of one side's link where the other side's changes.
+//! Relationships: what becomes of the links on both sides where one of them changes.
 #![tactic(auto)]
 
+mod change;
+mod keys;
+mod mirror;
+mod parents;
 mod sides;
 
+pub use mirror::{append, remove, set_one};
+pub use parents::{OldParent, old_parent};
 pub use sides::{joined, left};

@@ -106,7 +106,7 @@ fn joined_unloaded(
 }
 
 /// Whether an object is among others.
-fn is_among(objects: &[ObjId], object: ObjId) -> bool
+pub(crate) fn is_among(objects: &[ObjId], object: ObjId) -> bool
     ensures { result ≡ spec.is_among objects.now object }
 {
     objects.iter().any(|other| other.0 == object.0)
