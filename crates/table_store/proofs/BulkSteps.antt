@@ -1,6 +1,6 @@
 -- Steps of a bulk statement.
 use Rattle.std.specs.Borrow.{Bor}
-use Rattle.std.proofs.Common.{◌≡◌, ◌≢◌, ℕ, suc, true, false, List, [], ◌∷◌, length, Option, None, Some, IsTrue, Ok, Err, refl, sym, ap, subst, ◌∙◌, arith}
+use Rattle.std.proofs.Common.{◌≡◌, ◌≢◌, ℕ, suc, true, false, List, [], ◌∷◌, length, Option, None, Some, IsTrue, Result, Ok, Err, refl, sym, ap, subst, ◌∙◌, arith}
 use Rattle.base_core.proofs.Tests.{and_then as both_true}
 use Rattle.base_core.specs.declared.ids.ColumnNo.{ColumnNo}
 use Rattle.base_core.specs.declared.ids.TableId.{TableId}
@@ -31,8 +31,8 @@ use Rattle.keeper_core.specs.Calls.{write_refusal}
 use Rattle.table_rows.specs.Rows.{rows_at}
 use Rattle.table_rows.specs.Lost.{some_lost}
 use Rattle.table_rows.specs.declared.judging.Before.TheVariants as before
-use Rattle.table_store.specs.Held.{Did, stand}
-use Rattle.table_store.specs.Written.{deleted, unwritten_refusal, updated}
+use Rattle.table_store.specs.Held.{DidOrLeft, stand}
+use Rattle.table_store.specs.Written.{Answers, Leaves, Replaces, deleted, unwritten_refusal, updated}
 use Rattle.table_store.proofs.Evaluated.{deletes_evaluated, updates_evaluated}
 use Rattle.table_store.proofs.WriteSteps.{stand_written, still_created}
 
@@ -138,14 +138,9 @@ pub row_put : (schema : Catalog) (tables after : Tables) (table : TableId) (r : 
     → spec.of_row table (row.insert_rows schema tables table (rows_at tables table) (r ∷ [])) ≡ Ok (1, after)
 row_put schema tables after table r keys is = ap (spec.of_row table) is
 
-did_told : {A : Type 0} (told : Judged (A × Tables)) (old new : Tables) (e : Unwritten) → Did told old (Err e) new → Told told (Err e)
-did_told told old new (Violates violation) did = did.0
-did_told told old new Memory did = tt
-
-pub row_refused : (schema : Catalog) (tables after : Tables) (table : TableId) (new : List Value) (e : Unwritten) (r : WriteRefusal) → Did (row.insert_rows schema tables table (rows_at tables table) (new ∷ [])) tables (Err e) after
-    → r ≡ unwritten_refusal e → Refuses (write_refusal table r) (spec.of_row table (row.insert_rows schema tables table (rows_at tables table) (new ∷ [])))
-row_refused schema tables after table new e r did is =
-    left_refused table e r (row.insert_rows schema tables table (rows_at tables table) (new ∷ [])) (λ done. (1, done.1)) (did_told (row.insert_rows schema tables table (rows_at tables table) (new ∷ [])) tables after e did) is
+pub row_refused : (schema : Catalog) (tables after : Tables) (table : TableId) (new : List Value) (e : Unwritten) (r : WriteRefusal) → DidOrLeft (row.insert_rows schema tables table (rows_at tables table) (new ∷ [])) tables (Err e) after
+    → r ≡ unwritten_refusal e → Leaves table (spec.of_row table (row.insert_rows schema tables table (rows_at tables table) (new ∷ []))) tables (Err r) after
+row_refused schema tables after table new e r did is = (left_refused table e r (row.insert_rows schema tables table (rows_at tables table) (new ∷ [])) (λ done. (1, done.1)) did.0 is, did.1)
 
 pub ruleset row_steps = (row_put, row_refused)
 
@@ -230,4 +225,11 @@ pub deletes : (schema : Catalog) (tables : Tables) (table : TableId) (filter : O
 unfolding spec.applied
 deletes schema tables table filter rows is = rw is refl
 
-pub ruleset applied_steps = (one_each, of_table, nowhere, inserts, updates, deletes)
+-- the tables of an answer took the place of those that were there
+pub replaced : (table : TableId) (told : Checked (ℕ × Tables)) (old new : Tables) (answer : Result (ℕ × Tables) WriteRefusal) (result : Result ℕ WriteRefusal) → Answers table answer told → Replaces answer old result new
+    → Leaves table told old result new
+replaced table told old new (Ok (count, after)) result is done =
+    subst (λ (r : Result ℕ WriteRefusal). Leaves table told old r new) (sym done.0) (is ∙ ap (λ ts. Ok (count, ts)) (sym done.1))
+replaced table told old new (Err r) result is done = subst (λ (w : Result ℕ WriteRefusal). Leaves table told old w new) (sym done.0) (is, done.1)
+
+pub ruleset applied_steps = (replaced, one_each, of_table, nowhere, inserts, updates, deletes)

@@ -1,5 +1,5 @@
 -- Steps of a statement on rows, done on tables that are held.
-use Rattle.std.proofs.Common.{◌≡◌, ◌<◌, Bool, true, false, List, [], ◌∷◌, ◌++◌, length, Option, None, Some, is_some, Result, Ok, Err, if◌then◌else◌, refl, sym, ap, subst, ◌∙◌, append-nil, append_assoc, arith}
+use Rattle.std.proofs.Common.{◌≡◌, ◌<◌, Bool, true, false, List, [], ◌∷◌, ◌++◌, length, Option, None, Some, is_some, Result, Ok, Err, IfErr, if◌then◌else◌, refl, sym, ap, subst, ◌∙◌, append-nil, append_assoc, arith}
 use Rattle.std.specs.List.{list_any}
 use Rattle.std.specs.Option.{unwrap_or}
 use Rattle.schema_core.proofs.TableOrder.{tables_total}
@@ -20,7 +20,7 @@ use Rattle.schema_core.specs.Tables.{Rows, Tables, key_of, row_under, rows_in, w
 use Rattle.schema_core.specs.Told.{Told}
 use Rattle.schema_core.proofs.ApplySteps as steps
 use Rattle.table_rows.specs.Rows.{AreSorted, restored, rows_at}
-use Rattle.table_store.specs.Held.{Did, is_violation, put_from, stand, taken_back, with_entry}
+use Rattle.table_store.specs.Held.{Did, DidOrLeft, put_from, stand, taken_back, with_entry}
 use Rattle.table_rows.proofs.Entries.{found_put, put_again}
 use Rattle.table_rows.proofs.Laws.{put_undone, rows_found, taking_undone}
 use Rattle.table_rows.proofs.Gone.{lost_alone}
@@ -90,14 +90,10 @@ unfolding put_from
 put_all_in schema tables table done [] none is = ap (λ r. and_then r (λ _. Ok (keys_of_entries done, tables))) is
 put_all_in schema tables table done (row ∷ more) none is = absurd (omega (arith, none))
 
-did_first : {A B : Type 0} (r : Judged A) (next : A → Judged (B × Tables)) (tables : Tables) (e : Unwritten) → Told r (Err e) → Did (and_then r next) tables (Err e) tables
-did_first r next tables (Violates violation) told = (ap (λ a. and_then a next) told, refl)
-did_first r next tables Memory told = tt
-
 pub put_refused : (schema : Catalog) (tables : Tables) (table : TableId) (done : Rows) (new : List (List Value)) (e : Unwritten) → length new ≡ 0 → Told (stand schema tables table done) (Err e)
-    → Did (put_from schema tables table done new) tables (Err e) tables
+    → DidOrLeft (put_from schema tables table done new) tables (Err e) tables
 unfolding put_from
-put_refused schema tables table done [] e none told = did_first (stand schema tables table done) (λ _. Ok (keys_of_entries done, tables)) tables e told
+put_refused schema tables table done [] e none told = (steps.told_first (stand schema tables table done) (λ _. Ok (keys_of_entries done, tables)) e told, refl)
 put_refused schema tables table done (row ∷ more) e none told = absurd (omega (arith, none))
 
 abbrev new_entry : Catalog → Tables → TableId → List Value → Judged (List Value × List Value)
@@ -107,24 +103,14 @@ abbrev put_on : Catalog → Tables → TableId → Rows → List (List Value) �
 put_on schema tables table done more entry = put_from schema (with_entry tables table entry) table (done ++ entry ∷ []) more
 
 pub put_nowhere : (schema : Catalog) (tables : Tables) (table : TableId) (done : Rows) (row : List Value) (more : List (List Value)) (e : Unwritten) → Told (new_entry schema tables table row) (Err e)
-    → Did (put_from schema tables table done (row ∷ more)) tables (Err e) tables
+    → DidOrLeft (put_from schema tables table done (row ∷ more)) tables (Err e) tables
 unfolding put_from
-put_nowhere schema tables table done row more e told = did_first (new_entry schema tables table row) (put_on schema tables table done more) tables e told
+put_nowhere schema tables table done row more e told = (steps.told_first (new_entry schema tables table row) (put_on schema tables table done more) e told, refl)
 
 put_step : (schema : Catalog) (tables : Tables) (table : TableId) (done : Rows) (row : List Value) (more : List (List Value)) (entry : List Value × List Value) → new_entry schema tables table row ≡ Ok entry
     → put_from schema tables table done (row ∷ more) ≡ put_on schema tables table done more entry
 unfolding put_from
 put_step schema tables table done row more entry is = ap (λ r. and_then r (put_on schema tables table done more)) is
-
-pub put_kept : (schema : Catalog) (tables left : Tables) (table : TableId) (done : Rows) (row : List Value) (more : List (List Value)) (entry : List Value × List Value) (answer : Result (List (List Value)) Unwritten)
-    → new_entry schema tables table row ≡ Ok entry → is_violation answer ≡ false → Did (put_on schema tables table done more entry) (with_entry tables table entry) answer left
-    → Did (put_from schema tables table done (row ∷ more)) tables answer left
-put_kept schema tables left table done row more entry (Ok keys) is kept did = put_step schema tables table done row more entry is ∙ did
-put_kept schema tables left table done row more entry (Err (Violates violation)) is kept did = absurd (no kept)
-  where
-    no : true ≡ false → ⊥
-    no e = cc
-put_kept schema tables left table done row more entry (Err Memory) is kept did = tt
 
 absent_by : (spec : TableSpec) (rows : Rows) (row : List Value) (b : Bool) (entry : List Value × List Value) → is_some (row_under rows (key_of spec row)) ≡ b → (if b then Err PrimaryKey else Ok (key_of spec row, row)) ≡ Ok entry
     → is_some (row_under rows entry.0) ≡ false
@@ -149,66 +135,44 @@ entry_undone tables table entry sorted created new =
     ap (λ before. with_rows (with_entry tables table entry) table (restored (rows_at (with_entry tables table entry) table) entry.0 before)) (sym (is_absent (row_under (rows_at tables table) entry.0) new))
     ∙ put_undone tables table entry.0 entry.1 sorted created
 
-pub put_undone_again : (schema : Catalog) (tables left : Tables) (table : TableId) (done : Rows) (row : List Value) (more : List (List Value)) (entry : List Value × List Value) (answer : Result (List (List Value)) Unwritten)
-    → new_entry schema tables table row ≡ Ok entry → is_violation answer ≡ true → AreSorted tables table → is_some (rows_in tables table) ≡ true
-    → Did (put_on schema tables table done more entry) (with_entry tables table entry) answer left
-    → Did (put_from schema tables table done (row ∷ more)) tables answer (with_rows left table (without_row (rows_at left table) entry.0))
-put_undone_again schema tables left table done row more entry (Ok keys) is refused sorted created did = absurd (no refused)
-  where
-    no : false ≡ true → ⊥
-    no e = cc
-put_undone_again schema tables left table done row more entry (Err (Violates violation)) is refused sorted created did = (
-  put_step schema tables table done row more entry is ∙ did.0,
-  ap (λ ts. with_rows ts table (without_row (rows_at ts table) entry.0)) did.1
+put_undone_again : (schema : Catalog) (tables left : Tables) (table : TableId) (done : Rows) (row : List Value) (more : List (List Value)) (entry : List Value × List Value) (e : Unwritten)
+    → new_entry schema tables table row ≡ Ok entry → AreSorted tables table → is_some (rows_in tables table) ≡ true → Told (put_on schema tables table done more entry) (Err e) → left ≡ with_entry tables table entry
+    → DidOrLeft {A = List (List Value)} (put_from schema tables table done (row ∷ more)) tables (Err e) (with_rows left table (without_row (rows_at left table) entry.0))
+put_undone_again schema tables left table done row more entry e is sorted created told same = (
+  subst (λ (outcome : Outcome). Told outcome (Err e)) (sym (put_step schema tables table done row more entry is)) told,
+  ap (λ ts. with_rows ts table (without_row (rows_at ts table) entry.0)) same
       ∙ entry_undone tables table entry sorted created (new_absent (spec_of schema table) (rows_at tables table) (with_own_key (spec_of schema table) (rows_at tables table) row) entry is),
 )
-put_undone_again schema tables left table done row more entry (Err Memory) is refused sorted created did = tt
-
-pub back_taken : (tables after : Tables) (table : TableId) (key : List Value) (answer : Result (List (List Value)) Unwritten) → is_violation answer ≡ true → after ≡ with_rows tables table (without_row (rows_at tables table) key)
-    → after ≡ taken_back answer tables table key
-back_taken tables after table key answer is done = done ∙ ap (λ b. if b then with_rows tables table (without_row (rows_at tables table) key) else tables) (sym is)
-
-pub back_kept : (tables : Tables) (table : TableId) (key : List Value) (answer : Result (List (List Value)) Unwritten) → is_violation answer ≡ false → tables ≡ taken_back answer tables table key
-back_kept tables table key answer is = ap (λ b. if b then with_rows tables table (without_row (rows_at tables table) key) else tables) (sym is)
-
-pub ruleset take_steps = (back_taken, back_kept)
 
 pub put_ended : (schema : Catalog) (tables left after : Tables) (table : TableId) (done : Rows) (row : List Value) (more : List (List Value)) (entry : List Value × List Value) (answer : Result (List (List Value)) Unwritten)
     → new_entry schema tables table row ≡ Ok entry → AreSorted tables table → is_some (rows_in tables table) ≡ true
-    → Did (put_on schema tables table done more entry) (with_entry tables table entry) answer left → after ≡ taken_back answer left table entry.0
-    → Did (put_from schema tables table done (row ∷ more)) tables answer after
+    → DidOrLeft (put_on schema tables table done more entry) (with_entry tables table entry) answer left → after ≡ taken_back answer left table entry.0
+    → DidOrLeft (put_from schema tables table done (row ∷ more)) tables answer after
 put_ended schema tables left after table done row more entry answer is sorted created did ended =
-    subst (λ (ts : Tables). Did (put_from schema tables table done (row ∷ more)) tables answer ts) (sym ended) (by answer did)
+    subst (λ (ts : Tables). DidOrLeft (put_from schema tables table done (row ∷ more)) tables answer ts) (sym ended) (by answer did)
   where
-    by : (answer : Result (List (List Value)) Unwritten) → Did (put_on schema tables table done more entry) (with_entry tables table entry) answer left
-        → Did (put_from schema tables table done (row ∷ more)) tables answer (taken_back answer left table entry.0)
-    by (Ok keys) did = put_kept schema tables left table done row more entry (Ok keys) is refl did
-    by (Err (Violates violation)) did = put_undone_again schema tables left table done row more entry (Err (Violates violation)) is refl sorted created did
-    by (Err Memory) did = tt
+    by : (answer : Result (List (List Value)) Unwritten) → DidOrLeft (put_on schema tables table done more entry) (with_entry tables table entry) answer left
+        → DidOrLeft (put_from schema tables table done (row ∷ more)) tables answer (taken_back answer left table entry.0)
+    by (Ok keys) did = put_step schema tables table done row more entry is ∙ did
+    by (Err e) did = put_undone_again schema tables left table done row more entry e is sorted created did.0 did.1
 
 pub put_closed : (schema : Catalog) (tables mid left after : Tables) (table : TableId) (done both : Rows) (new : List (List Value)) (row : List Value) (more : List (List Value)) (entry : List Value × List Value) (key : List Value) (answer : Result (List (List Value)) Unwritten)
     → new ≡ row ∷ more → new_entry schema tables table row ≡ Ok entry → key ≡ entry.0 → mid ≡ with_entry tables table entry → both ≡ done ++ entry ∷ []
-    → AreSorted tables table → is_some (rows_in tables table) ≡ true → Did (put_from schema mid table both more) mid answer left → after ≡ taken_back answer left table key
-    → Did (put_from schema tables table done new) tables answer after
+    → AreSorted tables table → is_some (rows_in tables table) ≡ true → DidOrLeft (put_from schema mid table both more) mid answer left → after ≡ taken_back answer left table key
+    → DidOrLeft (put_from schema tables table done new) tables answer after
 put_closed schema tables mid left after table done both new row more entry key answer is_new is is_key is_mid is_both sorted created did ended =
-    let first : Did (put_from schema (with_entry tables table entry) table both more) (with_entry tables table entry) answer left =
-    subst (λ (ts : Tables). Did (put_from schema ts table both more) ts answer left) is_mid did in
-    let second : Did (put_on schema tables table done more entry) (with_entry tables table entry) answer left =
-    subst (λ (es : Rows). Did (put_from schema (with_entry tables table entry) table es more) (with_entry tables table entry) answer left) is_both first in
-    subst (λ (rows : List (List Value)). Did (put_from schema tables table done rows) tables answer after) (sym is_new)
+    let first : DidOrLeft (put_from schema (with_entry tables table entry) table both more) (with_entry tables table entry) answer left =
+    subst (λ (ts : Tables). DidOrLeft (put_from schema ts table both more) ts answer left) is_mid did in
+    let second : DidOrLeft (put_on schema tables table done more entry) (with_entry tables table entry) answer left =
+    subst (λ (es : Rows). DidOrLeft (put_from schema (with_entry tables table entry) table es more) (with_entry tables table entry) answer left) is_both first in
+    subst (λ (rows : List (List Value)). DidOrLeft (put_from schema tables table done rows) tables answer after) (sym is_new)
     (put_ended schema tables left after table done row more entry answer is sorted created second (ended ∙ ap (taken_back answer left table) is_key))
 
--- where a rule was violated, the tables are as they were
-pub refused_created : (old left : Tables) (table : TableId) (told : Outcome) (answer : Result (List (List Value)) Unwritten) → is_violation answer ≡ true → Did told old answer left → is_some (rows_in old table) ≡ true → is_some (rows_in left table) ≡ true
-refused_created old left table told (Ok keys) refused did created = absurd (no refused)
-  where
-    no : false ≡ true → ⊥
-    no e = cc
-refused_created old left table told (Err (Violates violation)) refused did created = ap (λ ts. is_some (rows_in ts table)) did.1 ∙ created
-refused_created old left table told (Err Memory) refused did created = absurd (no refused)
-  where
-    no : false ≡ true → ⊥
-    no e = cc
+-- where a statement was refused, the tables are as they were
+pub refused_created : (old left : Tables) (table : TableId) (told : Outcome) (answer : Result (List (List Value)) Unwritten) → DidOrLeft told old answer left → is_some (rows_in old table) ≡ true
+    → IfErr answer (λ _. is_some (rows_in left table) ≡ true)
+refused_created old left table told (Ok keys) did created = tt
+refused_created old left table told (Err e) did created = ap (λ ts. is_some (rows_in ts table)) did.1 ∙ created
 
 pub ruleset put_steps = (put_all_in, put_refused, put_nowhere, put_ended, refused_created, still_created)
 
@@ -354,4 +318,10 @@ pub apply_delete : (schema : Catalog) (tables : Tables) (table : TableId) (key :
     → delete_row schema tables table (rows_at tables table) key ≡ apply schema tables (Delete table key)
 apply_delete schema tables table key created = steps.apply_delete schema tables table (rows_at tables table) key (created_rows (rows_in tables table) created)
 
-pub ruleset apply_steps = (steps.apply_nowhere, apply_insert, apply_update, apply_delete)
+-- a statement that left the tables as they were where memory ran out
+pub left_did : (told : Outcome) (old new : Tables) (answer : Result (List (List Value)) Unwritten) → DidOrLeft told old answer new → Did told old answer new
+left_did told old new (Ok keys) did = did
+left_did told old new (Err (Violates violation)) did = did
+left_did told old new (Err Memory) did = tt
+
+pub ruleset apply_steps = (steps.apply_nowhere, apply_insert, apply_update, apply_delete, left_did)

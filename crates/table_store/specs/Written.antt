@@ -1,5 +1,5 @@
 -- What a statement did to tables with scopes, in the words of a keeper.
-use Rattle.std.specs.Prelude.{◌≡◌, List, [], MatchBool, Option, Result, Ok, Err}
+use Rattle.std.specs.Prelude.{◌≡◌, ℕ, List, [], MatchBool, Option, Result, Ok, Err}
 use Rattle.base_core.specs.declared.ids.ColumnNo.{ColumnNo}
 use Rattle.base_core.specs.declared.ids.TableId.{TableId}
 use Rattle.base_core.specs.declared.refusal.Refusal.{Refusal}
@@ -10,7 +10,7 @@ use Rattle.schema_core.specs.declared.statement.Unwritten.TheVariants.{Violates,
 use Rattle.schema_core.specs.Tables.{Rows, Tables}
 use Rattle.expr_types.specs.declared.expr.Expr.{Expr}
 use Rattle.sql_semantics.specs.Applied.{named_in}
-use Rattle.sql_semantics.specs.Checked.{Checked, Gives, ◌>>=◌}
+use Rattle.sql_semantics.specs.Checked.{Checked, Gives, Refuses, ◌>>=◌}
 use Rattle.sql_semantics.specs.Created.{bare}
 use Rattle.sql_semantics.specs.Rows.{created}
 use Rattle.sql_semantics.specs.Taken.{deleted_from, updated_from}
@@ -49,6 +49,16 @@ unwritten_refusal Memory = writes.Memory
 -- what a bulk statement on a table answers, beside what its definition tells: the same, unless memory ran out
 abbrev pub Answers : {A : Type 0} → TableId → Result A WriteRefusal → Checked A → Type 0
 Answers table result told = Gives (λ x. x) (as_refusal (write_refusal table) result) told
+
+-- what a bulk statement on a table did to tables that are held, beside what its definition tells: a refused one left them as they were
+abbrev pub Leaves : TableId → Checked (ℕ × Tables) → Tables → Result ℕ WriteRefusal → Tables → Type 0
+Leaves table told old (Ok count) new = told ≡ Ok (count, new)
+Leaves table told old (Err r) new = Refuses (write_refusal table r) told × (new ≡ old)
+
+-- the tables of an answer took the place of those that were there; a refusal left them
+abbrev pub Replaces : Result (ℕ × Tables) WriteRefusal → Tables → Result ℕ WriteRefusal → Tables → Type 0
+Replaces (Ok (count, after)) old result new = (result ≡ Ok count) × (new ≡ after)
+Replaces (Err r) old result new = (result ≡ Err r) × (new ≡ old)
 
 -- ---- the rows of a bulk statement
 

@@ -1,4 +1,4 @@
-//! A bulk statement, done on copies of the tables.
+//! A bulk statement, done on tables that are held.
 
 ghost use Rattle.std.specs.Prelude.{◌≡◌, [], ◌∷◌, true, is_some, IfOk};
 ghost use Rattle.schema_core.specs.Apply.{insert_rows};
@@ -10,7 +10,7 @@ ghost use Rattle.sql_semantics.specs.Applied as spec;
 ghost use Rattle.sql_semantics.specs.Checked.{Gives};
 ghost use Rattle.sql_semantics.specs.Plain.{IsPlainBulk};
 ghost use Rattle.table_rows.specs.Rows.{rows_at};
-ghost use Rattle.table_store.specs.Written.{Answers, deleted, updated};
+ghost use Rattle.table_store.specs.Written.{Answers, Leaves, Replaces, deleted, updated};
 
 use crate::refusals::{taking_refusal, unwritten_refusal};
 use crate::writing::{insert_rows, stand};
@@ -153,21 +153,18 @@ fn delete_keys(
 fn insert(
     alloc: Global,
     schema: &Schema,
-    tables: &TableMap,
+    tables: &mut TableMap,
     table: TableId,
     row: RowValues,
-) -> Result<(u64, TableMap), WriteRefusal>
+) -> Result<u64, WriteRefusal>
     requires declared { IsTable schema.now table }
-    requires created { is_some (rows_in tables.now table) ≡ true }
-    ensures { Answers table result
-        (spec.of_row table (insert_rows schema.now tables.now table (rows_at tables.now table)
-        (row ∷ []))) }
+    requires created { is_some (rows_in tables.old table) ≡ true }
+    ensures { Leaves table
+        (spec.of_row table (insert_rows schema.now tables.old table (rows_at tables.old table)
+        (row ∷ []))) tables.old result tables.new }
 {
-    let Ok(mut after) = tables.copied() else {
-        return Err(WriteRefusal::Memory);
-    };
-    match insert_rows(alloc, schema, &mut after, table, &[row]) {
-        Ok(_keys) => Ok((1, after)),
+    match insert_rows(alloc, schema, tables, table, &[row]) {
+        Ok(_keys) => Ok(1),
         Err(unwritten) => Err(unwritten_refusal(unwritten)),
     }
 }
@@ -241,17 +238,34 @@ fn delete(
     }
 }
 
+/// Puts the tables that a statement leaves in the place of those that were there; a refused one leaves them.
+fn replace(
+    tables: &mut TableMap,
+    answer: Result<(u64, TableMap), WriteRefusal>,
+) -> Result<u64, WriteRefusal>
+    ensures { Replaces answer tables.old result tables.new }
+{
+    match answer {
+        Ok((count, after)) => {
+            *tables = after;
+            Ok(count)
+        }
+        Err(refusal) => Err(refusal),
+    }
+}
+
 #[tactic(auto, using(crate::proofs::BulkSteps::applied_steps))]
-/// The number of rows of a bulk statement, and the tables that it leaves.
+/// Does a bulk statement, and answers the number of its rows. Where it is refused, or finds no memory, the tables are as they
+/// were.
 pub(crate) fn applied(
     alloc: Global,
     schema: &Schema,
-    tables: &TableMap,
+    tables: &mut TableMap,
     statement: &Bulk,
-) -> Result<(u64, TableMap), WriteRefusal>
+) -> Result<u64, WriteRefusal>
     requires { IsPlainBulk schema.now statement.now }
-    ensures { Answers (spec.table_of statement.now) result
-        (spec.applied schema.now tables.now statement.now) }
+    ensures { Leaves (spec.table_of statement.now)
+        (spec.applied schema.now tables.old statement.now) tables.old result tables.new }
 {
     let table = table_of_bulk(statement);
     let Some(rows) = tables.get(table) else {
@@ -270,8 +284,12 @@ pub(crate) fn applied(
             insert(alloc, schema, tables, table, row)
         }
         Bulk::Update { cells, filter, .. } => {
-            update(alloc, schema, tables, table, rows, cells, filter)
+            let answer = update(alloc, schema, tables, table, rows, cells, filter);
+            replace(tables, answer)
         }
-        Bulk::Delete { filter, .. } => delete(alloc, schema, tables, table, rows, filter),
+        Bulk::Delete { filter, .. } => {
+            let answer = delete(alloc, schema, tables, table, rows, filter);
+            replace(tables, answer)
+        }
     }
 }

@@ -190,7 +190,6 @@ impl TableStore {
     /// first result outside 64 bits, `NotNull` where a NULL is written into a column that takes none, `KeysSpent`,
     /// `PrimaryKey` for a key that is there, `Unique` for a unique value that stands twice, and `Foreign` for a foreign key
     /// that names no row; `Memory`.
-    #[tactic(auto, using(crate::proofs::Stored::bulks))]
     pub fn bulk(
         &mut self,
         alloc: Global,
@@ -204,13 +203,7 @@ impl TableStore {
             (as_refusal (write_refusal (bulk.table_of statement.now)) result)
             (RefusesBulk schema.now statement.now) }
     {
-        match applied(alloc, schema, &self.tables, statement) {
-            Ok((count, after)) => {
-                self.tables = after;
-                Ok(count)
-            }
-            Err(refusal) => Err(refusal),
-        }
+        applied(alloc, schema, &mut self.tables, statement)
     }
 
     /// The rows of a select over the tables.

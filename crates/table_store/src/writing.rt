@@ -1,6 +1,6 @@
 //! A statement on rows, done on tables that are held.
 
-ghost use Rattle.std.specs.Prelude.{◌≡◌, ◌&&◌, ◌<◌, [], ◌∷◌, ◌++◌, true, is_some, length, Ok, IfOk, OnOk};
+ghost use Rattle.std.specs.Prelude.{◌≡◌, ◌&&◌, ◌<◌, [], ◌∷◌, ◌++◌, true, is_some, length, Ok, IfErr, IfOk, OnErr, OnOk};
 ghost use Rattle.std.specs.List.{list_any};
 ghost use Rattle.schema_core.specs.Apply.{apply, delete_row, entry_of, insert_rows, is_demanded, keys_of_entries, next_key, update_row, wants_key, with_own_key};
 ghost use Rattle.schema_core.specs.Catalog.{spec_of, IsTable};
@@ -9,7 +9,7 @@ ghost use Rattle.schema_core.specs.Tables.{row_under, rows_in};
 ghost use Rattle.schema_core.specs.Told.{Told};
 ghost use Rattle.schema_core.specs.WellFormed.{IsWellFormed};
 ghost use Rattle.table_rows.specs.Rows.{AreSorted, rows_at};
-ghost use Rattle.table_store.specs.Held.{Did, is_violation, put_from, stand, taken_back, with_entry};
+ghost use Rattle.table_store.specs.Held.{Did, DidOrLeft, put_from, stand, taken_back, with_entry};
 
 use base_core::{ColumnNo, Copied, Key, KeyList, ListOf, RowValues, TableId, Value};
 use schema_core::{RowStmt, Schema, Unwritten, Violation};
@@ -183,25 +183,17 @@ fn one_key(alloc: Global, key: &Key) -> Result<KeyList, AllocError>
     Ok(ListOf::from_vec(keys))
 }
 
-/// Whether a rule was violated; then the tables are as they were.
-fn is_violation(answer: &Result<KeyList, Unwritten>) -> bool
-    ensures { result ≡ is_violation answer.now }
-{
-    matches!(answer, Err(Unwritten::Violates(_)))
-}
-
-#[tactic(auto, using(crate::proofs::WriteSteps::take_steps))]
-/// Takes a row out again where a rule was violated behind it.
+/// Takes a row out again where the statement was refused behind it.
 fn take_back(tables: &mut TableMap, table: TableId, key: &Key, answer: &Result<KeyList, Unwritten>)
-    requires { is_violation answer.now ≡ true → is_some (rows_in tables.old table) ≡ true }
+    requires { IfErr answer.now (λ _. is_some (rows_in tables.old table) ≡ true) }
     ensures { tables.new ≡ taken_back answer.now tables.old table key.now }
 {
-    if is_violation(answer) {
+    if let Err(_) = answer {
         tables.take(table, key);
     }
 }
 
-/// Puts a new row in behind those of the statement that are in, and gives its key.
+/// Puts a new row in behind those of the statement that are in, and gives its key. At an error the tables are as they were.
 fn put_entry(
     tables: &mut TableMap,
     table: TableId,
@@ -213,16 +205,17 @@ fn put_entry(
     ensures tables { OnOk result (tables.new ≡ with_entry tables.old table entry) }
     ensures done { OnOk result (done.new.items ≡ done.old.items ++ entry ∷ []) }
     ensures sorted { OnOk result (AreSorted tables.old table) }
+    ensures err { OnErr result (tables.new ≡ tables.old) }
 {
     let (key, (own, row)) = both(entry.0.copied(), both(entry.0.copied(), entry.1.copied()))?;
-    tables.put(table, own, row)?;
     done.push(entry)?;
+    tables.put(table, own, row)?;
     Ok(key)
 }
 
 #[tactic(auto, using(crate::proofs::WriteSteps::put_steps))]
 /// Puts new rows in behind those of the statement that are in, and judges them all once the last is in. A row is taken out
-/// again where a rule is violated behind it.
+/// again where the statement is refused behind it.
 fn put_from(
     alloc: Global,
     schema: &Schema,
@@ -233,7 +226,7 @@ fn put_from(
 ) -> Result<KeyList, Unwritten>
     requires declared { IsTable schema.now table }
     requires created { is_some (rows_in tables.old table) ≡ true }
-    ensures { Did (put_from schema.now tables.old table done.old.items new.now)
+    ensures { DidOrLeft (put_from schema.now tables.old table done.old.items new.now)
         tables.old result tables.new }
 {
     let Some((row, more)) = new.split_first() else {
@@ -262,7 +255,7 @@ fn some_lacks_demanded(schema: &Schema, table: TableId, new: &[RowValues]) -> bo
 }
 
 #[tactic(auto, using(crate::proofs::WriteSteps::insert_steps))]
-/// Puts in new rows.
+/// Puts in new rows. Where it is refused, or finds no memory, the tables are as they were.
 pub(crate) fn insert_rows(
     alloc: Global,
     schema: &Schema,
@@ -273,7 +266,7 @@ pub(crate) fn insert_rows(
     requires declared { IsTable schema.now table }
     requires created { is_some (rows_in tables.old table) ≡ true }
     requires some { 0 < length new.now }
-    ensures { Did (insert_rows schema.now tables.old table
+    ensures { DidOrLeft (insert_rows schema.now tables.old table
         (rows_at tables.old table) new.now) tables.old result tables.new }
 {
     if some_lacks_demanded(schema, table, new) {
