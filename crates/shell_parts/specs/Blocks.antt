@@ -20,19 +20,20 @@ use Rattle.shell_parts.specs.declared.block.Block.{Block}
 use Rattle.shell_parts.specs.declared.block.Declared.{Declared}
 use Rattle.shell_parts.specs.declared.block.Declared.TheVariants.{Table, Class}
 
--- the block, without lines yet, that the head of this number opens; every other line is not built
+-- what the head of a block declares, without lines yet; every other line is not built
+abbrev pub declared_of : Command → Result Declared Refusal
+declared_of (line.TableHead name) = Ok (Table (record { name = name; columns = []; uniques = []; foreigns = [] }))
+declared_of (line.ClassHead name base table discriminator identity owned) =
+    Ok (Class (record { name = name; base = base; table = table; discriminator = discriminator; identity = identity; owned = owned; relations = []; validators = [] }))
+declared_of other = Err NotBuilt
+
+abbrev pub block_over : ℕ → Result Declared Refusal → Result Block Refusal
+block_over first (Ok declared) = Ok (record { declared = declared; first = first; skipping = false })
+block_over first (Err e) = Err e
+
+-- the block that the head of this number opens
 abbrev pub block_of : Command → ℕ → Result Block Refusal
-block_of (line.TableHead name) first = Ok (record {
-  declared = Table (record { name = name; columns = []; uniques = []; foreigns = [] });
-  first = first;
-  skipping = false;
-})
-block_of (line.ClassHead name base table discriminator identity owned) first = Ok (record {
-  declared = Class (record { name = name; base = base; table = table; discriminator = discriminator; identity = identity; owned = owned; relations = []; validators = [] });
-  first = first;
-  skipping = false;
-})
-block_of other first = Err NotBuilt
+block_of head first = block_over first (declared_of head)
 
 -- the forms of the block's lines
 abbrev pub forms_of : Declared → Inside

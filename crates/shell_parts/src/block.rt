@@ -7,7 +7,7 @@ ghost use Rattle.class_types.specs.Shown.{rules_of};
 ghost use Rattle.class_mapping.specs.Plain.{is_plain_root};
 ghost use Rattle.class_mapping.specs.PlainClass.{ArePlain};
 ghost use Rattle.class_mapping.specs.Declaring.{declare_class as classes_then, declare_table as tables_then};
-ghost use Rattle.shell_parts.specs.Blocks.{IsOfDeclaring, block_of, declare, forms_of, has_one_integer_key, is_built_block, is_integer, with_class_line, with_line, with_table_line, without_number};
+ghost use Rattle.shell_parts.specs.Blocks.{IsOfDeclaring, block_of, declare, declared_of, forms_of, has_one_integer_key, is_built_block, is_integer, with_class_line, with_line, with_table_line, without_number};
 
 use base_core::{ListOf, Refusal};
 use class_mapping::{Mapping, is_plain_root};
@@ -34,21 +34,21 @@ pub struct Block {
     skipping: bool,
 }
 
-impl Block {
-    /// The block, without lines yet, that a head line of this number opens.
+impl Declared {
+    /// What the head of a block declares, without lines yet.
     ///
     /// # Errors
     /// `NotBuilt` for a line that is no head.
-    pub fn of_head(alloc: Global, head: Command, first: u32) -> Result<Block, Refusal>
-        ensures { result ≡ block_of head first }
+    pub fn of_head(alloc: Global, head: Command) -> Result<Declared, Refusal>
+        ensures { result ≡ declared_of head }
     {
-        let declared = match head {
-            Command::TableHead(name) => Declared::Table(TableSpec {
+        match head {
+            Command::TableHead(name) => Ok(Declared::Table(TableSpec {
                 name,
                 columns: ListOf::new(alloc),
                 uniques: ListOf::new(alloc),
                 foreigns: ListOf::new(alloc),
-            }),
+            })),
             Command::ClassHead {
                 name,
                 base,
@@ -56,7 +56,7 @@ impl Block {
                 discriminator,
                 identity,
                 owned,
-            } => Declared::Class(ClassSpec {
+            } => Ok(Declared::Class(ClassSpec {
                 name,
                 base,
                 table,
@@ -65,12 +65,46 @@ impl Block {
                 owned,
                 relations: ListOf::new(alloc),
                 validators: ListOf::new(alloc),
-            }),
+            })),
             other => {
                 drop(other);
-                return Err(Refusal::NotBuilt);
+                Err(Refusal::NotBuilt)
             }
-        };
+        }
+    }
+
+    /// Against which forms the lines of its block are read.
+    pub fn inside(&self) -> Inside
+        ensures { result ≡ forms_of self.now }
+    {
+        match self {
+            Declared::Table(_) => Inside::Table,
+            Declared::Class(_) => Inside::Class,
+        }
+    }
+
+    /// Takes a line of its block. The only refusal is `Memory`, and it leaves what is declared as it was.
+    pub fn take(&mut self, line: Command) -> Result<(), Refusal>
+        ensures ok { OnOk result (self.new ≡ with_line self.old line) }
+        ensures err { OnErr result (self.new ≡ self.old) }
+        ensures cause { IfErr result (λ e. e ≡ Refusal.Memory) }
+    {
+        match self {
+            Declared::Table(spec) => take_table_line(spec, line),
+            Declared::Class(spec) => take_class_line(spec, line),
+        }
+    }
+}
+
+impl Block {
+    /// The block, without lines yet, that a head line of this number opens.
+    ///
+    /// # Errors
+    /// `NotBuilt` for a line that is no head.
+    pub fn of_head(alloc: Global, head: Command, first: u32) -> Result<Block, Refusal>
+        ensures { result ≡ block_of head first }
+    {
+        let declared = Declared::of_head(alloc, head)?;
         Ok(Block {
             declared,
             first,
@@ -82,10 +116,7 @@ impl Block {
     pub fn inside(&self) -> Inside
         ensures { result ≡ forms_of self.now.declared }
     {
-        match self.declared {
-            Declared::Table(_) => Inside::Table,
-            Declared::Class(_) => Inside::Class,
-        }
+        self.declared.inside()
     }
 
     /// The number of its first line.
@@ -116,10 +147,7 @@ impl Block {
         ensures err { OnErr result (self.new ≡ self.old) }
         ensures cause { IfErr result (λ e. e ≡ Refusal.Memory) }
     {
-        match &mut self.declared {
-            Declared::Table(spec) => take_table_line(spec, line),
-            Declared::Class(spec) => take_class_line(spec, line),
-        }
+        self.declared.take(line)
     }
 
     /// Whether the block's form is built: a table of columns alone with one integer key, or a root class without lines.

@@ -1,12 +1,13 @@
 -- Calls of the crates below that send nothing, as changes of the stage and as answers.
-use Rattle.std.proofs.Common.{◌≡◌, ℕ, if◌then◌else◌, true, Result, Ok, Err, IfErr, refl, sym, ap, ◌∙◌, subst}
+use Rattle.std.proofs.Common.{◌≡◌, ℕ, if◌then◌else◌, true, Option, Some, None, Result, Ok, Err, IfErr, refl, sym, ap, ◌∙◌, subst}
+use Rattle.base_core.specs.declared.refusal.ArgumentKind.{ArgumentKind}
 use Rattle.base_core.specs.declared.refusal.Refusal.{Refusal}
 use Rattle.base_core.specs.declared.refusal.Refusal.TheVariants.{Memory, ArgumentError, NotBuilt, ScriptError}
 use Rattle.base_core.specs.Answers.{Gives, Takes}
 use Rattle.programs.specs.Moment.{Runs}
 use Rattle.class_types.specs.Rules.{Rules}
-use Rattle.class_mapping.specs.Mapped.{Mapped}
-use Rattle.class_mapping.specs.Declaring.{closed}
+use Rattle.class_mapping.specs.Mapped.{Mapped, fault_of}
+use Rattle.class_mapping.specs.Declaring.{closed, closed_unless, configure}
 use Rattle.class_mapping.specs.PlainClass.{ArePlain}
 use Rattle.shell_parts.specs.Lines.{IsOfReading}
 use Rattle.shell_parts.specs.declared.block.Block.{Block}
@@ -15,12 +16,13 @@ use Rattle.script_types.specs.declared.command.Command.TheVariants.{TableHead, C
 use Rattle.shell_parts.specs.Blocks.{IsOfDeclaring, block_of, declare, is_built_block}
 use Rattle.shell_steps.specs.declared.stage.Stage.{Stage}
 use Rattle.shell_steps.specs.declared.stage.Stage.TheVariants.{Declaring}
-use Rattle.programs.specs.Alone.{alone, Turns, Turned}
+use Rattle.programs.specs.Alone.{alone, IsOwn, Turns, Turned}
 use Rattle.programs.specs.Programs.{asked}
+use Rattle.shell_steps.specs.Calls.{IsStageTurn}
 use Rattle.shell_steps.specs.ShellState.{IsKept, IsPlainStage, ShellState, no_rules}
 use Rattle.session_core.proofs.SessionLemmas.{stay_same}
 use Rattle.shell_steps.proofs.Bindings.{kept_same}
-use Rattle.shell_steps.specs.Step.{declared_stage, declared_stage_at, stage_over, block_opened}
+use Rattle.shell_steps.specs.Step.{declared_stage, declared_stage_at, opened_stage, session_stage, stage_over, block_opened}
 use Rattle.programs.proofs.AloneLemmas.{asked_ok, asked_err, alone_lost, turns_ok, turns_err, turns_lost}
 
 -- a line was read
@@ -65,7 +67,28 @@ pub kept_declared : {stage after : Stage} {mapping now : Mapped} → stage ≡ D
 kept_declared {stage = stage} {after = after} {mapping = mapping} {now = now} is next plain =
     subst (λ (s : Stage). IsKept s after) (sym is) (subst (λ (s : Stage). IsKept (Declaring mapping) s) (sym next) plain)
 
+-- a mapping is refused for a fault of its declarations
+closing_refusal : (fault : Option ArgumentKind) (mapping : Mapped) (e : Refusal) → closed_unless fault mapping ≡ Err e → IsOwn e
+closing_refusal (Some kind) mapping e is = let same : ArgumentError kind ≡ e = cc in subst IsOwn same (refl, refl)
+closing_refusal None mapping e is = absurd (cc)
+
+stays_open : (mapping now : Mapped) (e : Refusal) → Takes {X = Unit {0}} (λ u. tt) (configure mapping) mapping (Err e) now
+    → Turns {X = Unit {0}} (opened_stage (Declaring mapping)) (Declaring mapping) (Err e) (Declaring now)
+unfolding opened_stage configure
+stays_open mapping now Memory p = Turned tt
+stays_open mapping now e p = Turned (ap session_stage p.1, ap Declaring p.0, closing_refusal (fault_of mapping) mapping e p.1)
+
+-- the mapping was refused, or memory ran out: it is declared as before
+pub not_opened : {stage after : Stage} {mapping now : Mapped} {e : Refusal} → stage ≡ Declaring mapping → after ≡ Declaring now
+    → Takes {X = Unit {0}} (λ u. tt) (configure mapping) mapping (Err e) now → IsStageTurn {X = Unit {0}} opened_stage stage (Err e) after
+not_opened {stage = stage} {after = after} {mapping = mapping} {now = now} {e = e} is next p =
+    subst (λ (s : Stage). IsStageTurn {X = Unit {0}} opened_stage stage (Err e) s) (sym next)
+    (subst (λ (s : Stage). IsStageTurn {X = Unit {0}} opened_stage s (Err e) (Declaring now)) (sym is)
+    (record { step = stays_open mapping now e p; kept = λ plain. subst ArePlain (sym p.0) plain }))
+
 pub plain_closed : {stage : Stage} {mapping now : Mapped} → stage ≡ Declaring mapping → now ≡ closed mapping → IsPlainStage stage → ArePlain now
 plain_closed is next plain = subst ArePlain (sym next) (subst IsPlainStage is plain)
 
 pub ruleset declaring = (kept_same, kept_declared, stay_same, declares, turns_ok, turns_err, turns_lost)
+
+pub ruleset closing = (plain_closed, not_opened)

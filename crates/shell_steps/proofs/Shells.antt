@@ -1,12 +1,12 @@
 -- The calls of a shell as runs of the world that has the shell and the store.
-use Rattle.std.proofs.Common.{◌≡◌, ℕ, Bool, true, false, List, [], Option, None, Some, Result, Ok, Err, OnOk, IfErr, MatchBool, is_none, refl, sym, ap, ◌∙◌, subst, arith}
+use Rattle.std.proofs.Common.{◌≡◌, ℕ, Bool, true, false, List, [], length, Option, None, Some, Result, Ok, Err, IfErr, MatchBool, is_none, refl, sym, ap, ◌∙◌, subst}
 use Rattle.std.proofs.lemmas.Bool.{false≢true}
 use Rattle.base_core.specs.declared.refusal.Refusal.{Refusal}
-use Rattle.base_core.specs.declared.refusal.Refusal.TheVariants.{Memory, KeeperFault, InvalidRequestError, NotBuilt, ScriptError}
+use Rattle.base_core.specs.declared.refusal.Refusal.TheVariants.{Memory, InvalidRequestError, NotBuilt, ScriptError}
 use Rattle.base_core.specs.declared.value.Value.{Value}
 use Rattle.base_core.specs.declared.refusal.RequestKind.TheVariants.{InTransaction, NotConfigured}
 use Rattle.programs.specs.Store.{Store}
-use Rattle.programs.specs.Programs.{Run, ◌>>=◌, change, ends_early, give, is_of_tables, quiet, refuse, asked}
+use Rattle.programs.specs.Programs.{Run, ◌>>=◌, change, ends_early, give, quiet, refuse, asked}
 use Rattle.programs.specs.Moment.{Told, Moment, IsRun, IsCutOff, Outcome, AsTold, Runs, Ran}
 use Rattle.programs.specs.Beside.{Beside, by_own, on_own, on_store, unnoted, told_beside, moment_beside, moment_answering}
 use Rattle.programs.proofs.Sequence.{then_ok, then_err, refused, done as given, no_memory, ran_out, guard_ok, guard_early, guard_refused}
@@ -15,17 +15,20 @@ use Rattle.class_mapping.specs.Mapped.{Mapped}
 use Rattle.script_types.specs.declared.command.Command.{Command}
 use Rattle.script_types.specs.declared.command.Command.TheVariants as line
 use Rattle.script_types.specs.declared.command.Term.{Term}
+use Rattle.savepoints.specs.declared.scope.Scope.{Scope}
 use Rattle.session_core.specs.SessionState.{SessionState}
 use Rattle.programs.specs.Alone.{alone, IsQuiet, Turns, Turned}
 use Rattle.session_core.specs.Steps as session
 use Rattle.shell_parts.specs.Lines.{is_built}
 use Rattle.shell_parts.specs.declared.block.Block.{Block}
+use Rattle.shell_parts.specs.Blocks.{block_of}
 use Rattle.shell_steps.specs.declared.stage.Stage.{Stage}
 use Rattle.shell_steps.specs.declared.stage.Stage.TheVariants.{Declaring, Configured}
-use Rattle.shell_steps.specs.ShellState.{ShellState}
+use Rattle.shell_steps.specs.Calls.{IsShellCall, IsShellCallAlone, IsTurn}
+use Rattle.shell_steps.specs.ShellState.{IsKept, IsReady, ShellState, StaysReady}
 use Rattle.session_core.proofs.SessionLemmas.{stay_same}
 use Rattle.shell_steps.proofs.Bindings.{kept_same}
-use Rattle.shell_steps.specs.Step.{World, alone_at, alone_run, at_stage, at_stage_of, close_session, close_session_at, commit, opened_stage, do_command, do_line, program_of, program_at, program_if, end_of_script, create_tables, create_session_tables, create_unless, declared_stage, end_of_script_in, error_text, goes, in_session, in_session_alone, in_block, is_open, is_skipped, line_if, line_step, next_line, on_tables, open_block, read_and_do, reply_to, run_at, session_run, skip_block, skip_line, with_skipping, tables_at, take_line, program_in_block, tell, tell_here, unless_end, with_block, with_refused, with_session}
+use Rattle.shell_steps.specs.Step.{World, alone_at, alone_run, at_stage, at_stage_of, close_session, close_session_at, commit, opened_stage, do_command, do_line, program_of, program_at, program_if, end_of_script, create_tables, create_session_tables, create_unless, block_opened, declare_block, declared_stage, end_of_script_in, ends_block, is_head, error_text, goes, in_session, in_session_alone, in_block, is_open, is_skipped, line_if, line_step, next_line, on_tables, open_block, read, read_and_do, reply_to, run_at, said_command, session_run, skip_block, skip_line, with_skipping, tables_at, take_line, program_in_block, tell, tell_here, unless_end, with_block, with_refused, with_session}
 use Rattle.programs.proofs.AloneLemmas.{alone_err, alone_lost, alone_ok, alone_same, answering_alone, asked_err, asked_ok, asked_tells, becomes_err, becomes_ok, beside_alone, change_ok, lost_alone, then_own_err, then_own_ok}
 use Rattle.programs.proofs.Recovering.{answering_ends, caught_early, caught_ok, caught_refused}
 
@@ -230,18 +233,53 @@ unfolding close_session by_own
 closes_none moment {own = own} closed =
     answering_ends moment {r = Ok tt} tt (same_beside moment (give tt) close_session (λ store. sym (ap (λ stage. close_session_at stage (record { own = own; store = store })) closed)) (given refl))
 
+-- ---- the keeper is ready still
+
+stays : {A W : Type 0} (r : Result A Refusal) (stage : Stage) (moment : Moment W) → IsReady stage moment → StaysReady r stage moment
+stays (Ok x) stage moment ready = ready
+stays (Err e) stage moment ready = λ own. ready
+
+ready_then : {W : Type 0} (moment : Moment W) (old new : Stage) → IsKept old new → IsReady old moment → IsReady new moment
+ready_then moment (Declaring a) (Declaring b) kept ready = ready
+ready_then moment (Declaring a) (Configured b) kept ready = (kept.0, (ready.0, ready.1 ∙ sym (ap (λ (scopes : List Scope). length scopes) kept.1)))
+ready_then moment (Configured a) (Declaring b) kept ready = absurd kept
+ready_then moment (Configured a) (Configured b) kept ready = (
+  ap (λ (m : Mapped). m.schema.resolved) kept.0 ∙ ready.0,
+  (ready.1.0, ready.1.1 ∙ sym (ap (λ (scopes : List Scope). length scopes) kept.1)),
+)
+
+-- the stage is what it was
+pub ready_same : {A W : Type 0} (r : Result A Refusal) (old new : Stage) (moment : Moment W) → new ≡ old → IsReady old moment → StaysReady r new moment
+ready_same r old new moment is ready = stays r new moment (subst (λ (stage : Stage). IsReady stage moment) (sym is) ready)
+
+-- a call of the shell alone that may turn its stage
+pub turns_beside : {A K : Type 0} (moment : K → Moment Store) (m : ShellState → Run ShellState A) {own now : ShellState} {keeper : K} {r : Result A Refusal}
+    → IsTurn m own r now → IsReady own.stage (moment keeper) → IsShellCall moment (on_own m) (own, keeper) r (now, keeper)
+turns_beside moment m {own = own} {now = now} {keeper = keeper} {r = r} p ready = record {
+  step = beside_alone moment p.step;
+  ready = stays r now.stage (moment keeper) (ready_then (moment keeper) own.stage now.stage p.kept ready);
+}
+
 -- ---- changes of the shell
 
 pub changes_to : (f : ShellState → ShellState) {own now : ShellState} → now ≡ f own → Runs alone (λ (u : Unit {0}). u) (change f) own (Ok tt) now
 changes_to f is = change_ok f is
 
 -- the lines of the block are skipped
-pub skips : {own now : ShellState} {block skipped : Block} → own.block ≡ Some block → skipped ≡ record block { skipping = true } → now ≡ with_block (Some skipped) own
-    → Runs alone (λ (u : Unit {0}). u) (change skip_block) own (Ok tt) now
-skips {own = own} some is next = changes_to skip_block (next ∙ ap (λ (b : Block). with_block (Some b) own) is ∙ ap (λ (b : Option Block). with_block (with_skipping b) own) (sym some))
+pub skips : {own now : ShellState} {block skipped : Block} → own.block ≡ Some block → skipped ≡ record block { skipping = true } → now ≡ with_block (Some skipped) own → now ≡ skip_block own
+skips {own = own} some is next = next ∙ ap (λ (b : Block). with_block (Some b) own) is ∙ ap (λ (b : Option Block). with_block (with_skipping b) own) (sym some)
 
-pub skips_none : {own now : ShellState} → own.block ≡ None → now ≡ own → Runs alone (λ (u : Unit {0}). u) (change skip_block) own (Ok tt) now
-skips_none {own = own} none is = changes_to skip_block (is ∙ ap (λ (b : Option Block). with_block b own) none ∙ ap (λ (b : Option Block). with_block (with_skipping b) own) (sym none))
+pub skips_none : {own now : ShellState} → own.block ≡ None → now ≡ own → now ≡ skip_block own
+skips_none {own = own} none is = is ∙ ap (λ (b : Option Block). with_block b own) none ∙ ap (λ (b : Option Block). with_block (with_skipping b) own) (sym none)
+
+-- a line could not be read, and the block's lines are skipped from there on
+pub unread : (bytes : List ℕ) {own now : ShellState} {e : Refusal}
+    → ends_early e ≡ false → Runs alone (λ (command : Command). command) (asked (said_command bytes)) own (Err e) own → now ≡ skip_block own → IsShellCallAlone (read bytes) own (Err e) now
+unfolding read
+unread bytes early p is = record {
+  step = guard_refused early p (changes_to skip_block is);
+  stage = ap (λ (s : ShellState). s.stage) is;
+}
 
 -- the block ended among its skipped lines
 pub skipped_end : (b : Bool) {own now : ShellState} → b ≡ true → now ≡ with_block None own → Runs alone (λ (u : Unit {0}). u) (change (unless_end b)) own (Ok tt) now
@@ -258,41 +296,78 @@ pub does_alone : {K X : Type 0} (moment : K → Moment Store) {v : X → List �
 does_alone moment {v = v} command m {own = own} {now = now} {keeper = keeper} {r = r} is p =
     subst (λ (n : World → Run World (List ℕ)). Runs (moment_beside moment) v n (own, keeper) r (now, keeper)) (sym is) (beside_alone moment p)
 
--- ---- what a line is that has no case of its own
+-- ---- what a line of a block is by its form
 
-pub takes_line : {X : Type 0} {v : X → List ℕ} (command other : Command) (block : Block) {own now : ShellState} {r : Result X Refusal}
-    → command ≡ other → (command ≡ line.End → ⊥) → Runs alone v (take_line other block) own r now → Runs alone v (program_in_block command block) own r now
-takes_line {v = v} command other block {own = own} {now = now} {r = r} is apart p =
-    by command apart (subst (λ (c : Command). Runs alone v (take_line c block) own r now) (sym is) p)
-  where
-    by : (command : Command) → (command ≡ line.End → ⊥) → Runs alone v (take_line command block) own r now → Runs alone v (program_in_block command block) own r now
-    by line.End apart p = absurd (apart refl)
-    by command apart p = p
+-- the block ends
+pub takes_end : {X : Type 0} {v : X → List ℕ} (command : Command) (block : Block) {own now : ShellState} {r : Result X Refusal}
+    → ends_block command ≡ true → Runs alone v (declare_block block) own r now → Runs alone v (program_in_block command block) own r now
+takes_end line.End block is p = p
+takes_end command block is p = absurd (false≢true is)
 
-done_is : (command : Command) → (command ≡ line.Skip → ⊥) → (command ≡ line.Configure → ⊥) → (command ≡ line.CreateAll → ⊥) → (command ≡ line.Dump → ⊥)
+-- the block goes on
+pub takes_line : {X : Type 0} {v : X → List ℕ} (command : Command) (block : Block) {own now : ShellState} {r : Result X Refusal}
+    → ends_block command ≡ false → Runs alone v (take_line command block) own r now → Runs alone v (program_in_block command block) own r now
+takes_line line.End block is p = absurd (false≢true (sym is))
+takes_line command block is p = p
+
+-- ---- what a line outside blocks is by its form
+
+-- the line is this one
+pub is_done : {K : Type 0} {moment : K → Moment Store} {command other : Command} {old new : ShellState × K} {r : Result (List ℕ) Refusal}
+    → command ≡ other → IsShellCall moment (program_of other) old r new → IsShellCall moment (program_of command) old r new
+is_done {moment = moment} {old = old} {new = new} {r = r} is p = subst (λ (c : Command). IsShellCall moment (program_of c) old r new) (sym is) p
+
+pub does : {S X : Type 0} {tell : S → Moment World} {v : X → List ℕ} {command other : Command} {old new : S} {r : Result X Refusal}
+    → command ≡ other → Runs tell v (program_of other) old r new → Runs tell v (program_of command) old r new
+does {tell = tell} {v = v} {old = old} {new = new} {r = r} is p = subst (λ (c : Command). Runs tell v (program_of c) old r new) (sym is) p
+
+head_is : (command : Command) → is_head command ≡ true → program_of command ≡ on_own (open_block command)
+head_is (line.TableHead name) is = refl
+head_is (line.ClassHead name base table discriminator identity owned) is = refl
+head_is command is = absurd (false≢true is)
+
+-- a head opens a block
+pub opens_block : {K X : Type 0} (moment : K → Moment Store) {v : X → List ℕ} (command : Command) {own now : ShellState} {keeper : K} {r : Result X Refusal}
+    → is_head command ≡ true → Runs alone v (open_block command) own r now → Runs (moment_beside moment) v (program_of command) (own, keeper) r (now, keeper)
+opens_block moment command is p = does_alone moment command (open_block command) (head_is command is) p
+
+opens_none : (command : Command) (first : ℕ) → is_head command ≡ false → block_of command first ≡ Err NotBuilt
+opens_none (line.TableHead name) first is = absurd (false≢true (sym is))
+opens_none (line.ClassHead name base table discriminator identity owned) first is = absurd (false≢true (sym is))
+opens_none command first is = refl
+
+other_is : (command : Command) → (command ≡ line.Skip → ⊥) → (command ≡ line.Configure → ⊥) → (command ≡ line.CreateAll → ⊥) → (command ≡ line.Dump → ⊥)
     → ((name : List ℕ) (class : List ℕ) (given : List (List ℕ × Value)) → command ≡ line.New name class given → ⊥) → ((term : Term) → command ≡ line.Add term → ⊥)
     → ((savepoint : Option (List ℕ)) → command ≡ line.Commit savepoint → ⊥) → program_of command ≡ on_own (open_block command)
-done_is line.Skip s c a d n t k = absurd (s refl)
-done_is line.Configure s c a d n t k = absurd (c refl)
-done_is line.CreateAll s c a d n t k = absurd (a refl)
-done_is line.Dump s c a d n t k = absurd (d refl)
-done_is (line.New name class given) s c a d n t k = absurd (n name class given refl)
-done_is (line.Add term) s c a d n t k = absurd (t term refl)
-done_is (line.Commit savepoint) s c a d n t k = absurd (k savepoint refl)
-done_is command s c a d n t k = refl
+other_is line.Skip s c a d n t k = absurd (s refl)
+other_is line.Configure s c a d n t k = absurd (c refl)
+other_is line.CreateAll s c a d n t k = absurd (a refl)
+other_is line.Dump s c a d n t k = absurd (d refl)
+other_is (line.New name class given) s c a d n t k = absurd (n name class given refl)
+other_is (line.Add term) s c a d n t k = absurd (t term refl)
+other_is (line.Commit savepoint) s c a d n t k = absurd (k savepoint refl)
+other_is command s c a d n t k = refl
 
--- a line without a case of its own
-pub done_head : (command head : Command) → command ≡ head → (command ≡ line.Skip → ⊥) → (command ≡ line.Configure → ⊥) → (command ≡ line.CreateAll → ⊥) → (command ≡ line.Dump → ⊥)
+-- a line that is no head has no block to open
+unopened : {X : Type 0} {v : X → List ℕ} (command : Command) {own : ShellState} → is_head command ≡ false → Runs alone v (open_block command) own (Err NotBuilt) own
+unfolding open_block
+unopened command {own = own} is = then_err _ (asked_err {v = λ (block : Block). block} (block_opened command) refl refl (opens_none command own.line is))
+
+-- a line that has no meaning outside blocks
+pub misplaced : {K X : Type 0} (moment : K → Moment Store) {v : X → List ℕ} (command : Command) {own : ShellState} {keeper : K}
+    → is_head command ≡ false → (command ≡ line.Skip → ⊥) → (command ≡ line.Configure → ⊥) → (command ≡ line.CreateAll → ⊥) → (command ≡ line.Dump → ⊥)
     → ((name : List ℕ) (class : List ℕ) (given : List (List ℕ × Value)) → command ≡ line.New name class given → ⊥) → ((term : Term) → command ≡ line.Add term → ⊥)
-    → ((savepoint : Option (List ℕ)) → command ≡ line.Commit savepoint → ⊥) → program_of command ≡ on_own (open_block head)
-done_head command head is s c a d n t k = done_is command s c a d n t k ∙ ap (λ (c : Command). on_own (open_block c)) is
+    → ((savepoint : Option (List ℕ)) → command ≡ line.Commit savepoint → ⊥) → Runs (moment_beside moment) v (program_of command) (own, keeper) (Err NotBuilt) (own, keeper)
+misplaced moment command head s c a d n t k = does_alone moment command (open_block command) (other_is command s c a d n t k) (unopened command head)
 
 pub commits : {S X : Type 0} {tell : S → Moment World} {v : X → List ℕ} (savepoint : Option (List ℕ)) {old new : S} {r : Result X Refusal}
     → is_none savepoint ≡ true → Runs tell v commit old r new → Runs tell v (program_of (line.Commit savepoint)) old r new
 commits None built p = p
 commits (Some name) built p = absurd (false≢true built)
 
-pub ruleset acting = (kept_same, stay_same, changes_to, skips, skips_none, skipped_end, skipped_on, line_counted, told_text, ended_none, ended_some, lost_alone, then_own_ok, then_own_err, then_store_ok, then_store_err, then_ok, then_err, given, beside_alone, on_keeper, no_memory, refused, ran_out, session_runs, session_none, alone_session, alone_none, goes_declared, goes_configured, line_skipped, line_read, command_outside, command_inside, not_built, built, guard_ok, guard_early, guard_refused, asked_ok, asked_err, asked_tells, change_ok, alone_lost, commits)
+pub ruleset acting = (kept_same, stay_same, changes_to, skips, skips_none, skipped_end, skipped_on, line_counted, told_text, ended_none, ended_some, lost_alone, then_own_ok, then_own_err, then_store_ok, then_store_err, then_ok, then_err, given, beside_alone, on_keeper, no_memory, refused, ran_out, session_runs, session_none, alone_session, alone_none, goes_declared, goes_configured, line_skipped, line_read, command_outside, command_inside, not_built, built, guard_ok, guard_early, guard_refused, asked_ok, asked_err, asked_tells, change_ok, alone_lost, ready_same, unread)
+
+pub ruleset forms = (does, is_done, turns_beside, opens_block, takes_end, takes_line, commits)
 
 pub ruleset tables = (tables_open, tables_none)
 

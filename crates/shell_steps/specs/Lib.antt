@@ -1,3 +1,4 @@
+pub mod Calls
 pub mod Naming
 pub mod ShellState
 pub mod Step

@@ -186,6 +186,12 @@ block_opened head shell = block_of head shell.line
 unfoldable pub open_block : Command → ShellState → Run ShellState (List ℕ)
 open_block head = asked (block_opened head) >>= λ block. (change (with_block (Some block)) >>= λ _. give [])
 
+-- the line opens a block
+abbrev pub is_head : Command → Bool
+is_head (line.TableHead name) = true
+is_head (line.ClassHead name base table discriminator identity owned) = true
+is_head command = false
+
 -- what a line does whose form is built
 abbrev pub program_of : Command → World → Run World (List ℕ)
 program_of line.Skip = give []
@@ -202,6 +208,11 @@ program_if false command = refuse NotBuilt
 program_if true command = program_of command
 
 -- ---- a line of a block
+
+-- the line ends the block
+abbrev pub ends_block : Command → Bool
+ends_block line.End = true
+ends_block command = false
 
 abbrev pub with_line_taken : Command → Block → Block
 with_line_taken command block = record block { declared = with_line block.declared command }

@@ -1,17 +1,16 @@
 //! The commands that are done over the mapping, the session and the keeper.
 
-ghost use Rattle.std.specs.Prelude.{◌≡◌, ◌≤◌, ◌<◌, ◌++◌, [], true, false, length, IfErr, IfOk, OnOk};
-ghost use Rattle.programs.specs.Programs.{change, each, ends_early};
-ghost use Rattle.programs.specs.Beside.{moment_beside};
+ghost use Rattle.std.specs.Prelude.{◌≡◌, ◌++◌, [], true, false, IfErr, IfOk};
+ghost use Rattle.programs.specs.Programs.{change, each};
 ghost use Rattle.programs.specs.Moment.{Runs};
 ghost use Rattle.std.specs.List.{All};
 ghost use Rattle.schema_core.specs.Catalog.{IsTable};
 ghost use Rattle.schema_core.specs.DependencyOrder.{dependency_order};
-ghost use Rattle.session_core.specs.SessionState.{IsInStep, IsOfClass, StaysInStep};
+ghost use Rattle.session_core.specs.SessionState.{IsInStep, IsOfClass};
 ghost use Rattle.session_core.specs.Making.{object_made};
 ghost use Rattle.session_core.specs.Steps as session;
-ghost use Rattle.programs.specs.Alone.{Turns, alone};
-ghost use Rattle.shell_steps.specs.ShellState.{DepthStays, HasClass, HasObject, IsKept, IsPlainStage, IsReady, StaysReady, graph_of};
+ghost use Rattle.shell_steps.specs.Calls.{IsShellCall, IsShellCallAlone, IsOutsideCall, IsStageTurn, IsTablesCall, IsTurn};
+ghost use Rattle.shell_steps.specs.ShellState.{DepthStays, HasClass, HasObject, IsPlainStage, IsReady, graph_of};
 ghost use Rattle.shell_steps.specs.Step as step;
 
 use crate::shell::Shell;
@@ -34,8 +33,7 @@ impl Shell {
     /// `Configured` where that was done, and `ArgumentError` for the first wrong declaration.
     #[tactic(auto, using(crate::proofs::Shells::acting), unfolding(crate::specs::Step::configure))]
     pub(crate) fn configure(&mut self) -> Result<Reply, Refusal>
-        ensures step { Runs alone (λ reply. reply) step.configure self.old result self.new }
-        ensures kept { IsKept self.old.stage self.new.stage }
+        ensures { IsTurn step.configure self.old result self.new }
     {
         self.open_session()?;
         Ok(Reply::new(self.alloc))
@@ -44,8 +42,7 @@ impl Shell {
     /// The stage after `configure`.
     #[tactic(auto, using(crate::proofs::Shells::acting, crate::proofs::Bindings::bindings))]
     fn open_session(&mut self) -> Result<(), Refusal>
-        ensures step { Runs alone (λ u. u) (step.goes step.opened_stage) self.old result self.new }
-        ensures kept { IsKept self.old.stage self.new.stage }
+        ensures { IsTurn (step.goes step.opened_stage) self.old result self.new }
     {
         open_session(self.alloc, &mut self.stage)
     }
@@ -57,9 +54,8 @@ impl Shell {
     #[tactic(auto, using(crate::proofs::Shells::tables), unfolding(crate::specs::Step::create_all))]
     pub(crate) fn create_all<K: Keeper>(&mut self, keeper: &mut K) -> Result<Reply, Refusal>
         requires { IsReady self.old.stage (K.moment keeper.old) }
-        ensures step { Runs (moment_beside K.moment)
-            (λ reply. reply) step.create_all (self.old, keeper.old) result (self.new, keeper.new) }
-        ensures ready { StaysReady result self.new.stage (K.moment keeper.new) }
+        ensures { IsShellCall K.moment step.create_all
+            (self.old, keeper.old) result (self.new, keeper.new) }
     {
         let Stage::Configured(session) = &self.stage else {
             return Err(Refusal::InvalidRequestError(RequestKind::NotConfigured));
@@ -74,9 +70,8 @@ impl Shell {
     #[tactic(auto, using(crate::proofs::Shells::tables), unfolding(crate::specs::Step::dump))]
     pub(crate) fn dump<K: Keeper>(&mut self, keeper: &mut K) -> Result<Reply, Refusal>
         requires { IsReady self.old.stage (K.moment keeper.old) }
-        ensures step { Runs (moment_beside K.moment)
-            (λ reply. reply) step.dump (self.old, keeper.old) result (self.new, keeper.new) }
-        ensures ready { StaysReady result self.new.stage (K.moment keeper.new) }
+        ensures { IsShellCall K.moment step.dump
+            (self.old, keeper.old) result (self.new, keeper.new) }
     {
         let Stage::Configured(session) = &self.stage else {
             return Err(Refusal::InvalidRequestError(RequestKind::NotConfigured));
@@ -96,9 +91,7 @@ impl Shell {
         class: &Name,
         given: &ListOf<(Name, Value)>,
     ) -> Result<Reply, Refusal>
-        ensures step { Runs alone
-            (λ reply. reply) (step.make name.now class.now given.now) self.old result self.new }
-        ensures kept { IsKept self.old.stage self.new.stage }
+        ensures { IsTurn (step.make name.now class.now given.now) self.old result self.new }
     {
         let class = self.class_named(class)?;
         let cells = self.cells_named(class, given.as_slice())?;
@@ -111,12 +104,10 @@ impl Shell {
     #[tactic(auto, using(crate::proofs::Shells::acting, crate::proofs::Bindings::bindings))]
     fn make_object(&mut self, class: ClassId, cells: &[(AttrNo, Value)]) -> Result<ObjId, Refusal>
         requires { HasClass self.old.stage class }
-        ensures step { Runs alone
-            (λ object. object)
-            (step.in_session_alone (object_made class cells.now)) self.old result self.new }
+        ensures call { IsTurn (step.in_session_alone (object_made class cells.now))
+            self.old result self.new }
         ensures made { IfOk result
             (λ object. IsOfClass (graph_of self.new.stage) object class) }
-        ensures kept { IsKept self.old.stage self.new.stage }
     {
         let Stage::Configured(session) = &mut self.stage else {
             return Err(Refusal::InvalidRequestError(RequestKind::NotConfigured));
@@ -128,9 +119,8 @@ impl Shell {
     #[tactic(auto, using(crate::proofs::Shells::acting, crate::proofs::Bindings::bindings))]
     fn bind(&mut self, name: &Name, class: ClassId, object: ObjId) -> Result<(), Refusal>
         requires made { IsOfClass (graph_of self.old.stage) object class }
-        ensures step { Runs alone
-            (λ u. u) (change (step.with_bound name.now class object)) self.old result self.new }
-        ensures stage { self.new.stage ≡ self.old.stage }
+        ensures { IsShellCallAlone (change (step.with_bound name.now class object))
+            self.old result self.new }
     {
         self.names.bind(name, Bound::Object(object, class))?;
         Ok(())
@@ -143,10 +133,8 @@ impl Shell {
     #[tactic(auto, using(crate::proofs::Shells::acting), unfolding(crate::specs::Step::add))]
     pub(crate) fn add<K: Keeper>(&mut self, keeper: &mut K, name: &Name) -> Result<Reply, Refusal>
         requires { IsReady self.old.stage (K.moment keeper.old) }
-        ensures step { Runs (moment_beside K.moment)
-            (λ reply. reply) (step.add name.now) (self.old, keeper.old) result
-            (self.new, keeper.new) }
-        ensures ready { StaysReady result self.new.stage (K.moment keeper.new) }
+        ensures { IsShellCall K.moment (step.add name.now)
+            (self.old, keeper.old) result (self.new, keeper.new) }
     {
         let object = self.object_named(name)?;
         self.add_object(keeper, object)?;
@@ -158,10 +146,8 @@ impl Shell {
     fn add_object<K: Keeper>(&mut self, keeper: &mut K, object: ObjId) -> Result<(), Refusal>
         requires object { HasObject self.old.stage object }
         requires ready { IsReady self.old.stage (K.moment keeper.old) }
-        ensures step { Runs (moment_beside K.moment)
-            (λ u. u) (step.in_session (session.add object)) (self.old, keeper.old) result
-            (self.new, keeper.new) }
-        ensures ready { StaysReady result self.new.stage (K.moment keeper.new) }
+        ensures { IsShellCall K.moment (step.in_session (session.add object))
+            (self.old, keeper.old) result (self.new, keeper.new) }
     {
         let Stage::Configured(session) = &mut self.stage else {
             return Err(Refusal::InvalidRequestError(RequestKind::NotConfigured));
@@ -176,9 +162,8 @@ impl Shell {
     #[tactic(auto, using(crate::proofs::Shells::acting), unfolding(crate::specs::Step::commit))]
     pub(crate) fn commit<K: Keeper>(&mut self, keeper: &mut K) -> Result<Reply, Refusal>
         requires { IsReady self.old.stage (K.moment keeper.old) }
-        ensures step { Runs (moment_beside K.moment)
-            (λ reply. reply) step.commit (self.old, keeper.old) result (self.new, keeper.new) }
-        ensures ready { StaysReady result self.new.stage (K.moment keeper.new) }
+        ensures { IsShellCall K.moment step.commit
+            (self.old, keeper.old) result (self.new, keeper.new) }
     {
         self.commit_session(keeper)?;
         Ok(Reply::new(self.alloc))
@@ -188,10 +173,8 @@ impl Shell {
     #[tactic(auto, using(crate::proofs::Shells::acting, crate::proofs::Bindings::bindings))]
     fn commit_session<K: Keeper>(&mut self, keeper: &mut K) -> Result<(), Refusal>
         requires { IsReady self.old.stage (K.moment keeper.old) }
-        ensures step { Runs (moment_beside K.moment)
-            (λ u. u) (step.in_session session.commit) (self.old, keeper.old) result
-            (self.new, keeper.new) }
-        ensures ready { StaysReady result self.new.stage (K.moment keeper.new) }
+        ensures { IsShellCall K.moment (step.in_session session.commit)
+            (self.old, keeper.old) result (self.new, keeper.new) }
     {
         let Stage::Configured(session) = &mut self.stage else {
             return Err(Refusal::InvalidRequestError(RequestKind::NotConfigured));
@@ -201,20 +184,15 @@ impl Shell {
 }
 
 /// Checks all declarations, closes the mapping and opens the session.
-#[tactic(auto, using(programs::proofs::AloneLemmas::standing, crate::proofs::Bindings::bindings, crate::proofs::Declaring::plain_closed), unfolding(crate::specs::Step::opened_stage))]
+#[tactic(auto, using(programs::proofs::AloneLemmas::standing, crate::proofs::Bindings::bindings, crate::proofs::Declaring::closing), unfolding(crate::specs::Step::opened_stage))]
 fn open_session(alloc: Global, stage: &mut Stage) -> Result<(), Refusal>
     requires plain { IsPlainStage stage.old }
-    ensures step { Turns (step.opened_stage stage.old) stage.old result stage.new }
-    ensures kept { IsKept stage.old stage.new }
+    ensures { IsStageTurn step.opened_stage stage.old result stage.new }
 {
     let Stage::Declaring(mapping) = stage else {
         return Err(Refusal::InvalidRequestError(RequestKind::Configured));
     };
-    match mapping.configure() {
-        Ok(()) => {}
-        Err(Refusal::ArgumentError(kind)) => return Err(Refusal::ArgumentError(kind)),
-        Err(_) => return Err(Refusal::Memory),
-    }
+    mapping.configure()?;
     let mapping = mem::replace(mapping, Mapping::new(alloc));
     let session = Session::new(alloc, mapping);
     drop(mem::replace(stage, Stage::Configured(session)));
@@ -234,9 +212,8 @@ fn is_open(session: &Session) -> bool
 fn create_all<K: Keeper>(alloc: Global, session: &Session, keeper: &mut K) -> Result<Reply, Refusal>
     requires resolved { session.now.mapping.schema.resolved ≡ true }
     requires in_step { IsInStep session.now (K.moment keeper.old) }
-    ensures step { Runs K.moment
-        (λ reply. reply) (step.create_session_tables session.now) keeper.old result keeper.new }
-    ensures in_step { StaysInStep result session.now (K.moment keeper.new) }
+    ensures { IsTablesCall K.moment step.create_session_tables
+        session.now keeper.old result keeper.new }
 {
     if is_open(session) {
         return Err(Refusal::InvalidRequestError(RequestKind::InTransaction));
@@ -262,10 +239,7 @@ fn create_tables<K: Keeper>(alloc: Global, keeper: &mut K, schema: &Schema) -> R
     requires attached { (K.moment keeper.old).attached ≡ true }
     requires outside { (K.moment keeper.old).depth ≡ 0 }
     requires resolved { schema.now.resolved ≡ true }
-    ensures step { Runs K.moment
-        (λ u. u) (step.create_tables schema.now) keeper.old result keeper.new }
-    ensures attached { (K.moment keeper.new).attached ≡ true }
-    ensures depth { (K.moment keeper.new).depth ≡ 0 }
+    ensures { IsOutsideCall K.moment (step.create_tables schema.now) keeper.old result keeper.new }
 {
     let order = order_of(alloc, schema)?;
     create_each(alloc, keeper, schema, order.as_slice())
@@ -282,10 +256,8 @@ fn create_each<K: Keeper>(
     requires attached { (K.moment keeper.old).attached ≡ true }
     requires outside { (K.moment keeper.old).depth ≡ 0 }
     requires declared { All (IsTable schema.now) order.now }
-    ensures step { Runs K.moment
-        (λ u. u) (each step.create_one tt order.now) keeper.old result keeper.new }
-    ensures attached { (K.moment keeper.new).attached ≡ true }
-    ensures depth { (K.moment keeper.new).depth ≡ 0 }
+    ensures { IsOutsideCall K.moment (each step.create_one tt order.now)
+        keeper.old result keeper.new }
 {
     for table in order {
         create_one(alloc, keeper, schema, *table)?;
@@ -304,9 +276,7 @@ fn create_one<K: Keeper>(
     requires attached { (K.moment keeper.old).attached ≡ true }
     requires outside { (K.moment keeper.old).depth ≡ 0 }
     requires declared { IsTable schema.now table }
-    ensures step { Runs K.moment (λ u. u) (step.create_one table tt) keeper.old result keeper.new }
-    ensures attached { (K.moment keeper.new).attached ≡ true }
-    ensures depth { (K.moment keeper.new).depth ≡ 0 }
+    ensures { IsOutsideCall K.moment (step.create_one table tt) keeper.old result keeper.new }
 {
     calls::create(alloc, keeper, schema, table)?;
     Ok(())
@@ -316,9 +286,8 @@ fn create_one<K: Keeper>(
 #[tactic(auto, unfolding(crate::specs::Step::dump_session_tables))]
 fn dump_all<K: Keeper>(alloc: Global, session: &Session, keeper: &mut K) -> Result<Reply, Refusal>
     requires { IsInStep session.now (K.moment keeper.old) }
-    ensures step { Runs K.moment
-        (λ reply. reply) (step.dump_session_tables session.now) keeper.old result keeper.new }
-    ensures in_step { StaysInStep result session.now (K.moment keeper.new) }
+    ensures { IsTablesCall K.moment step.dump_session_tables
+        session.now keeper.old result keeper.new }
 {
     dump_tables(alloc, keeper, session.mapping().schema())
 }

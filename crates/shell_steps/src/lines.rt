@@ -1,12 +1,12 @@
 //! The lines of a script.
 
-ghost use Rattle.std.specs.Prelude.{◌≡◌, true, false, IsOk};
-ghost use Rattle.programs.specs.Beside.{moment_beside};
+ghost use Rattle.std.specs.Prelude.{◌≡◌, true, false, IfErr, IfOk};
 ghost use Rattle.programs.specs.Moment.{Runs};
 ghost use Rattle.shell_parts.specs.Lines.{is_built as is_built_line};
 ghost use Rattle.programs.specs.Programs.{change, asked};
-ghost use Rattle.programs.specs.Alone.{Turns, alone};
-ghost use Rattle.shell_steps.specs.ShellState.{IsKept, IsReady, StaysReady};
+ghost use Rattle.programs.specs.Alone.{alone};
+ghost use Rattle.shell_steps.specs.Calls.{IsShellCall, IsShellCallAlone, IsStageTurn, IsTurn};
+ghost use Rattle.shell_steps.specs.ShellState.{IsReady};
 ghost use Rattle.shell_steps.specs.Step as step;
 
 use crate::shell::Shell;
@@ -27,10 +27,8 @@ impl Shell {
     #[tactic(auto, using(crate::proofs::Shells::line_counted))]
     pub(crate) fn step<K: Keeper>(&mut self, keeper: &mut K, line: &[u8]) -> Result<Reply, Refusal>
         requires { IsReady self.old.stage (K.moment keeper.old) }
-        ensures step { Runs (moment_beside K.moment)
-            (λ reply. reply) (step.line_step line.now) (self.old, keeper.old) result
-            (self.new, keeper.new) }
-        ensures ready { StaysReady result self.new.stage (K.moment keeper.new) }
+        ensures { IsShellCall K.moment (step.line_step line.now)
+            (self.old, keeper.old) result (self.new, keeper.new) }
     {
         self.count_line();
         self.do_line(keeper, line)
@@ -47,10 +45,8 @@ impl Shell {
     #[tactic(auto, using(crate::proofs::Shells::acting))]
     fn do_line<K: Keeper>(&mut self, keeper: &mut K, line: &[u8]) -> Result<Reply, Refusal>
         requires { IsReady self.old.stage (K.moment keeper.old) }
-        ensures step { Runs (moment_beside K.moment)
-            (λ reply. reply) (step.do_line line.now) (self.old, keeper.old) result
-            (self.new, keeper.new) }
-        ensures ready { StaysReady result self.new.stage (K.moment keeper.new) }
+        ensures { IsShellCall K.moment (step.do_line line.now)
+            (self.old, keeper.old) result (self.new, keeper.new) }
     {
         if is_skipped(&self.block) {
             return self.skip_line(line);
@@ -61,9 +57,7 @@ impl Shell {
     /// The end of a block whose lines are skipped; every other line is nothing there.
     #[tactic(auto, using(crate::proofs::Shells::acting), unfolding(crate::specs::Step::skip_line))]
     fn skip_line(&mut self, line: &[u8]) -> Result<Reply, Refusal>
-        ensures step { Runs alone
-            (λ reply. reply) (step.skip_line line.now) self.old result self.new }
-        ensures stage { self.new.stage ≡ self.old.stage }
+        ensures { IsShellCallAlone (step.skip_line line.now) self.old result self.new }
     {
         self.end_skipped(is_end(line))?;
         Ok(Reply::new(self.alloc))
@@ -72,14 +66,12 @@ impl Shell {
     /// The block ends, where this is its end.
     #[tactic(auto, using(crate::proofs::Shells::acting))]
     fn end_skipped(&mut self, is_end: bool) -> Result<(), Refusal>
-        ensures step { Runs alone
-            (λ u. u) (change (step.unless_end is_end)) self.old result self.new }
-        ensures stage { self.new.stage ≡ self.old.stage }
+        ensures { IsShellCallAlone (change (step.unless_end is_end)) self.old result self.new }
     {
         if !is_end {
             return Ok(());
         }
-        self.block = None;
+        drop(self.take_block());
         Ok(())
     }
 
@@ -87,10 +79,8 @@ impl Shell {
     #[tactic(auto, using(crate::proofs::Shells::acting), unfolding(crate::specs::Step::read_and_do))]
     fn read_and_do<K: Keeper>(&mut self, keeper: &mut K, line: &[u8]) -> Result<Reply, Refusal>
         requires { IsReady self.old.stage (K.moment keeper.old) }
-        ensures step { Runs (moment_beside K.moment)
-            (λ reply. reply) (step.read_and_do line.now) (self.old, keeper.old) result
-            (self.new, keeper.new) }
-        ensures ready { StaysReady result self.new.stage (K.moment keeper.new) }
+        ensures { IsShellCall K.moment (step.read_and_do line.now)
+            (self.old, keeper.old) result (self.new, keeper.new) }
     {
         let command = self.read(line)?;
         self.do_command(keeper, command)
@@ -99,9 +89,7 @@ impl Shell {
     /// What a line says. In a block the lines behind one that can not be read are skipped.
     #[tactic(auto, using(crate::proofs::Shells::acting), unfolding(crate::specs::Step::read))]
     fn read(&mut self, line: &[u8]) -> Result<Command, Refusal>
-        ensures step { Runs alone
-            (λ command. command) (step.read line.now) self.old result self.new }
-        ensures stage { self.new.stage ≡ self.old.stage }
+        ensures { IsShellCallAlone (step.read line.now) self.old result self.new }
     {
         match self.say(line) {
             Ok(command) => Ok(command),
@@ -109,7 +97,7 @@ impl Shell {
                 if calls::ends_early(&refusal) {
                     return Err(refusal);
                 }
-                self.skip_block()?;
+                self.skip_block();
                 Err(refusal)
             }
         }
@@ -126,17 +114,12 @@ impl Shell {
 
     /// The lines of the block are skipped from here on.
     #[tactic(auto, using(crate::proofs::Shells::acting))]
-    fn skip_block(&mut self) -> Result<(), Refusal>
-        ensures step { Runs alone (λ u. u) (change step.skip_block) self.old result self.new }
-        ensures stage { self.new.stage ≡ self.old.stage }
-        ensures done { IsOk result }
+    fn skip_block(&mut self)
+        ensures { self.new ≡ step.skip_block self.old }
     {
         match &mut self.block {
-            None => Ok(()),
-            Some(block) => {
-                block.skip();
-                Ok(())
-            }
+            None => {}
+            Some(block) => block.skip(),
         }
     }
 
@@ -144,10 +127,8 @@ impl Shell {
     #[tactic(auto, using(crate::proofs::Shells::acting))]
     fn do_command<K: Keeper>(&mut self, keeper: &mut K, command: Command) -> Result<Reply, Refusal>
         requires { IsReady self.old.stage (K.moment keeper.old) }
-        ensures step { Runs (moment_beside K.moment)
-            (λ reply. reply) (step.do_command command) (self.old, keeper.old) result
-            (self.new, keeper.new) }
-        ensures ready { StaysReady result self.new.stage (K.moment keeper.new) }
+        ensures { IsShellCall K.moment (step.do_command command)
+            (self.old, keeper.old) result (self.new, keeper.new) }
     {
         match self.take_block() {
             Some(block) => self.take(command, block),
@@ -164,40 +145,45 @@ impl Shell {
     }
 
     /// Does what a line outside blocks says, where its form is built.
-    #[tactic(auto, using(crate::proofs::Shells::acting))]
+    #[tactic(auto, using(crate::proofs::Shells::acting, crate::proofs::Shells::forms))]
     fn do_built<K: Keeper>(&mut self, keeper: &mut K, command: Command) -> Result<Reply, Refusal>
         requires { IsReady self.old.stage (K.moment keeper.old) }
-        ensures step { Runs (moment_beside K.moment)
-            (λ reply. reply) (step.program_if (is_built_line command) command)
+        ensures { IsShellCall K.moment (step.program_if (is_built_line command) command)
             (self.old, keeper.old) result (self.new, keeper.new) }
-        ensures ready { StaysReady result self.new.stage (K.moment keeper.new) }
     {
         if !is_built(&command) {
             drop(command);
             return Err(Refusal::NotBuilt);
         }
-        self.do_top(keeper, command)
+        if is_head(&command) {
+            return self.open_block(command);
+        }
+        let reply = self.do_top(keeper, &command);
+        drop(command);
+        reply
     }
 
-    /// Does what a line outside blocks says, whose form is built.
-    #[tactic(auto, using(crate::proofs::Shells::acting))]
-    fn do_top<K: Keeper>(&mut self, keeper: &mut K, command: Command) -> Result<Reply, Refusal>
-        requires built { is_built_line command ≡ true }
+    /// Does what a line outside blocks says, whose form is built and which is no head.
+    ///
+    /// # Errors
+    /// `NotBuilt` for a line that has its place in a block.
+    #[tactic(auto, using(crate::proofs::Shells::acting, crate::proofs::Shells::forms))]
+    fn do_top<K: Keeper>(&mut self, keeper: &mut K, command: &Command) -> Result<Reply, Refusal>
+        requires built { is_built_line command.now ≡ true }
+        requires no_head { step.is_head command.now ≡ false }
         requires ready { IsReady self.old.stage (K.moment keeper.old) }
-        ensures step { Runs (moment_beside K.moment)
-            (λ reply. reply) (step.program_of command) (self.old, keeper.old) result
-            (self.new, keeper.new) }
-        ensures ready { StaysReady result self.new.stage (K.moment keeper.new) }
+        ensures { IsShellCall K.moment (step.program_of command.now)
+            (self.old, keeper.old) result (self.new, keeper.new) }
     {
         match command {
             Command::Skip => Ok(Reply::new(self.alloc)),
             Command::Configure => self.configure(),
             Command::CreateAll => self.create_all(keeper),
             Command::Dump => self.dump(keeper),
-            Command::New { name, class, cells } => self.make(&name, &class, &cells),
+            Command::New { name, class, cells } => self.make(name, class, cells),
             Command::Add(term) => self.add(keeper, &term.name),
-            Command::Commit(_savepoint) => self.commit(keeper),
-            head => self.open_block(head),
+            Command::Commit(_) => self.commit(keeper),
+            _ => Err(Refusal::NotBuilt),
         }
     }
 
@@ -207,8 +193,7 @@ impl Shell {
     /// `NotBuilt` for every other line.
     #[tactic(auto, using(crate::proofs::Shells::acting), unfolding(crate::specs::Step::open_block))]
     fn open_block(&mut self, head: Command) -> Result<Reply, Refusal>
-        ensures step { Runs alone (λ reply. reply) (step.open_block head) self.old result self.new }
-        ensures stage { self.new.stage ≡ self.old.stage }
+        ensures { IsShellCallAlone (step.open_block head) self.old result self.new }
     {
         let block = self.opened(head)?;
         self.put_block(Some(block))?;
@@ -216,7 +201,6 @@ impl Shell {
     }
 
     /// The block that a head opens.
-    #[tactic(auto, using(crate::proofs::Declaring::opens))]
     fn opened(&self, head: Command) -> Result<Block, Refusal>
         ensures { Runs alone (λ block. block)
             (asked (step.block_opened head)) self.now result self.now }
@@ -227,36 +211,30 @@ impl Shell {
     /// The block that is open from here on.
     #[tactic(auto, using(crate::proofs::Shells::acting))]
     fn put_block(&mut self, block: Option<Block>) -> Result<(), Refusal>
-        ensures step { Runs alone
-            (λ u. u) (change (step.with_block block)) self.old result self.new }
-        ensures stage { self.new.stage ≡ self.old.stage }
+        ensures { IsShellCallAlone (change (step.with_block block)) self.old result self.new }
     {
-        self.block = block;
+        drop(mem::replace(&mut self.block, block));
         Ok(())
     }
 
     /// The block ends, or goes on with one more line.
-    #[tactic(auto, using(crate::proofs::Shells::acting))]
+    #[tactic(auto, using(crate::proofs::Shells::acting, crate::proofs::Shells::forms))]
     fn take(&mut self, command: Command, block: Block) -> Result<Reply, Refusal>
-        ensures step { Runs alone
-            (λ reply. reply) (step.program_in_block command block) self.old result self.new }
-        ensures kept { IsKept self.old.stage self.new.stage }
+        ensures { IsTurn (step.program_in_block command block) self.old result self.new }
     {
-        match command {
-            Command::End => self.declare_block(block),
-            command => self.take_line(command, block),
+        if ends_block(&command) {
+            drop(command);
+            return self.declare_block(block);
         }
+        self.take_line(command, block)
     }
 
     /// The block goes on with the line.
     #[tactic(auto, using(crate::proofs::Shells::acting), unfolding(crate::specs::Step::take_line))]
     fn take_line(&mut self, command: Command, block: Block) -> Result<Reply, Refusal>
-        ensures step { Runs alone
-            (λ reply. reply) (step.take_line command block) self.old result self.new }
-        ensures stage { self.new.stage ≡ self.old.stage }
+        ensures { IsShellCallAlone (step.take_line command block) self.old result self.new }
     {
-        let mut block = block;
-        block.take(command)?;
+        let block = with_line(command, block)?;
         self.put_block(Some(block))?;
         Ok(Reply::new(self.alloc))
     }
@@ -264,9 +242,7 @@ impl Shell {
     /// What the block says is declared.
     #[tactic(auto, using(crate::proofs::Shells::acting), unfolding(crate::specs::Step::declare_block))]
     fn declare_block(&mut self, block: Block) -> Result<Reply, Refusal>
-        ensures step { Runs alone
-            (λ reply. reply) (step.declare_block block) self.old result self.new }
-        ensures kept { IsKept self.old.stage self.new.stage }
+        ensures { IsTurn (step.declare_block block) self.old result self.new }
     {
         self.declare(block)?;
         Ok(Reply::new(self.alloc))
@@ -275,9 +251,7 @@ impl Shell {
     /// The stage after a block's declaration.
     #[tactic(auto, using(crate::proofs::Shells::acting, crate::proofs::Bindings::bindings))]
     fn declare(&mut self, block: Block) -> Result<(), Refusal>
-        ensures step { Runs alone
-            (λ u. u) (step.goes (step.declared_stage block)) self.old result self.new }
-        ensures kept { IsKept self.old.stage self.new.stage }
+        ensures { IsTurn (step.goes (step.declared_stage block)) self.old result self.new }
     {
         declare(self.alloc, &mut self.stage, block)
     }
@@ -289,8 +263,7 @@ impl Shell {
 /// `NotBuilt` where its form is not built; `Configured` where the mapping is; then the declaration's own refusals.
 #[tactic(auto, using(crate::proofs::Declaring::declaring), unfolding(crate::specs::Step::declared_stage))]
 fn declare(alloc: Global, stage: &mut Stage, block: Block) -> Result<(), Refusal>
-    ensures step { Turns (step.declared_stage block stage.old) stage.old result stage.new }
-    ensures kept { IsKept stage.old stage.new }
+    ensures { IsStageTurn (step.declared_stage block) stage.old result stage.new }
 {
     if !block.is_built() {
         drop(block);
@@ -303,6 +276,35 @@ fn declare(alloc: Global, stage: &mut Stage, block: Block) -> Result<(), Refusal
             Err(Refusal::InvalidRequestError(RequestKind::Configured))
         }
     }
+}
+
+/// The block with one more line. The only refusal is `Memory`.
+fn with_line(command: Command, block: Block) -> Result<Block, Refusal>
+    ensures ok { IfOk result (λ taken. taken ≡ step.with_line_taken command block) }
+    ensures cause { IfErr result (λ e. e ≡ Refusal.Memory) }
+{
+    let mut block = block;
+    match block.take(command) {
+        Ok(()) => Ok(block),
+        Err(refusal) => {
+            drop(block);
+            Err(refusal)
+        }
+    }
+}
+
+/// Whether a line opens a block.
+fn is_head(command: &Command) -> bool
+    ensures { result ≡ step.is_head command.now }
+{
+    matches!(command, Command::TableHead(_) | Command::ClassHead { .. })
+}
+
+/// Whether a line of a block ends it.
+fn ends_block(command: &Command) -> bool
+    ensures { result ≡ step.ends_block command.now }
+{
+    matches!(command, Command::End)
 }
 
 /// Whether the next line is skipped.

@@ -3,8 +3,8 @@
 ghost use Rattle.std.specs.Prelude.{◌≡◌, true, IfErr, OnOk};
 ghost use Rattle.programs.specs.Programs.{ends_early};
 ghost use Rattle.programs.specs.Moment.{Runs};
-ghost use Rattle.programs.specs.Alone.{alone};
 ghost use Rattle.programs.specs.Beside.{moment_answering};
+ghost use Rattle.shell_steps.specs.Calls.{IsShellCallAlone};
 ghost use Rattle.shell_steps.specs.ShellState.{IsReady, mapping_of, new_shell};
 ghost use Rattle.shell_steps.specs.Step as step;
 
@@ -15,6 +15,7 @@ use keeper_core::{Keeper, calls};
 use shell_parts::{Block, Names, Reply};
 use std::alloc::Global;
 use std::marker::Model;
+use std::mem::drop;
 
 /// A run between two lines.
 #[derive(Drop)]
@@ -102,22 +103,22 @@ impl Shell {
                     return Err(refusal);
                 }
                 let number = self.number();
-                self.tell(number, &refusal)
+                self.tell(number, refusal)
             }
         }
     }
 
     /// The reply that says why the line of this number is refused. The only refusal is `Memory`.
     #[tactic(auto, using(crate::proofs::Shells::acting))]
-    fn tell(&mut self, number: u32, refusal: &Refusal) -> Result<Reply, Refusal>
-        ensures step { Runs alone
-            (λ reply. reply) (step.tell number refusal.now) self.old result self.new }
-        ensures stage { self.new.stage ≡ self.old.stage }
+    fn tell(&mut self, number: u32, refusal: Refusal) -> Result<Reply, Refusal>
+        ensures call { IsShellCallAlone (step.tell number refusal) self.old result self.new }
         ensures cause { IfErr result (λ e. e ≡ Refusal.Memory) }
     {
         self.refused = true;
         let mut reply = Reply::new(self.alloc);
-        reply.put_error(number, refusal, self.mapping())?;
+        let put = reply.put_error(number, &refusal, self.mapping());
+        drop(refusal);
+        put?;
         Ok(reply)
     }
 
@@ -135,15 +136,14 @@ impl Shell {
     /// The reply at the script's end.
     #[tactic(auto, using(crate::proofs::Shells::acting))]
     fn tell_end(&mut self) -> Result<Reply, Refusal>
-        ensures step { Runs alone (λ reply. reply) step.end_of_script self.old result self.new }
-        ensures stage { self.new.stage ≡ self.old.stage }
+        ensures call { IsShellCallAlone step.end_of_script self.old result self.new }
         ensures cause { IfErr result (λ e. e ≡ Refusal.Memory) }
     {
         let Some(block) = &self.block else {
             return Ok(Reply::new(self.alloc));
         };
         let first = block.first();
-        self.tell(first, &Refusal::ScriptError(first, 1))
+        self.tell(first, Refusal::ScriptError(first, 1))
     }
 
     /// Closes the session, where there is one.

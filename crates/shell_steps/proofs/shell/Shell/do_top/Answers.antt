@@ -1,16 +1,15 @@
-use Rattle.std.proofs.Common.{ap, refl}
-use Rattle.shell_steps.specs.Step.{configure, program_of, make, open_block}
-use Rattle.shell_steps.proofs.Shells.{does_alone, done_head}
+use Rattle.shell_steps.specs.Step.{configure, make}
+use Rattle.shell_steps.proofs.Shells.{is_done, misplaced, turns_beside}
 use Rattle.shell_steps.proofs.shell.Shell.do_top.Goals as goal
 
-pub returns-in-Configure-clause-step : goal.returns-in-Configure-clause-step
-returns-in-Configure-clause-step g c = does_alone g.K.Keeper.moment c.args.command configure (ap program_of c.in-Configure.is) c.configure.ensures.step
+pub returns-in-Configure : goal.returns-in-Configure
+returns-in-Configure g c = is_done c.in-Configure.is (turns_beside g.K.Keeper.moment configure c.configure.ensures c.requires.ready)
 
-pub returns-in-New-clause-step : goal.returns-in-New-clause-step
-returns-in-New-clause-step g c = does_alone g.K.Keeper.moment c.args.command (make c.in-New.name c.in-New.class c.in-New.cells) (ap program_of c.in-New.is) c.make.ensures.step
+pub returns-in-New : goal.returns-in-New
+returns-in-New g c = is_done c.in-New.is (turns_beside g.K.Keeper.moment (make _ _ _) c.make.ensures c.requires.ready)
 
-pub returns-in_default-clause-step : goal.returns-in_default-clause-step
-returns-in_default-clause-step g c =
-    does_alone g.K.Keeper.moment c.args.command (open_block c.args.command)
-    (done_head c.args.command c.args.command refl c.in_default.not-Skip c.in_default.not-Configure c.in_default.not-CreateAll c.in_default.not-Dump c.in_default.not-New c.in_default.not-Add c.in_default.not-Commit)
-    c.open_block.ensures.step
+pub returns-in_default : goal.returns-in_default
+returns-in_default g c = record {
+  step = misplaced g.K.Keeper.moment c.args.command.now c.requires.no_head c.in_default.not-Skip c.in_default.not-Configure c.in_default.not-CreateAll c.in_default.not-Dump c.in_default.not-New c.in_default.not-Add c.in_default.not-Commit;
+  ready = λ own. c.requires.ready;
+}
