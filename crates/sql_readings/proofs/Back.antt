@@ -26,6 +26,7 @@ use Rattle.expr_types.specs.Level.{operands, scope_below}
 use Rattle.expr_types.specs.Normal.{normal, normal_level, negated, negated_at, liked, like_by, lowered, lowered_at}
 use Rattle.expr_types.proofs.Folds.{bare, by_levels}
 use Rattle.sql_semantics.specs.Kinds.{Scope, column_in}
+use Rattle.sql_semantics.specs.DistinctNames.{has_distinct_columns, has_distinct_names}
 use Rattle.sql_semantics.specs.Plain.{StandsIn, adds_name, are_distinct, fits, fits_level, name_of, names_apart, takes}
 use Rattle.sql_semantics.proofs.Equations.{fits_step, fits_rolled}
 use Rattle.sql_text.specs.declared.names.Quoting.{Quoting}
@@ -35,7 +36,7 @@ use Rattle.sql_expressions.specs.Laid.{column_shown, source_shown}
 use Rattle.sql_grammar.specs.Trees.{Test, Equal, NotEqual, Less, LessEqual, Greater, GreaterEqual, Like, Ilike, Distinct, Sign, Plus, Minus, Beside, Function, Count, Sum, Min, Max, Lower, Upper, Length, Coalesce, Concat, Source, Sql, column, mark, test, null_test, in_list, between, all_of, any_of, opposite, sum, product, negative, call, count_all, exists, Sqls, none, more}
 use Rattle.sql_trees.specs.Tree.{tree, tree_at, trees, compare_test, function_as, arith_tree, concat_tree, ilike_tree, distinct_tree, exists_tree, source_tree}
 use Rattle.sql_trees.proofs.Full.{texts_tell_trees}
-use Rattle.sql_readings.specs.OneReading.{has_distinct_columns, has_distinct_names, TextsTellExpressions}
+use Rattle.sql_readings.specs.OneReading.{TextsTellExpressions}
 use Rattle.sql_readings.proofs.Places.{is_false, place, place_is, distinct_more, map_more, all_at, within}
 
 -- ---- from a tree

@@ -1,21 +1,12 @@
 -- A text with its values is one expression.
-use Rattle.std.specs.Prelude.{◌≡◌, ℕ, Bool, ◌&&◌, List, map, IsTrue}
-use Rattle.std.specs.List.{list_all}
-use Rattle.schema_core.specs.declared.table.TableSpec.{TableSpec}
+use Rattle.std.specs.Prelude.{◌≡◌, ℕ, List, map, IsTrue}
 use Rattle.schema_core.specs.Catalog.{Catalog}
 use Rattle.expr_types.specs.declared.expr.Expr.{Expr}
 use Rattle.expr_types.specs.declared.expr.Origin.{Origin}
+use Rattle.sql_semantics.specs.DistinctNames.{has_distinct_names}
 use Rattle.sql_semantics.specs.Plain.{StandsIn, are_distinct, name_of}
 use Rattle.sql_text.specs.declared.names.Quoting.{Quoting}
 use Rattle.sql_trees.specs.Read.{written_alone}
-
--- no two columns of the table have one name
-abbrev pub has_distinct_columns : TableSpec → Bool
-has_distinct_columns spec = are_distinct (map (λ column. column.name) spec.columns)
-
--- no two tables have one name, and no two columns of a table
-abbrev pub has_distinct_names : Catalog → Bool
-has_distinct_names schema = are_distinct (map (λ spec. spec.name) schema.tables) && list_all has_distinct_columns schema.tables
 
 -- Two expressions that stand under the same sources, of which no two have one name, and that a dialect writes as one text with one list of values are one expression.
 abbrev pub TextsTellExpressions : Type 0

@@ -1,6 +1,7 @@
 pub mod Kinds
 pub mod Plain
 pub mod PlainStatement
+pub mod DistinctNames
 pub mod Typed
 pub mod Checked
 pub mod Truth

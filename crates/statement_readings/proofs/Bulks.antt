@@ -25,7 +25,7 @@ use Rattle.sql_grammar.specs.Trees.{Source, Sql}
 use Rattle.sql_trees.specs.Tree.{tree}
 use Rattle.sql_forms.specs.Forms.{BulkForm, insert, update, delete}
 use Rattle.sql_forms.specs.Form.{bulk_form, set_tree}
-use Rattle.sql_readings.specs.OneReading.{has_distinct_names}
+use Rattle.sql_semantics.specs.DistinctNames.{has_distinct_names}
 use Rattle.sql_readings.proofs.Back.{back, column_place, columns_distinct, from_mark, from_tree, numbered, origin_back, origin_told}
 use Rattle.sql_readings.proofs.Bulks.{one_bulk_form}
 use Rattle.sql_readings.proofs.Places.{place}

@@ -11,7 +11,7 @@ use Rattle.schema_core.specs.declared.table.TableSpec.{TableSpec}
 use Rattle.schema_core.specs.Catalog.{find_table, has_name, no_table, same_name}
 use Rattle.schema_core.specs.Declaration.{declaration_fault, has_key, lists_unknown, repeats_name, shares_column, some_list, some_two}
 use Rattle.sql_semantics.specs.Plain.{are_distinct}
-use Rattle.sql_readings.specs.OneReading.{has_distinct_columns}
+use Rattle.sql_semantics.specs.DistinctNames.{has_distinct_columns}
 use Rattle.sql_readings.proofs.Places.{unlike}
 use Rattle.statement_readings.specs.OneStatement.{DeclaredNamesAreDistinct}
 

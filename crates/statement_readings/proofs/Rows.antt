@@ -21,9 +21,9 @@ use Rattle.sql_text.specs.declared.names.Quoting.{Quoting}
 use Rattle.sql_text.specs.Columns.{column_name}
 use Rattle.sql_forms.specs.Forms.{RowForm, fill, add, change, remove}
 use Rattle.sql_forms.specs.Form.{given, given_cells, given_values, is_drawn, key_values, row_form, told}
-use Rattle.sql_readings.specs.OneReading.{has_distinct_names}
+use Rattle.sql_semantics.specs.DistinctNames.{has_columns, has_distinct_names}
 use Rattle.sql_readings.proofs.Rows.{one_row_form}
-use Rattle.statement_readings.specs.OneStatement.{IsOneRow, has_columns}
+use Rattle.statement_readings.specs.OneStatement.{IsOneRow}
 use Rattle.statement_readings.proofs.Bulks.{table_back, table_told, column_back, column_told}
 use Rattle.statement_readings.proofs.Parts.{list_told, one_more}
 

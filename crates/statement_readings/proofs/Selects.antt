@@ -17,7 +17,7 @@ use Rattle.sql_grammar.specs.Trees.{Sql}
 use Rattle.sql_trees.specs.Tree.{tree}
 use Rattle.sql_forms.specs.Forms.{JoinForm, SelectForm}
 use Rattle.sql_forms.specs.Form.{joins_form, number, select_form}
-use Rattle.sql_readings.specs.OneReading.{has_distinct_names}
+use Rattle.sql_semantics.specs.DistinctNames.{has_distinct_names}
 use Rattle.sql_readings.proofs.Back.{back, from_tree, origin_back, origin_told, source_names}
 use Rattle.sql_readings.proofs.Selects.{one_select_form}
 use Rattle.statement_readings.specs.OneStatement.{IsOneSelect}

@@ -1,6 +1,5 @@
 -- A text with its values is one statement of a kind, where names tell tables and columns.
-use Rattle.std.specs.Prelude.{◌≡◌, ℕ, List, Bool, length, nat_lt, IsTrue}
-use Rattle.std.specs.List.{list_all}
+use Rattle.std.specs.Prelude.{◌≡◌, ℕ, List, IsTrue}
 use Rattle.base_core.specs.declared.value.Value.{Value}
 use Rattle.schema_core.specs.Catalog.{Catalog}
 use Rattle.schema_core.specs.Declaration.{IsDeclared}
@@ -10,6 +9,7 @@ use Rattle.expr_types.specs.declared.select.Bulk.{Bulk}
 use Rattle.expr_types.specs.declared.select.Select.{Select}
 use Rattle.expr_types.specs.declared.select.Statement.{Statement}
 use Rattle.expr_types.specs.declared.select.Statement.TheVariants.{Select as of_select, Bulk as of_bulk, Row as of_row}
+use Rattle.sql_semantics.specs.DistinctNames.{has_columns, has_distinct_names}
 use Rattle.sql_semantics.specs.Plain.{IsPlainBulk, IsPlainSelect}
 use Rattle.sql_semantics.specs.PlainStatement.{IsFittingBulk, IsPlain}
 use Rattle.sql_text.specs.declared.names.Quoting.{Quoting}
@@ -17,11 +17,6 @@ use Rattle.sql_statements.specs.Texts.{text_of}
 use Rattle.sql_forms.specs.Clauses.{ReadsSelect, ReadsBulk, ReadsRow}
 use Rattle.sql_forms.specs.Form.{select_form, bulk_form, row_form}
 use Rattle.sql_forms.specs.Read.{ReadsStatement}
-use Rattle.sql_readings.specs.OneReading.{has_distinct_names}
-
--- every table has a column
-abbrev pub has_columns : Catalog → Bool
-has_columns schema = list_all (λ spec. nat_lt 0 (length spec.columns)) schema.tables
 
 -- A text with its values is read as one plain select at most.
 abbrev pub IsOneSelect : Type 0
