@@ -1,8 +1,8 @@
 -- A text with its values is one plain statement of a kind.
-use Rattle.std.proofs.Common.{◌≡◌, ℕ, true, not, List, [], ◌∷◌, Option, Some, None, refl, sym, ap, subst}
+use Rattle.std.proofs.Common.{◌≡◌, ℕ, ◌^◌, true, not, List, [], ◌∷◌, Option, Some, None, refl, sym, ap, subst}
 use Rattle.std.specs.Prelude.{is_some}
 use Rattle.std.specs.List.{list_all}
-use Rattle.std.proofs.lemmas.Bool.{and_parts, and_from}
+use Rattle.std.proofs.lemmas.Bool.{and_parts, and_from, ltb-true}
 use Rattle.base_core.specs.declared.ids.ColumnNo.{ColumnNo}
 use Rattle.base_core.specs.declared.value.Value.{Value}
 use Rattle.base_core.specs.declared.ids.TableId.{TableId}
@@ -11,10 +11,13 @@ use Rattle.schema_core.specs.Catalog.{Catalog}
 use Rattle.schema_core.specs.Declaration.{IsDeclared}
 use Rattle.expr_types.specs.declared.expr.Expr.{Expr}
 use Rattle.expr_types.specs.declared.select.Bulk.TheVariants as bulk
+use Rattle.expr_types.specs.declared.select.Statement.{Statement}
 use Rattle.expr_types.specs.declared.select.Statement.TheVariants.{Select as of_select, Bulk as of_bulk, Row as of_row}
 use Rattle.sql_semantics.specs.Kinds.{column_in}
-use Rattle.sql_semantics.specs.Plain.{is_free_column, is_key_column}
-use Rattle.sql_statements.specs.Texts.{text_of}
+use Rattle.sql_semantics.specs.Plain.{is_free_column, is_key_column, is_limit}
+use Rattle.sql_semantics.specs.PlainStatement.{IsPlain}
+use Rattle.sql_statements.specs.Selects.{IsCut}
+use Rattle.sql_statements.specs.Texts.{HasCuts, text_of}
 use Rattle.sql_forms.specs.Read.{ReadsStatement}
 use Rattle.sql_forms.proofs.Statements.{statements_are_read}
 use Rattle.statement_readings.specs.OneStatement.{IsOneStatement, SentIsPlain, TextsTellStatements}
@@ -61,3 +64,14 @@ pub sent_is_plain : SentIsPlain
 sent_is_plain schema (bulk.Insert table columns values) sent = (sent.0, sent.2)
 sent_is_plain schema (bulk.Update table cells filter) sent = (sent.0, all_there schema table cells sent.2, sent.3, sent.4)
 sent_is_plain schema (bulk.Delete table filter) sent = sent
+
+-- ---- what may be compiled
+
+cut_fits : (n : Option ℕ) → is_limit n ≡ true → IsCut n
+cut_fits None h = tt
+cut_fits (Some n) h = ltb-true n (2 ^ 63) h
+
+pub plain_has_cuts : (schema : Catalog) (it : Statement) → IsPlain schema it → HasCuts it
+plain_has_cuts schema (of_select it) plain = (cut_fits it.limit plain.fits_limit, cut_fits it.offset plain.fits_offset)
+plain_has_cuts schema (of_bulk it) plain = tt
+plain_has_cuts schema (of_row it) plain = tt

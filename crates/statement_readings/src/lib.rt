@@ -1,8 +1,12 @@
 //! A text with its values is one statement of a kind at most, in three dialects of SQL.
 #![tactic(auto)]
 
+ghost use Rattle.schema_core.specs.Catalog.{Catalog};
+ghost use Rattle.sql_semantics.specs.PlainStatement.{IsPlain};
+ghost use Rattle.sql_statements.specs.Texts.{HasCuts};
 ghost use Rattle.statement_readings.specs.OneStatement.{DeclaredNamesAreDistinct, IsOneBulk, IsOneRow, IsOneSelect, IsOneStatement, SentIsPlain, TextsTellStatements};
 
+use expr_types::Statement;
 use schema_core::Schema;
 
 /// No two tables that were declared have one name, no two columns of a table have one, and each table has a column.
@@ -13,6 +17,11 @@ pub fn declared_names_are_distinct()
 /// A bulk statement that a keeper may be sent is plain.
 pub fn sent_is_plain()
     ensures { SentIsPlain }
+{}
+
+/// A statement that is plain under some tables may be compiled. It does nothing when it runs.
+pub fn plain_has_cuts(statement: &Statement)
+    ensures { (schema : Catalog) → IsPlain schema statement.now → HasCuts statement.now }
 {}
 
 /// A text is read with its values as one plain select at most, in each dialect.
