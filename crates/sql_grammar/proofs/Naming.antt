@@ -1,7 +1,7 @@
 -- Names and marks are read to their ends.
 use Rattle.std.proofs.Common.{◌≡◌, ℕ, ◌++◌, ◌==◌, Bool, true, false, not, ◌&&◌, ◌||◌, cond, List, [], ◌∷◌, Option, Some, None, codes, refl, sym, ap, ◌∙◌, append_assoc}
 use Rattle.std.specs.List.{list_all, list_any}
-use Rattle.std.proofs.lemmas.Bool.{eq-eqb, eqb-true, and_parts}
+use Rattle.std.proofs.lemmas.Bool.{eq-eqb, eqb-true, not-false, not-true, and_parts, or_parts}
 use Rattle.base_core.specs.declared.value.Value.{Value}
 use Rattle.sql_text.specs.declared.names.Quoting.{Quoting}
 use Rattle.sql_text.specs.declared.names.Quoting.TheVariants.{Sqlite, Postgresql, Mysql}
@@ -75,19 +75,15 @@ percents_read Sqlite name = refl
 percents_read Postgresql name = halved_doubled 37 name
 percents_read Mysql name = halved_doubled 37 name
 
-pub is_false : (b : Bool) → not b ≡ true → b ≡ false
-is_false false e = refl
-is_false true e = absurd (cc)
-
 -- the parts of what ends a name
 no_plain : (c : ℕ) (cs : List ℕ) → ends_name (c ∷ cs) ≡ true → is_plain_byte c ≡ false
-no_plain c cs ends = is_false (is_plain_byte c) (and_parts (not (is_plain_byte c)) (not (c == 34)) (and_parts (not (is_plain_byte c) && not (c == 34)) (not (c == 96)) ends).0).0
+no_plain c cs ends = not-true (is_plain_byte c) (and_parts (not (is_plain_byte c)) (not (c == 34)) (and_parts (not (is_plain_byte c) && not (c == 34)) (not (c == 96)) ends).0).0
 
 ends_quote : (q : Quoting) (rest : List ℕ) → ends_name rest ≡ true → EndsQuote (quote_of q) rest
 ends_quote q [] ends = tt
-ends_quote Sqlite (c ∷ cs) ends = is_false (c == 34) (and_parts (not (is_plain_byte c)) (not (c == 34)) (and_parts (not (is_plain_byte c) && not (c == 34)) (not (c == 96)) ends).0).1
-ends_quote Postgresql (c ∷ cs) ends = is_false (c == 34) (and_parts (not (is_plain_byte c)) (not (c == 34)) (and_parts (not (is_plain_byte c) && not (c == 34)) (not (c == 96)) ends).0).1
-ends_quote Mysql (c ∷ cs) ends = is_false (c == 96) (and_parts (not (is_plain_byte c) && not (c == 34)) (not (c == 96)) ends).1
+ends_quote Sqlite (c ∷ cs) ends = not-true (c == 34) (and_parts (not (is_plain_byte c)) (not (c == 34)) (and_parts (not (is_plain_byte c) && not (c == 34)) (not (c == 96)) ends).0).1
+ends_quote Postgresql (c ∷ cs) ends = not-true (c == 34) (and_parts (not (is_plain_byte c)) (not (c == 34)) (and_parts (not (is_plain_byte c) && not (c == 34)) (not (c == 96)) ends).0).1
+ends_quote Mysql (c ∷ cs) ends = not-true (c == 96) (and_parts (not (is_plain_byte c) && not (c == 34)) (not (c == 96)) ends).1
 
 -- a name's first byte
 abbrev pub starts_name : ℕ → Bool
@@ -131,20 +127,12 @@ unlike is c d within out = unlike_by is c d within out (c == d) refl
         true_false : true ≡ false → ⊥
         true_false e = cc
 
-neither : (a b : Bool) → (a || b) ≡ false → (a ≡ false) × (b ≡ false)
-neither true b e = absurd (cc)
-neither false b e = (refl, e)
-
 some_start : (l d u s q b : Bool) → (l || d || u || s) ≡ true → d ≡ false → s ≡ false → (l || u || q || b) ≡ true
 some_start true d u s q b e f g = refl
 some_start false true u s q b e f g = absurd (cc)
 some_start false false true s q b e f g = refl
 some_start false false false true q b e f g = absurd (cc)
 some_start false false false false q b e f g = absurd (cc)
-
-true_of : (b : Bool) → not b ≡ false → b ≡ true
-true_of true e = refl
-true_of false e = absurd (cc)
 
 -- a bare name: its first byte and the others
 pub record IsBare (name : List ℕ) : Type 0 where
@@ -155,16 +143,16 @@ pub bare_name : (name : List ℕ) → needs_quotes name ≡ false → IsBare nam
 unfolding needs_quotes
 bare_name [] e = absurd (cc)
 bare_name (c ∷ cs) e =
-    let two = neither (not (begins_plain (c ∷ cs)) || list_any (λ byte. not (is_plain_byte byte)) (c ∷ cs)) (is_reserved (c ∷ cs)) e in
-    let one = neither (not (begins_plain (c ∷ cs))) (list_any (λ byte. not (is_plain_byte byte)) (c ∷ cs)) two.0 in
-    let plain = neither (not (is_plain_byte c)) (list_any (λ byte. not (is_plain_byte byte)) cs) one.1 in
-    let begins = and_parts (not (is_digit c)) (not (c == 36)) (true_of (begins_plain (c ∷ cs)) one.0) in
+    let two = or_parts (not (begins_plain (c ∷ cs)) || list_any (λ byte. not (is_plain_byte byte)) (c ∷ cs)) (is_reserved (c ∷ cs)) e in
+    let one = or_parts (not (begins_plain (c ∷ cs))) (list_any (λ byte. not (is_plain_byte byte)) (c ∷ cs)) two.0 in
+    let plain = or_parts (not (is_plain_byte c)) (list_any (λ byte. not (is_plain_byte byte)) cs) one.1 in
+    let begins = and_parts (not (is_digit c)) (not (c == 36)) (not-false (begins_plain (c ∷ cs)) one.0) in
     record {
       begins = record {
         first = c;
         following = cs;
         joined = refl;
-        fits = some_start (is_lower c) (is_digit c) (c == 95) (c == 36) (c == 34) (c == 96) (true_of (is_plain_byte c) plain.0) (is_false (is_digit c) begins.0) (is_false (c == 36) begins.1);
+        fits = some_start (is_lower c) (is_digit c) (c == 95) (c == 36) (c == 34) (c == 96) (not-false (is_plain_byte c) plain.0) (not-true (is_digit c) begins.0) (not-true (c == 36) begins.1);
       };
       plain = one.1;
     }
@@ -191,8 +179,8 @@ bare_read q [] rest is ends = absurd (no_first is.begins.joined)
     no_first : {c : ℕ} {cs : List ℕ} → ◌≡◌ {A = List ℕ} [] (c ∷ cs) → ⊥
     no_first e = cc
 bare_read q (c ∷ cs) rest is ends =
-    let plain = neither (not (is_plain_byte c)) (list_any (λ byte. not (is_plain_byte byte)) cs) is.plain in
-    ap (λ b. cond b (unquoted q (quoted_in (quote_of q) (cs ++ rest))) (Some (plain_in (c ∷ cs ++ rest)))) (unlike is_plain_byte c (quote_of q) (true_of (is_plain_byte c) plain.0) (quote_not_plain q))
+    let plain = or_parts (not (is_plain_byte c)) (list_any (λ byte. not (is_plain_byte byte)) cs) is.plain in
+    ap (λ b. cond b (unquoted q (quoted_in (quote_of q) (cs ++ rest))) (Some (plain_in (c ∷ cs ++ rest)))) (unlike is_plain_byte c (quote_of q) (not-false (is_plain_byte c) plain.0) (quote_not_plain q))
     ∙ ap Some (plain_read (c ∷ cs) rest is.plain ends)
 
 quoted_read : (q : Quoting) (name rest : List ℕ) → ends_name rest ≡ true → name_in q (quoted q name ++ rest) ≡ Some (name, rest)

@@ -3,7 +3,7 @@ use Rattle.std.proofs.Common.{◌≡◌, ℕ, ◌++◌, Bool, true, false, not, 
 use Rattle.std.specs.Prelude.{nat_lt, slice_get, is_some}
 use Rattle.std.specs.Option.{option_map, option_and_then}
 use Rattle.std.specs.List.{list_all}
-use Rattle.std.proofs.lemmas.Bool.{and_parts}
+use Rattle.std.proofs.lemmas.Bool.{not-true, and_parts}
 use Rattle.std.proofs.lemmas.Option.{slice_get-map}
 use Rattle.base_core.specs.declared.ids.ColumnNo.{ColumnNo}
 use Rattle.base_core.specs.declared.ids.TableId.{TableId}
@@ -37,7 +37,7 @@ use Rattle.sql_grammar.specs.Trees.{Test, Equal, NotEqual, Less, LessEqual, Grea
 use Rattle.sql_trees.specs.Tree.{tree, tree_at, trees, compare_test, function_as, arith_tree, concat_tree, ilike_tree, distinct_tree, exists_tree, source_tree}
 use Rattle.sql_trees.proofs.Full.{texts_tell_trees}
 use Rattle.sql_readings.specs.OneReading.{TextsTellExpressions}
-use Rattle.sql_readings.proofs.Places.{is_false, place, place_is, distinct_more, map_more, all_at, within}
+use Rattle.sql_readings.proofs.Places.{place, place_is, distinct_more, map_more, all_at, within}
 
 -- ---- from a tree
 
@@ -340,7 +340,7 @@ module _ (q : Quoting) (schema : Catalog) (named : has_distinct_names schema ≡
       let one = and_parts (nat_lt o.table.0 (length schema.tables)) (fits schema a.0 (tables_in scope ++ o.table ∷ []) && true) f in
       let other = and_parts (not (has_name (source_names schema scope) (name_of schema o))) (names_apart schema a.0 (source_names schema scope ++ name_of schema o ∷ []) && true) n in
       let inner = inner_told scope o a.0 (and_parts (fits schema a.0 (tables_in scope ++ o.table ∷ [])) true one.1).0 (and_parts (names_apart schema a.0 (source_names schema scope ++ name_of schema o ∷ [])) true other.1).0 d
-      (is_false (has_name (source_names schema scope) (name_of schema o)) other.0) in
+      (not-true (has_name (source_names schema scope) (name_of schema o)) other.0) in
       exists_back k (source_tree schema o) (tree q schema a.0 (scope ++ o ∷ [])) scope
       ∙ (ap (λ (p : Origin). normal_level (Expr-F.Exists k p (back schema (tree q schema a.0 (scope ++ o ∷ [])) (scope ++ p ∷ [])))) (origin_told o one.0)
       ∙ ap (λ (x : Expr). normal_level (Expr-F.Exists k o x)) (a.1 (scope ++ o ∷ []) inner))

@@ -3,25 +3,11 @@ use Rattle.std.proofs.Common.{◌≡◌, ℕ, zero, suc, ◌++◌, ◌==◌, Boo
 use Rattle.std.specs.Prelude.{nat_lt, slice_get, slice_index_or}
 use Rattle.std.specs.List.{list_all}
 use Rattle.std.specs.Option.{option_map}
-use Rattle.std.proofs.lemmas.Bool.{eq-eqb, eqb-true, ltb-true, and_parts}
+use Rattle.std.proofs.lemmas.Bool.{eq-eqb, eqb-true, ltb-true, not-true, and_from, and_parts, not_from_false, or_parts}
 use Rattle.std.proofs.lemmas.Option.{slice_get-map, slice_get-get_or}
 use Rattle.schema_core.specs.Catalog.{same_name, has_name}
 use Rattle.sql_semantics.specs.Plain.{are_distinct}
 use Rattle.sql_readings.proofs.Agreeing.{no_some, some_is, true_false}
-
-pub both_true : (a b : Bool) → a ≡ true → b ≡ true → (a && b) ≡ true
-both_true a b e f = ap (λ c. c && b) e ∙ f
-
-neither : (a b : Bool) → (a || b) ≡ false → (a ≡ false) × (b ≡ false)
-neither true b e = absurd (cc)
-neither false b e = (refl, e)
-
-pub is_false : (b : Bool) → not b ≡ true → b ≡ false
-is_false false e = refl
-is_false true e = absurd (cc)
-
-not_true : (b : Bool) → b ≡ false → not b ≡ true
-not_true b e = ap not e
 
 names_equal : (one other : List ℕ) → same_name one other ≡ true → one ≡ other
 names_equal [] [] e = refl
@@ -49,28 +35,28 @@ place name (n ∷ ns) = if same_name n name then 0 else suc (place name ns)
 
 other_name : (ns : List (List ℕ)) (n : List ℕ) (i : ℕ) (name : List ℕ) → has_name ns n ≡ false → slice_get ns i ≡ Some name → same_name name n ≡ false
 other_name [] n i name h e = no_some (sym e)
-other_name (m ∷ ns) n zero name h e = subst (λ (k : List ℕ). same_name k n ≡ false) (some_is e) (neither (same_name m n) (has_name ns n) h).0
-other_name (m ∷ ns) n (suc i) name h e = other_name ns n i name (neither (same_name m n) (has_name ns n) h).1 e
+other_name (m ∷ ns) n zero name h e = subst (λ (k : List ℕ). same_name k n ≡ false) (some_is e) (or_parts (same_name m n) (has_name ns n) h).0
+other_name (m ∷ ns) n (suc i) name h e = other_name ns n i name (or_parts (same_name m n) (has_name ns n) h).1 e
 
 pub place_is : (ns : List (List ℕ)) (i : ℕ) (name : List ℕ) → are_distinct ns ≡ true → slice_get ns i ≡ Some name → place name ns ≡ i
 place_is [] i name d e = no_some (sym e)
 place_is (n ∷ ns) zero name d e = ap (λ b. cond b 0 (suc (place name ns))) (subst (λ (m : List ℕ). same_name n m ≡ true) (some_is e) (name_same n))
 place_is (n ∷ ns) (suc i) name d e =
     let both = and_parts (not (has_name ns n)) (are_distinct ns) d in
-    ap (λ b. cond b 0 (suc (place name ns))) (unlike name n (other_name ns n i name (is_false (has_name ns n) both.0) e)) ∙ ap suc (place_is ns i name both.1 e)
+    ap (λ b. cond b 0 (suc (place name ns))) (unlike name n (other_name ns n i name (not-true (has_name ns n) both.0) e)) ∙ ap suc (place_is ns i name both.1 e)
 
 has_more : (ns : List (List ℕ)) (n m : List ℕ) → has_name ns m ≡ false → same_name n m ≡ false → has_name (ns ++ n ∷ []) m ≡ false
 has_more [] n m h e = ap (λ b. b || false) e
 has_more (k ∷ ns) n m h e =
-    let both = neither (same_name k m) (has_name ns m) h in
+    let both = or_parts (same_name k m) (has_name ns m) h in
     ap (λ b. b || has_name (ns ++ n ∷ []) m) both.0 ∙ has_more ns n m both.1 e
 
 pub distinct_more : (ns : List (List ℕ)) (n : List ℕ) → are_distinct ns ≡ true → has_name ns n ≡ false → are_distinct (ns ++ n ∷ []) ≡ true
 distinct_more [] n d h = refl
 distinct_more (m ∷ ns) n d h =
     let both = and_parts (not (has_name ns m)) (are_distinct ns) d in
-    let apart = neither (same_name m n) (has_name ns n) h in
-    both_true (not (has_name (ns ++ n ∷ []) m)) (are_distinct (ns ++ n ∷ [])) (not_true (has_name (ns ++ n ∷ []) m) (has_more ns n m (is_false (has_name ns m) both.0) (unlike m n apart.0)))
+    let apart = or_parts (same_name m n) (has_name ns n) h in
+    and_from (not (has_name (ns ++ n ∷ []) m)) (are_distinct (ns ++ n ∷ [])) (not_from_false (has_name (ns ++ n ∷ []) m) (has_more ns n m (not-true (has_name ns m) both.0) (unlike m n apart.0)))
     (distinct_more ns n both.1 apart.1)
 
 -- ---- lists
