@@ -46,9 +46,6 @@ pub fits_kept : (schema : Catalog) (scope : Scope) (e : Expr) → fits schema (n
 unfolding fits
 fits_kept schema scope e = ap (λ (f : Scope → Bool). f scope) (kept (Scope → Bool) (every_step enter (fits_level schema)) (every_keeps Scope enter (fits_level schema) (fits_test schema)) e)
 
-abbrev name_below : Catalog → List (List ℕ) → Origin → List (List ℕ)
-name_below schema names origin = names ++ name_of schema origin ∷ []
-
 names_test : (schema : Catalog) → KeepsTest (List (List ℕ)) (adds_name schema)
 names_test schema = record {
   ands = λ s xs. refl;
@@ -68,7 +65,8 @@ names_test schema = record {
 pub names_kept : (schema : Catalog) (names : List (List ℕ)) (e : Expr) → names_apart schema (normal e) names ≡ names_apart schema e names
 unfolding names_apart
 names_kept schema names e =
-    ap (λ (f : List (List ℕ) → Bool). f names) (kept (List (List ℕ) → Bool) (every_step (name_below schema) (adds_name schema)) (every_keeps (List (List ℕ)) (name_below schema) (adds_name schema) (names_test schema)) e)
+    let below : List (List ℕ) → Origin → List (List ℕ) = λ names origin. names ++ name_of schema origin ∷ [] in
+    ap (λ (f : List (List ℕ) → Bool). f names) (kept (List (List ℕ) → Bool) (every_step below (adds_name schema)) (every_keeps (List (List ℕ)) below (adds_name schema) (names_test schema)) e)
 
 -- ---- aggregates
 

@@ -1,6 +1,6 @@
 -- A settled expression has aggregates apart from each `exists`, and where no group expression stands, columns too.
 use Rattle.std.proofs.Common.{◌≡◌, ◌≤◌, ℕ, Bool, true, false, not, cond, ◌&&◌, ◌||◌, nat_lt, List, [], ◌∷◌, map, refl, sym, ap, ◌∙◌, arith}
-use Rattle.std.proofs.lemmas.Bool.{and_parts, ltb-false, le-ltb}
+use Rattle.std.proofs.lemmas.Bool.{not-true, ltb-false, le-ltb, and_parts, not_from_false}
 use Rattle.std.specs.List.{list_all, list_any, AllByRecursion}
 use Rattle.expr_types.specs.declared.expr.Expr.{Expr, roll-Expr}
 use Rattle.expr_types.specs.declared.expr.Expr.TheOpen.{Expr-F}
@@ -15,13 +15,6 @@ use Rattle.select_laws.proofs.SameTrees.{aggregate_rolled, same_aggregates}
 use Rattle.select_laws.specs.Apart.{aggregates_apart, apart_level, group_apart, stands_apart}
 
 -- ---- truth values
-
-is_false : (b : Bool) → not b ≡ true → b ≡ false
-is_false false h = refl
-is_false true h = absurd (cc)
-
-not_true : (b : Bool) → b ≡ false → not b ≡ true
-not_true b h = ap not h
 
 call_free : (b lack all here : Bool) → cond b lack all ≡ true → (all ≡ true → here ≡ true) → (b || here) ≡ true
 call_free true lack all here h f = refl
@@ -106,8 +99,8 @@ module _ (groups : List Expr) (outer : ℕ) (occurs : (e : Expr) → occurs_in g
 
   level : (y : Expr-F Known) (own : ℕ) → outer ≤ own → settled_level true own (map-Expr Expr Found (found_at own) (bare y)) ≡ true → Levels y
   level (Expr-F.Column s c) own le h =
-      let below : own ≤ s = ltb-false s own (is_false (nat_lt s own) (first_true (not (nat_lt s own)) true (first_true (not (nat_lt s own) && true) true h))) in
-      record { free = refl; bound = λ lack. one_true (not (nat_lt s outer)) (not_true (nat_lt s outer) (le-ltb s outer (omega (arith, le, below)))) }
+      let below : own ≤ s = ltb-false s own (not-true (nat_lt s own) (first_true (not (nat_lt s own)) true (first_true (not (nat_lt s own) && true) true h))) in
+      record { free = refl; bound = λ lack. one_true (not (nat_lt s outer)) (not_from_false (nat_lt s outer) (le-ltb s outer (omega (arith, le, below)))) }
   level (Expr-F.Lit v) own le h = record { free = refl; bound = λ lack. refl }
   level Expr-F.CountAll own le h = record { free = refl; bound = λ lack. absurd (cc) }
   level (Expr-F.Compare op a b) own le h =
@@ -161,7 +154,7 @@ module _ (groups : List Expr) (outer : ℕ) (occurs : (e : Expr) → occurs_in g
             (λ settles. bound_list own le es (all_settled own (plain es) settles) (rest_false (is_aggregate_function f) any lack));
       }
   level (Expr-F.Exists g o a) own le h =
-      let lack = is_false (has_aggregate a.0) (first_true (not (has_aggregate a.0)) true (first_true (not (has_aggregate a.0) && true) (settled true groups own a.0 && true) h)) in
+      let lack = not-true (has_aggregate a.0) (first_true (not (has_aggregate a.0)) true (first_true (not (has_aggregate a.0) && true) (settled true groups own a.0 && true) h)) in
       let apart = a.1 own le (first_true (settled true groups own a.0) true (rest_true (not (has_aggregate a.0) && true) (settled true groups own a.0 && true) h)) in
       record { free = one_true (stands_apart outer a.0 false) (apart.bound lack); bound = λ _. one_true (stands_apart outer a.0 false) (apart.bound lack) }
 
@@ -184,7 +177,7 @@ some_lacks : (groups : List Expr) (e : Expr) → list_all lacks_aggregate groups
 some_lacks [] e all is = absurd (cc)
 some_lacks (g ∷ groups) e all is =
     let both = and_parts (lacks_aggregate g) (list_all lacks_aggregate groups) all in
-    by_either (same g e) (occurs_in groups e) is (λ one. sym (same_aggregates g e one) ∙ is_false (has_aggregate g) both.0) (λ rest. some_lacks groups e both.1 rest)
+    by_either (same g e) (occurs_in groups e) is (λ one. sym (same_aggregates g e one) ∙ not-true (has_aggregate g) both.0) (λ rest. some_lacks groups e both.1 rest)
 
 pub settled_in_groups : (groups : List Expr) (own : ℕ) (e : Expr) → list_all lacks_aggregate groups ≡ true → settled true groups own e ≡ true → aggregates_apart e ≡ true
 settled_in_groups groups own e all h =
