@@ -18,6 +18,7 @@ use Rattle.sql_semantics.specs.Plain.{name_of, name_or}
 use Rattle.sql_text.specs.declared.names.Quoting.{Quoting}
 use Rattle.sql_text.specs.declared.names.Quoting.TheVariants.{Sqlite, Postgresql, Mysql}
 use Rattle.sql_text.specs.Columns.{column_name}
+use Rattle.sql_text.specs.Words.{null_word, like_word, ilike_word, in_word, empty_word, between_word, distinct_word, sqlite_distinct_word}
 use Rattle.sql_text.specs.Written.{Piece, words, name, value, joined}
 
 -- ---- names
@@ -53,42 +54,13 @@ compare_word LessEqual = codes " <= "
 compare_word Greater = codes " > "
 compare_word GreaterEqual = codes " >= "
 
-abbrev pub null_word : Bool → List ℕ
-null_word false = codes " IS NULL"
-null_word true = codes " IS NOT NULL"
-
 abbrev pub arith_word : ArithOp → List ℕ
 arith_word Add = codes " + "
 arith_word Sub = codes " - "
 arith_word Mul = codes " * "
 
-abbrev pub like_word : Bool → List ℕ
-like_word false = codes " LIKE "
-like_word true = codes " NOT LIKE "
-
-abbrev pub ilike_word : Bool → List ℕ
-ilike_word false = codes " ILIKE "
-ilike_word true = codes " NOT ILIKE "
-
-abbrev pub in_word : Bool → List ℕ
-in_word false = codes " IN ("
-in_word true = codes " NOT IN ("
-
 abbrev pub no_in_word : Bool → List ℕ
-no_in_word false = codes " IN (NULL) AND 1 != 1)"
-no_in_word true = codes " NOT IN (NULL) OR 1 = 1)"
-
-abbrev pub between_word : Bool → List ℕ
-between_word false = codes " BETWEEN "
-between_word true = codes " NOT BETWEEN "
-
-abbrev pub sqlite_distinct_word : Bool → List ℕ
-sqlite_distinct_word false = codes " IS NOT "
-sqlite_distinct_word true = codes " IS "
-
-abbrev pub distinct_word : Bool → List ℕ
-distinct_word false = codes " IS DISTINCT FROM "
-distinct_word true = codes " IS NOT DISTINCT FROM "
+no_in_word negated = empty_word negated ++ codes ")"
 
 abbrev pub exists_word : Bool → List ℕ
 exists_word false = codes "EXISTS (SELECT 1 FROM "
@@ -204,8 +176,7 @@ concat_pieces Postgresql a b scope = two 5 6 (codes " || ") a b scope
 concat_pieces Mysql a b scope = enclosed (codes "concat(") (two 5 6 (codes ", ") a b scope)
 
 abbrev pub lower_like_word : Bool → List ℕ
-lower_like_word false = codes ") LIKE lower("
-lower_like_word true = codes ") NOT LIKE lower("
+lower_like_word negated = codes ")" ++ (like_word negated ++ codes "lower(")
 
 abbrev pub lower_like : Bool → Laid → Laid → List Origin → List Piece
 lower_like negated a b scope = enclosed (codes "lower(") (two 5 5 (lower_like_word negated) a b scope)

@@ -2,6 +2,7 @@
 
 ghost use Rattle.std.specs.Prelude.{◌≡◌};
 ghost use Rattle.schema_core.specs.Catalog.{Catalog};
+ghost use Rattle.sql_text.specs.Words.{null_word, like_word, ilike_word, in_word, between_word, distinct_word, sqlite_distinct_word};
 ghost use Rattle.sql_expressions.specs.Laid as spec;
 ghost use Rattle.sql_expressions.specs.Laid.{laid};
 
@@ -23,19 +24,19 @@ pub(crate) fn compare_word(op: CompareOp) -> &'static str
 }
 
 pub(crate) fn null_word(negated: bool) -> &'static str
-    ensures { result.now ≡ spec.null_word negated }
+    ensures { result.now ≡ null_word negated }
 {
     if negated { " IS NOT NULL" } else { " IS NULL" }
 }
 
 pub(crate) fn like_word(negated: bool) -> &'static str
-    ensures { result.now ≡ spec.like_word negated }
+    ensures { result.now ≡ like_word negated }
 {
     if negated { " NOT LIKE " } else { " LIKE " }
 }
 
 pub(crate) fn ilike_word(negated: bool) -> &'static str
-    ensures { result.now ≡ spec.ilike_word negated }
+    ensures { result.now ≡ ilike_word negated }
 {
     if negated { " NOT ILIKE " } else { " ILIKE " }
 }
@@ -51,7 +52,7 @@ pub(crate) fn lower_like_word(negated: bool) -> &'static str
 }
 
 pub(crate) fn in_word(negated: bool) -> &'static str
-    ensures { result.now ≡ spec.in_word negated }
+    ensures { result.now ≡ in_word negated }
 {
     if negated { " NOT IN (" } else { " IN (" }
 }
@@ -67,7 +68,7 @@ pub(crate) fn no_in_word(negated: bool) -> &'static str
 }
 
 pub(crate) fn between_word(negated: bool) -> &'static str
-    ensures { result.now ≡ spec.between_word negated }
+    ensures { result.now ≡ between_word negated }
 {
     if negated {
         " NOT BETWEEN "
@@ -77,13 +78,13 @@ pub(crate) fn between_word(negated: bool) -> &'static str
 }
 
 pub(crate) fn sqlite_distinct_word(negated: bool) -> &'static str
-    ensures { result.now ≡ spec.sqlite_distinct_word negated }
+    ensures { result.now ≡ sqlite_distinct_word negated }
 {
     if negated { " IS " } else { " IS NOT " }
 }
 
 pub(crate) fn distinct_word(negated: bool) -> &'static str
-    ensures { result.now ≡ spec.distinct_word negated }
+    ensures { result.now ≡ distinct_word negated }
 {
     if negated {
         " IS NOT DISTINCT FROM "

@@ -10,6 +10,7 @@ use Rattle.expr_types.specs.declared.select.Joined.{Joined}
 use Rattle.sql_semantics.specs.Plain.{StandsIn, AreJoined, IfSet}
 use Rattle.sql_text.specs.declared.names.Quoting.{Quoting}
 use Rattle.sql_text.specs.declared.names.Quoting.TheVariants.{Sqlite, Postgresql, Mysql}
+use Rattle.sql_text.specs.Words.{join_word}
 use Rattle.sql_text.specs.Written.{Piece, words, name, led, joined}
 use Rattle.sql_expressions.specs.Laid.{laid, part, param, source_pieces}
 use Rattle.sql_statements.specs.Selects as s
@@ -22,7 +23,7 @@ use Rattle.sql_trees.proofs.Expressions.{full_read}
 use Rattle.sql_trees.proofs.Forms.{under_read, source_read}
 use Rattle.sql_trees.proofs.Full.{stands_full}
 use Rattle.sql_forms.specs.Forms.{JoinForm}
-use Rattle.sql_forms.specs.Clauses.{Reading, Items, no_items, one_item, more_items, Clause, no_clause, clause, Series, no_series, series, join_word, Item, unnamed, as_name, Order, rising, falling, Joins, no_joins, join, Cut, no_cut, limit_alone, sqlite_offset, postgresql_offset, mysql_offset, sqlite_both, postgresql_both, mysql_both}
+use Rattle.sql_forms.specs.Clauses.{Reading, Items, no_items, one_item, more_items, Clause, no_clause, clause, Series, no_series, series, Item, unnamed, as_name, Order, rising, falling, Joins, no_joins, join, Cut, no_cut, limit_alone, sqlite_offset, postgresql_offset, mysql_offset, sqlite_both, postgresql_both, mysql_both}
 use Rattle.sql_forms.specs.Form.{joins_form, number}
 
 module _ (q : Quoting) where
@@ -126,10 +127,6 @@ module _ (q : Quoting) (schema : Catalog) where
       after_words (λ p u. Series (Order q) (codes " ORDER BY ") (codes ", ") p u (map (λ key. (tree q schema key.0 scope, key.1)) (k ∷ ks))) w
       (λ p rest. series (items_read q (s.key_pieces q schema scope) (Order q) (λ key. (tree q schema key.0 scope, key.1)) (codes ", ") (k ∷ ks) (all_keys scope (k ∷ ks) h) p v rest))
 
-  join_word_is : (left : Bool) → join_word left ≡ s.join_word left
-  join_word_is false = refl
-  join_word_is true = refl
-
   pub joins_read : (before : List Origin) (joins : List Joined) → AreJoined schema before joins → (t : List ℕ) (v : List Value) → Writes q (s.joins_pieces q schema before joins) t v
       → Joins q t v (joins_form q schema before joins)
   joins_read before [] h t v w = at_end (λ p u. Joins q p u []) w no_joins
@@ -138,11 +135,10 @@ module _ (q : Quoting) (schema : Catalog) where
       let form : List JoinForm = joins_form q schema before (j ∷ js) in
       split (λ p u. Joins q p u form) (s.join_pieces q schema scope j) (s.joins_pieces q schema scope js) w
       (λ a c u z one rest. after_words (λ a u. Joins q (a ++ c) (u ++ z) form) one
-      (λ a past. split (λ p u. Joins q ((s.join_word j.left ++ p) ++ c) (u ++ z) form) (source_pieces schema j.origin) (words (codes " ON ") ∷ whole q schema scope j.on) past
-      (λ d b x y first last. source_read q (λ d x. Joins q ((s.join_word j.left ++ (d ++ b)) ++ c) ((x ++ y) ++ z) form) schema j.origin d x first
-      (λ d is. after_words (λ b y. Joins q ((s.join_word j.left ++ (d ++ b)) ++ c) (y ++ z) form) last
-      (λ b cond. subst (λ word. Joins q ((word ++ (d ++ (codes " ON " ++ b))) ++ c) (y ++ z) form) (join_word_is j.left)
-      (join j.left is (expression_read scope param j.on h.0.stands b y cond) (joins_read scope js h.2 c z rest)))))))
+      (λ a past. split (λ p u. Joins q ((join_word j.left ++ p) ++ c) (u ++ z) form) (source_pieces schema j.origin) (words (codes " ON ") ∷ whole q schema scope j.on) past
+      (λ d b x y first last. source_read q (λ d x. Joins q ((join_word j.left ++ (d ++ b)) ++ c) ((x ++ y) ++ z) form) schema j.origin d x first
+      (λ d is. after_words (λ b y. Joins q ((join_word j.left ++ (d ++ b)) ++ c) (y ++ z) form) last
+      (λ b cond. join j.left is (expression_read scope param j.on h.0.stands b y cond) (joins_read scope js h.2 c z rest))))))
 
 -- ---- cuts
 

@@ -1,5 +1,5 @@
 -- A plain select's text is read as its form.
-use Rattle.std.proofs.Common.{◌≡◌, ℕ, ◌++◌, Bool, true, false, List, [], ◌∷◌, map, Option, Some, None, codes, refl, sym, ap, ◌∙◌}
+use Rattle.std.proofs.Common.{◌≡◌, ℕ, ◌++◌, List, [], ◌∷◌, map, Option, Some, None, codes, refl, ap}
 use Rattle.std.specs.Option.{option_map}
 use Rattle.base_core.specs.declared.value.Value.{Value}
 use Rattle.schema_core.specs.Catalog.{Catalog}
@@ -9,6 +9,7 @@ use Rattle.expr_types.specs.declared.select.Select.{Select}
 use Rattle.expr_types.specs.declared.select.Statement.TheVariants.{Select as of_select}
 use Rattle.sql_semantics.specs.Plain.{StandsIn, IsCondition, IsFilter, IsPlainSelect, IfSet, sources_of}
 use Rattle.sql_text.specs.declared.names.Quoting.{Quoting}
+use Rattle.sql_text.specs.Words.{select_word}
 use Rattle.sql_text.specs.Written.{Piece, words, nothing}
 use Rattle.sql_expressions.specs.Laid.{source_pieces}
 use Rattle.sql_statements.specs.Selects as s
@@ -19,7 +20,7 @@ use Rattle.sql_trees.specs.Tree.{tree}
 use Rattle.sql_trees.proofs.Pieces.{Writes, after_words, split, all_written}
 use Rattle.sql_trees.proofs.Forms.{source_read}
 use Rattle.sql_forms.specs.Forms.{SelectForm}
-use Rattle.sql_forms.specs.Clauses.{Clause, Series, Item, Order, Cut, ReadsSelect, select_word}
+use Rattle.sql_forms.specs.Clauses.{Clause, Series, Item, Order, Cut, ReadsSelect}
 use Rattle.sql_forms.specs.Form.{number, select_form}
 use Rattle.sql_forms.specs.Read.{SelectsAreRead}
 use Rattle.sql_forms.proofs.Parts.{items_read, all_items, clause_read, groups_read, order_read, joins_read, cut_read}
@@ -85,10 +86,6 @@ module _ (q : Quoting) (schema : Catalog) where
         values_are = refl;
       }))))
 
-  select_word_is : (distinct : Bool) → select_word distinct ≡ s.select_word distinct
-  select_word_is false = refl
-  select_word_is true = refl
-
   select_read : (it : Select) → IsPlainSelect schema it → (t : List ℕ) (v : List Value) → Writes q (select_pieces q schema it) t v → ReadsSelect q t v (select_form q schema it)
   unfolding select_pieces
   select_read it h t v w =
@@ -97,9 +94,9 @@ module _ (q : Quoting) (schema : Catalog) where
       split (λ p u. ReadsSelect q p u form) (s.head_pieces q schema it ++ s.from_pieces q schema it) (s.tail_pieces q schema scope it) w
       (λ p b u z one tailw. split (λ p u. ReadsSelect q (p ++ b) (u ++ z) form) (s.head_pieces q schema it) (s.from_pieces q schema it) one
       (λ c d x y headw fromw. after_words (λ c x. ReadsSelect q ((c ++ d) ++ b) ((x ++ y) ++ z) form) headw
-      (λ items itemsw. split (λ d y. ReadsSelect q (((s.select_word it.distinct ++ items) ++ d) ++ b) ((x ++ y) ++ z) form) (words (codes " FROM ") ∷ source_pieces schema it.first) (s.joins_pieces q schema (it.first ∷ []) it.joins) fromw
-      (λ e joins sv jv firstw joinsw. after_words (λ e sv. ReadsSelect q (((s.select_word it.distinct ++ items) ++ (e ++ joins)) ++ b) ((x ++ (sv ++ jv)) ++ z) form) firstw
-      (λ e sourcew. source_read q (λ e sv. ReadsSelect q (((s.select_word it.distinct ++ items) ++ ((codes " FROM " ++ e) ++ joins)) ++ b) ((x ++ (sv ++ jv)) ++ z) form) schema it.first e sv sourcew
+      (λ items itemsw. split (λ d y. ReadsSelect q (((select_word it.distinct ++ items) ++ d) ++ b) ((x ++ y) ++ z) form) (words (codes " FROM ") ∷ source_pieces schema it.first) (s.joins_pieces q schema (it.first ∷ []) it.joins) fromw
+      (λ e joins sv jv firstw joinsw. after_words (λ e sv. ReadsSelect q (((select_word it.distinct ++ items) ++ (e ++ joins)) ++ b) ((x ++ (sv ++ jv)) ++ z) form) firstw
+      (λ e sourcew. source_read q (λ e sv. ReadsSelect q (((select_word it.distinct ++ items) ++ ((codes " FROM " ++ e) ++ joins)) ++ b) ((x ++ (sv ++ jv)) ++ z) form) schema it.first e sv sourcew
       (λ e is.
       let tail : ReadsTail scope it b z = tail_read it h b z tailw in
       record {
@@ -126,9 +123,7 @@ module _ (q : Quoting) (schema : Catalog) where
         having = tail.having;
         order = tail.order;
         cut = tail.cut;
-        text_is =
-            ap (λ (word : List ℕ). ((word ++ items) ++ ((codes " FROM " ++ e) ++ joins)) ++ b) (sym (select_word_is it.distinct))
-            ∙ ap (λ (rest : List ℕ). ((select_word it.distinct ++ items) ++ ((codes " FROM " ++ e) ++ joins)) ++ rest) tail.text_is;
+        text_is = ap (λ (rest : List ℕ). ((select_word it.distinct ++ items) ++ ((codes " FROM " ++ e) ++ joins)) ++ rest) tail.text_is;
         values_are = ap (λ (rest : List Value). (x ++ jv) ++ rest) tail.values_are;
       }))))))
 

@@ -3,6 +3,7 @@ use Rattle.std.specs.Prelude.{◌≡◌, ℕ, ◌++◌, Bool, true, false, List,
 use Rattle.base_core.specs.declared.value.Value.{Value}
 use Rattle.sql_text.specs.declared.names.Quoting.{Quoting}
 use Rattle.sql_text.specs.declared.names.Quoting.TheVariants.{Sqlite, Postgresql, Mysql}
+use Rattle.sql_text.specs.Words.{select_word, join_word}
 use Rattle.sql_grammar.specs.Trees.{Sql, Source}
 use Rattle.sql_grammar.specs.Reads.{IsName, IsMark, AreMarks, IsSource, Reads, Either}
 use Rattle.sql_forms.specs.Forms.{JoinForm, SelectForm, BulkForm, insert, update, delete, RowForm, fill, add, change, remove}
@@ -28,14 +29,6 @@ pub data Series {A : Type 0} (reads : Reading A) (word between : List ℕ) : Lis
   series : {a : List ℕ} {v : List Value} {x : A} {xs : List A} → Items reads between a v (x ∷ xs) → Series reads word between (word ++ a) v (x ∷ xs)
 
 -- ---- selects
-
-abbrev pub select_word : Bool → List ℕ
-select_word false = codes "SELECT "
-select_word true = codes "SELECT DISTINCT "
-
-abbrev pub join_word : Bool → List ℕ
-join_word false = codes " JOIN "
-join_word true = codes " LEFT OUTER JOIN "
 
 -- `e` or `e AS name`
 pub data Item (quoting : Quoting) : List ℕ → List Value → Sql × Option (List ℕ) → Type 0 where

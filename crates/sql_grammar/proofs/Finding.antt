@@ -3,8 +3,9 @@ use Rattle.std.proofs.Common.{◌≡◌, ℕ, ◌++◌, ◌==◌, Bool, true, fa
 use Rattle.std.proofs.lemmas.Bool.{eq-eqb, eqb-true, and_parts}
 use Rattle.sql_text.specs.declared.names.Quoting.{Quoting}
 use Rattle.sql_text.specs.declared.names.Quoting.TheVariants.{Sqlite, Postgresql, Mysql}
+use Rattle.sql_text.specs.Words.{null_word, in_word, empty_word, between_word}
 use Rattle.sql_grammar.specs.Trees.{Test, Equal, NotEqual, Less, LessEqual, Greater, GreaterEqual, Like, Ilike, Distinct, Sign, Plus, Minus, Beside}
-use Rattle.sql_grammar.specs.Words.{test_word, null_word, in_word, empty_word, between_word, sign_word}
+use Rattle.sql_grammar.specs.Words.{test_word, sign_word}
 use Rattle.sql_grammar.specs.Reads.{Level, Either, Both, Opposite, Tested, Added, Multiplied, Signed, Operand, tighter}
 use Rattle.sql_grammar.proofs.Reader.{after, find, tails, Tail, ends, nulls, empties, lists, ranges, signs, stops, is_none}
 

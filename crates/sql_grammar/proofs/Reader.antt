@@ -5,8 +5,9 @@ use Rattle.base_core.specs.declared.value.Value.{Value}
 use Rattle.sql_text.specs.declared.names.Quoting.{Quoting}
 use Rattle.sql_text.specs.declared.names.Quoting.TheVariants.{Sqlite, Postgresql, Mysql}
 use Rattle.sql_text.specs.Names.{is_plain_byte, quote_of}
+use Rattle.sql_text.specs.Words.{null_word, in_word, empty_word, between_word}
 use Rattle.sql_grammar.specs.Trees.{Test, Equal, NotEqual, Less, LessEqual, Greater, GreaterEqual, Like, Ilike, Distinct, Sign, Plus, Minus, Beside, Function, Count, Sum, Min, Max, Lower, Upper, Length, Coalesce, Concat, Source, Sql, column, mark, test, null_test, in_list, between, all_of, any_of, opposite, sum, product, negative, call, count_all, exists, Sqls, none, more}
-use Rattle.sql_grammar.specs.Words.{test_word, null_word, in_word, empty_word, between_word, sign_word, function_word}
+use Rattle.sql_grammar.specs.Words.{test_word, sign_word, function_word}
 use Rattle.sql_grammar.specs.Reads.{is_label_byte, Level, Either, Both, Opposite, Tested, Added, Multiplied, Signed, Operand}
 
 -- ---- words

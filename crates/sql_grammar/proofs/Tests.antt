@@ -2,8 +2,9 @@
 use Rattle.std.proofs.Common.{◌≡◌, ℕ, suc, ◌+◌, ◌≤◌, ◌++◌, Bool, true, List, [], Some, codes, refl, ap, ◌∙◌, append_assoc, arith}
 use Rattle.base_core.specs.declared.value.Value.{Value}
 use Rattle.sql_text.specs.declared.names.Quoting.{Quoting}
+use Rattle.sql_text.specs.Words.{null_word, in_word, empty_word, between_word}
 use Rattle.sql_grammar.specs.Trees.{Test, Sql, test, null_test, in_list, between, opposite, all_of, any_of, Sqls, none, more}
-use Rattle.sql_grammar.specs.Words.{test_word, null_word, in_word, empty_word, between_word}
+use Rattle.sql_grammar.specs.Words.{test_word}
 use Rattle.sql_grammar.specs.Reads.{AreMarks, Level, Either, Both, Opposite, Tested, Added, Multiplied, Signed, Operand}
 use Rattle.sql_grammar.proofs.Reader.{after, find, tails, Tail, ends, nulls, empties, lists, ranges, Out, next, behind, closed, at, read, stops, tested_by, tail_by, not_by, parts_by, one_or}
 use Rattle.sql_grammar.proofs.Finding.{after_self, test_found, nulls_found, empties_found, lists_found, ranges_found, stops_tighter, sum_and, no_tail, no_and, no_or}

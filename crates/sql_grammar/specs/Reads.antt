@@ -6,8 +6,9 @@ use Rattle.base_core.specs.declared.value.Value.{Value}
 use Rattle.sql_text.specs.declared.names.Quoting.{Quoting}
 use Rattle.sql_text.specs.declared.names.Quoting.TheVariants.{Sqlite, Postgresql, Mysql}
 use Rattle.sql_text.specs.Names.{needs_quotes, quoted, is_lower, is_upper, is_digit}
+use Rattle.sql_text.specs.Words.{null_word, in_word, empty_word, between_word}
 use Rattle.sql_grammar.specs.Trees.{Test, Sign, Function, Source, Sql, column, mark, test, null_test, in_list, between, all_of, any_of, opposite, sum, product, negative, call, count_all, exists, Sqls, none, more}
-use Rattle.sql_grammar.specs.Words.{test_word, null_word, in_word, empty_word, between_word, sign_word, function_word}
+use Rattle.sql_grammar.specs.Words.{test_word, sign_word, function_word}
 
 -- ---- names and marks
 

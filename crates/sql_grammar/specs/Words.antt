@@ -2,21 +2,19 @@
 use Rattle.std.specs.Prelude.{ℕ, Bool, true, false, List, Option, Some, None, codes}
 use Rattle.sql_text.specs.declared.names.Quoting.{Quoting}
 use Rattle.sql_text.specs.declared.names.Quoting.TheVariants.{Sqlite, Postgresql, Mysql}
+use Rattle.sql_text.specs.Words.{like_word, ilike_word, distinct_word, sqlite_distinct_word}
 use Rattle.sql_grammar.specs.Trees.{Test, Equal, NotEqual, Less, LessEqual, Greater, GreaterEqual, Like, Ilike, Distinct, Sign, Plus, Minus, Beside, Function, Count, Sum, Min, Max, Lower, Upper, Length, Coalesce, Concat}
 
-abbrev pub ilike_word : Quoting → Bool → Option (List ℕ)
-ilike_word Postgresql false = Some (codes " ILIKE ")
-ilike_word Postgresql true = Some (codes " NOT ILIKE ")
-ilike_word Sqlite negated = None
-ilike_word Mysql negated = None
+abbrev pub ilike_in : Quoting → Bool → Option (List ℕ)
+ilike_in Postgresql negated = Some (ilike_word negated)
+ilike_in Sqlite negated = None
+ilike_in Mysql negated = None
 
-abbrev pub distinct_word : Quoting → Bool → Option (List ℕ)
-distinct_word Sqlite false = Some (codes " IS NOT ")
-distinct_word Sqlite true = Some (codes " IS ")
-distinct_word Postgresql false = Some (codes " IS DISTINCT FROM ")
-distinct_word Postgresql true = Some (codes " IS NOT DISTINCT FROM ")
-distinct_word Mysql false = None
-distinct_word Mysql true = Some (codes " <=> ")
+abbrev pub distinct_in : Quoting → Bool → Option (List ℕ)
+distinct_in Sqlite negated = Some (sqlite_distinct_word negated)
+distinct_in Postgresql negated = Some (distinct_word negated)
+distinct_in Mysql false = None
+distinct_in Mysql true = Some (codes " <=> ")
 
 abbrev pub test_word : Quoting → Test → Option (List ℕ)
 test_word quoting Equal = Some (codes " = ")
@@ -25,27 +23,9 @@ test_word quoting Less = Some (codes " < ")
 test_word quoting LessEqual = Some (codes " <= ")
 test_word quoting Greater = Some (codes " > ")
 test_word quoting GreaterEqual = Some (codes " >= ")
-test_word quoting (Like false) = Some (codes " LIKE ")
-test_word quoting (Like true) = Some (codes " NOT LIKE ")
-test_word quoting (Ilike negated) = ilike_word quoting negated
-test_word quoting (Distinct negated) = distinct_word quoting negated
-
-abbrev pub null_word : Bool → List ℕ
-null_word false = codes " IS NULL"
-null_word true = codes " IS NOT NULL"
-
-abbrev pub in_word : Bool → List ℕ
-in_word false = codes " IN ("
-in_word true = codes " NOT IN ("
-
--- a test for an empty list
-abbrev pub empty_word : Bool → List ℕ
-empty_word false = codes " IN (NULL) AND 1 != 1"
-empty_word true = codes " NOT IN (NULL) OR 1 = 1"
-
-abbrev pub between_word : Bool → List ℕ
-between_word false = codes " BETWEEN "
-between_word true = codes " NOT BETWEEN "
+test_word quoting (Like negated) = Some (like_word negated)
+test_word quoting (Ilike negated) = ilike_in quoting negated
+test_word quoting (Distinct negated) = distinct_in quoting negated
 
 abbrev pub beside_word : Quoting → Option (List ℕ)
 beside_word Sqlite = Some (codes " || ")

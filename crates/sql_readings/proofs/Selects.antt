@@ -4,6 +4,7 @@ use Rattle.std.specs.List.{AllByRecursion}
 use Rattle.base_core.specs.declared.value.Value.{Value}
 use Rattle.expr_types.specs.declared.select.Statement.TheVariants.{Select as of_select}
 use Rattle.sql_text.specs.declared.names.Quoting.{Quoting}
+use Rattle.sql_text.specs.Words.{select_word, join_word}
 use Rattle.sql_statements.specs.Texts.{text_of}
 use Rattle.sql_forms.specs.Form.{select_form}
 use Rattle.sql_grammar.specs.Trees.{Sql, Source}
@@ -13,7 +14,7 @@ use Rattle.sql_grammar.proofs.Finding.{ended, either_comma, in_each}
 use Rattle.sql_grammar.proofs.Naming.{Begins}
 use Rattle.sql_grammar.proofs.Found.{starts_any, begins_on, lacks_byte}
 use Rattle.sql_forms.specs.Forms.{JoinForm, SelectForm}
-use Rattle.sql_forms.specs.Clauses.{Items, no_items, one_item, more_items, Series, select_word, join_word, Item, unnamed, as_name, Order, rising, falling, Joins, no_joins, join, ReadsSelect}
+use Rattle.sql_forms.specs.Clauses.{Items, no_items, one_item, more_items, Series, Item, unnamed, as_name, Order, rising, falling, Joins, no_joins, join, ReadsSelect}
 use Rattle.sql_forms.proofs.Selects.{selects_are_read}
 use Rattle.sql_readings.specs.OneForm.{IsOneSelectForm, SelectTextsTellForms}
 use Rattle.sql_readings.proofs.Agreeing.{Agreeing, IsOne, EndsItems, EndsClause, Lacking, name_one, items_one, clause_one, series_one, behind_clause, behind_series, one_text, cut_word, lacking}

@@ -9,6 +9,7 @@ use Rattle.expr_types.specs.declared.select.Select.{Select}
 use Rattle.sql_semantics.specs.Plain.{sources_of}
 use Rattle.sql_text.specs.declared.names.Quoting.{Quoting}
 use Rattle.sql_text.specs.declared.names.Quoting.TheVariants.{Sqlite, Postgresql, Mysql}
+use Rattle.sql_text.specs.Words.{select_word, join_word}
 use Rattle.sql_expressions.specs.Laid.{laid, param, parts, source_pieces}
 use Rattle.sql_text.specs.Written.{Piece, words, name, value, joined}
 
@@ -16,20 +17,12 @@ use Rattle.sql_text.specs.Written.{Piece, words, name, value, joined}
 abbrev pub whole : Quoting → Catalog → List Origin → Expr → List Piece
 whole quoting schema scope e = (laid quoting schema e).pieces scope param
 
-abbrev pub select_word : Bool → List ℕ
-select_word false = codes "SELECT "
-select_word true = codes "SELECT DISTINCT "
-
 abbrev pub named_pieces : Option (List ℕ) → List Piece
 named_pieces None = []
 named_pieces (Some shown) = words (codes " AS ") ∷ name shown ∷ []
 
 abbrev pub item_pieces : Quoting → Catalog → List Origin → Expr × Option (List ℕ) → List Piece
 item_pieces quoting schema scope item = whole quoting schema scope item.0 ++ named_pieces item.1
-
-abbrev pub join_word : Bool → List ℕ
-join_word false = codes " JOIN "
-join_word true = codes " LEFT OUTER JOIN "
 
 abbrev pub join_pieces : Quoting → Catalog → List Origin → Joined → List Piece
 join_pieces quoting schema scope join = words (join_word join.left) ∷ source_pieces schema join.origin ++ words (codes " ON ") ∷ whole quoting schema scope join.on

@@ -3,6 +3,7 @@
 ghost use Rattle.std.specs.Prelude.{◌≡◌, ◌<◌, ◌^◌, ◌∷◌, [], ◌++◌, IfOk, OnOk, IsTrue, ◌↔◌, codes};
 ghost use Rattle.sql_semantics.specs.Plain.{sources_of};
 ghost use Rattle.sql_statements.specs.Selects as spec;
+ghost use Rattle.sql_text.specs.Words.{select_word, join_word};
 ghost use Rattle.sql_text.specs.Written.{Wrote, led, joined};
 
 use base_core::{Copied, Name, Refusal, Value};
@@ -68,7 +69,7 @@ fn items_of(
 }
 
 fn select_word(distinct: bool) -> &'static str
-    ensures { result.now ≡ spec.select_word distinct }
+    ensures { result.now ≡ select_word distinct }
 {
     if distinct {
         "SELECT DISTINCT "
@@ -93,7 +94,7 @@ fn head(
 }
 
 fn join_word(left: bool) -> &'static str
-    ensures { result.now ≡ spec.join_word left }
+    ensures { result.now ≡ join_word left }
 {
     if left { " LEFT OUTER JOIN " } else { " JOIN " }
 }

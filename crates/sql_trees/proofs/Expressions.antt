@@ -19,10 +19,11 @@ use Rattle.expr_types.proofs.Folds.{bare, by_levels}
 use Rattle.sql_semantics.specs.Plain.{several}
 use Rattle.sql_text.specs.declared.names.Quoting.{Quoting}
 use Rattle.sql_text.specs.declared.names.Quoting.TheVariants.{Sqlite, Postgresql, Mysql}
+use Rattle.sql_text.specs.Words.{null_word, like_word, ilike_word, distinct_word, sqlite_distinct_word}
 use Rattle.sql_expressions.specs.Laid as l
 use Rattle.sql_expressions.specs.Laid.{Laid, laid, laid_level}
 use Rattle.sql_grammar.specs.Trees.{Sql, Sqls, column, mark, test, null_test, in_list, opposite, negative, call, count_all, Like, Ilike, Distinct, Plus, Minus, Beside, Concat, all_of, any_of, more}
-use Rattle.sql_grammar.specs.Words.{test_word, null_word}
+use Rattle.sql_grammar.specs.Words.{test_word}
 use Rattle.sql_grammar.specs.Reads as g
 use Rattle.sql_grammar.specs.Reads.{Reads, Level, Either, Both, Opposite, Tested, Added, Multiplied, Signed, Operand}
 use Rattle.sql_trees.specs.Tree.{tree, tree_at, trees, compare_test, function_as, arith_tree, concat_tree, ilike_tree, distinct_tree}
@@ -76,14 +77,6 @@ module _ (q : Quoting) (schema : Catalog) where
   compare_word_is compare.LessEqual = refl
   compare_word_is compare.Greater = refl
   compare_word_is compare.GreaterEqual = refl
-
-  like_word_is : (n : Bool) → test_word q (Like n) ≡ Some (l.like_word n)
-  like_word_is false = refl
-  like_word_is true = refl
-
-  null_word_is : (n : Bool) → null_word n ≡ l.null_word n
-  null_word_is false = refl
-  null_word_is true = refl
 
   arith_read : (op : ArithOp) (a b : Known) → (is_full a.0 && (is_full b.0 && true)) ≡ true → (scope : List Origin) (t : List ℕ) (v : List Value)
       → Writes q (l.arith_pieces op (laid q schema a.0) (laid q schema b.0) scope) t v → At q (l.arith_level op) t v (arith_tree op (tree q schema a.0 scope) (tree q schema b.0 scope))
@@ -146,34 +139,22 @@ lowers_read q schema n a b h scope t v w =
     let one = and_parts (is_full a.0) (is_full b.0 && true) h in
     here Tested (lower_like_read q n (laid q schema a.0) (laid q schema b.0) (tree q schema a.0) (tree q schema b.0) (a.1 one.0) (b.1 (and_parts (is_full b.0) true one.1).0) scope t v w)
 
-ilike_word_is : (n : Bool) → test_word Postgresql (Ilike n) ≡ Some (l.ilike_word n)
-ilike_word_is false = refl
-ilike_word_is true = refl
-
 ilike_read : (q : Quoting) (schema : Catalog) (n : Bool) (a b : Known q schema) → BothFull q schema a b → (scope : List Origin) (t : List ℕ) (v : List Value)
     → Writes q (l.ilike_pieces q n (laid q schema a.0) (laid q schema b.0) scope) t v → At q 4 t v (ilike_tree q n (tree q schema a.0 scope) (tree q schema b.0 scope))
 ilike_read Sqlite schema n a b h scope t v w = lowers_read Sqlite schema n a b h scope t v w
 ilike_read Mysql schema n a b h scope t v w = lowers_read Mysql schema n a b h scope t v w
 ilike_read Postgresql schema n a b h scope t v w =
-    tests_read Postgresql schema (l.ilike_word n) a b scope t v h (λ p u. At Postgresql 4 p u (ilike_tree Postgresql n (tree Postgresql schema a.0 scope) (tree Postgresql schema b.0 scope))) 5 5 (omega arith) (omega arith) w
-    (λ c d u z one other. here Tested (g.tested (Ilike n) (ilike_word_is n) (to_added one) (to_added other)))
-
-sqlite_word_is : (n : Bool) → test_word Sqlite (Distinct n) ≡ Some (l.sqlite_distinct_word n)
-sqlite_word_is false = refl
-sqlite_word_is true = refl
-
-distinct_word_is : (n : Bool) → test_word Postgresql (Distinct n) ≡ Some (l.distinct_word n)
-distinct_word_is false = refl
-distinct_word_is true = refl
+    tests_read Postgresql schema (ilike_word n) a b scope t v h (λ p u. At Postgresql 4 p u (ilike_tree Postgresql n (tree Postgresql schema a.0 scope) (tree Postgresql schema b.0 scope))) 5 5 (omega arith) (omega arith) w
+    (λ c d u z one other. here Tested (g.tested (Ilike n) refl (to_added one) (to_added other)))
 
 distinct_read : (q : Quoting) (schema : Catalog) (n : Bool) (a b : Known q schema) → BothFull q schema a b → (scope : List Origin) (t : List ℕ) (v : List Value)
     → Writes q (l.distinct_pieces q n (laid q schema a.0) (laid q schema b.0) scope) t v → At q (l.distinct_level q n) t v (distinct_tree q n (tree q schema a.0 scope) (tree q schema b.0 scope))
 distinct_read Sqlite schema n a b h scope t v w =
-    tests_read Sqlite schema (l.sqlite_distinct_word n) a b scope t v h (λ p u. At Sqlite 4 p u (distinct_tree Sqlite n (tree Sqlite schema a.0 scope) (tree Sqlite schema b.0 scope))) 5 5 (omega arith) (omega arith) w
-    (λ c d u z one other. here Tested (g.tested (Distinct n) (sqlite_word_is n) (to_added one) (to_added other)))
+    tests_read Sqlite schema (sqlite_distinct_word n) a b scope t v h (λ p u. At Sqlite 4 p u (distinct_tree Sqlite n (tree Sqlite schema a.0 scope) (tree Sqlite schema b.0 scope))) 5 5 (omega arith) (omega arith) w
+    (λ c d u z one other. here Tested (g.tested (Distinct n) refl (to_added one) (to_added other)))
 distinct_read Postgresql schema n a b h scope t v w =
-    tests_read Postgresql schema (l.distinct_word n) a b scope t v h (λ p u. At Postgresql 4 p u (distinct_tree Postgresql n (tree Postgresql schema a.0 scope) (tree Postgresql schema b.0 scope))) 5 5 (omega arith) (omega arith) w
-    (λ c d u z one other. here Tested (g.tested (Distinct n) (distinct_word_is n) (to_added one) (to_added other)))
+    tests_read Postgresql schema (distinct_word n) a b scope t v h (λ p u. At Postgresql 4 p u (distinct_tree Postgresql n (tree Postgresql schema a.0 scope) (tree Postgresql schema b.0 scope))) 5 5 (omega arith) (omega arith) w
+    (λ c d u z one other. here Tested (g.tested (Distinct n) refl (to_added one) (to_added other)))
 distinct_read Mysql schema false a b h scope t v w =
     after_words (λ p u. At Mysql 3 p u (distinct_tree Mysql false (tree Mysql schema a.0 scope) (tree Mysql schema b.0 scope))) w
     (λ p rest. before_words (λ p u. At Mysql 3 (codes "NOT (" ++ p) u (distinct_tree Mysql false (tree Mysql schema a.0 scope) (tree Mysql schema b.0 scope))) (l.two 5 5 (codes " <=> ") (laid Mysql schema a.0) (laid Mysql schema b.0) scope) (codes ")") rest
@@ -236,9 +217,8 @@ module _ (q : Quoting) (schema : Catalog) where
       tests_read q schema (l.compare_word op) a b scope t v h (λ p u. At q 4 p u (test (compare_test op) (tree q schema a.0 scope) (tree q schema b.0 scope))) 5 5 (omega arith) (omega arith) w
       (λ c d u z one other. here Tested (g.tested (compare_test op) (compare_word_is q schema op) (to_added one) (to_added other)))
   level_read (Expr-F.IsNull n a) h scope base t v w =
-      before_words (λ p u. At q 4 p u (null_test n (tree q schema a.0 scope))) (l.under 5 (laid q schema a.0) scope l.param) (l.null_word n) w
-      (λ c u one. subst (λ p. At q 4 (c ++ p) u (null_test n (tree q schema a.0 scope))) (null_word_is q schema n)
-      (here Tested (g.null_tested n (to_added (under_read q 5 (laid q schema a.0) (tree q schema a.0) (a.1 (and_parts (is_full a.0) true h).0) (omega arith) scope l.param c u one)))))
+      before_words (λ p u. At q 4 p u (null_test n (tree q schema a.0 scope))) (l.under 5 (laid q schema a.0) scope l.param) (null_word n) w
+      (λ c u one. here Tested (g.null_tested n (to_added (under_read q 5 (laid q schema a.0) (tree q schema a.0) (a.1 (and_parts (is_full a.0) true h).0) (omega arith) scope l.param c u one))))
   level_read (Expr-F.And ks) h scope base t v w =
       let parts = list_of ks (nat_lt 1 (length (map is_full (map (λ (k : Known q schema). k.0) ks)))) true h in
       by_list (λ ls ts. Writes q (l.parts 3 (codes " AND ") ls scope) t v → At q 2 t v (all_of ts)) scope ks parts.0
@@ -256,8 +236,8 @@ module _ (q : Quoting) (schema : Catalog) where
       (λ p one. here Signed (g.signed (to_operand (under_read q 8 (laid q schema a.0) (tree q schema a.0) (a.1 (and_parts (is_full a.0) true h).0) (omega arith) scope l.param p v one))))
   level_read (Expr-F.Concat a b) h scope base t v w = concat_read q schema a b h scope t v w
   level_read (Expr-F.Like n a b) h scope base t v w =
-      tests_read q schema (l.like_word n) a b scope t v h (λ p u. At q 4 p u (test (Like n) (tree q schema a.0 scope) (tree q schema b.0 scope))) 5 5 (omega arith) (omega arith) w
-      (λ c d u z one other. here Tested (g.tested (Like n) (like_word_is q schema n) (to_added one) (to_added other)))
+      tests_read q schema (like_word n) a b scope t v h (λ p u. At q 4 p u (test (Like n) (tree q schema a.0 scope) (tree q schema b.0 scope))) 5 5 (omega arith) (omega arith) w
+      (λ c d u z one other. here Tested (g.tested (Like n) refl (to_added one) (to_added other)))
   level_read (Expr-F.Ilike n a b) h scope base t v w = ilike_read q schema n a b h scope t v w
   level_read (Expr-F.InList n a values) h scope base t v w = in_read n a (and_parts (is_full a.0) true h).0 values scope t v w
   level_read (Expr-F.Between n a b c) h scope base t v w =

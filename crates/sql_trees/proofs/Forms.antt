@@ -6,11 +6,11 @@ use Rattle.base_core.specs.declared.value.Value.{Value}
 use Rattle.schema_core.specs.Catalog.{Catalog, spec_of}
 use Rattle.expr_types.specs.declared.expr.Origin.{Origin}
 use Rattle.sql_text.specs.declared.names.Quoting.{Quoting}
+use Rattle.sql_text.specs.Words.{like_word, empty_word}
 use Rattle.sql_text.specs.Written.{words, name, joined}
 use Rattle.sql_expressions.specs.Laid as l
 use Rattle.sql_expressions.specs.Laid.{Laid, under, enclosed, two, part, parts, listed, beside, source_pieces, alias_pieces}
 use Rattle.sql_grammar.specs.Trees.{Sql, none, more, Like, Lower, call, in_list}
-use Rattle.sql_grammar.specs.Words.{empty_word, test_word}
 use Rattle.sql_grammar.specs.Reads.{IsName, AreMarks, one_mark, more_marks, IsSource, named, aliased, Reads, tested, called, in_parentheses, in_nothing, one_part, Tested, Added, Operand}
 use Rattle.sql_trees.specs.Tree.{lower_like, source_tree}
 use Rattle.sql_trees.proofs.Pieces.{OfText, Writes, after_words, after_name, after_value, at_end, split, before_words}
@@ -76,18 +76,6 @@ module _ (q : Quoting) where
 
   -- ---- forms
 
-  lower_joined : (a b : List ℕ) (denied : Bool) (word : List ℕ) → test_word q (Like denied) ≡ Some word → l.lower_like_word denied ≡ codes ")" ++ (word ++ codes "lower(")
-  lower_joined a b false word is = ap (λ (o : Option (List ℕ)). codes ")" ++ (some_word o ++ codes "lower(")) is
-    where
-      some_word : Option (List ℕ) → List ℕ
-      some_word None = []
-      some_word (Some w) = w
-  lower_joined a b true word is = ap (λ (o : Option (List ℕ)). codes ")" ++ (some_word o ++ codes "lower(")) is
-    where
-      some_word : Option (List ℕ) → List ℕ
-      some_word None = []
-      some_word (Some w) = w
-
   lowered : {a : List ℕ} {v : List Value} {x : Sql} → At q 5 a v x → Reads q Added (codes "lower(" ++ (a ++ codes ")")) v (call Lower (more x none))
   lowered at = to_added (at_least 5 8 (omega arith) (here Operand (called Lower refl (one_part (to_either 5 at)))))
 
@@ -98,24 +86,16 @@ module _ (q : Quoting) where
       ∙ (ap (λ (s : List ℕ). a ++ (codes ")" ++ s)) (append_assoc (w ++ codes "lower(") b (codes ")") ∙ append_assoc w (codes "lower(") (b ++ codes ")"))
       ∙ sym (append_assoc a (codes ")") (w ++ (codes "lower(" ++ (b ++ codes ")"))))))
 
-  like_read : (denied : Bool) (word : List ℕ) → test_word q (Like denied) ≡ Some word → (a b : Laid) (s r : List Origin → Sql) → Ready q a s → Ready q b r → (scope : List Origin) (t : List ℕ) (v : List Value)
+  pub lower_like_read : (denied : Bool) (a b : Laid) (s r : List Origin → Sql) → Ready q a s → Ready q b r → (scope : List Origin) (t : List ℕ) (v : List Value)
       → Writes q (l.lower_like denied a b scope) t v → Reads q Tested t v (lower_like denied (s scope) (r scope))
-  like_read n word is a b s r ra rb scope t v w =
+  lower_like_read n a b s r ra rb scope t v w =
       after_words (λ p y. Reads q Tested p y (lower_like n (s scope) (r scope))) w
       (λ p rest. before_words (λ p y. Reads q Tested (codes "lower(" ++ p) y (lower_like n (s scope) (r scope))) (two 5 5 (l.lower_like_word n) a b scope) (codes ")") rest
       (λ p y inner. two_read (λ p y. Reads q Tested (codes "lower(" ++ (p ++ codes ")")) y (lower_like n (s scope) (r scope))) 5 5 (l.lower_like_word n) a b s r ra rb (omega arith) (omega arith) scope p y inner
-      (λ c d u z one other.
-      subst (λ (m : List ℕ). Reads q Tested (codes "lower(" ++ ((c ++ (m ++ d)) ++ codes ")")) (u ++ z) (lower_like n (s scope) (r scope))) (sym (lower_joined c d n word is))
-      (subst (λ (m : List ℕ). Reads q Tested m (u ++ z) (lower_like n (s scope) (r scope))) (sym (like_text c d word)) (tested (Like n) is (lowered one) (lowered other))))))
-
-  pub lower_like_read : (denied : Bool) (a b : Laid) (s r : List Origin → Sql) → Ready q a s → Ready q b r → (scope : List Origin) (t : List ℕ) (v : List Value)
-      → Writes q (l.lower_like denied a b scope) t v → Reads q Tested t v (lower_like denied (s scope) (r scope))
-  lower_like_read false a b s r ra rb scope t v w = like_read false (codes " LIKE ") refl a b s r ra rb scope t v w
-  lower_like_read true a b s r ra rb scope t v w = like_read true (codes " NOT LIKE ") refl a b s r ra rb scope t v w
+      (λ c d u z one other. subst (λ (m : List ℕ). Reads q Tested m (u ++ z) (lower_like n (s scope) (r scope))) (sym (like_text c d (like_word n))) (tested (Like n) refl (lowered one) (lowered other)))))
 
   no_list_text : (n : Bool) (a : List ℕ) → codes "(" ++ (a ++ l.no_in_word n) ≡ codes "(" ++ ((a ++ empty_word n) ++ codes ")")
-  no_list_text false a = ap (λ (s : List ℕ). codes "(" ++ s) (sym (append_assoc a (empty_word false) (codes ")")))
-  no_list_text true a = ap (λ (s : List ℕ). codes "(" ++ s) (sym (append_assoc a (empty_word true) (codes ")")))
+  no_list_text n a = ap (λ (s : List ℕ). codes "(" ++ s) (sym (append_assoc a (empty_word n) (codes ")")))
 
   pub no_list_read : (n : Bool) (a : Laid) (s : List Origin → Sql) → Ready q a s → (scope : List Origin) (t : List ℕ) (v : List Value)
       → Writes q (l.no_list n a scope) t v → Reads q Operand t v (in_list n (s scope) [])

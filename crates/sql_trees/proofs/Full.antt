@@ -15,7 +15,7 @@ use Rattle.expr_types.specs.Level.{operands, scope_below}
 use Rattle.expr_types.proofs.Folds.{bare, by_levels}
 use Rattle.expr_types.proofs.Operands.{operands_map}
 use Rattle.sql_semantics.specs.Kinds.{Scope}
-use Rattle.sql_semantics.specs.Plain.{StandsIn, fits, fits_level, full_level, has_full_lists, several, takes}
+use Rattle.sql_semantics.specs.Plain.{StandsIn, fits, fits_level, has_full_lists, several, takes}
 use Rattle.sql_semantics.proofs.Equations.{enter, fits_rolled, full_rolled as lists_are_rolled}
 use Rattle.sql_text.specs.Written.{nothing}
 use Rattle.sql_expressions.specs.Laid.{laid}

@@ -1,16 +1,17 @@
 -- The parts of forms with lists, of `between` and of `exists`, read.
-use Rattle.std.proofs.Common.{◌≡◌, ℕ, ◌≤◌, ◌++◌, Bool, true, false, List, [], ◌∷◌, map, Some, codes, refl, sym, subst, append_assoc, append-nil, arith}
+use Rattle.std.proofs.Common.{◌≡◌, ℕ, ◌≤◌, ◌++◌, Bool, true, false, List, [], ◌∷◌, map, Some, codes, refl, sym, ap, subst, ◌∙◌, append_assoc, append-nil, arith}
 use Rattle.base_core.specs.declared.value.Value.{Value}
 use Rattle.schema_core.specs.Catalog.{Catalog}
 use Rattle.expr_types.specs.declared.expr.Origin.{Origin}
 use Rattle.expr_types.specs.declared.expr.Func.{Func}
 use Rattle.expr_types.specs.declared.expr.Func.TheVariants as func
 use Rattle.sql_text.specs.declared.names.Quoting.{Quoting}
+use Rattle.sql_text.specs.Words.{in_word, between_word}
 use Rattle.sql_text.specs.Written.{words, led, joined}
 use Rattle.sql_expressions.specs.Laid as l
 use Rattle.sql_expressions.specs.Laid.{Laid, under, enclosed, part, parts, listed, beside, beside_two, source_pieces}
 use Rattle.sql_grammar.specs.Trees.{Sql, Sqls, none, more, call, opposite, exists, in_list, between}
-use Rattle.sql_grammar.specs.Words.{function_word, in_word, between_word}
+use Rattle.sql_grammar.specs.Words.{function_word}
 use Rattle.sql_grammar.specs.Reads as g
 use Rattle.sql_grammar.specs.Reads.{AreMarks, IsSource, Reads, Parts, Level, Either, Both, Opposite, Tested, Added, Operand}
 use Rattle.sql_trees.specs.Tree.{trees, function_as, source_tree, exists_tree}
@@ -77,33 +78,31 @@ module _ (q : Quoting) where
 
   -- ---- a list of values
 
-  list_text : (n : Bool) (a m : List ℕ) → (a ++ (l.in_word n ++ m)) ++ codes ")" ≡ a ++ (in_word n ++ (m ++ codes ")"))
-  list_text false a m = append_assoc a (l.in_word false ++ m) (codes ")")
-  list_text true a m = append_assoc a (l.in_word true ++ m) (codes ")")
+  list_text : (n : Bool) (a m : List ℕ) → (a ++ (in_word n ++ m)) ++ codes ")" ≡ a ++ (in_word n ++ (m ++ codes ")"))
+  list_text n a m = append_assoc a (in_word n ++ m) (codes ")") ∙ ap (λ (s : List ℕ). a ++ s) (append_assoc (in_word n) m (codes ")"))
 
   pub list_read : (n : Bool) (a : Laid) (s : List Origin → Sql) → Ready q a s → (x : Value) (xs : List Value) (scope : List Origin) (t : List ℕ) (v : List Value)
       → Writes q (l.full_list n a (x ∷ xs) scope) t v → Reads q Tested t v (in_list n (s scope) (x ∷ xs))
   list_read n a s ra x xs scope t v w =
-      before_words (λ p y. Reads q Tested p y (in_list n (s scope) (x ∷ xs))) (under 5 a scope l.param ++ words (l.in_word n) ∷ joined (codes ", ") (listed (beside scope a)) (x ∷ xs)) (codes ")") w
-      (λ p y rest. split (λ p y. Reads q Tested (p ++ codes ")") y (in_list n (s scope) (x ∷ xs))) (under 5 a scope l.param) (words (l.in_word n) ∷ joined (codes ", ") (listed (beside scope a)) (x ∷ xs)) rest
+      before_words (λ p y. Reads q Tested p y (in_list n (s scope) (x ∷ xs))) (under 5 a scope l.param ++ words (in_word n) ∷ joined (codes ", ") (listed (beside scope a)) (x ∷ xs)) (codes ")") w
+      (λ p y rest. split (λ p y. Reads q Tested (p ++ codes ")") y (in_list n (s scope) (x ∷ xs))) (under 5 a scope l.param) (words (in_word n) ∷ joined (codes ", ") (listed (beside scope a)) (x ∷ xs)) rest
       (λ c d u z one past. after_words (λ p y. Reads q Tested ((c ++ p) ++ codes ")") (u ++ y) (in_list n (s scope) (x ∷ xs))) past
-      (λ p others. marks_written q (λ p y. Reads q Tested ((c ++ (l.in_word n ++ p)) ++ codes ")") (u ++ y) (in_list n (s scope) (x ∷ xs))) (beside scope a) x xs p z others
+      (λ p others. marks_written q (λ p y. Reads q Tested ((c ++ (in_word n ++ p)) ++ codes ")") (u ++ y) (in_list n (s scope) (x ∷ xs))) (beside scope a) x xs p z others
       (λ m are. subst (λ p. Reads q Tested p (u ++ x ∷ xs) (in_list n (s scope) (x ∷ xs))) (sym (list_text n c m))
       (g.listed n (to_added (under_read q 5 a s ra (omega arith) scope l.param c u one)) are)))))
 
   -- ---- `between`
 
-  range_text : (n : Bool) (a b c : List ℕ) → (a ++ (l.between_word n ++ b)) ++ (codes " AND " ++ c) ≡ a ++ (between_word n ++ (b ++ (codes " AND " ++ c)))
-  range_text false a b c = append_assoc a (l.between_word false ++ b) (codes " AND " ++ c)
-  range_text true a b c = append_assoc a (l.between_word true ++ b) (codes " AND " ++ c)
+  range_text : (n : Bool) (a b c : List ℕ) → (a ++ (between_word n ++ b)) ++ (codes " AND " ++ c) ≡ a ++ (between_word n ++ (b ++ (codes " AND " ++ c)))
+  range_text n a b c = append_assoc a (between_word n ++ b) (codes " AND " ++ c) ∙ ap (λ (s : List ℕ). a ++ s) (append_assoc (between_word n) b (codes " AND " ++ c))
 
   pub range_read : (n : Bool) (a b c : Laid) (s r p : List Origin → Sql) → Ready q a s → Ready q b r → Ready q c p → (scope : List Origin) (t : List ℕ) (v : List Value)
       → Writes q (l.between_pieces n a b c scope) t v → Reads q Tested t v (between n (s scope) (r scope) (p scope))
   range_read n a b c s r p ra rb rc scope t v w =
       let it : Sql = between n (s scope) (r scope) (p scope) in
-      split (λ m y. Reads q Tested m y it) (under 5 a scope (beside_two scope b c) ++ words (l.between_word n) ∷ under 5 b scope (beside scope a)) (words (codes " AND ") ∷ under 5 c scope (beside scope a)) w
+      split (λ m y. Reads q Tested m y it) (under 5 a scope (beside_two scope b c) ++ words (between_word n) ∷ under 5 b scope (beside scope a)) (words (codes " AND ") ∷ under 5 c scope (beside scope a)) w
       (λ m k y z first last. after_words (λ k z. Reads q Tested (m ++ k) (y ++ z) it) last
-      (λ k last. split (λ m y. Reads q Tested (m ++ (codes " AND " ++ k)) (y ++ z) it) (under 5 a scope (beside_two scope b c)) (words (l.between_word n) ∷ under 5 b scope (beside scope a)) first
+      (λ k last. split (λ m y. Reads q Tested (m ++ (codes " AND " ++ k)) (y ++ z) it) (under 5 a scope (beside_two scope b c)) (words (between_word n) ∷ under 5 b scope (beside scope a)) first
       (λ d e u x one past. after_words (λ e x. Reads q Tested ((d ++ e) ++ (codes " AND " ++ k)) ((u ++ x) ++ z) it) past
       (λ f other. subst (λ m. Reads q Tested m ((u ++ x) ++ z) it) (sym (range_text n d f k))
       (subst (λ y. Reads q Tested (d ++ (between_word n ++ (f ++ (codes " AND " ++ k)))) y it) (sym (append_assoc u x z))

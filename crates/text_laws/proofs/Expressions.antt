@@ -14,6 +14,7 @@ use Rattle.expr_types.proofs.Folds.{bare as known, by_levels}
 use Rattle.sql_semantics.specs.Plain.{name_or}
 use Rattle.sql_text.specs.declared.names.Quoting.{Quoting}
 use Rattle.sql_text.specs.declared.names.Quoting.TheVariants.{Sqlite, Postgresql, Mysql}
+use Rattle.sql_text.specs.Words.{null_word, like_word, ilike_word, in_word, between_word, distinct_word, sqlite_distinct_word}
 use Rattle.sql_text.specs.Written.{Piece, words, value, led, joined}
 use Rattle.sql_expressions.specs.Laid as l
 use Rattle.sql_expressions.specs.Laid.{Laid, laid, laid_level, under, enclosed, two, part, parts, listed, beside, beside_two, before, source_pieces}
@@ -102,8 +103,8 @@ in_alike n {a} {b} s (v ∷ vs) scope =
     let one = joined (codes ", ") (listed (beside scope a)) (v ∷ vs) in
     let other = joined (codes ", ") (listed (beside scope b)) (no_values (v ∷ vs)) in
     let same : Alike one other = list_alike (beside scope a) (v ∷ vs) ∙ ap (λ (base : List ℕ). map bare (joined (codes ", ") (listed base) (no_values (v ∷ vs)))) (beside_is s scope) in
-    both (under 5 a scope l.param ++ words (l.in_word n) ∷ one) (under 5 b scope l.param ++ words (l.in_word n) ∷ other) (words (codes ")") ∷ []) (words (codes ")") ∷ [])
-    (both (under 5 a scope l.param) (under 5 b scope l.param) (words (l.in_word n) ∷ one) (words (l.in_word n) ∷ other) (under_alike 5 s scope l.param l.param refl) (behind (words (l.in_word n)) one other same))
+    both (under 5 a scope l.param ++ words (in_word n) ∷ one) (under 5 b scope l.param ++ words (in_word n) ∷ other) (words (codes ")") ∷ []) (words (codes ")") ∷ [])
+    (both (under 5 a scope l.param) (under 5 b scope l.param) (words (in_word n) ∷ one) (words (in_word n) ∷ other) (under_alike 5 s scope l.param l.param refl) (behind (words (in_word n)) one other same))
     refl
 
 in_level_is : (vs : List Value) → l.in_level vs ≡ l.in_level (no_values vs)
@@ -128,23 +129,23 @@ concat_alike Mysql {a} {b} {c} {d} s r scope = enclosed_alike (codes "concat(") 
 ilike_alike : (q : Quoting) (n : Bool) {a b c d : Laid} → Like a b → Like c d → (scope : List Origin) → Alike (l.ilike_pieces q n a c scope) (l.ilike_pieces q n b d scope)
 ilike_alike Sqlite n {a} {b} {c} {d} s r scope =
     enclosed_alike (codes "lower(") (two 5 5 (l.lower_like_word n) a c scope) (two 5 5 (l.lower_like_word n) b d scope) (two_alike 5 5 (l.lower_like_word n) s r scope)
-ilike_alike Postgresql n s r scope = two_alike 5 5 (l.ilike_word n) s r scope
+ilike_alike Postgresql n s r scope = two_alike 5 5 (ilike_word n) s r scope
 ilike_alike Mysql n {a} {b} {c} {d} s r scope =
     enclosed_alike (codes "lower(") (two 5 5 (l.lower_like_word n) a c scope) (two 5 5 (l.lower_like_word n) b d scope) (two_alike 5 5 (l.lower_like_word n) s r scope)
 
 distinct_alike : (q : Quoting) (n : Bool) {a b c d : Laid} → Like a b → Like c d → (scope : List Origin) → Alike (l.distinct_pieces q n a c scope) (l.distinct_pieces q n b d scope)
-distinct_alike Sqlite n s r scope = two_alike 5 5 (l.sqlite_distinct_word n) s r scope
-distinct_alike Postgresql n s r scope = two_alike 5 5 (l.distinct_word n) s r scope
+distinct_alike Sqlite n s r scope = two_alike 5 5 (sqlite_distinct_word n) s r scope
+distinct_alike Postgresql n s r scope = two_alike 5 5 (distinct_word n) s r scope
 distinct_alike Mysql false {a} {b} {c} {d} s r scope = enclosed_alike (codes "NOT (") (two 5 5 (codes " <=> ") a c scope) (two 5 5 (codes " <=> ") b d scope) (two_alike 5 5 (codes " <=> ") s r scope)
 distinct_alike Mysql true s r scope = two_alike 5 5 (codes " <=> ") s r scope
 
 range_alike : (n : Bool) {a b c d e f : Laid} → Like a b → Like c d → Like e f → (scope : List Origin) → Alike (l.between_pieces n a c e scope) (l.between_pieces n b d f scope)
 range_alike n {a} {b} {c} {d} {e} {f} s r p scope =
-    both (under 5 a scope (beside_two scope c e) ++ words (l.between_word n) ∷ under 5 c scope (beside scope a)) (under 5 b scope (beside_two scope d f) ++ words (l.between_word n) ∷ under 5 d scope (beside scope b))
+    both (under 5 a scope (beside_two scope c e) ++ words (between_word n) ∷ under 5 c scope (beside scope a)) (under 5 b scope (beside_two scope d f) ++ words (between_word n) ∷ under 5 d scope (beside scope b))
     (words (codes " AND ") ∷ under 5 e scope (beside scope a)) (words (codes " AND ") ∷ under 5 f scope (beside scope b))
-    (both (under 5 a scope (beside_two scope c e)) (under 5 b scope (beside_two scope d f)) (words (l.between_word n) ∷ under 5 c scope (beside scope a)) (words (l.between_word n) ∷ under 5 d scope (beside scope b))
+    (both (under 5 a scope (beside_two scope c e)) (under 5 b scope (beside_two scope d f)) (words (between_word n) ∷ under 5 c scope (beside scope a)) (words (between_word n) ∷ under 5 d scope (beside scope b))
     (under_alike 5 s scope (beside_two scope c e) (beside_two scope d f) (beside_two_is r p scope))
-    (behind (words (l.between_word n)) (under 5 c scope (beside scope a)) (under 5 d scope (beside scope b)) (under_alike 5 r scope (beside scope a) (beside scope b) (beside_is s scope))))
+    (behind (words (between_word n)) (under 5 c scope (beside scope a)) (under 5 d scope (beside scope b)) (under_alike 5 r scope (beside scope a) (beside scope b) (beside_is s scope))))
     (behind (words (codes " AND ")) (under 5 e scope (beside scope a)) (under 5 f scope (beside scope b)) (under_alike 5 p scope (beside scope a) (beside scope b) (beside_is s scope)))
 
 exists_alike : (schema : Catalog) (n : Bool) (o : Origin) {a b : Laid} → Like a b → (scope : List Origin) → Alike (l.exists_pieces schema n o a scope) (l.exists_pieces schema n o b scope)
@@ -170,7 +171,7 @@ module _ (q : Quoting) (schema : Catalog) where
     level = refl;
     plain = λ scope. refl;
     pieces = λ scope base.
-        both (under 5 (laid q schema a.0) scope l.param) (under 5 (laid q schema (without a.0)) scope l.param) (words (l.null_word n) ∷ []) (words (l.null_word n) ∷ [])
+        both (under 5 (laid q schema a.0) scope l.param) (under 5 (laid q schema (without a.0)) scope l.param) (words (null_word n) ∷ []) (words (null_word n) ∷ [])
         (under_alike 5 a.1 scope l.param l.param refl) refl;
   }
   level_alike (Expr-F.And ks) = record { level = refl; plain = λ scope. refl; pieces = λ scope base. parts_alike q schema 3 (codes " AND ") scope ks }
@@ -187,7 +188,7 @@ module _ (q : Quoting) (schema : Catalog) where
     pieces = λ scope base. behind (words (codes "-")) (under 8 (laid q schema a.0) scope l.param) (under 8 (laid q schema (without a.0)) scope l.param) (under_alike 8 a.1 scope l.param l.param refl);
   }
   level_alike (Expr-F.Concat a b) = record { level = refl; plain = λ scope. refl; pieces = λ scope base. concat_alike q a.1 b.1 scope }
-  level_alike (Expr-F.Like n a b) = record { level = refl; plain = λ scope. refl; pieces = λ scope base. two_alike 5 5 (l.like_word n) a.1 b.1 scope }
+  level_alike (Expr-F.Like n a b) = record { level = refl; plain = λ scope. refl; pieces = λ scope base. two_alike 5 5 (like_word n) a.1 b.1 scope }
   level_alike (Expr-F.Ilike n a b) = record { level = refl; plain = λ scope. refl; pieces = λ scope base. ilike_alike q n a.1 b.1 scope }
   level_alike (Expr-F.InList n a vs) = record { level = in_level_is vs; plain = λ scope. refl; pieces = λ scope base. in_alike n a.1 vs scope }
   level_alike (Expr-F.Between n a b c) = record { level = refl; plain = λ scope. refl; pieces = λ scope base. range_alike n a.1 b.1 c.1 scope }

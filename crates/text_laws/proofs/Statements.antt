@@ -19,6 +19,7 @@ use Rattle.sql_semantics.specs.Plain.{alone, sources_of}
 use Rattle.sql_text.specs.declared.names.Quoting.{Quoting}
 use Rattle.sql_text.specs.declared.names.Quoting.TheVariants.{Sqlite, Postgresql, Mysql}
 use Rattle.sql_text.specs.Columns.{column_name}
+use Rattle.sql_text.specs.Words.{select_word, join_word}
 use Rattle.sql_text.specs.Written.{Piece, words, value, led, joined}
 use Rattle.sql_expressions.specs.Laid.{Laid, laid, laid_level, under, part, parts, param, source_pieces}
 use Rattle.sql_statements.specs.Bulks as b
@@ -47,7 +48,7 @@ module _ (q : Quoting) (schema : Catalog) where
 
   join_alike : (scope : List Origin) (join : Joined) → Alike (s.join_pieces q schema scope join) (s.join_pieces q schema scope (without_join join))
   join_alike scope join =
-      both (words (s.join_word join.left) ∷ source_pieces schema join.origin) (words (s.join_word join.left) ∷ source_pieces schema join.origin) (words (codes " ON ") ∷ whole q schema scope join.on)
+      both (words (join_word join.left) ∷ source_pieces schema join.origin) (words (join_word join.left) ∷ source_pieces schema join.origin) (words (codes " ON ") ∷ whole q schema scope join.on)
       (words (codes " ON ") ∷ whole q schema scope (without join.on)) refl (behind (words (codes " ON ")) (whole q schema scope join.on) (whole q schema scope (without join.on)) (whole_alike scope join.on))
 
   joins_alike : (before : List Origin) (joins : List Joined) → Alike (s.joins_pieces q schema before joins) (s.joins_pieces q schema before (map without_join joins))
@@ -102,11 +103,11 @@ cut_alike q None (Some offset) = offset_cut q offset
 cut_alike q (Some limit) (Some offset) = both_cut q limit offset
 
 module _ (q : Quoting) (schema : Catalog) where
-  head_alike : (it : Select) (scope : List Origin) → Alike (words (s.select_word it.distinct) ∷ joined (codes ", ") (s.item_pieces q schema scope) it.items)
-      (words (s.select_word it.distinct) ∷ joined (codes ", ") (s.item_pieces q schema scope) (map (λ item. (without item.0, item.1)) it.items))
+  head_alike : (it : Select) (scope : List Origin) → Alike (words (select_word it.distinct) ∷ joined (codes ", ") (s.item_pieces q schema scope) it.items)
+      (words (select_word it.distinct) ∷ joined (codes ", ") (s.item_pieces q schema scope) (map (λ item. (without item.0, item.1)) it.items))
   head_alike it scope =
       let change : Expr × Option (List ℕ) → Expr × Option (List ℕ) = λ item. (without item.0, item.1) in
-      behind (words (s.select_word it.distinct)) (joined (codes ", ") (s.item_pieces q schema scope) it.items) (joined (codes ", ") (s.item_pieces q schema scope) (map change it.items))
+      behind (words (select_word it.distinct)) (joined (codes ", ") (s.item_pieces q schema scope) it.items) (joined (codes ", ") (s.item_pieces q schema scope) (map change it.items))
       (joined_alike (s.item_pieces q schema scope) change (codes ", ") it.items (all_alike (s.item_pieces q schema scope) change (item_alike q schema scope) it.items))
 
   from_alike : (it : Select) → Alike (s.from_pieces q schema it) (s.from_pieces q schema (without_select it))
@@ -131,14 +132,14 @@ module _ (q : Quoting) (schema : Catalog) where
       (cut_alike q it.limit it.offset)
 
   select_at : List Origin → Select → List Piece
-  select_at scope it = (words (s.select_word it.distinct) ∷ joined (codes ", ") (s.item_pieces q schema scope) it.items) ++ s.from_pieces q schema it ++ s.tail_pieces q schema scope it
+  select_at scope it = (words (select_word it.distinct) ∷ joined (codes ", ") (s.item_pieces q schema scope) it.items) ++ s.from_pieces q schema it ++ s.tail_pieces q schema scope it
 
   pub select_alike : (it : Select) → Alike (select_pieces q schema it) (select_pieces q schema (without_select it))
   unfolding select_pieces select_at
   select_alike it =
-      both (s.head_pieces q schema it ++ s.from_pieces q schema it) ((words (s.select_word it.distinct) ∷ joined (codes ", ") (s.item_pieces q schema (sources_of it)) (map (λ item. (without item.0, item.1)) it.items)) ++ s.from_pieces q schema (without_select it))
+      both (s.head_pieces q schema it ++ s.from_pieces q schema it) ((words (select_word it.distinct) ∷ joined (codes ", ") (s.item_pieces q schema (sources_of it)) (map (λ item. (without item.0, item.1)) it.items)) ++ s.from_pieces q schema (without_select it))
       (s.tail_pieces q schema (sources_of it) it) (s.tail_pieces q schema (sources_of it) (without_select it))
-      (both (s.head_pieces q schema it) (words (s.select_word it.distinct) ∷ joined (codes ", ") (s.item_pieces q schema (sources_of it)) (map (λ item. (without item.0, item.1)) it.items))
+      (both (s.head_pieces q schema it) (words (select_word it.distinct) ∷ joined (codes ", ") (s.item_pieces q schema (sources_of it)) (map (λ item. (without item.0, item.1)) it.items))
       (s.from_pieces q schema it) (s.from_pieces q schema (without_select it)) (head_alike it (sources_of it)) (from_alike it))
       (tail_alike it (sources_of it))
       ∙ ap (λ (scope : List Origin). map bare (select_at scope (without_select it))) (ap (λ (os : List Origin). it.first ∷ os) (sym (origins_are it.joins)))

@@ -3,8 +3,9 @@ use Rattle.expr_types.specs.declared.expr.Expr.{Expr}
 use Rattle.expr_types.specs.declared.expr.Origin.{Origin}
 use Rattle.sql_semantics.specs.Plain.{sources_of}
 use Rattle.sql_text.specs.declared.names.Quoting.{Quoting}
+use Rattle.sql_text.specs.Words.{select_word}
 use Rattle.sql_text.specs.Written.{Wrote, words, joined, put_all}
-use Rattle.sql_statements.specs.Selects.{item_pieces, select_word}
+use Rattle.sql_statements.specs.Selects.{item_pieces}
 use Rattle.sql_statements.proofs.Dialect.{wrote_in}
 use Rattle.sql_statements.proofs.selects.head.Goals as goal
 

@@ -1,9 +1,10 @@
 use Rattle.std.proofs.Common.{ℕ, List, [], ◌∷◌, codes, ap, ◌∙◌, subst}
 use Rattle.sql_text.specs.declared.names.Quoting.{Quoting}
+use Rattle.sql_text.specs.Words.{join_word}
 use Rattle.sql_text.specs.Written.{Wrote, words, put_all}
 use Rattle.sql_text.proofs.Behind.{written_behind}
 use Rattle.sql_expressions.specs.Laid.{laid, source_pieces}
-use Rattle.sql_statements.specs.Selects.{join_word, whole}
+use Rattle.sql_statements.specs.Selects.{whole}
 use Rattle.sql_statements.proofs.Dialect.{wrote_in}
 use Rattle.sql_statements.proofs.selects.join.Goals as goal
 
