@@ -12,7 +12,7 @@ use Rattle.class_types.specs.declared.declared.ClassSpec.{ClassSpec}
 use Rattle.class_types.specs.declared.mapped.Relation.{Relation}
 use Rattle.class_layouts.specs.declared.classes.Classes.{Classes}
 use Rattle.class_layouts.specs.declared.layout.Layout.{Layout}
-use Rattle.class_layouts.specs.Columns.{columns_in, named_table}
+use Rattle.class_layouts.specs.Columns.{columns_in, is_table, named_table}
 use Rattle.class_layouts.specs.Faults.{cascade_or_default, foreigns_in, is_bad_cascade, maps_name}
 use Rattle.class_layouts.specs.Hierarchy.{has_class, line_of}
 use Rattle.class_sides.specs.declared.side.Side.{Side}
@@ -25,7 +25,7 @@ use Rattle.class_mapping.specs.Mapped.{IsClass, Mapped, layout_of, relations_of}
 use Rattle.class_mapping.specs.Related.{IsRelated, has_keys, orphans_rightly}
 use Rattle.class_mapping.specs.Valid.{IsValid, covers, covers_both, holds_of, is_covered, is_joined, joins, joins_ends, refers_to_class}
 use Rattle.class_mapping.proofs.Having.{Has, all_from, all_of, none_of, same_names}
-use Rattle.class_mapping.proofs.Lists.{and_every, and_left, and_right}
+use Rattle.class_mapping.proofs.Lists.{and_both, and_every, and_left, and_right}
 use Rattle.class_mapping.proofs.RelatedLemmas.{Came, IsDeclared, back_in, came, declared_partner, has_partner, layout_here, layouts_in, list_for, one_side as one_of, own_in, same_class, side_from, sides_in, some_is, target_declared}
 
 -- ---- tests
@@ -82,8 +82,21 @@ none_not (Some x) h = absurd cc
 
 -- ---- the two keys, as the other side sees them
 
-same_table : (one other : TableId) → (one.0 == other.0) ≡ true → one ≡ other
+pub same_table : (one other : TableId) → (one.0 == other.0) ≡ true → one ≡ other
 same_table one other h = ap (λ (n : ℕ). let table : TableId = record { 0 = n } in table) (eqb-true one.0 other.0 h)
+
+pub one_table : (tables : List TableSpec) (near far : Option Layout) (ends : Ends) → covers_both tables near far ends ≡ true → ends.0.0 ≡ ends.1.0
+one_table tables near far ends h =
+    let a : Bool = ends.0.0.0 == ends.1.0.0 in
+    let b : Bool = is_all_keys (columns_in tables ends.0.0) (foreigns_in tables ends.0.0) in
+    let c : Bool = refers_to_class tables near ends.0 in
+    same_table ends.0.0 ends.1.0 (and_left a b (and_left (a && b) c (and_left (a && b && c) (refers_to_class tables far ends.1) h)))
+
+same_secondaries : (one other : Option (List ℕ)) → same_secondary one other ≡ true → one ≡ other
+same_secondaries None None h = refl
+same_secondaries None (Some other) h = absurd cc
+same_secondaries (Some one) None h = absurd cc
+same_secondaries (Some one) (Some other) h = ap (λ (name : List ℕ). Some name) (same_names one other h)
 
 covers_swapped : (tables : List TableSpec) (near far : Option Layout) (one two : TableKey) → covers_both tables near far (one, two) ≡ true → covers_both tables far near (two, one) ≡ true
 covers_swapped tables near far one two h =
@@ -193,16 +206,27 @@ module _ (mapped : Mapped) (lined : length mapped.classes.lines ≡ length mappe
   plain_found side h plain ends (inr found) =
       found.3 ∙ ap swapped (plain_ends found.0 found.1 (sym (same_first side.spec.secondary found.0.spec.secondary found.2.secondary) ∙ plain))
 
+  pub both_covered : (side : Side) (keys : Ends) → covers tables layouts side keys ≡ true → covers_both tables (layout_at layouts (Some side.class)) (layout_at layouts side.target) keys ≡ true
+  both_covered side keys h = and_right (is_table (named_table tables side.spec.secondary) keys.0.0) (covers_both tables (layout_at layouts (Some side.class)) (layout_at layouts side.target) keys) h
+
+  turned_covers : (side other : Side) → IsDeclared side other → (one two : TableKey) → covers tables layouts other (one, two) ≡ true → covers tables layouts side (two, one) ≡ true
+  turned_covers side other is one two h =
+      let near : Option Layout = layout_at layouts (Some other.class) in
+      let far : Option Layout = layout_at layouts other.target in
+      let both : covers_both tables near far (one, two) ≡ true = both_covered other (one, two) h in
+      and_both (is_table (named_table tables side.spec.secondary) two.0) (covers_both tables (layout_at layouts (Some side.class)) (layout_at layouts side.target) (two, one))
+      (ap (λ (name : Option (List ℕ)). is_table (named_table tables name) two.0) (same_secondaries side.spec.secondary other.spec.secondary is.secondary)
+      ∙ ap (λ (table : TableId). is_table (named_table tables other.spec.secondary) table) (sym (one_table tables near far (one, two) both))
+      ∙ and_left (is_table (named_table tables other.spec.secondary) one.0) (covers_both tables near far (one, two)) h)
+      (ap (λ (o : Option ClassId). covers_both tables (layout_at layouts o) (layout_at layouts side.target) (two, one)) (sym is.back)
+      ∙ ap (λ (o : Option ClassId). covers_both tables far (layout_at layouts o) (two, one)) is.target
+      ∙ covers_swapped tables near far one two both)
+
   pub covered_found : (side : Side) → Has sides side → is_plain side ≡ false → (ends : Option Ends) → Found mapped side ends → (keys : Ends) × (ends ≡ Some keys) × (covers tables layouts side keys ≡ true)
   covered_found side h many ends (inl e) = let keys = covered_ends side h many in (keys.0, e ∙ keys.1, keys.2)
   covered_found side h many ends (inr found) =
-      let keys = covered_ends found.0 found.1 (sym (same_first side.spec.secondary found.0.spec.secondary found.2.secondary) ∙ many) in (
-        (keys.0.1, keys.0.0),
-        found.3 ∙ ap swapped keys.1,
-        ap (λ (o : Option ClassId). covers_both tables (layout_at layouts o) (layout_at layouts side.target) (keys.0.1, keys.0.0)) (sym found.2.back)
-            ∙ ap (λ (o : Option ClassId). covers_both tables (layout_at layouts found.0.target) (layout_at layouts o) (keys.0.1, keys.0.0)) found.2.target
-            ∙ covers_swapped tables (layout_at layouts (Some found.0.class)) (layout_at layouts found.0.target) keys.0.0 keys.0.1 keys.2,
-      )
+      let keys = covered_ends found.0 found.1 (sym (same_first side.spec.secondary found.0.spec.secondary found.2.secondary) ∙ many) in
+      ((keys.0.1, keys.0.0), found.3 ∙ ap swapped keys.1, turned_covers side found.0 found.2 keys.0.0 keys.0.1 keys.2)
 
   -- ---- a declared relationship, and the backref that it makes
 
@@ -242,7 +266,7 @@ module _ (mapped : Mapped) (lined : length mapped.classes.lines ≡ length mappe
   own_keys side h false many =
       let keys = covered_found side h many (ends_on sides side) (found_ends side h) in
       subst (λ (ends : Option Ends). has_keys mapped (own_with side ends) (far_key ends) ≡ true) (sym keys.1)
-      (covers_at mapped (layout_at layouts (Some side.class)) (layout_at layouts side.target) side.class (class_or side.target side.class) keys.0 (near_layout side h) (far_layout side h) keys.2)
+      (covers_at mapped (layout_at layouts (Some side.class)) (layout_at layouts side.target) side.class (class_or side.target side.class) keys.0 (near_layout side h) (far_layout side h) (both_covered side keys.0 keys.2))
 
   back_keys : (side : Side) → Has sides side → (plain : Bool) → is_plain side ≡ plain → has_keys mapped (back_in mapped side) (back_in mapped side).far ≡ true
   back_keys side h true plain =
@@ -251,7 +275,7 @@ module _ (mapped : Mapped) (lined : length mapped.classes.lines ≡ length mappe
       (joins_back mapped side.spec.many side.class (class_or side.target side.class) (join side) (plain_joins side h plain)))
   back_keys side h false many =
       let keys = covered_found side h many (ends_on sides side) (found_ends side h) in
-      let covered = covers_at mapped (layout_at layouts (Some side.class)) (layout_at layouts side.target) side.class (class_or side.target side.class) keys.0 (near_layout side h) (far_layout side h) keys.2 in
+      let covered = covers_at mapped (layout_at layouts (Some side.class)) (layout_at layouts side.target) side.class (class_or side.target side.class) keys.0 (near_layout side h) (far_layout side h) (both_covered side keys.0 keys.2) in
       subst (λ (ends : Option Ends). has_keys mapped (back_with side (is_plain side) ends) (near_key ends) ≡ true) (sym keys.1)
       (covers_swapped tables (Some (layout_of mapped side.class)) (Some (layout_of mapped (class_or side.target side.class))) keys.0.0 keys.0.1 covered)
 

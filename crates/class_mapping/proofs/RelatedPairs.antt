@@ -1,18 +1,22 @@
 -- The pairs of a valid mapping: a foreign key serves one.
-use Rattle.std.proofs.Common.{◌≡◌, ◌⊎◌, inl, inr, ℕ, ◌<◌, Bool, true, false, not, ◌&&◌, ◌||◌, List, [], ◌∷◌, ◌∙◌, length, ap, sym, refl, subst, Option, None, Some, Ok, is_some, is_none, ◌==◌, if◌then◌else◌}
+use Rattle.std.proofs.Common.{◌≡◌, ◌⊎◌, inl, inr, ℕ, ◌<◌, Bool, true, false, not, ◌&&◌, ◌||◌, List, [], ◌∷◌, ◌∙◌, length, get_or, ap, sym, refl, subst, Option, None, Some, Ok, is_some, is_none, ◌==◌, if◌then◌else◌}
 use Rattle.std.specs.Prelude.{find, slice_get}
-use Rattle.std.specs.List.{All, list_any}
+use Rattle.std.specs.List.{All, list_any, position}
 use Rattle.std.proofs.lemmas.Bool.{eq-eqb, eqb-true}
+use Rattle.std.specs.Option.{option_map}
+use Rattle.std.proofs.lemmas.List.Quantifiers.{position-Some}
 use Rattle.std.proofs.lemmas.List.Elements.{All-from_recursion}
 use Rattle.std.proofs.lemmas.Option.{same_Some}
 use Rattle.base_core.specs.declared.ids.ClassId.{ClassId}
+use Rattle.base_core.specs.declared.ids.RelNo.{RelNo}
+use Rattle.base_core.specs.declared.ids.TableId.{TableId}
 use Rattle.schema_core.specs.declared.table.TableSpec.{TableSpec}
 use Rattle.base_core.specs.declared.refusal.ArgumentKind.{ArgumentKind}
-use Rattle.schema_core.specs.Catalog.{Catalog, same_name}
+use Rattle.schema_core.specs.Catalog.{Catalog, no_table, same_name}
 use Rattle.schema_core.specs.Declaration.{resolve, some_two}
 use Rattle.class_types.specs.declared.mapped.Relation.{Relation}
 use Rattle.class_layouts.specs.declared.classes.Classes.{Classes}
-use Rattle.class_layouts.specs.Columns.{layouts_of}
+use Rattle.class_layouts.specs.Columns.{is_table, layouts_of, named_table}
 use Rattle.class_layouts.specs.Faults.{is_bad_cascade}
 use Rattle.class_layouts.specs.declared.layout.Layout.{Layout}
 use Rattle.class_layouts.specs.Hierarchy.{has_class, line_of}
@@ -24,8 +28,8 @@ use Rattle.class_sides.specs.Linking.{ends_on, far_key, far_or, key_or_none, nea
 use Rattle.class_faults.specs.Faults.{mapping_fault}
 use Rattle.class_mapping.specs.Lines.{AreLines}
 use Rattle.class_mapping.specs.Mapped.{IsClass, IsValidMapping, Mapped, relations_of}
-use Rattle.class_mapping.specs.Related.{AreApart, ArePartners, AreRelated, SharesKey, partner_of, share_key}
-use Rattle.class_mapping.specs.Valid.{IsValid, holds_of, is_joined, is_paired, joins_ends}
+use Rattle.class_mapping.specs.Related.{AreApart, ArePartners, AreRelated, SharesKey, partner_of, relation_at, share_key}
+use Rattle.class_mapping.specs.Valid.{IsValid, covers, covers_both, holds_of, is_joined, is_paired, joins_ends}
 use Rattle.class_mapping.proofs.Having.{Has, all_from, all_of, any_has, found_of, has_at, named_alike, none_of, same_names, some_of, true_false}
 use Rattle.class_mapping.proofs.MappingLemmas.{all_found, resolved_is}
 use Rattle.class_mapping.proofs.ValidLemmas.{valid_from}
@@ -33,7 +37,7 @@ use Rattle.base_core.proofs.Tests.{or_first, or_then}
 use Rattle.class_mapping.proofs.Lists.{and_both, and_every, and_left, and_right, or_left, or_right, and_three, three_parts}
 use Rattle.class_mapping.proofs.RelatedLemmas.{Came, IsDeclared, back_in, back_partners, came, declared_partner, layouts_in, list_for, one_side as one_of, own_in, own_partners, side_from, sides_in}
 use Rattle.class_mapping.proofs.RelatedJoins.{join_turned}
-use Rattle.class_mapping.proofs.RelatedKeys.{covered_found, each_related, find_has, found_ends, held, not_none, or_rest, plain_found, same_first, target_is}
+use Rattle.class_mapping.proofs.RelatedKeys.{both_covered, covered_found, each_related, find_has, found_ends, held, not_none, one_table, or_rest, plain_found, same_first, same_table, target_is}
 
 -- ---- two of a list of which no two pass a test
 
@@ -79,6 +83,31 @@ is_none_some (Some y) x e h = absurd cc
 
 of_target_in : (classes : Classes) (o : Option ClassId) (target class : ClassId) → o ≡ Some target → is_of_target classes o class ≡ true → has_class (line_of classes target.0) class.0 ≡ true
 of_target_in classes o target class e h = ap (λ (found : Option ClassId). is_of_target classes found class) (sym e) ∙ h
+
+either_holds : (a b : Bool) → (a || b) ≡ true → (a ≡ true) ⊎ (b ≡ true)
+either_holds true b h = inl refl
+either_holds false b h = inr h
+
+none_some : {A B : Type 0} (o : Option A) → o ≡ None → is_some o ≡ true → B
+none_some None e h = absurd cc
+none_some (Some x) e h = absurd cc
+
+is_found : (o : Option TableId) (table : TableId) → is_table o table ≡ true → o ≡ Some table
+is_found None table h = absurd cc
+is_found (Some found) table h = ap (λ (t : TableId). Some t) (same_table found table h)
+
+placed_at : (o : Option ℕ) (table : TableId) → option_map (λ place. let t : TableId = record { 0 = place } in t) o ≡ Some table → o ≡ Some table.0
+placed_at None table e = absurd cc
+placed_at (Some n) table e = ap (λ (t : TableId). Some t.0) (same_Some (record { 0 = n }) table e)
+
+-- two names of one table are one
+one_named : (tables : List TableSpec) (one other : Option (List ℕ)) (table : TableId) → named_table tables one ≡ Some table → named_table tables other ≡ Some table → same_secondary one other ≡ true
+one_named tables None other table h g = absurd cc
+one_named tables (Some one) None table h g = absurd cc
+one_named tables (Some one) (Some other) table h g =
+    let first = (position-Some (λ (spec : TableSpec). same_name spec.name one) tables table.0 no_table (placed_at (position (λ (spec : TableSpec). same_name spec.name one) tables) table h)).1 in
+    let last = (position-Some (λ (spec : TableSpec). same_name spec.name other) tables table.0 no_table (placed_at (position (λ (spec : TableSpec). same_name spec.name other) tables) table g)).1 in
+    named_alike one other (sym (same_names (get_or tables table.0 no_table).name one first) ∙ same_names (get_or tables table.0 no_table).name other last)
 
 not_true : (b : Bool) → not b ≡ true → b ≡ false
 not_true true h = absurd cc
@@ -217,29 +246,112 @@ module _ (mapped : Mapped) (lined : length mapped.classes.lines ≡ length mappe
   own_only relation side not_back (inl p) = p
   own_only relation side not_back (inr p) = true_false side.spec.backref p.0 not_back
 
-  two_sides_apart : (relation other : Relation) (one : IsOf relation) (two : IsOf other) → join one.side ≡ join two.side
-      → (one.side ≡ two.side) ⊎ ((overlaps tables classes sides two.side one.side ≡ false) ⊎ (overlaps tables classes sides one.side two.side ≡ false)) → Apart relation other
-  two_sides_apart relation other one two same (inl e) =
-      one_side_apart relation other one.side one.has one.is
-      (subst (λ (s : Side). (own_in mapped s ≡ other) ⊎ ((s.spec.backref ≡ true) × (back_in mapped s ≡ other))) (sym e) two.is)
-  two_sides_apart relation other one two same (inr (inl h)) =
-      let named = not_shared (names_each_other classes one.side two.side) (shares tables classes sides one.side two.side) h (shares_key one.side two.side one.has two.has one.plain two.plain same) in
-      let are = named_partners one.side two.side one.has two.has named in
-      inr (ap (partner_of mapped) (sym (own_only relation one.side are.0 one.is)) ∙ are.2.there ∙ ap (λ (r : Relation). Some r) (own_only other two.side are.1 two.is))
-  two_sides_apart relation other one two same (inr (inr h)) =
-      let named = not_shared (names_each_other classes two.side one.side) (shares tables classes sides two.side one.side) h (shares_key two.side one.side two.has one.has two.plain one.plain (sym same)) in
-      let are = named_partners two.side one.side two.has one.has named in
-      inr (ap (partner_of mapped) (sym (own_only relation one.side are.1 one.is)) ∙ are.2.back ∙ ap (λ (r : Relation). Some r) (own_only other two.side are.0 two.is))
+  abbrev IsSideOf : Side → Relation → Type 0
+  IsSideOf side relation = (own_in mapped side ≡ relation) ⊎ ((side.spec.backref ≡ true) × (back_in mapped side ≡ relation))
+
+  two_sides_apart : (relation other : Relation) (one two : Side) → Has sides one → Has sides two → IsSideOf one relation → IsSideOf two other
+      → shares tables classes sides one two ≡ true → shares tables classes sides two one ≡ true
+      → (one ≡ two) ⊎ ((overlaps tables classes sides two one ≡ false) ⊎ (overlaps tables classes sides one two ≡ false)) → Apart relation other
+  two_sides_apart relation other one two h g is was first last (inl e) =
+      one_side_apart relation other one h is (subst (λ (s : Side). IsSideOf s other) (sym e) was)
+  two_sides_apart relation other one two h g is was first last (inr (inl bare)) =
+      let are = named_partners one two h g (not_shared (names_each_other classes one two) (shares tables classes sides one two) bare first) in
+      inr (ap (partner_of mapped) (sym (own_only relation one are.0 is)) ∙ are.2.there ∙ ap (λ (r : Relation). Some r) (own_only other two are.1 was))
+  two_sides_apart relation other one two h g is was first last (inr (inr bare)) =
+      let are = named_partners two one g h (not_shared (names_each_other classes two one) (shares tables classes sides two one) bare last) in
+      inr (ap (partner_of mapped) (sym (own_only relation one are.1 is)) ∙ are.2.back ∙ ap (λ (r : Relation). Some r) (own_only other two are.0 was))
+
+  -- a relationship over a secondary table is of a side that names the table
+  record IsAcross (relation : Relation) : Type 0 where
+    pub side : Side
+    pub has : Has sides side
+    pub many : is_plain side ≡ false
+    pub table : is_table (named_table tables side.spec.secondary) relation.foreign.0 ≡ true
+    pub is : IsSideOf side relation
+
+  own_across : (relation : Relation) (side : Side) → Has sides side → own_in mapped side ≡ relation → is_some relation.far ≡ true → (plain : Bool) → is_plain side ≡ plain → IsAcross relation
+  own_across relation side h is far true plain =
+      let none = plain_found mapped lined lines valid side h plain (ends_on sides side) (found_ends mapped lined lines valid side h) in
+      none_some relation.far (ap (λ (r : Relation). r.far) (sym is) ∙ ap far_key none) far
+  own_across relation side h is far false many =
+      let keys = covered_found mapped lined lines valid side h many (ends_on sides side) (found_ends mapped lined lines valid side h) in
+      let foreign : relation.foreign ≡ keys.0.0 = ap (λ (r : Relation). r.foreign) (sym is) ∙ ap (λ (ends : Option Ends). near_or ends (join side)) keys.1 in
+      record {
+        side = side;
+        has = h;
+        many = many;
+        table = ap (λ (key : TableKey). is_table (named_table tables side.spec.secondary) key.0) foreign ∙ named_first side keys.0 keys.2;
+        is = inl is;
+      }
+    where
+      named_first : (side : Side) (keys : Ends) → covers tables layouts side keys ≡ true → is_table (named_table tables side.spec.secondary) keys.0.0 ≡ true
+      named_first side keys h = and_left (is_table (named_table tables side.spec.secondary) keys.0.0) (covers_both tables (layout_at layouts (Some side.class)) (layout_at layouts side.target) keys) h
+
+  back_across : (relation : Relation) (side : Side) → Has sides side → side.spec.backref ≡ true → back_in mapped side ≡ relation → is_some relation.far ≡ true → (plain : Bool) → is_plain side ≡ plain → IsAcross relation
+  back_across relation side h backref is far true plain =
+      let none = plain_found mapped lined lines valid side h plain (ends_on sides side) (found_ends mapped lined lines valid side h) in
+      none_some relation.far (ap (λ (r : Relation). r.far) (sym is) ∙ ap near_key none) far
+  back_across relation side h backref is far false many =
+      let keys = covered_found mapped lined lines valid side h many (ends_on sides side) (found_ends mapped lined lines valid side h) in
+      let foreign : relation.foreign ≡ keys.0.1 = ap (λ (r : Relation). r.foreign) (sym is) ∙ ap (λ (ends : Option Ends). far_or ends (join side)) keys.1 in
+      record {
+        side = side;
+        has = h;
+        many = many;
+        table = ap (λ (key : TableKey). is_table (named_table tables side.spec.secondary) key.0) foreign ∙ named_second side keys.0 keys.2;
+        is = inr (backref, is);
+      }
+    where
+      named_second : (side : Side) (keys : Ends) → covers tables layouts side keys ≡ true → is_table (named_table tables side.spec.secondary) keys.1.0 ≡ true
+      named_second side keys h =
+          ap (λ (table : TableId). is_table (named_table tables side.spec.secondary) table)
+          (sym (one_table tables (layout_at layouts (Some side.class)) (layout_at layouts side.target) keys (both_covered mapped lined lines valid side keys h)))
+          ∙ and_left (is_table (named_table tables side.spec.secondary) keys.0.0) (covers_both tables (layout_at layouts (Some side.class)) (layout_at layouts side.target) keys) h
+
+  is_across : (line : List ClassId) (relation : Relation) → Came mapped line relation → is_some relation.far ≡ true → IsAcross relation
+  is_across line relation (inl found) far = own_across relation found.0 found.1 found.3 far (is_plain found.0) refl
+  is_across line relation (inr found) far = back_across relation found.0 found.1 found.2 found.4 far (is_plain found.0) refl
+
+  shares_table : (one two : Side) → same_secondary one.spec.secondary two.spec.secondary ≡ true → is_plain one ≡ false → shares tables classes sides one two ≡ true
+  shares_table one two same many =
+      and_both (same_secondary one.spec.secondary two.spec.secondary) (is_some one.spec.secondary || is_served_by tables classes sides (join_of tables classes sides one) two) same
+      (or_first (is_some one.spec.secondary) (is_served_by tables classes sides (join_of tables classes sides one) two) (not_none one.spec.secondary many))
+
+  keys_apart : (relation other : Relation) → IsOf relation → IsOf other → relation.foreign ≡ other.foreign → Apart relation other
+  keys_apart relation other first last key =
+      let same : join first.side ≡ join last.side = sym first.key ∙ key ∙ last.key in
+      two_sides_apart relation other first.side last.side first.has last.has first.is last.is
+      (shares_key first.side last.side first.has last.has first.plain last.plain same)
+      (shares_key last.side first.side last.has first.has last.plain first.plain (sym same))
+      (two_apart (overlaps tables classes sides) sides first.side last.side valid.apart first.has last.has)
+
+  tables_apart : (relation other : Relation) → IsAcross relation → IsAcross other → relation.foreign.0 ≡ other.foreign.0 → Apart relation other
+  tables_apart relation other first last table =
+      let one = is_found (named_table tables first.side.spec.secondary) relation.foreign.0 first.table ∙ ap (λ (t : TableId). Some t) table in
+      let two = is_found (named_table tables last.side.spec.secondary) other.foreign.0 last.table in
+      two_sides_apart relation other first.side last.side first.has last.has first.is last.is
+      (shares_table first.side last.side (one_named tables first.side.spec.secondary last.side.spec.secondary other.foreign.0 one two) first.many)
+      (shares_table last.side first.side (one_named tables last.side.spec.secondary first.side.spec.secondary other.foreign.0 two one) last.many)
+      (two_apart (overlaps tables classes sides) sides first.side last.side valid.apart first.has last.has)
+
+  either_apart : (relation other : Relation) (one two : List ClassId) → Came mapped one relation → Came mapped two other
+      → ((is_none relation.far && is_none other.far && same_key relation.foreign other.foreign) ≡ true) ⊎ ((is_some relation.far && is_some other.far && (relation.foreign.0.0 == other.foreign.0.0)) ≡ true) → Apart relation other
+  either_apart relation other one two first last (inl h) =
+      three_parts (is_none relation.far) (is_none other.far) (same_key relation.foreign other.foreign) h
+      (λ near close shared. keys_apart relation other (is_of one relation first near) (is_of two other last close) (same_keys relation.foreign other.foreign shared))
+  either_apart relation other one two first last (inr h) =
+      three_parts (is_some relation.far) (is_some other.far) (relation.foreign.0.0 == other.foreign.0.0) h
+      (λ far away shared. tables_apart relation other (is_across one relation first far) (is_across two other last away) (same_table relation.foreign.0 other.foreign.0 shared))
+
+  came_from : (class : ClassId) (place : RelNo) (relation : Relation) → IsClass mapped class → relation_at mapped class place ≡ Some relation → Came mapped (line_of classes class.0) relation
+  came_from class place relation less here =
+      came mapped lined lines (line_of classes class.0) relation
+      (has_at _ place.0 relation (ap (λ (list : List Relation). slice_get list place.0) (sym (list_for mapped lined lines class less)) ∙ here))
 
   pub are_apart : AreApart mapped
   are_apart class place relation less here second next other within there one =
-      three_parts (is_none relation.far) (is_none other.far) (same_key relation.foreign other.foreign) one
-      (λ near close shared.
-      let first = is_of (line_of classes class.0) relation (came mapped lined lines (line_of classes class.0) relation (has_at _ place.0 relation (ap (λ (list : List Relation). slice_get list place.0) (sym (list_for mapped lined lines class less)) ∙ here))) near in
-      let last = is_of (line_of classes second.0) other (came mapped lined lines (line_of classes second.0) other (has_at _ next.0 other (ap (λ (list : List Relation). slice_get list next.0) (sym (list_for mapped lined lines second within)) ∙ there))) close in
-      let key = same_keys relation.foreign other.foreign shared in
-      two_sides_apart relation other first last (sym first.key ∙ key ∙ last.key)
-      (two_apart (overlaps tables classes sides) sides first.side last.side valid.apart first.has last.has))
+      either_apart relation other (line_of classes class.0) (line_of classes second.0) (came_from class place relation less here) (came_from second next other within there)
+      (either_holds (is_none relation.far && is_none other.far && same_key relation.foreign other.foreign) (is_some relation.far && is_some other.far && (relation.foreign.0.0 == other.foreign.0.0)) one)
 
   -- ---- the key of two partners
 

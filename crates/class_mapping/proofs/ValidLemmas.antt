@@ -17,7 +17,7 @@ use Rattle.class_types.specs.declared.declared.RelationSpec.{RelationSpec}
 use Rattle.class_layouts.specs.declared.classes.Classes.{Classes}
 use Rattle.class_layouts.specs.declared.layout.Layout.{Layout}
 use Rattle.class_layouts.specs.Hierarchy.{line_of}
-use Rattle.class_layouts.specs.Columns.{columns_in, named_table}
+use Rattle.class_layouts.specs.Columns.{columns_in, is_table, named_table}
 use Rattle.class_layouts.specs.Faults.{foreigns_in, is_bad_cascade, maps_name}
 use Rattle.class_sides.specs.declared.side.Side.{Side}
 use Rattle.class_sides.specs.Keys.{allows, columns_at, is_inherited, is_tied, refers_into}
@@ -100,8 +100,12 @@ either_join false tables named own target = candidates_join tables named own tar
 
 -- ---- the keys of secondary tables
 
-abbrev fine : List TableSpec → Option Layout → Option Layout → Option Ends → Bool
-fine tables near far ends = is_none ends || holds_of (covers_both tables near far) ends
+-- they are of the table that is named
+abbrev covers_of : List TableSpec → Option TableId → Option Layout → Option Layout → Ends → Bool
+covers_of tables table near far ends = is_table table ends.0.0 && covers_both tables near far ends
+
+abbrev fine : List TableSpec → Option TableId → Option Layout → Option Layout → Option Ends → Bool
+fine tables table near far ends = is_none ends || holds_of (covers_of tables table near far) ends
 
 first_covers : (tables : List TableSpec) (table : TableId) (near far : Layout) (one two : ForeignSpec) → foreigns_in tables table ≡ one ∷ two ∷ []
     → is_all_keys (columns_in tables table) (one ∷ two ∷ []) ≡ true → refers_into tables one near.tables ≡ true → refers_into tables two far.tables ≡ true
@@ -144,28 +148,28 @@ unless_mapped true good found h = refl
 unless_mapped false good found h = h
 
 among_covers : (tables : List TableSpec) (table : TableId) (near far : Layout) (foreigns : List ForeignSpec) → foreigns_in tables table ≡ foreigns
-    → fine tables (Some near) (Some far) (ends_among tables table foreigns near.tables far.tables) ≡ true
+    → fine tables (Some table) (Some near) (Some far) (ends_among tables table foreigns near.tables far.tables) ≡ true
 among_covers tables table near far [] e = refl
 among_covers tables table near far (one ∷ []) e = refl
 among_covers tables table near far (one ∷ two ∷ three ∷ more) e = refl
 among_covers tables table near far (one ∷ two ∷ []) e =
-    guarded (is_all_keys (columns_in tables table) (one ∷ two ∷ [])) _ (covers_both tables (Some near) (Some far)) (ends_by tables table one two near.tables far.tables)
+    guarded (is_all_keys (columns_in tables table) (one ∷ two ∷ [])) _ (covers_of tables (Some table) (Some near) (Some far)) (ends_by tables table one two near.tables far.tables)
     (λ all.
     chosen (refers_into tables one near.tables) (refers_into tables two far.tables) (refers_into tables two near.tables) (refers_into tables one far.tables)
-    (covers_both tables (Some near) (Some far)) ((table, 0), (table, 1)) ((table, 1), (table, 0))
-    (λ p q. first_covers tables table near far one two e all p q)
-    (λ p q. second_covers tables table near far one two e all p q))
+    (covers_of tables (Some table) (Some near) (Some far)) ((table, 0), (table, 1)) ((table, 1), (table, 0))
+    (λ p q. and_both _ _ (nat_eq_equiv.refl table.0) (first_covers tables table near far one two e all p q))
+    (λ p q. and_both _ _ (nat_eq_equiv.refl table.0) (second_covers tables table near far one two e all p q)))
 
-in_covers : (tables : List TableSpec) (table : Option TableId) (near far : Option Layout) → fine tables near far (ends_in tables table near far) ≡ true
+in_covers : (tables : List TableSpec) (table : Option TableId) (near far : Option Layout) → fine tables table near far (ends_in tables table near far) ≡ true
 in_covers tables None near far = refl
 in_covers tables (Some table) None far = refl
 in_covers tables (Some table) (Some near) None = refl
 in_covers tables (Some table) (Some near) (Some far) = among_covers tables table near far (foreigns_in tables table) refl
 
 ends_cover : (tables : List TableSpec) (specs : List ClassSpec) (secondary : Option (List ℕ)) (table : Option TableId) (near far : Option Layout)
-    → fine tables near far (if maps_name specs secondary then None else ends_in tables table near far) ≡ true
+    → fine tables table near far (if maps_name specs secondary then None else ends_in tables table near far) ≡ true
 ends_cover tables specs secondary table near far =
-    unless_mapped (maps_name specs secondary) (covers_both tables near far) (ends_in tables table near far) (in_covers tables table near far)
+    unless_mapped (maps_name specs secondary) (covers_of tables table near far) (ends_in tables table near far) (in_covers tables table near far)
 
 -- ---- all declared relationships
 

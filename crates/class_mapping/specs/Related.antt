@@ -1,5 +1,5 @@
 -- What the relationships of the classes of a configured mapping have, for the layers above.
-use Rattle.std.specs.Prelude.{◌≡◌, ◌⊎◌, Bool, true, not, ◌&&◌, ◌||◌, slice_get, Option, None, Some, is_none, is_some, if◌then◌else◌}
+use Rattle.std.specs.Prelude.{◌≡◌, ◌⊎◌, ◌==◌, Bool, true, not, ◌&&◌, ◌||◌, slice_get, Option, None, Some, is_none, is_some, if◌then◌else◌}
 use Rattle.std.specs.List.{All}
 use Rattle.base_core.specs.declared.ids.ClassId.{ClassId}
 use Rattle.base_core.specs.declared.ids.RelNo.{RelNo}
@@ -62,11 +62,13 @@ share_key relation other =
 abbrev pub SharesKey : Mapped → Relation → Type 0
 SharesKey mapped relation = (other : Relation) → partner_of mapped relation ≡ Some other → share_key relation other ≡ true
 
--- neither has a secondary table, and both have one foreign key
+-- neither has a secondary table and both have one foreign key, or both have one secondary table
 abbrev pub have_one_key : Relation → Relation → Bool
-have_one_key relation other = is_none relation.far && is_none other.far && same_key relation.foreign other.foreign
+have_one_key relation other =
+    (is_none relation.far && is_none other.far && same_key relation.foreign other.foreign)
+    || (is_some relation.far && is_some other.far && (relation.foreign.0.0 == other.foreign.0.0))
 
--- a foreign key serves one pair: of two relationships that have it one is the other's partner
+-- a foreign key or a secondary table serves one pair: of two relationships that have it one is the other's partner
 abbrev pub AreApart : Mapped → Type 0
 AreApart mapped =
     (class : ClassId) (place : RelNo) (relation : Relation) → IsClass mapped class → relation_at mapped class place ≡ Some relation

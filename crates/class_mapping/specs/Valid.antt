@@ -9,7 +9,7 @@ use Rattle.class_types.specs.declared.declared.ClassSpec.{ClassSpec}
 use Rattle.class_layouts.specs.declared.classes.Classes.{Classes}
 use Rattle.class_layouts.specs.declared.layout.Layout.{Layout}
 use Rattle.class_layouts.specs.Hierarchy.{line_of}
-use Rattle.class_layouts.specs.Columns.{columns_in}
+use Rattle.class_layouts.specs.Columns.{columns_in, is_table, named_table}
 use Rattle.class_layouts.specs.Faults.{foreigns_in, is_bad_cascade}
 use Rattle.class_sides.specs.declared.side.Side.{Side}
 use Rattle.class_sides.specs.Keys.{TableKey, foreign_at, is_tied, names_of, refers_into}
@@ -63,9 +63,11 @@ covers_both tables near far ends =
     && refers_to_class tables near ends.0
     && refers_to_class tables far ends.1
 
--- so are the keys of a side's secondary table, the first to the side's class, the second to the target
+-- so are the keys of a side's secondary table, the one that it names: the first to the side's class, the second to the target
 abbrev pub covers : List TableSpec → List Layout → Side → Ends → Bool
-covers tables layouts side ends = covers_both tables (layout_at layouts (Some side.class)) (layout_at layouts side.target) ends
+covers tables layouts side ends =
+    is_table (named_table tables side.spec.secondary) ends.0.0
+    && covers_both tables (layout_at layouts (Some side.class)) (layout_at layouts side.target) ends
 
 -- a side with a secondary table has such keys
 abbrev pub is_covered : List TableSpec → List Layout → Side → Bool
