@@ -7,6 +7,12 @@
 //! `!`, and its relationships: the name, `*` for a collection, the target's number and the partner's place there, the
 //! foreign key's table and number, with a secondary table its other key, and the first letters of the flags (`d` and `o` for
 //! delete and delete-orphan, `p` for post_update).
+//!
+//! Lines 1 to 48 are blocks of classes: each kind of their faults alone, and beside the next kind. Lines 49 to 103 are the kinds
+//! that `configure` refuses for, with what is just allowed beside them: tables and hierarchies to 64, secondary tables to 72, the
+//! keys of pairs to 80, pairs that share one to 83, partners and backrefs to 96, flags to 103. Lines 104 to 110 are classes that
+//! lead to themselves, 111 to 116 keys of two columns, 117 to 123 and 133 relationships of parts of a hierarchy, 124 to 132 two
+//! neighbouring kinds together, 134 a backref whose name is taken two classes below.
 #![tactic(auto)]
 
 mod play;
