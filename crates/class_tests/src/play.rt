@@ -1,80 +1,14 @@
 //! Plays a line of declarations.
 
 use crate::told::told;
-use base_core::{ListOf, Refusal};
+use base_core::Refusal;
 use class_mapping::Mapping;
 use class_types::{ClassSpec, Hooks};
 use schema_core::TableSpec;
 use script_read::read_line;
 use script_types::{Command, Inside};
+use shell_parts::Declared;
 use std::alloc::{AllocError, Global};
-use std::mem::{self, drop};
-
-/// The block that is open.
-#[derive(Drop)]
-enum Open {
-    Nothing,
-    Table(TableSpec),
-    Class(ClassSpec),
-}
-
-/// What a line outside every block opens.
-fn opened(alloc: Global, head: Command) -> Open {
-    match head {
-        Command::TableHead(name) => Open::Table(TableSpec {
-            name,
-            columns: ListOf::new(alloc),
-            uniques: ListOf::new(alloc),
-            foreigns: ListOf::new(alloc),
-        }),
-        Command::ClassHead {
-            name,
-            base,
-            table,
-            discriminator,
-            identity,
-            owned,
-        } => Open::Class(ClassSpec {
-            name,
-            base,
-            table,
-            discriminator,
-            identity,
-            owned,
-            relations: ListOf::new(alloc),
-            validators: ListOf::new(alloc),
-        }),
-        other => {
-            drop(other);
-            Open::Nothing
-        }
-    }
-}
-
-/// Takes a line of a block of a table.
-fn take_column(spec: &mut TableSpec, line: Command) -> Result<(), Refusal> {
-    match line {
-        Command::ColumnLine(column) => spec.columns.push(column),
-        Command::UniqueLine(columns) => spec.uniques.push(columns),
-        Command::ForeignLine(foreign) => spec.foreigns.push(foreign),
-        other => {
-            drop(other);
-            Ok(())
-        }
-    }
-}
-
-/// Takes a line of a block of a class.
-fn take_relation(spec: &mut ClassSpec, line: Command) -> Result<(), Refusal> {
-    match line {
-        Command::RelationLine(relation) => spec.relations.push(relation),
-        Command::ValidateLine(attribute, hook) => spec.validators.push((attribute, hook)),
-        other => {
-            drop(other);
-            Ok(())
-        }
-    }
-}
 
 /// A space goes between two things that are said.
 fn space(line: &mut String) -> Result<(), AllocError> {
@@ -140,35 +74,34 @@ fn close(alloc: Global, mapping: &mut Mapping, line: &mut String) -> Result<(), 
 struct Player {
     alloc: Global,
     mapping: Mapping,
-    open: Open,
+    /// What the open block has declared so far.
+    open: Option<Declared>,
 }
 
 impl Player {
     /// The end of the block that is open.
     fn end(&mut self, hooks: &Hooks) -> Result<(), Refusal> {
-        match mem::replace(&mut self.open, Open::Nothing) {
-            Open::Nothing => Ok(()),
-            Open::Table(spec) => declare_table(&mut self.mapping, spec),
-            Open::Class(spec) => declare_class(&mut self.mapping, hooks, spec),
+        match self.open.take() {
+            None => Ok(()),
+            Some(Declared::Table(spec)) => declare_table(&mut self.mapping, spec),
+            Some(Declared::Class(spec)) => declare_class(&mut self.mapping, hooks, spec),
         }
     }
 
     /// Against which forms a line is read.
     fn inside(&self) -> Inside {
-        match self.open {
-            Open::Nothing => Inside::Top,
-            Open::Table(_) => Inside::Table,
-            Open::Class(_) => Inside::Class,
+        match &self.open {
+            None => Inside::Top,
+            Some(declared) => declared.inside(),
         }
     }
 
     /// Takes a line other than `end` and `configure`.
     fn take(&mut self, line: Command) -> Result<(), Refusal> {
         match &mut self.open {
-            Open::Table(spec) => take_column(spec, line),
-            Open::Class(spec) => take_relation(spec, line),
-            Open::Nothing => {
-                self.open = opened(self.alloc, line);
+            Some(declared) => declared.take(line),
+            None => {
+                self.open = Some(Declared::of_head(self.alloc, line)?);
                 Ok(())
             }
         }
@@ -213,7 +146,7 @@ pub(crate) fn answer(alloc: Global, hooks: &Hooks, lines: &str) -> Result<String
     let mut player = Player {
         alloc,
         mapping: Mapping::new(alloc),
-        open: Open::Nothing,
+        open: None,
     };
     match player.play(hooks, lines, &mut said) {
         Ok(()) => Ok(said),
