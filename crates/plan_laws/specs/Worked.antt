@@ -62,14 +62,17 @@ nodes = record {
 abbrev pub schema : Catalog
 schema = record { tables = widgets ∷ entries ∷ nodes ∷ []; resolved = true }
 
+abbrev pub table_numbered : ℕ → TableId
+table_numbered number = record { 0 = number }
+
 abbrev pub of_widgets : TableId
-of_widgets = record { 0 = 0 }
+of_widgets = table_numbered 0
 
 abbrev pub of_entries : TableId
-of_entries = record { 0 = 1 }
+of_entries = table_numbered 1
 
 abbrev pub of_nodes : TableId
-of_nodes = record { 0 = 2 }
+of_nodes = table_numbered 2
 
 abbrev pub int : ℕ → Value
 int n = value.Int (pos n)

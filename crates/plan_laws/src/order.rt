@@ -29,8 +29,9 @@ pub fn runs_are_whole()
 pub fn runs_are_longest()
     ensures holds { (schema : Catalog) (changes : RowChanges) (order : List ℕ)
         → AreRuns schema changes order (runs schema changes order) }
-    ensures only { (schema : Catalog) (changes : RowChanges) (order : List ℕ) (parts : List (List ℕ))
-        → AreRuns schema changes order parts → parts ≡ runs schema changes order }
+    ensures only { (schema : Catalog) (changes : RowChanges) (order : List ℕ)
+        (parts : List (List ℕ)) → AreRuns schema changes order parts
+        → parts ≡ runs schema changes order }
 {}
 
 /// The numbers of items by table and key are those of all items, but where some have one table and key: then that of the
