@@ -1,4 +1,5 @@
 mod Behind
 pub mod Declared
 mod Pairs
+mod Updates
 pub mod Refused
