@@ -1,0 +1,304 @@
+//! Plays the acts of a line.
+
+ghost use Rattle.std.specs.Prelude.{◌≡◌, ◌<◌, true};
+ghost use Rattle.class_mapping.specs.Mapped.{IsClass};
+ghost use Rattle.object_arena.specs.Fit.{IsFit};
+ghost use Rattle.object_arena.specs.Graph.{IsObject};
+ghost use Rattle.relations.specs.Mirror.{is_unloaded, link_at};
+
+use crate::fits::{key_fits, link_fits};
+use crate::told::told;
+use base_core::{AttrNo, ClassId, Key, ListOf, ObjId, ObjList, Refusal, RelNo, Value};
+use class_mapping::Mapping;
+use object_arena::{Arena, Cell, Link, State};
+use relations::{append, remove, set_one};
+use std::alloc::Global;
+
+/// The byte at a place, or 0.
+fn byte_at(act: &[u8], place: usize) -> u8 {
+    match act.get(place) {
+        Some(byte) => *byte,
+        None => 0,
+    }
+}
+
+/// The digit at a place, or 0.
+fn digit_at(act: &[u8], place: usize) -> u32
+    ensures { result < 10 }
+{
+    digit(byte_at(act, place))
+}
+
+fn digit(byte: u8) -> u32
+    ensures { result < 10 }
+{
+    if byte < b'0' || b'9' < byte {
+        return 0;
+    }
+    u32::from(byte - b'0')
+}
+
+/// The digits from a place on, up to another byte.
+fn objects_from(alloc: Global, act: &[u8], place: usize) -> Result<ObjList, Refusal> {
+    let mut objects = ListOf::new(alloc);
+    for byte in act.iter().skip(place) {
+        if digit(*byte) == 0 {
+            return Ok(objects);
+        }
+        objects.push(ObjId(digit(*byte)))?;
+    }
+    Ok(objects)
+}
+
+/// The digits behind the slash.
+fn objects_behind(alloc: Global, act: &[u8]) -> Result<ObjList, Refusal> {
+    match act.iter().position(|byte| *byte == b'/') {
+        Some(place) => objects_from(alloc, act, place + 1),
+        None => Ok(ListOf::new(alloc)),
+    }
+}
+
+fn key_from(alloc: Global, act: &[u8]) -> Result<Key, Refusal> {
+    let mut key = ListOf::new(alloc);
+    for byte in act.iter().skip(2) {
+        key.push(Value::Int(i64::from(digit(*byte))))?;
+    }
+    Ok(key)
+}
+
+fn is_made(arena: &Arena, object: ObjId) -> bool
+    ensures { result ≡ true → IsObject arena.now object }
+{
+    0 < object.0 && object.0 <= arena.count()
+}
+
+fn make(mapping: &Mapping, arena: &mut Arena, act: &[u8]) -> Result<(), Refusal>
+    requires configured { mapping.now.configured ≡ true }
+    requires fit { IsFit mapping.now arena.old }
+    ensures { IsFit mapping.now arena.new }
+{
+    let class = ClassId(digit_at(act, 1));
+    if class.0 >= mapping.count() {
+        return Err(Refusal::NotBuilt);
+    }
+    arena.make(mapping, class)?;
+    Ok(())
+}
+
+fn register(alloc: Global, mapping: &Mapping, arena: &mut Arena, act: &[u8]) -> Result<(), Refusal>
+    requires configured { mapping.now.configured ≡ true }
+    requires fit { IsFit mapping.now arena.old }
+    ensures { IsFit mapping.now arena.new }
+{
+    let object = ObjId(digit_at(act, 1));
+    if !is_made(arena, object) {
+        return Err(Refusal::NotBuilt);
+    }
+    let key = key_from(alloc, act)?;
+    if !key_fits(mapping, arena.object(object).class, &key) {
+        return Err(Refusal::NotBuilt);
+    }
+    arena.register(object, key)
+}
+
+fn put_state(arena: &mut Arena, mapping: &Mapping, act: &[u8]) -> Result<(), Refusal>
+    requires fit { IsFit mapping.now arena.old }
+    ensures { IsFit mapping.now arena.new }
+{
+    let object = ObjId(digit_at(act, 1));
+    if !is_made(arena, object) {
+        return Err(Refusal::NotBuilt);
+    }
+    let known = arena.object(object).identity.is_some();
+    match byte_at(act, 2) {
+        b'p' => arena.put_state(object, State::Pending),
+        b'd' if known => arena.put_state(object, State::Detached),
+        b'e' if known => arena.put_state(object, State::Deleted),
+        _ => Err(Refusal::NotBuilt),
+    }
+}
+
+fn make_orphan(arena: &mut Arena, mapping: &Mapping, act: &[u8]) -> Result<(), Refusal>
+    requires fit { IsFit mapping.now arena.old }
+    ensures { IsFit mapping.now arena.new }
+{
+    let object = ObjId(digit_at(act, 1));
+    if !is_made(arena, object) {
+        return Err(Refusal::NotBuilt);
+    }
+    arena.put_marks(object, 0, false, true)
+}
+
+/// Puts a digit into a cell, or expires it.
+fn put_cell(
+    arena: &mut Arena,
+    mapping: &Mapping,
+    act: &[u8],
+    value: Option<Value>,
+) -> Result<(), Refusal>
+    requires configured { mapping.now.configured ≡ true }
+    requires fit { IsFit mapping.now arena.old }
+    ensures { IsFit mapping.now arena.new }
+{
+    let object = ObjId(digit_at(act, 1));
+    let attr = AttrNo(digit_at(act, 2));
+    if !is_made(arena, object) || attr.0 as usize >= arena.object(object).cells.len() {
+        return Err(Refusal::NotBuilt);
+    }
+    match value {
+        Some(value) => arena.set_cell(mapping, object, attr, value),
+        None => {
+            let expired = Cell {
+                value: None,
+                base: None,
+            };
+            arena.put_cell(object, attr, expired)
+        }
+    }
+}
+
+/// The end that a digit gives: an object, or none.
+fn end_at(act: &[u8], place: usize) -> Option<ObjId> {
+    match digit_at(act, place) {
+        0 => None,
+        number => Some(ObjId(number)),
+    }
+}
+
+/// The link that an act puts in.
+fn link_of(alloc: Global, act: &[u8]) -> Result<Link, Refusal> {
+    match byte_at(act, 0) {
+        b'e' => Ok(Link::One {
+            end: end_at(act, 3),
+            changed: byte_at(act, 4) == b'*',
+        }),
+        b'm' => {
+            let members = objects_from(alloc, act, 4)?;
+            let base = objects_behind(alloc, act)?;
+            Ok(Link::Many { members, base })
+        }
+        _ => {
+            let added = objects_from(alloc, act, 4)?;
+            let removed = objects_behind(alloc, act)?;
+            Ok(Link::Unloaded { added, removed })
+        }
+    }
+}
+
+/// Puts a link in, where it fits.
+fn put_link(alloc: Global, arena: &mut Arena, mapping: &Mapping, act: &[u8]) -> Result<(), Refusal>
+    requires configured { mapping.now.configured ≡ true }
+    requires fit { IsFit mapping.now arena.old }
+    ensures { IsFit mapping.now arena.new }
+{
+    let object = ObjId(digit_at(act, 1));
+    let place = RelNo(digit_at(act, 2));
+    if !is_made(arena, object) {
+        return Err(Refusal::NotBuilt);
+    }
+    let relations = mapping.relations(arena.object(object).class);
+    if place.0 as usize >= relations.len() {
+        return Err(Refusal::NotBuilt);
+    }
+    let link = link_of(alloc, act)?;
+    if !link_fits(arena, mapping, &relations[place.0 as usize], &link) {
+        return Err(Refusal::NotBuilt);
+    }
+    arena.put_link(object, place, link)
+}
+
+/// An act that makes the graph.
+fn prepare(alloc: Global, arena: &mut Arena, mapping: &Mapping, act: &[u8]) -> Result<(), Refusal>
+    requires configured { mapping.now.configured ≡ true }
+    requires fit { IsFit mapping.now arena.old }
+    ensures { IsFit mapping.now arena.new }
+{
+    match byte_at(act, 0) {
+        b'n' => make(mapping, arena, act),
+        b'k' => register(alloc, mapping, arena, act),
+        b't' => put_state(arena, mapping, act),
+        b'o' => make_orphan(arena, mapping, act),
+        b'c' => {
+            let value = Value::Int(i64::from(digit_at(act, 3)));
+            put_cell(arena, mapping, act, Some(value))
+        }
+        b'x' => put_cell(arena, mapping, act, None),
+        b'e' | b'm' | b'l' => put_link(alloc, arena, mapping, act),
+        _ => Err(Refusal::NotBuilt),
+    }
+}
+
+/// The change of a link.
+fn change(alloc: Global, arena: &mut Arena, mapping: &Mapping, act: &[u8]) -> Result<(), Refusal>
+    requires configured { mapping.now.configured ≡ true }
+    requires fit { IsFit mapping.now arena.old }
+{
+    let object = ObjId(digit_at(act, 1));
+    let place = RelNo(digit_at(act, 2));
+    let other = ObjId(digit_at(act, 3));
+    if !is_made(arena, object) {
+        return Err(Refusal::NotBuilt);
+    }
+    let relations = mapping.relations(arena.object(object).class);
+    if place.0 as usize >= relations.len() {
+        return Err(Refusal::NotBuilt);
+    }
+    if relations[place.0 as usize].many {
+        if !is_made(arena, other) || is_unloaded(arena, object, place) {
+            return Err(Refusal::NotBuilt);
+        }
+        if byte_at(act, 0) == b'a' {
+            return append(alloc, arena, mapping, object, place, other);
+        }
+        return remove(alloc, arena, mapping, object, place, other);
+    }
+    if other.0 == 0 {
+        return set_one(alloc, arena, mapping, object, place, None);
+    }
+    if !is_made(arena, other) {
+        return Err(Refusal::NotBuilt);
+    }
+    set_one(alloc, arena, mapping, object, place, Some(other))
+}
+
+fn is_unloaded(arena: &Arena, object: ObjId, place: RelNo) -> bool
+    requires { IsObject arena.now object }
+    ensures { result ≡ is_unloaded (link_at arena.now object place) }
+{
+    match arena.object(object).links.get(place.0 as usize) {
+        Some(Link::Unloaded { .. }) => true,
+        _ => false,
+    }
+}
+
+/// Whether an act changes a link.
+fn is_change(act: &[u8]) -> bool {
+    let letter = byte_at(act, 0);
+    letter == b's' || letter == b'a' || letter == b'r'
+}
+
+/// The graph after the acts of a line, and the answer to the last one.
+fn play(alloc: Global, mapping: &Mapping, line: &str, said: &mut String) -> Result<(), Refusal>
+    requires { mapping.now.configured ≡ true }
+{
+    let mut arena = Arena::new(alloc);
+    for text in line.split(';') {
+        let act = text.as_bytes();
+        if is_change(act) {
+            let answer = change(alloc, &mut arena, mapping, act);
+            told(&arena, &answer, said)?;
+            return Ok(());
+        }
+        prepare(alloc, &mut arena, mapping, act)?;
+    }
+    Ok(())
+}
+
+/// What is said of a line.
+pub(crate) fn answer(alloc: Global, mapping: &Mapping, line: &str) -> Result<String, Refusal> {
+    let mut said = String::new(alloc);
+    if mapping.is_configured() {
+        play(alloc, mapping, line, &mut said)?;
+    }
+    Ok(said)
+}
