@@ -4,6 +4,16 @@ use Rattle.std.specs.Prelude.{find, is_none, is_some}
 use Rattle.std.specs.List.{AllByRecursion, enumerate_from, flat_map, list_all, list_any}
 use Rattle.class_mapping.specs.Valid.{holds_of}
 
+-- ---- options
+
+pub none_is : {A : Type 0} (o : Option A) → is_none o ≡ true → o ≡ None
+none_is None h = refl
+none_is (Some x) h = absurd cc
+
+pub some_is : {A : Type 0} (o : Option A) → is_some o ≡ true → (x : A) × (o ≡ Some x)
+some_is None h = absurd cc
+some_is (Some x) h = (x, refl)
+
 -- ---- tests
 
 pub and_left : (a b : Bool) → (a && b) ≡ true → a ≡ true

@@ -5,7 +5,7 @@ use Rattle.std.specs.Option.{option_map}
 use Rattle.std.specs.List.{All, enumerate_from, list_all, list_any}
 use Rattle.std.proofs.lemmas.List.Elements.{All-filter, All-from_get_or, All-map}
 use Rattle.std.proofs.lemmas.List.FromFn.{get_or-enumerate_from, length-enumerate_from}
-use Rattle.std.proofs.lemmas.Option.{slice_get-map}
+use Rattle.std.proofs.lemmas.Option.{same_Some, slice_get-map}
 use Rattle.base_core.specs.Answers.{Refuses}
 use Rattle.base_core.specs.declared.ids.AttrNo.{AttrNo}
 use Rattle.base_core.specs.declared.ids.ClassId.{ClassId}
@@ -37,12 +37,9 @@ use Rattle.class_mapping.specs.Declaring.{class_unless, closed_unless, configure
 use Rattle.class_mapping.proofs.Lists.{none_append}
 use Rattle.class_mapping.proofs.ValidLemmas.{split, valid_from}
 
-some_inj : {A : Type 0} (x y : A) → Some x ≡ Some y → x ≡ y
-some_inj x y h = cc
-
 layout_from : (tables : List TableSpec) (classes : Classes) (layout : Layout) (line : Option (List ClassId)) → option_map (layout_of tables classes) line ≡ Some layout → layout ≡ layout_of tables classes (line_or_none line)
 layout_from tables classes layout None h = absurd cc
-layout_from tables classes layout (Some line) h = sym (some_inj (layout_of tables classes line) layout h)
+layout_from tables classes layout (Some line) h = sym (same_Some (layout_of tables classes line) layout h)
 
 -- what is kept of a class of a configured mapping
 pub layout_at : (tables : List TableSpec) (classes : Classes) (layouts : List Layout) (class : ℕ) (layout : Layout) → layouts ≡ layouts_of tables classes → slice_get layouts class ≡ Some layout → layout ≡ layout_of tables classes (line_of classes class)

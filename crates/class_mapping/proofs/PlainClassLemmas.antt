@@ -37,6 +37,7 @@ use Rattle.class_mapping.specs.PlainClass.{ArePlain, IsPlainClass}
 use Rattle.class_mapping.proofs.MappingLemmas.{taken_is, untaken}
 use Rattle.class_mapping.proofs.PlainLemmas.{early_is, one_table, plain_all, plain_attributes, plain_keys, plain_line, plain_parts}
 use Rattle.class_mapping.proofs.ValidLemmas.{split}
+use Rattle.class_mapping.proofs.Lists.{some_is}
 
 -- ---- the tables that classes name are declared
 
@@ -182,16 +183,12 @@ found_table tables (Some name) table e =
     from_place (position (λ spec. same_name spec.name name) tables) (length tables)
     (λ i at. (position-Some (λ (spec : TableSpec). same_name spec.name name) tables i no_table at).0) table e
 
-pub some_of : {A : Type 0} (o : Option A) → is_some o ≡ true → (x : A) × (o ≡ Some x)
-some_of None h = absurd cc
-some_of (Some x) h = (x, refl)
-
 named_by : (tables : List TableSpec) (spec : ClassSpec) → is_some spec.table ≡ true → is_over_table tables spec ≡ true → (table : TableId) × (named_table tables spec.table ≡ Some table)
 named_by tables spec has over = by spec.table has over
   where
     by : (name : Option (List ℕ)) → is_some name ≡ true → (is_none name || is_some (named_table tables name)) ≡ true → (table : TableId) × (named_table tables name ≡ Some table)
     by None has over = absurd cc
-    by (Some name) has over = some_of (named_table tables (Some name)) over
+    by (Some name) has over = some_is (named_table tables (Some name)) over
 
 -- where each class is a plain root
 pub plain_class : (mapped : Mapped) (class : ClassId) → (list_all is_plain_root mapped.classes.specs ≡ true → mapped.classes.lines ≡ lines_alone mapped.classes.specs)

@@ -25,12 +25,9 @@ use Rattle.class_layouts.specs.Columns.{attribute_at, attributes_on, attr_at as 
 use Rattle.class_layouts.specs.Faults.{class_fault, discriminator_in, discriminator_on, fails_discriminator, fault_of_lines, first_fault, is_bad_cascade, is_bad_hook, is_declared, is_identity, maps_name, misses_declaration, names_on, repeats_identity, root_table_on}
 use Rattle.class_layouts.specs.Hierarchy.{line_at, line_of, new_line, place_named, relations_at, relations_in, root_in, same_root, with_class}
 use Rattle.class_mapping.specs.Plain.{attr_at, early_fault, is_empty, is_plain_root, key_places, plain_fault, repeats_column, repeats_in}
+use Rattle.class_mapping.proofs.Lists.{none_is}
 
 -- ---- what such a declaration has not
-
-none_is : {A : Type 0} (o : Option A) → is_none o ≡ true → o ≡ None
-none_is None h = refl
-none_is (Some x) h = absurd cc
 
 nothing_is : {A : Type 0} (xs : List A) → is_empty xs ≡ true → xs ≡ []
 nothing_is [] h = refl

@@ -4,6 +4,7 @@ use Rattle.std.specs.Prelude.{find}
 use Rattle.std.specs.List.{All}
 use Rattle.std.proofs.lemmas.Bool.{eq-eqb, eqb-true}
 use Rattle.std.proofs.lemmas.List.Elements.{All-from_recursion}
+use Rattle.std.proofs.lemmas.Option.{same_Some}
 use Rattle.base_core.specs.declared.ids.ClassId.{ClassId}
 use Rattle.base_core.specs.declared.ids.TableId.{TableId}
 use Rattle.schema_core.specs.declared.table.TableSpec.{TableSpec}
@@ -25,14 +26,10 @@ use Rattle.class_mapping.specs.Mapped.{IsClass, Mapped, layout_of, relations_of}
 use Rattle.class_mapping.specs.Related.{IsRelated, has_keys, orphans_rightly}
 use Rattle.class_mapping.specs.Valid.{IsValid, covers, covers_both, holds_of, is_covered, is_joined, joins, joins_ends, refers_to_class}
 use Rattle.class_mapping.proofs.Having.{Has, all_from, all_of, none_of, same_names}
-use Rattle.class_mapping.proofs.Lists.{and_both, and_every, and_left, and_right}
-use Rattle.class_mapping.proofs.RelatedLemmas.{Came, IsDeclared, back_in, came, declared_partner, has_partner, layout_here, layouts_in, list_for, one_side as one_of, own_in, same_class, side_from, sides_in, some_is, target_declared}
+use Rattle.class_mapping.proofs.Lists.{and_both, and_every, and_left, and_right, none_is, some_is}
+use Rattle.class_mapping.proofs.RelatedLemmas.{Came, IsDeclared, back_in, came, declared_partner, has_partner, layout_here, layouts_in, list_for, one_side as one_of, own_in, same_class, side_from, sides_in, target_declared}
 
 -- ---- tests
-
-none_then : {A : Type 0} (o : Option A) → is_none o ≡ true → o ≡ None
-none_then None h = refl
-none_then (Some x) h = absurd cc
 
 pub held : {A : Type 0} (good : A → Bool) (o : Option A) → holds_of good o ≡ true → (x : A) × (o ≡ Some x) × (good x ≡ true)
 held good None h = absurd cc
@@ -48,11 +45,8 @@ same_first None (Some other) h = absurd cc
 same_first (Some one) None h = absurd cc
 same_first (Some one) (Some other) h = refl
 
-some_same : {A : Type 0} (x y : A) → Some x ≡ Some y → x ≡ y
-some_same x y h = cc
-
 find_if : {A : Type 0} (test : A → Bool) (b : Bool) (y : A) (xs : List A) (x : A) → test y ≡ b → cond b (Some y) (find test xs) ≡ Some x → (find test xs ≡ Some x → Has xs x × (test x ≡ true)) → Has (y ∷ xs) x × (test x ≡ true)
-find_if test true y xs x is h more = (inl (some_same y x h), ap test (sym (some_same y x h)) ∙ is)
+find_if test true y xs x is h more = (inl (same_Some y x h), ap test (sym (same_Some y x h)) ∙ is)
 find_if test false y xs x is h more = let rest = more h in (inr rest.0, rest.1)
 
 pub find_has : {A : Type 0} (test : A → Bool) (xs : List A) (x : A) → find test xs ≡ Some x → Has xs x × (test x ≡ true)
@@ -174,7 +168,7 @@ module _ (mapped : Mapped) (lined : length mapped.classes.lines ≡ length mappe
   plain_ends : (side : Side) → Has sides side → is_plain side ≡ true → side.ends ≡ None
   plain_ends side h plain =
       ap (λ (s : Side). s.ends) (side_from mapped lined lines side h).is
-      ∙ no_ends tables classes.specs side.spec.secondary (layout_at layouts (Some side.class)) (layout_at layouts (target_of classes.specs side.spec)) (none_then side.spec.secondary plain)
+      ∙ no_ends tables classes.specs side.spec.secondary (layout_at layouts (Some side.class)) (layout_at layouts (target_of classes.specs side.spec)) (none_is side.spec.secondary plain)
 
   covered_ends : (side : Side) → Has sides side → is_plain side ≡ false → (ends : Ends) × (side.ends ≡ Some ends) × (covers tables layouts side ends ≡ true)
   covered_ends side h many =

@@ -2,7 +2,7 @@
 use Rattle.std.proofs.Common.{◌≡◌, ◌⊎◌, inl, inr, ℕ, ◌<◌, Bool, true, false, not, ◌&&◌, ◌||◌, List, [], ◌∷◌, ◌∙◌, length, get_or, ap, sym, refl, subst, Option, None, Some, Ok, is_some, is_none, ◌==◌, if◌then◌else◌}
 use Rattle.std.specs.Prelude.{find, slice_get}
 use Rattle.std.specs.List.{All, list_any, position}
-use Rattle.std.proofs.lemmas.Bool.{eq-eqb, eqb-true}
+use Rattle.std.proofs.lemmas.Bool.{eq-eqb, eqb-true, not-true}
 use Rattle.std.specs.Option.{option_map}
 use Rattle.std.proofs.lemmas.List.Quantifiers.{position-Some}
 use Rattle.std.proofs.lemmas.List.Elements.{All-from_recursion}
@@ -108,10 +108,6 @@ one_named tables (Some one) (Some other) table h g =
     let first = (position-Some (λ (spec : TableSpec). same_name spec.name one) tables table.0 no_table (placed_at (position (λ (spec : TableSpec). same_name spec.name one) tables) table h)).1 in
     let last = (position-Some (λ (spec : TableSpec). same_name spec.name other) tables table.0 no_table (placed_at (position (λ (spec : TableSpec). same_name spec.name other) tables) table g)).1 in
     named_alike one other (sym (same_names (get_or tables table.0 no_table).name one first) ∙ same_names (get_or tables table.0 no_table).name other last)
-
-not_true : (b : Bool) → not b ≡ true → b ≡ false
-not_true true h = absurd cc
-not_true false h = refl
 
 same_turned : (one other : Option (List ℕ)) → same_secondary one other ≡ true → is_none one ≡ true → same_secondary other one ≡ true
 same_turned None None h g = refl
@@ -387,7 +383,7 @@ module _ (mapped : Mapped) (lined : length mapped.classes.lines ≡ length mappe
       join_by side h other (mutual_is side other h g not_back is)
       ∙ join_turned tables side.spec.using other.spec.using side.spec.many other.spec.many (layout_at layouts (Some side.class)) (layout_at layouts side.target) (layout_at layouts (Some other.class)) (layout_at layouts other.target)
       (ap (layout_at layouts) is.target) (ap (layout_at layouts) (sym is.back)) turned
-      ∙ sym (join_by other g side (mutual_is other side g h (not_true other.spec.backref is.declared) back))
+      ∙ sym (join_by other g side (mutual_is other side g h (not-true other.spec.backref is.declared) back))
 
   own_key : (side : Side) → Has sides side → is_plain side ≡ true → (is_none (own_in mapped side).far ≡ true) × ((own_in mapped side).foreign ≡ join side)
   own_key side h plain =

@@ -13,8 +13,8 @@ use Rattle.class_layouts.specs.Hierarchy.{line_of, line_or_none, no_class, root_
 use Rattle.class_mapping.specs.Lines.{AreLines, is_root_over, is_rooted, spec_at}
 use Rattle.class_mapping.specs.Mapped.{IsClass, Mapped, class_or, class_spec, root_of, table_or_none}
 use Rattle.class_mapping.proofs.LineLemmas.{all_at}
-use Rattle.class_mapping.proofs.Lists.{and_left, and_right}
-use Rattle.class_mapping.proofs.PlainClassLemmas.{found_table, some_of}
+use Rattle.class_mapping.proofs.Lists.{and_left, and_right, none_is, some_is}
+use Rattle.class_mapping.proofs.PlainClassLemmas.{found_table}
 
 -- a root class over a table
 pub record IsRootOver (mapped : Mapped) (class : ClassId) : Type 0 where
@@ -22,15 +22,11 @@ pub record IsRootOver (mapped : Mapped) (class : ClassId) : Type 0 where
   pub alone : (class_spec mapped class).base ≡ None
   pub table : IsTable mapped.schema (table_or_none (own_table mapped.schema.tables mapped.classes class.0))
 
-none_is : {A : Type 0} (o : Option A) → is_none o ≡ true → o ≡ None
-none_is None h = refl
-none_is (Some x) h = absurd cc
-
 root_by : (mapped : Mapped) (class : ClassId) (found : Option ClassSpec) → slice_get mapped.classes.specs class.0 ≡ found → is_root_over mapped.schema.tables found ≡ true → IsRootOver mapped class
 root_by mapped class None e h = absurd cc
 root_by mapped class (Some spec) e h =
     let tables : List TableSpec = mapped.schema.tables in
-    let table = some_of (named_table tables spec.table) (and_right (is_none spec.base) (is_some (named_table tables spec.table)) h) in
+    let table = some_is (named_table tables spec.table) (and_right (is_none spec.base) (is_some (named_table tables spec.table)) h) in
     record {
       declared = slice_get_within mapped.classes.specs class.0 spec e;
       alone = ap (λ (s : ClassSpec). s.base) (get_or_from_slice_get mapped.classes.specs class.0 spec no_class e) ∙ none_is spec.base (and_left (is_none spec.base) (is_some (named_table tables spec.table)) h);

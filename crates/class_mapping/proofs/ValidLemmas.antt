@@ -2,6 +2,7 @@
 use Rattle.std.proofs.Common.{◌≡◌, ℕ, ◌<◌, Bool, true, false, not, ◌&&◌, ◌||◌, List, [], ◌∷◌, ◌∙◌, length, ap, refl, Option, None, Some, if◌then◌else◌, zero-add}
 use Rattle.std.specs.Prelude.{is_none, is_some, nat_lt, slice_get, ◌==◌}
 use Rattle.std.specs.List.{All, enumerate_from, list_all, list_any}
+use Rattle.std.proofs.lemmas.Bool.{or_left, or_right}
 use Rattle.std.proofs.lemmas.List.Elements.{All-from_get_or, recursion_from_All}
 use Rattle.std.proofs.lemmas.List.FromFn.{get_or-enumerate_from, length-enumerate_from}
 use Rattle.std.proofs.lemmas.Option.{slice_get-get_or}
@@ -29,25 +30,17 @@ use Rattle.class_mapping.proofs.Lists.{all_better, all_flat, all_good, all_kept,
 
 -- ---- the keys that can serve a side
 
-or_late : (a b : Bool) → b ≡ true → (a || b) ≡ true
-or_late true b h = refl
-or_late false b h = h
-
-or_soon : (a b : Bool) → a ≡ true → (a || b) ≡ true
-or_soon true b h = refl
-or_soon false b h = absurd cc
-
 among_more : (x : TableId) (xs zs : List TableId) → list_all (is_among xs) zs ≡ true → list_all (is_among (x ∷ xs)) zs ≡ true
 among_more x xs [] h = refl
 among_more x xs (z ∷ zs) h =
     and_both (is_among (x ∷ xs) z) (list_all (is_among (x ∷ xs)) zs)
-    (or_late (x.0 == z.0) (is_among xs z) (and_left (is_among xs z) (list_all (is_among xs) zs) h))
+    (or_right (x.0 == z.0) (is_among xs z) (and_left (is_among xs z) (list_all (is_among xs) zs) h))
     (among_more x xs zs (and_right (is_among xs z) (list_all (is_among xs) zs) h))
 
 among_itself : (xs : List TableId) → list_all (is_among xs) xs ≡ true
 among_itself [] = refl
 among_itself (x ∷ xs) =
-    and_both (is_among (x ∷ xs) x) (list_all (is_among (x ∷ xs)) xs) (or_soon (x.0 == x.0) (is_among xs x) (nat_eq_equiv.refl x.0)) (among_more x xs xs (among_itself xs))
+    and_both (is_among (x ∷ xs) x) (list_all (is_among (x ∷ xs)) xs) (or_left (x.0 == x.0) (is_among xs x) (nat_eq_equiv.refl x.0)) (among_more x xs xs (among_itself xs))
 
 abbrev no_foreign : ForeignSpec
 no_foreign = record { columns = []; target = [] }

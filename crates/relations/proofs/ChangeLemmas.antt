@@ -2,7 +2,7 @@
 use Rattle.std.proofs.Common.{◌≡◌, ℕ, ◌<◌, ◌≤◌, Bool, true, false, List, length, get_or, Option, None, Some, is_some, Result, refl, sym, ap, ◌∙◌, subst, arith}
 use Rattle.std.specs.Prelude.{not, ◌&&◌, ◌||◌, nat_lt, slice_get, if◌then◌else◌}
 use Rattle.std.specs.Option.{option_map}
-use Rattle.std.proofs.lemmas.Bool.{and_from, eq-eqb}
+use Rattle.std.proofs.lemmas.Bool.{and_from, eq-eqb, not-true}
 use Rattle.std.proofs.lemmas.Bool.Decides.{nat_tests}
 use Rattle.std.proofs.lemmas.List.{get_or-map}
 use Rattle.std.proofs.lemmas.Option.{get_or_from_slice_get, slice_get-get_or, slice_get_read}
@@ -149,10 +149,6 @@ opposite_of_one true true other one h = absurd cc
 opposite_of_one false false other one h = h
 opposite_of_one false true other one h = absurd cc
 
-not_false : (b : Bool) → not b ≡ true → b ≡ false
-not_false true h = absurd cc
-not_false false h = refl
-
 -- the partner of a many-to-one link is a collection, of objects of the child's hierarchy, in each class at or under the target
 pub partner_of_one : (mapped : Mapped) (class above : ClassId) (place : ℕ) (relation : Relation) → HasPairs mapped → IsAt mapped class place relation → relation.many ≡ false → is_at_or_under mapped above relation.target ≡ true
     → (partner : Relation) × (IsAt mapped above relation.partner.0 partner) × (partner.many ≡ true) × ((root_of mapped class).0 ≡ (root_of mapped partner.target).0)
@@ -250,7 +246,7 @@ relation_found mapped class place relation at = get_or_from_slice_get (relations
 opposite_of_many : (far many other : Bool) → many ≡ true → (if far then many && other else differ many other) ≡ true → (far ≡ true → other ≡ true) × (far ≡ false → other ≡ false)
 opposite_of_many true true other many h = (λ far. h, λ far. absurd cc)
 opposite_of_many true false other many h = absurd cc
-opposite_of_many false true other many h = (λ far. absurd cc, λ far. not_false other h)
+opposite_of_many false true other many h = (λ far. absurd cc, λ far. not-true other h)
 opposite_of_many false false other many h = absurd cc
 
 -- the partner of a collection stands in each class at or under the target, leads back, and is a collection exactly over a secondary table
