@@ -2,7 +2,7 @@
 use Rattle.std.proofs.Common.{◌≡◌, ◌⊎◌, inl, inr, ℕ, zero, suc, ◌+◌, Bool, true, false, cond, not, ◌&&◌, ◌||◌, eqb, List, [], ◌∷◌, ◌++◌, ◌∙◌, length, map, filter, ap, sym, refl, subst, None, Some, nat_lt, arith}
 use Rattle.std.specs.Prelude.{find, slice_get}
 use Rattle.std.specs.List.{AllByRecursion, enumerate_from, flat_map, list_all, list_any, position, position_or_len}
-use Rattle.std.proofs.lemmas.Bool.{eqb-true, eq-eqb, lt-ltb, or_left, or_right}
+use Rattle.std.proofs.lemmas.Bool.{eqb-true, eq-eqb, lt-ltb, or_left as or_here, or_right as or_there}
 use Rattle.std.proofs.lemmas.List.Folds.{find_at}
 use Rattle.std.proofs.lemmas.Option.{same_Some, slice_get_within}
 use Rattle.schema_core.specs.Catalog.{same_name}
@@ -127,8 +127,8 @@ some_of p (y ∷ xs) h = any_if p (p y) y xs refl h (some_of p xs)
 
 pub any_has : {A : Type 0} (p : A → Bool) (xs : List A) (x : A) → Has xs x → p x ≡ true → list_any p xs ≡ true
 any_has p [] x h g = absurd h
-any_has p (y ∷ xs) x (inl e) g = or_left (p y) (list_any p xs) (ap p e ∙ g)
-any_has p (y ∷ xs) x (inr h) g = or_right (p y) (list_any p xs) (any_has p xs x h g)
+any_has p (y ∷ xs) x (inl e) g = or_here (p y) (list_any p xs) (ap p e ∙ g)
+any_has p (y ∷ xs) x (inr h) g = or_there (p y) (list_any p xs) (any_has p xs x h g)
 
 pub all_from : {A : Type 0} (P : A → Type 0) (xs : List A) → ((x : A) → Has xs x → P x) → AllByRecursion P xs
 all_from P [] f = tt

@@ -37,7 +37,7 @@ use Rattle.class_mapping.specs.PlainClass.{ArePlain, IsPlainClass}
 use Rattle.class_mapping.proofs.MappingLemmas.{taken_is, untaken}
 use Rattle.class_mapping.proofs.PlainLemmas.{early_is, one_table, plain_all, plain_attributes, plain_keys, plain_line, plain_parts}
 use Rattle.class_mapping.proofs.ValidLemmas.{split}
-use Rattle.class_mapping.proofs.Lists.{some_is}
+use Rattle.class_mapping.proofs.Lists.{or_left, some_is}
 
 -- ---- the tables that classes name are declared
 
@@ -49,10 +49,6 @@ named_or (Some table) first base h = refl
 over_if : (tables : List TableSpec) (name : Option (List ℕ)) (first base : Bool) → (first || (is_none (named_table tables name) && (is_some name || base))) ≡ false → (is_none name || is_some (named_table tables name)) ≡ true
 over_if tables None first base h = refl
 over_if tables (Some name) first base h = named_or (named_table tables (Some name)) first base h
-
-or_left : (a b : Bool) → (a || b) ≡ false → a ≡ false
-or_left true b h = absurd cc
-or_left false b h = refl
 
 over_one : (rules : Rules) (tables : List TableSpec) (classes : Classes) (spec : ClassSpec) → class_fault rules tables classes spec ≡ None → is_over_table tables spec ≡ true
 unfolding first_fault

@@ -3,7 +3,7 @@ use Rattle.std.proofs.Common.{◌≡◌, ◌⊎◌, inl, inr, ℕ, ◌<◌, Bool
 use Rattle.std.specs.Prelude.{slice_get}
 use Rattle.std.specs.Option.{option_map}
 use Rattle.std.specs.List.{enumerate_from, flat_map, list_all, list_any, position}
-use Rattle.std.proofs.lemmas.Bool.{eq-eqb, eqb-true, or_left, or_right}
+use Rattle.std.proofs.lemmas.Bool.{eq-eqb, eqb-true, or_left as or_here, or_right as or_there}
 use Rattle.std.proofs.lemmas.List.Quantifiers.{position-Some}
 use Rattle.std.proofs.lemmas.Option.{same_Some, slice_get-get_or, slice_get-map, slice_get_within}
 use Rattle.base_core.specs.declared.ids.ClassId.{ClassId}
@@ -295,7 +295,7 @@ module _ (mapped : Mapped) (lined : length mapped.classes.lines ≡ length mappe
         (ap (λ (b : Bool). if b then list_any (is_taken_in classes sides side) (enumerate_from 0 layouts) else not (list_any (is_partner side) sides)) backref
         ∙ any_has (is_taken_in classes sides side) (enumerate_from 0 layouts) (class, layout) placed
         (and_both (is_target_in side.target (line_of classes class)) _ inside
-        (or_right (list_any (λ attribute. same_name attribute.name side.spec.partner) layout.attributes) (list_any (gives_name (line_of classes class) side) sides)
+        (or_there (list_any (λ attribute. same_name attribute.name side.spec.partner) layout.attributes) (list_any (gives_name (line_of classes class) side) sides)
         (any_has (gives_name (line_of classes class) side) sides other g gives))))
         (none_of (differs classes layouts sides) sides side differing h)
 
@@ -318,7 +318,7 @@ module _ (mapped : Mapped) (lined : length mapped.classes.lines ≡ length mappe
             sym found.3 ∙ ap own (one_side side.class.0 less found.0 side found.1 h found.2 stands (ap (λ (r : Relation). r.name) found.3 ∙ e))
         own_alone side h less stands other (inr found) e =
             not_taken side.class.0 less found.0 side found.1 found.2 found.3 h
-            (or_left (has_class (line_of classes side.class.0) side.class.0 && same_name side.spec.name found.0.spec.partner) _
+            (or_here (has_class (line_of classes side.class.0) side.class.0 && same_name side.spec.name found.0.spec.partner) _
             (and_both (has_class (line_of classes side.class.0) side.class.0) (same_name side.spec.name found.0.spec.partner) stands
             (named_alike side.spec.name found.0.spec.partner (sym (ap (λ (r : Relation). r.name) found.4 ∙ e)))))
 
@@ -335,7 +335,7 @@ module _ (mapped : Mapped) (lined : length mapped.classes.lines ≡ length mappe
         (sym (same_names side.spec.name other.spec.name (and_right (side.class.0 == other.class.0) (same_name side.spec.name other.spec.name) same)))
     back_apart class less side h backref inside other g backs within e false same =
         not_taken class.0 less side other h backref inside g
-        (or_right (has_class (line_of classes class.0) other.class.0 && same_name other.spec.name side.spec.partner) _
+        (or_there (has_class (line_of classes class.0) other.class.0 && same_name other.spec.name side.spec.partner) _
         (four other.spec.backref (is_target_in other.target (line_of classes class.0)) (same_name other.spec.partner side.spec.partner) (same_side side other) backs within
         (named_alike other.spec.partner side.spec.partner e) same))
       where
@@ -350,7 +350,7 @@ module _ (mapped : Mapped) (lined : length mapped.classes.lines ≡ length mappe
         → (other : Relation) → Came mapped (line_of classes class.0) other → other.name ≡ side.spec.partner → other ≡ back side
     back_alone class less side h backref inside other (inl found) e =
         not_taken class.0 less side found.0 h backref inside found.1
-        (or_left (has_class (line_of classes class.0) found.0.class.0 && same_name found.0.spec.name side.spec.partner) _
+        (or_here (has_class (line_of classes class.0) found.0.class.0 && same_name found.0.spec.name side.spec.partner) _
         (and_both (has_class (line_of classes class.0) found.0.class.0) (same_name found.0.spec.name side.spec.partner) found.2
         (named_alike found.0.spec.name side.spec.partner (ap (λ (r : Relation). r.name) found.3 ∙ e))))
     back_alone class less side h backref inside other (inr found) e =

@@ -2,7 +2,7 @@
 use Rattle.std.proofs.Common.{◌≡◌, ℕ, ◌<◌, Bool, true, false, not, ◌&&◌, ◌||◌, List, [], ◌∷◌, ◌∙◌, length, ap, refl, Option, None, Some, if◌then◌else◌, zero-add}
 use Rattle.std.specs.Prelude.{is_none, is_some, nat_lt, slice_get, ◌==◌}
 use Rattle.std.specs.List.{All, enumerate_from, list_all, list_any}
-use Rattle.std.proofs.lemmas.Bool.{or_left, or_right}
+use Rattle.std.proofs.lemmas.Bool.{or_left as or_here, or_right as or_there}
 use Rattle.std.proofs.lemmas.List.Elements.{All-from_get_or, recursion_from_All}
 use Rattle.std.proofs.lemmas.List.FromFn.{get_or-enumerate_from, length-enumerate_from}
 use Rattle.std.proofs.lemmas.Option.{slice_get-get_or}
@@ -34,13 +34,13 @@ among_more : (x : TableId) (xs zs : List TableId) → list_all (is_among xs) zs 
 among_more x xs [] h = refl
 among_more x xs (z ∷ zs) h =
     and_both (is_among (x ∷ xs) z) (list_all (is_among (x ∷ xs)) zs)
-    (or_right (x.0 == z.0) (is_among xs z) (and_left (is_among xs z) (list_all (is_among xs) zs) h))
+    (or_there (x.0 == z.0) (is_among xs z) (and_left (is_among xs z) (list_all (is_among xs) zs) h))
     (among_more x xs zs (and_right (is_among xs z) (list_all (is_among xs) zs) h))
 
 among_itself : (xs : List TableId) → list_all (is_among xs) xs ≡ true
 among_itself [] = refl
 among_itself (x ∷ xs) =
-    and_both (is_among (x ∷ xs) x) (list_all (is_among (x ∷ xs)) xs) (or_left (x.0 == x.0) (is_among xs x) (nat_eq_equiv.refl x.0)) (among_more x xs xs (among_itself xs))
+    and_both (is_among (x ∷ xs) x) (list_all (is_among (x ∷ xs)) xs) (or_here (x.0 == x.0) (is_among xs x) (nat_eq_equiv.refl x.0)) (among_more x xs xs (among_itself xs))
 
 abbrev no_foreign : ForeignSpec
 no_foreign = record { columns = []; target = [] }
