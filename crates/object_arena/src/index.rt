@@ -71,7 +71,8 @@ impl IdentityIndex {
 
 /// Puts an object under an identity, by a copy of its key.
 fn put(entries: &mut IdentityMap, root: ClassId, key: &Key, object: ObjId) -> Result<(), Refusal>
-    ensures { OnOk result (IsPut entries.old.maps.items entries.new.maps.items root key.now object) }
+    ensures { OnOk result
+        (IsPut entries.old.maps.items entries.new.maps.items root key.now object) }
 {
     entries.put(root, key.copied()?, object)
 }

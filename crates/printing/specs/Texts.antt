@@ -206,8 +206,8 @@ abbrev pub circular_text : Names → List RowName → List ℕ
 circular_text names rows = told (codes "CircularDependencyError") (joined (codes " -> ") (row_name_text names) rows)
 
 -- a constraint of a table is broken
-abbrev pub breach_text : Names → IntegrityKind → TableId → List ℕ
-breach_text names kind table = told (codes "IntegrityError") (integrity_text kind ++ codes ", " ++ names.table table)
+abbrev pub violation_text : Names → IntegrityKind → TableId → List ℕ
+violation_text names kind table = told (codes "IntegrityError") (integrity_text kind ++ codes ", " ++ names.table table)
 
 -- the text of a refusal, with the names of what it has by number
 abbrev pub refusal_text : Names → Refusal → List ℕ
@@ -224,7 +224,7 @@ refusal_text names (refusal.ObjectDeletedError object) = told (codes "ObjectDele
 refusal_text names (refusal.DetachedInstanceError object) = told (codes "DetachedInstanceError") (object_text names object)
 refusal_text names (refusal.CircularDependencyError rows) = circular_text names rows
 refusal_text names refusal.ResourceClosedError = codes "ResourceClosedError"
-refusal_text names (refusal.IntegrityError kind table) = breach_text names kind table
+refusal_text names (refusal.IntegrityError kind table) = violation_text names kind table
 refusal_text names (refusal.StaleDataError table) = told (codes "StaleDataError") (names.table table)
 refusal_text names refusal.PendingRollbackError = codes "PendingRollbackError"
 refusal_text names (refusal.ScriptError line column) = told (codes "ScriptError") (decimal line ++ codes ", " ++ decimal column)

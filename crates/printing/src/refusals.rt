@@ -2,7 +2,7 @@
 
 ghost use Rattle.std.specs.Prelude.{Some};
 ghost use Rattle.std.specs.Fmt.{DisplaysOnOk};
-ghost use Rattle.printing.specs.Texts.{breach_text, circular_text, compile_text, invalid_text, mismatch_text, object_text, outside_text, refusal_text, request_text, skipped_text, spent_text, told, validation_text, warning_text};
+ghost use Rattle.printing.specs.Texts.{circular_text, compile_text, invalid_text, mismatch_text, object_text, outside_text, refusal_text, request_text, skipped_text, spent_text, told, validation_text, violation_text, warning_text};
 
 use crate::objects::write_cycle;
 use crate::words::{
@@ -160,7 +160,7 @@ fn write_integrity<W: fmt::Write, N: Naming>(
     table: TableId,
 ) -> fmt::Result
     ensures { DisplaysOnOk W.write_str_gives f.old result
-        (Some (breach_text (N.names names.now) kind table)) f.new }
+        (Some (violation_text (N.names names.now) kind table)) f.new }
 {
     let table = names.table_name(table);
     let kind = integrity_word(kind);
