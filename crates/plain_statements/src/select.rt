@@ -1,0 +1,275 @@
+//! Which selects are plain.
+
+ghost use Rattle.std.specs.Prelude.{◌≡◌, ◌∷◌, [], ◌↔◌, IsTrue, length, IfOk, IfErr};
+ghost use Rattle.std.specs.List.{list_all, list_any};
+ghost use Rattle.base_core.specs.declared.refusal.Refusal.TheVariants.{Memory};
+ghost use Rattle.expr_types.specs.Level as level;
+ghost use Rattle.sql_semantics.specs.Plain as plain;
+ghost use Rattle.sql_semantics.specs.Plain.{IsPlainSelect};
+ghost use Rattle.plain_statements.specs.Tested as spec;
+
+use crate::column::is_known;
+use crate::naming::are_distinct;
+use crate::settled::{Grouping, settled};
+use crate::standing::{Sources, is_filter, stands, stands_as};
+use base_core::{Kind, Name, Refusal, TableId};
+use expr_types::{Expr, Select};
+use expr_typing::has_aggregate;
+use schema_core::Schema;
+use std::alloc::{AllocError, Global};
+
+/// The sources of a select, in order.
+fn sources_of(alloc: Global, schema: &Schema, select: &Select) -> Result<Sources, AllocError>
+    ensures tables { IfOk result (λ around. around.tables.items
+        ≡ spec.tables_of (plain.sources_of select.now)) }
+    ensures names { IfOk result (λ around. around.names.items
+        ≡ spec.names_of schema.now (plain.sources_of select.now)) }
+{
+    let mut around = Sources::new(alloc);
+    around.enter(alloc, schema, &select.first)?;
+    for join in select.joins.as_slice() {
+        around.enter(alloc, schema, &join.origin)?;
+    }
+    Ok(around)
+}
+
+/// Whether the condition of each join stands under the sources up to its own.
+fn are_joined(alloc: Global, schema: &Schema, select: &Select) -> Result<bool, AllocError>
+    ensures { IfOk result (λ joined. joined ≡ spec.are_joined schema.now
+        (select.now.first.table ∷ []) (plain.name_of schema.now select.now.first ∷ [])
+        select.now.joins) }
+{
+    let mut around = Sources::new(alloc);
+    around.enter(alloc, schema, &select.first)?;
+    for join in select.joins.as_slice() {
+        around.enter(alloc, schema, &join.origin)?;
+        if !is_filter(alloc, schema, &around, &join.on)? {
+            return Ok(false);
+        }
+    }
+    Ok(true)
+}
+
+fn are_items(
+    alloc: Global,
+    schema: &Schema,
+    around: &Sources,
+    items: &[(Expr, Option<Name>)],
+) -> Result<bool, AllocError>
+    ensures { IfOk result (λ placed. placed
+        ≡ spec.are_items schema.now around.now.tables.items around.now.names.items items.now) }
+{
+    for item in items {
+        if !stands(alloc, schema, around, &item.0)? {
+            return Ok(false);
+        }
+    }
+    Ok(true)
+}
+
+fn are_keys(
+    alloc: Global,
+    schema: &Schema,
+    around: &Sources,
+    keys: &[(Expr, bool)],
+) -> Result<bool, AllocError>
+    ensures { IfOk result (λ placed. placed
+        ≡ spec.are_keys schema.now around.now.tables.items around.now.names.items keys.now) }
+{
+    for key in keys {
+        if !stands(alloc, schema, around, &key.0)? {
+            return Ok(false);
+        }
+    }
+    Ok(true)
+}
+
+fn are_groups(
+    alloc: Global,
+    schema: &Schema,
+    around: &Sources,
+    groups: &[Expr],
+) -> Result<bool, AllocError>
+    ensures { IfOk result (λ placed. placed ≡ list_all
+        (spec.is_group schema.now around.now.tables.items around.now.names.items) groups.now) }
+{
+    for group in groups {
+        if has_aggregate(group) || !stands(alloc, schema, around, group)? {
+            return Ok(false);
+        }
+    }
+    Ok(true)
+}
+
+/// Whether there is no condition, or one on rows.
+pub(crate) fn is_filtered(
+    alloc: Global,
+    schema: &Schema,
+    around: &Sources,
+    filter: &Option<Expr>,
+) -> Result<bool, AllocError>
+    ensures { IfOk result (λ placed. placed ≡ spec.if_set
+        (spec.is_filter schema.now around.now.tables.items around.now.names.items) filter.now) }
+{
+    match filter {
+        Some(e) => is_filter(alloc, schema, around, e),
+        None => Ok(true),
+    }
+}
+
+/// Whether there is no condition on groups, or one that stands.
+fn is_having(
+    alloc: Global,
+    schema: &Schema,
+    around: &Sources,
+    having: &Option<Expr>,
+) -> Result<bool, AllocError>
+    ensures { IfOk result (λ placed. placed ≡ spec.if_set
+        (spec.is_condition schema.now around.now.tables.items around.now.names.items) having.now) }
+{
+    match having {
+        Some(e) => stands_as(alloc, schema, around, Kind::Boolean, e),
+        None => Ok(true),
+    }
+}
+
+fn are_placed(
+    alloc: Global,
+    schema: &Schema,
+    around: &Sources,
+    select: &Select,
+) -> Result<bool, AllocError>
+    ensures { IfOk result (λ placed. placed
+        ≡ spec.are_placed schema.now around.now.tables.items around.now.names.items select.now) }
+{
+    if !is_filtered(alloc, schema, around, &select.filter)?
+        || !is_having(alloc, schema, around, &select.having)?
+        || !are_items(alloc, schema, around, select.items.as_slice())?
+        || !are_groups(alloc, schema, around, select.groups.as_slice())?
+    {
+        return Ok(false);
+    }
+    are_keys(alloc, schema, around, select.order.as_slice())
+}
+
+fn some_item_gathers(items: &[(Expr, Option<Name>)]) -> bool
+    ensures { result ≡ list_any (λ item. level.has_aggregate item.0) items.now }
+{
+    items.iter().any(|item| has_aggregate(&item.0))
+}
+
+fn some_key_gathers(keys: &[(Expr, bool)]) -> bool
+    ensures { result ≡ list_any (λ key. level.has_aggregate key.0) keys.now }
+{
+    keys.iter().any(|key| has_aggregate(&key.0))
+}
+
+/// Whether the query has one row for each group.
+fn groups_rows(select: &Select) -> bool
+    ensures { result ≡ spec.groups_rows select.now }
+{
+    select.groups.len() > 0
+        || select.having.is_some()
+        || some_item_gathers(select.items.as_slice())
+        || some_key_gathers(select.order.as_slice())
+}
+
+fn is_settled(query: &Grouping<'_>, e: &Option<Expr>) -> bool
+    ensures { result ≡ spec.if_set
+        (plain.settled query.now.grouped query.now.groups.now query.now.own) e.now }
+{
+    match e {
+        Some(e) => settled(query, e),
+        None => true,
+    }
+}
+
+fn items_settled(query: &Grouping<'_>, items: &[(Expr, Option<Name>)]) -> bool
+    ensures { result ≡ list_all (λ item. plain.settled query.now.grouped query.now.groups.now
+        query.now.own item.0) items.now }
+{
+    items.iter().all(|item| settled(query, &item.0))
+}
+
+fn keys_settled(query: &Grouping<'_>, keys: &[(Expr, bool)]) -> bool
+    ensures { result ≡ list_all (λ key. plain.settled query.now.grouped query.now.groups.now
+        query.now.own key.0) keys.now }
+{
+    keys.iter().all(|key| settled(query, &key.0))
+}
+
+/// Whether what is evaluated for each row or group is settled.
+fn are_settled(query: &Grouping<'_>, select: &Select) -> bool
+    ensures { result
+        ≡ spec.are_settled query.now.grouped query.now.groups.now query.now.own select.now }
+{
+    is_settled(query, &select.having)
+        && items_settled(query, select.items.as_slice())
+        && keys_settled(query, select.order.as_slice())
+}
+
+fn all_known(schema: &Schema, tables: &[TableId]) -> bool
+    ensures { result ≡ list_all (spec.is_known schema.now) tables.now }
+{
+    tables.iter().all(|table| is_known(schema, *table))
+}
+
+fn is_limit(count: Option<u64>) -> bool
+    ensures { result ≡ plain.is_limit count }
+{
+    match count {
+        Some(count) => count < 1 << 63,
+        None => true,
+    }
+}
+
+fn is_plain_under(
+    alloc: Global,
+    schema: &Schema,
+    around: &Sources,
+    select: &Select,
+) -> Result<bool, AllocError>
+    ensures { IfOk result (λ plain. plain
+        ≡ spec.plain_under schema.now around.now.tables.items around.now.names.items select.now) }
+{
+    let query = Grouping {
+        grouped: groups_rows(select),
+        groups: select.groups.as_slice(),
+        own: around.tables.len(),
+    };
+    if !all_known(schema, around.tables.as_slice())
+        || !are_distinct(around.names.as_slice())
+        || !are_settled(&query, select)
+    {
+        return Ok(false);
+    }
+    are_placed(alloc, schema, around, select)
+}
+
+fn plain_select(alloc: Global, schema: &Schema, select: &Select) -> Result<bool, AllocError>
+    ensures { IfOk result (λ plain. plain ≡ spec.plain_select schema.now select.now) }
+{
+    if !is_limit(select.limit) || !is_limit(select.offset) {
+        return Ok(false);
+    }
+    let around = sources_of(alloc, schema, select)?;
+    if !is_plain_under(alloc, schema, &around, select)? {
+        return Ok(false);
+    }
+    are_joined(alloc, schema, select)
+}
+
+/// Whether a select is plain: well typed and in normal form, with every part where SQL lets it stand. Its tables are
+/// declared and its sources have names of their own; each column is there, each join's condition names the sources up to
+/// its own, `where`, `on` and `group by` have no aggregate, and a grouped query has the columns of its sources in
+/// aggregates and in its group expressions alone. `limit` and `offset` are below 2^63.
+///
+/// # Errors
+/// `Memory` alone.
+#[tactic(auto, using(crate::proofs::Selects::select_decided))]
+pub fn is_plain_select(alloc: Global, schema: &Schema, select: &Select) -> Result<bool, Refusal>
+    ensures plain { IfOk result (λ plain. IsTrue plain ↔ IsPlainSelect schema.now select.now) }
+    ensures cause { IfErr result (λ e. e ≡ Memory) }
+{
+    Ok(plain_select(alloc, schema, select)?)
+}
