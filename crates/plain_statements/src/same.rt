@@ -137,7 +137,9 @@ pub(crate) fn same(e: &Expr, other: &Expr) -> bool
         }
         Expr::InList(negated, a, values) => {
             matches!(other, Expr::InList(n, c, others)
-                if *negated == *n && alike(a, c) && same_values(values.as_slice(), others.as_slice()))
+                if *negated == *n
+                    && alike(a, c)
+                    && same_values(values.as_slice(), others.as_slice()))
         }
         Expr::Between(negated, a, low, high) => {
             matches!(other, Expr::Between(n, c, l, h)
