@@ -11,7 +11,7 @@ use std::marker::Model;
 pub type ObjList = ListOf<ObjId>;
 
 /// A set of objects, as the ascending list of its members.
-#[derive(Debug, Drop)]
+#[derive(Drop)]
 pub struct ObjSet {
     members: ListOf<ObjId>,
 }

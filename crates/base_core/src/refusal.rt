@@ -84,7 +84,7 @@ impl Copied for RowName {
 }
 
 /// An object outside the session was met in a link, and skipped.
-#[derive(Clone, Copy, Debug, PartialEq, Eq)]
+#[derive(Clone, Copy, PartialEq, Eq)]
 pub struct Warning {
     pub object: ObjId,
     /// The class that declares the relationship.

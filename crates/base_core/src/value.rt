@@ -6,7 +6,7 @@ use std::alloc::AllocError;
 use std::cmp::Ordering;
 
 /// What a cell holds.
-#[derive(Clone, Debug, Drop, PartialEq, Eq)]
+#[derive(Clone, Drop, PartialEq, Eq)]
 pub enum Value {
     Null,
     Bool(bool),

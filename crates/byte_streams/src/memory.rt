@@ -12,7 +12,7 @@ use std::alloc::Global;
 use std::marker::Model;
 
 /// A source of given bytes.
-#[derive(Debug, Drop)]
+#[derive(Drop)]
 pub struct MemSource {
     bytes: Vec<u8>,
     /// How many of the bytes were read.
@@ -89,7 +89,7 @@ fn fill(buffer: &mut [u8], bytes: &[u8]) -> usize
 }
 
 /// A sink that keeps what it takes.
-#[derive(Debug, Drop)]
+#[derive(Drop)]
 pub struct MemSink {
     bytes: Vec<u8>,
     calls: u64,

@@ -14,7 +14,7 @@ use object_arena::{Arena, Link};
 use std::alloc::Global;
 
 /// The calls that go on along relationships.
-#[derive(Clone, Copy, Debug, PartialEq, Eq)]
+#[derive(Clone, Copy, PartialEq, Eq)]
 pub enum Flag {
     SaveUpdate,
     RefreshExpire,

@@ -4,7 +4,7 @@ use base_core::{Copied, ListOf, Name, Value};
 use std::alloc::AllocError;
 
 /// Which session calls go on along a relationship.
-#[derive(Clone, Copy, Debug, PartialEq, Eq)]
+#[derive(Clone, Copy, PartialEq, Eq)]
 pub struct Cascade {
     pub save_update: bool,
     pub merge: bool,
@@ -15,7 +15,7 @@ pub struct Cascade {
 }
 
 /// A relationship as it is declared.
-#[derive(Clone, Debug, Drop, PartialEq, Eq)]
+#[derive(Clone, Drop, PartialEq, Eq)]
 pub struct RelationSpec {
     /// Whether it is a collection.
     pub many: bool,
@@ -40,7 +40,7 @@ impl Copied for RelationSpec {
 }
 
 /// A class as it is declared.
-#[derive(Clone, Debug, Drop, PartialEq, Eq)]
+#[derive(Clone, Drop, PartialEq, Eq)]
 pub struct ClassSpec {
     pub name: Name,
     /// The class that it extends.

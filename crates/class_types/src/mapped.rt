@@ -5,7 +5,7 @@ use base_core::{ClassId, ColumnNo, Copied, Kind, Name, RelNo, TableId};
 use std::alloc::AllocError;
 
 /// An attribute of a class: a column of one of its tables.
-#[derive(Clone, Debug, Drop, PartialEq, Eq)]
+#[derive(Clone, Drop, PartialEq, Eq)]
 pub struct Attribute {
     pub name: Name,
     pub table: TableId,
@@ -20,7 +20,7 @@ impl Copied for Attribute {
 }
 
 /// A relationship of a class.
-#[derive(Clone, Debug, Drop, PartialEq, Eq)]
+#[derive(Clone, Drop, PartialEq, Eq)]
 pub struct Relation {
     pub name: Name,
     /// The class that declares it.

@@ -8,7 +8,7 @@ ghost use Rattle.class_types.specs.Rules.{obeys};
 use base_core::Value;
 
 /// What a validator asks of a value.
-#[derive(Clone, Copy, Debug, PartialEq, Eq)]
+#[derive(Clone, Copy, PartialEq, Eq)]
 pub enum Rule {
     /// An integer of at least this.
     AtLeast(i64),

@@ -7,7 +7,7 @@ use base_core::{ArithOp, ColumnNo, Copied, ListOf, Name, RowValues, TableId, Val
 use sqlite_items::{Boxed, Items};
 use std::alloc::AllocError;
 
-#[derive(Clone, Copy, Debug, PartialEq, Eq)]
+#[derive(Clone, Copy, PartialEq, Eq)]
 pub enum CompareOp {
     Equal,
     NotEqual,
@@ -18,7 +18,7 @@ pub enum CompareOp {
 }
 
 /// A function of SQL. The first four are aggregates.
-#[derive(Clone, Copy, Debug, PartialEq, Eq)]
+#[derive(Clone, Copy, PartialEq, Eq)]
 pub enum Func {
     Count,
     Sum,
@@ -43,7 +43,7 @@ impl Func {
 }
 
 /// A source of rows: a table, and the name under which it stands where it has one of its own.
-#[derive(Clone, Debug, Drop, PartialEq, Eq)]
+#[derive(Clone, Drop, PartialEq, Eq)]
 pub struct Origin {
     pub table: TableId,
     pub alias: Option<Name>,

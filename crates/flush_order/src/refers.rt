@@ -60,7 +60,7 @@ pub fn refers_to(
 }
 
 /// A new row made ready: the cells that its INSERT writes, and the row and its key as far as they are known.
-#[derive(Debug, Drop)]
+#[derive(Drop)]
 pub struct ReadyRow {
     pub table: TableId,
     pub first: ListOf<RowCell>,
@@ -118,7 +118,7 @@ impl<'a> Waits for NewRows<'a> {
 }
 
 /// A deleted row made ready: its key, and its base without what is cleared before it is deleted.
-#[derive(Debug, Drop)]
+#[derive(Drop)]
 pub struct ReadyGone {
     pub name: RowName,
     pub last: RowValues,

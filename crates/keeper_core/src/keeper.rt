@@ -21,14 +21,14 @@ use schema_core::{RowStmt, Schema, Violation};
 use std::alloc::Global;
 
 /// Why a keeper did nothing: it failed, or memory ran out. Either leaves the tables that were committed last, and no scope.
-#[derive(Clone, Copy, Debug, PartialEq, Eq)]
+#[derive(Clone, Copy, PartialEq, Eq)]
 pub enum KeeperStop {
     Fault,
     Memory,
 }
 
 /// Why a statement that writes is refused. All but `Fault` and `Memory` leave the tables and scopes as they were.
-#[derive(Clone, Copy, Debug, PartialEq, Eq)]
+#[derive(Clone, Copy, PartialEq, Eq)]
 pub enum WriteRefusal {
     /// The first table of the statement's text that was not created, names of columns aside.
     NoTable(TableId),
@@ -63,7 +63,7 @@ impl From<Violation> for WriteRefusal {
 }
 
 /// Why a select is refused. All but `Fault` and `Memory` leave the tables and scopes as they were.
-#[derive(Clone, Copy, Debug, PartialEq, Eq)]
+#[derive(Clone, Copy, PartialEq, Eq)]
 pub enum QueryRefusal {
     NoTable(TableId),
     Range(ArithOp, i64, i64),

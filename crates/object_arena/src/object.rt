@@ -4,7 +4,7 @@ use base_core::{ClassId, Copied, Key, ListOf, ObjId, ObjList, Value};
 use std::alloc::AllocError;
 
 /// Where an object stands between a script and the store.
-#[derive(Clone, Copy, Debug, PartialEq, Eq)]
+#[derive(Clone, Copy, PartialEq, Eq)]
 pub enum State {
     /// Outside the session, and without a row.
     Transient,
@@ -19,7 +19,6 @@ pub enum State {
 }
 
 /// What is read of a cell.
-#[derive(Debug)]
 pub enum CellRead<'a> {
     Held(&'a Value),
     /// The value is to be read from the store.
@@ -27,7 +26,7 @@ pub enum CellRead<'a> {
 }
 
 /// A cell: its value, or none where it is expired, and the value as last read or written, or none where it is not known.
-#[derive(Clone, Debug, Drop, PartialEq, Eq)]
+#[derive(Clone, Drop, PartialEq, Eq)]
 pub struct Cell {
     pub value: Option<Value>,
     pub base: Option<Value>,
@@ -40,7 +39,7 @@ impl Copied for Cell {
 }
 
 /// A link of an object along a relationship.
-#[derive(Clone, Debug, Drop, PartialEq, Eq)]
+#[derive(Clone, Drop, PartialEq, Eq)]
 pub enum Link {
     Unset,
     /// To be read from the store; a collection keeps the members added and removed meanwhile.
@@ -58,7 +57,7 @@ impl Copied for Link {
 }
 
 /// An object's record.
-#[derive(Clone, Debug, Drop, PartialEq, Eq)]
+#[derive(Clone, Drop, PartialEq, Eq)]
 pub struct Object {
     pub class: ClassId,
     pub state: State,

@@ -3,7 +3,7 @@
 use base_core::Name;
 
 /// Where a keeper keeps its tables.
-#[derive(Clone, Debug, Drop, PartialEq, Eq)]
+#[derive(Clone, Drop, PartialEq, Eq)]
 pub enum Target {
     Memory,
     File(Name),

@@ -12,14 +12,14 @@ use object_arena::{Arena, Object, State};
 use std::alloc::{AllocError, Global};
 
 /// Where an object stands.
-#[derive(Debug, Drop)]
+#[derive(Drop)]
 pub struct Standing {
     pub state: State,
     pub identity: Option<Key>,
 }
 
 /// A scope: where each object that had been made stood at its start.
-#[derive(Debug, Drop)]
+#[derive(Drop)]
 pub struct Scope {
     pub standings: ListOf<Standing>,
 }

@@ -8,7 +8,7 @@ use base_core::Refusal;
 
 /// In how deep a scope an object was touched, 0 where it was touched in none, and whether a load made it since the
 /// transaction began.
-#[derive(Clone, Copy, Debug)]
+#[derive(Clone, Copy)]
 pub struct Trace {
     pub depth: u32,
     pub loaded: bool,

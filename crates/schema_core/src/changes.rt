@@ -4,7 +4,7 @@ use base_core::{ColumnNo, Copied, Key, ListOf, RowName, RowValues, TableId, Valu
 use std::alloc::AllocError;
 
 /// A cell to be written: a value, or a part of the key of a new row.
-#[derive(Clone, Debug, Drop, PartialEq, Eq)]
+#[derive(Clone, Drop, PartialEq, Eq)]
 pub enum RowCell {
     Given(Value),
     /// The new row's place in `fresh`, and the place in its key.
@@ -17,7 +17,7 @@ impl Copied for RowCell {
     }
 }
 
-#[derive(Clone, Debug, Drop, PartialEq, Eq)]
+#[derive(Clone, Drop, PartialEq, Eq)]
 pub struct NewRow {
     pub name: RowName,
     pub cells: ListOf<RowCell>,
@@ -29,7 +29,7 @@ impl Copied for NewRow {
     }
 }
 
-#[derive(Clone, Debug, Drop, PartialEq, Eq)]
+#[derive(Clone, Drop, PartialEq, Eq)]
 pub struct ChangedRow {
     pub name: RowName,
     pub key: Key,
@@ -42,7 +42,7 @@ impl Copied for ChangedRow {
     }
 }
 
-#[derive(Clone, Debug, Drop, PartialEq, Eq)]
+#[derive(Clone, Drop, PartialEq, Eq)]
 pub struct GoneRow {
     pub name: RowName,
     /// The row as last read or written; NULL in a column that some class owns and that is no attribute of the object's class.
@@ -56,7 +56,7 @@ impl Copied for GoneRow {
 }
 
 /// What a flush changes.
-#[derive(Clone, Debug, Drop, PartialEq, Eq)]
+#[derive(Clone, Drop, PartialEq, Eq)]
 pub struct RowChanges {
     /// New rows in order of rank.
     pub fresh: ListOf<NewRow>,
@@ -68,7 +68,7 @@ pub struct RowChanges {
 }
 
 /// A statement of a flush, in which keys of new rows may still stand open.
-#[derive(Clone, Debug, Drop, PartialEq, Eq)]
+#[derive(Clone, Drop, PartialEq, Eq)]
 pub enum Planned {
     /// Places in `fresh`.
     Insert {

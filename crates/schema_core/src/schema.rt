@@ -15,7 +15,7 @@ use std::alloc::Global;
 use std::marker::Model;
 
 /// The declared tables, each by its number, from 0 in the order of declaration.
-#[derive(Debug, Drop)]
+#[derive(Drop)]
 pub struct Schema {
     tables: ListOf<TableSpec>,
     resolved: bool,

@@ -9,7 +9,7 @@ use base_core::{ColumnNo, Copied, IntegrityKind, Key, ListOf, Refusal, RowList, 
 use std::alloc::{AllocError, AllocFailed};
 
 /// A statement that writes rows.
-#[derive(Clone, Debug, Drop, PartialEq, Eq)]
+#[derive(Clone, Drop, PartialEq, Eq)]
 pub enum RowStmt {
     /// One value for each column in every row, of which there are 1 to 1000. A NULL in a generated key draws one, in all rows
     /// or in none.
@@ -49,7 +49,7 @@ impl RowStmt {
 }
 
 /// The rule that a statement on rows violates, in the order in which they are told.
-#[derive(Clone, Copy, Debug, PartialEq, Eq)]
+#[derive(Clone, Copy, PartialEq, Eq)]
 pub enum Violation {
     /// The table was not created.
     NoTable(TableId),
@@ -81,7 +81,7 @@ impl Violation {
 }
 
 /// Why a statement on rows was not done.
-#[derive(Clone, Copy, Debug, PartialEq, Eq)]
+#[derive(Clone, Copy, PartialEq, Eq)]
 pub enum Unwritten {
     Violates(Violation),
     Memory,

@@ -4,7 +4,7 @@ use base_core::{Copied, Kind, ListOf, Name};
 use std::alloc::AllocError;
 
 /// A column's type. A varchar's length is printed and never enforced.
-#[derive(Clone, Copy, Debug, PartialEq, Eq)]
+#[derive(Clone, Copy, PartialEq, Eq)]
 pub enum ColumnKind {
     Integer,
     Varchar(Option<u32>),
@@ -14,7 +14,7 @@ pub enum ColumnKind {
 }
 
 /// A column as it is declared.
-#[derive(Clone, Debug, Drop, PartialEq, Eq)]
+#[derive(Clone, Drop, PartialEq, Eq)]
 pub struct ColumnSpec {
     pub name: Name,
     pub kind: ColumnKind,
@@ -24,14 +24,14 @@ pub struct ColumnSpec {
 }
 
 /// A foreign key as it is declared: its columns refer to the whole primary key of the table named.
-#[derive(Clone, Debug, Drop, PartialEq, Eq)]
+#[derive(Clone, Drop, PartialEq, Eq)]
 pub struct ForeignSpec {
     pub columns: ListOf<Name>,
     pub target: Name,
 }
 
 /// A table as it is declared.
-#[derive(Clone, Debug, Drop, PartialEq, Eq)]
+#[derive(Clone, Drop, PartialEq, Eq)]
 pub struct TableSpec {
     pub name: Name,
     pub columns: ListOf<ColumnSpec>,

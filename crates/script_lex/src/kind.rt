@@ -1,7 +1,7 @@
 //! What a token is.
 
 /// The kind of a token: each word of the script's forms and each symbol has its own.
-#[derive(Clone, Copy, Debug, PartialEq, Eq)]
+#[derive(Clone, Copy, PartialEq, Eq)]
 pub enum Kind {
     /// The end of the line.
     LineEnd,

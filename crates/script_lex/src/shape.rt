@@ -7,7 +7,7 @@ use crate::Kind;
 use crate::kind::WORDS;
 
 /// Bytes of which a token may have many.
-#[derive(Clone, Copy, Debug)]
+#[derive(Clone, Copy)]
 pub enum Class {
     Digit,
     Hex,

@@ -2,7 +2,7 @@ use crate::Kind;
 use base_core::{Name, Value};
 
 /// What a token holds beside its kind.
-#[derive(Debug, Drop)]
+#[derive(Drop)]
 pub enum Content {
     Nothing,
     /// The bytes of a word, or of a quoted name without its quotes.
@@ -14,7 +14,7 @@ pub enum Content {
 }
 
 /// A token of a line, with the place of its first byte, from 0.
-#[derive(Debug, Drop)]
+#[derive(Drop)]
 pub struct Token {
     pub kind: Kind,
     pub content: Content,

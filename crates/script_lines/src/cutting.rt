@@ -13,7 +13,7 @@ pub const MOST_BYTES: u64 = 16777216;
 pub const MOST_IN_LINE: usize = 65536;
 
 /// What can be told of the bytes of a script that were read so far.
-#[derive(Clone, Copy, Debug, PartialEq, Eq)]
+#[derive(Clone, Copy, PartialEq, Eq)]
 pub enum Piece {
     /// More bytes are wanted.
     Open,

@@ -15,7 +15,7 @@ use std::marker::Model;
 const CHUNK: usize = 4096;
 
 /// What comes next of a script.
-#[derive(Debug, Drop)]
+#[derive(Drop)]
 pub enum NextLine {
     /// The script has ended.
     End,
@@ -26,7 +26,7 @@ pub enum NextLine {
 }
 
 /// Why no line was read.
-#[derive(Clone, Copy, Debug, PartialEq, Eq)]
+#[derive(Clone, Copy, PartialEq, Eq)]
 pub enum ReadStop {
     /// The source failed.
     Fault,
@@ -50,7 +50,7 @@ impl<T: Drop> From<AllocFailed<T>> for ReadStop {
 }
 
 /// The bytes that were read and are no whole line yet.
-#[derive(Debug, Drop)]
+#[derive(Drop)]
 pub struct LineBuffer {
     bytes: Vec<u8>,
     /// How many of the bytes were taken.

@@ -7,7 +7,7 @@ use schema_core::{ColumnSpec, ForeignSpec};
 use std::alloc::AllocError;
 
 /// Whose SQL text is printed.
-#[derive(Clone, Copy, Debug, PartialEq, Eq)]
+#[derive(Clone, Copy, PartialEq, Eq)]
 pub enum Dialect {
     Sqlite,
     Postgresql,
@@ -15,7 +15,7 @@ pub enum Dialect {
 }
 
 /// Where a line stands: outside every block, in the block of a table, or in that of a class.
-#[derive(Clone, Copy, Debug, PartialEq, Eq)]
+#[derive(Clone, Copy, PartialEq, Eq)]
 pub enum Inside {
     Top,
     Table,
@@ -23,7 +23,7 @@ pub enum Inside {
 }
 
 /// A name that the script has bound, or a member of the list that it is bound to, by its place from 0.
-#[derive(Clone, Debug, Drop, PartialEq, Eq)]
+#[derive(Clone, Drop, PartialEq, Eq)]
 pub struct Term {
     pub name: Name,
     pub index: Option<u64>,

@@ -6,7 +6,7 @@ use sqlite_items::{Boxed, Items};
 use std::alloc::AllocError;
 
 /// A source of rows as it is written: a table, and the name that it is given after `as`.
-#[derive(Clone, Debug, Drop, PartialEq, Eq)]
+#[derive(Clone, Drop, PartialEq, Eq)]
 pub struct SynSource {
     pub table: Name,
     pub alias: Option<Name>,

@@ -8,7 +8,7 @@ ghost use Rattle.sql_text.specs.Names as spec;
 use std::alloc::{AllocError, Global};
 
 /// A dialect, by its rules of quoting.
-#[derive(Clone, Copy, Debug, PartialEq, Eq)]
+#[derive(Clone, Copy, PartialEq, Eq)]
 pub enum Quoting {
     Sqlite,
     Postgresql,

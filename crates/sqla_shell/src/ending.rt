@@ -1,7 +1,7 @@
 //! How the lines of a script end.
 
 /// How the lines of a script end.
-#[derive(Clone, Copy, Debug, PartialEq, Eq)]
+#[derive(Clone, Copy, PartialEq, Eq)]
 pub enum Ending {
     /// The script was read to its end.
     Finished,
