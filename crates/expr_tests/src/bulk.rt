@@ -13,7 +13,7 @@ use std::test::Fail;
 const ROWS: &str = "1 10; 2 null; 3 30;";
 
 /// What an UPDATE writes into the second column, the condition (none: an empty text), and the rows that it takes.
-const UPDATES: [(&str, &str, &str); 2] = [
+const UPDATES: &[(&str, &str, &str)] = &[
     ("0.1 5 +", "0.1 9 >", "1 15; 3 35;"),
     ("0.1 5 +", "", "1 15; 2 null; 3 35;"),
 ];
