@@ -25,46 +25,46 @@ bytes_of (Bytes b) = b
 bytes_of v = []
 
 -- by rank, and then by what the value holds
-abbrev layered : Value → Value → Ordering
-layered = then_cmp (on rank nat_cmp) (then_cmp (on flag_of bool_cmp) (then_cmp (on number_of int_cmp) (on bytes_of (slice_cmp nat_cmp))))
+abbrev rank_first_cmp : Value → Value → Ordering
+rank_first_cmp = then_cmp (on rank nat_cmp) (then_cmp (on flag_of bool_cmp) (then_cmp (on number_of int_cmp) (on bytes_of (slice_cmp nat_cmp))))
 
-layered_total : IsTotalOrder layered
-layered_total = then_total (on_total rank nat_cmp_total) (then_total (on_total flag_of bool_cmp_total) (then_total (on_total number_of int_cmp_total) (on_total bytes_of nat_list_cmp_total)))
+rank_first_cmp_total : IsTotalOrder rank_first_cmp
+rank_first_cmp_total = then_total (on_total rank nat_cmp_total) (then_total (on_total flag_of bool_cmp_total) (then_total (on_total number_of int_cmp_total) (on_total bytes_of nat_list_cmp_total)))
 
 then_equal : (r : Ordering) → ordering_then r Equal ≡ r
 then_equal Less = refl
 then_equal Equal = refl
 then_equal Greater = refl
 
-is_layered : (a b : Value) → layered a b ≡ value_cmp a b
-is_layered Null Null = refl
-is_layered Null (BoolValue b) = refl
-is_layered Null (Int b) = refl
-is_layered Null (Text b) = refl
-is_layered Null (Bytes b) = refl
-is_layered (BoolValue a) Null = refl
-is_layered (BoolValue a) (BoolValue b) = then_equal (bool_cmp a b)
-is_layered (BoolValue a) (Int b) = refl
-is_layered (BoolValue a) (Text b) = refl
-is_layered (BoolValue a) (Bytes b) = refl
-is_layered (Int a) Null = refl
-is_layered (Int a) (BoolValue b) = refl
-is_layered (Int a) (Int b) = then_equal (int_cmp a b)
-is_layered (Int a) (Text b) = refl
-is_layered (Int a) (Bytes b) = refl
-is_layered (Text a) Null = refl
-is_layered (Text a) (BoolValue b) = refl
-is_layered (Text a) (Int b) = refl
-is_layered (Text a) (Text b) = refl
-is_layered (Text a) (Bytes b) = refl
-is_layered (Bytes a) Null = refl
-is_layered (Bytes a) (BoolValue b) = refl
-is_layered (Bytes a) (Int b) = refl
-is_layered (Bytes a) (Text b) = refl
-is_layered (Bytes a) (Bytes b) = refl
+is_rank_first : (a b : Value) → rank_first_cmp a b ≡ value_cmp a b
+is_rank_first Null Null = refl
+is_rank_first Null (BoolValue b) = refl
+is_rank_first Null (Int b) = refl
+is_rank_first Null (Text b) = refl
+is_rank_first Null (Bytes b) = refl
+is_rank_first (BoolValue a) Null = refl
+is_rank_first (BoolValue a) (BoolValue b) = then_equal (bool_cmp a b)
+is_rank_first (BoolValue a) (Int b) = refl
+is_rank_first (BoolValue a) (Text b) = refl
+is_rank_first (BoolValue a) (Bytes b) = refl
+is_rank_first (Int a) Null = refl
+is_rank_first (Int a) (BoolValue b) = refl
+is_rank_first (Int a) (Int b) = then_equal (int_cmp a b)
+is_rank_first (Int a) (Text b) = refl
+is_rank_first (Int a) (Bytes b) = refl
+is_rank_first (Text a) Null = refl
+is_rank_first (Text a) (BoolValue b) = refl
+is_rank_first (Text a) (Int b) = refl
+is_rank_first (Text a) (Text b) = refl
+is_rank_first (Text a) (Bytes b) = refl
+is_rank_first (Bytes a) Null = refl
+is_rank_first (Bytes a) (BoolValue b) = refl
+is_rank_first (Bytes a) (Int b) = refl
+is_rank_first (Bytes a) (Text b) = refl
+is_rank_first (Bytes a) (Bytes b) = refl
 
 pub value_cmp_total : IsTotalOrder value_cmp
-value_cmp_total = subst IsTotalOrder (λ i a b. is_layered a b i) layered_total
+value_cmp_total = subst IsTotalOrder (λ i a b. is_rank_first a b i) rank_first_cmp_total
 
 -- values are told equal where the order does not tell them apart
 pub value_cmp_ties : (a b : Value) → equality.eq-value.it a b ≡ eq_by_cmp value_cmp a b
