@@ -30,8 +30,8 @@ pub record Asked : Type 0 where
   pub kind : Kind
   pub rule : Rule
 
-abbrev pub asked : Kind → Rule → Asked
-asked kind rule = record { kind = kind; rule = rule }
+abbrev pub validation_of : Kind → Rule → Asked
+validation_of kind rule = record { kind = kind; rule = rule }
 
 -- validators without their closures: their names, and in the same places what they ask
 pub record Rules : Type 0 where

@@ -19,7 +19,7 @@ pub struct Hooks {
 impl Hooks {
     ghost use Rattle.std.specs.Prelude.{[], IfErr, OnErr, OnOk};
     ghost use Rattle.base_core.specs.declared.refusal.Refusal.TheVariants.{Memory};
-    ghost use Rattle.class_types.specs.Rules.{asked, kind_of, with_rule};
+    ghost use Rattle.class_types.specs.Rules.{validation_of, kind_of, with_rule};
     ghost use Rattle.class_types.specs.Shown.{rules_of};
 
     /// No validators.
@@ -37,7 +37,7 @@ impl Hooks {
     pub fn put(&mut self, name: Name, validator: Validator) -> Result<(), Refusal>
         ensures ok { OnOk result
             (rules_of self.new
-            ≡ with_rule (rules_of self.old) name (asked validator.kind validator.rule)) }
+            ≡ with_rule (rules_of self.old) name (validation_of validator.kind validator.rule)) }
         ensures err { OnErr result (rules_of self.new ≡ rules_of self.old) }
         ensures cause { IfErr result (λ e. e ≡ Memory) }
     {
