@@ -14,13 +14,13 @@ use Rattle.expr_types.specs.declared.expr.Expr.TheVariants as expr
 use Rattle.expr_types.specs.declared.expr.Expr.TheViews.{roll-out-Expr, size-Expr, sized-Not}
 use Rattle.expr_types.specs.declared.expr.Expr.TheFolds.{ind-Expr, map-Expr}
 use Rattle.expr_types.specs.declared.expr.Func.TheVariants.{Lower}
-use Rattle.expr_types.specs.Normal.{normal, negated, negated_at, liked, like_by, lowered, lowered_at, lowered_by, joined_parts, and_parts, and_parts_at, or_parts, or_parts_at, opposite}
+use Rattle.expr_types.specs.Normal.{normal, negation_of, negation_of_level, normal_like, like_by, lower_argument, lower_argument_at, lower_argument_by, joined_parts, and_parts, and_parts_at, or_parts, or_parts_at, opposite}
 use Rattle.expr_types.proofs.Folds.{whole_is}
 use Rattle.expr_normal.proofs.Steps.{normal-Column, normal-Lit, normal-Compare, normal-IsNull, normal-And, normal-Or, normal-Not, normal-Arith, normal-Neg, normal-Concat, normal-Like, normal-Ilike, normal-InList, normal-Between, normal-Distinct, normal-Call, normal-CountAll, normal-Exists}
 
 -- what stands below a `not` is in normal form and has no opposite of its own
 abbrev OverNot : Expr-F Expr → Type 0
-OverNot (Expr-F.Not a) = (normal a ≡ a) × (negated a ≡ expr.Not a)
+OverNot (Expr-F.Not a) = (normal a ≡ a) × (negation_of a ≡ expr.Not a)
 OverNot level = Unit {0}
 
 record Fixed (n : Expr) : Type 0 where
@@ -137,12 +137,12 @@ fixed-Call f es =
 
 -- ---- `not`
 
-not_fixed : (n : Expr) → Fixed n → negated n ≡ expr.Not n → Fixed (expr.Not n)
-not_fixed n h is = fixed_at (expr.Not n) _ (expr.outs-Not n) (h.again, is) (normal-Not n ∙ ap negated h.again ∙ is)
+not_fixed : (n : Expr) → Fixed n → negation_of n ≡ expr.Not n → Fixed (expr.Not n)
+not_fixed n h is = fixed_at (expr.Not n) _ (expr.outs-Not n) (h.again, is) (normal-Not n ∙ ap negation_of h.again ∙ is)
 
-negated_by : (n : Expr) (x : Expr-F Expr) → out-Expr n ≡ x → negated n ≡ negated_at n x
-unfolding negated
-negated_by n x is = ap (negated_at n) is
+negated_by : (n : Expr) (x : Expr-F Expr) → out-Expr n ≡ x → negation_of n ≡ negation_of_level n x
+unfolding negation_of
+negated_by n x is = ap (negation_of_level n) is
 
 -- the level of a fixed form, once more
 level_again : (n m : Expr) (x : Expr-F Expr) → out-Expr n ≡ x → normal n ≡ n → normal n ≡ m → out-Expr m ≡ x
@@ -192,75 +192,75 @@ below-Exists n g o a is same =
 
 -- ---- `like`
 
-lowered_is : (a : Expr) (x : Expr-F Expr) → out-Expr a ≡ x → lowered a ≡ lowered_at x
-unfolding lowered
-lowered_is a x is = ap lowered_at is
+lowered_is : (a : Expr) (x : Expr-F Expr) → out-Expr a ≡ x → lower_argument a ≡ lower_argument_at x
+unfolding lower_argument
+lowered_is a x is = ap lower_argument_at is
 
-lowered_normal_by : (f : Func) (es : List Expr) (x : Expr) → lowered_by f es ≡ Some x → lowered_by f (map normal es) ≡ Some (normal x)
+lowered_normal_by : (f : Func) (es : List Expr) (x : Expr) → lower_argument_by f es ≡ Some x → lower_argument_by f (map normal es) ≡ Some (normal x)
 lowered_normal_by Lower (e ∷ []) x is = ap (option_map normal) is
 lowered_normal_by Lower [] x is = absurd (cc)
 lowered_normal_by Lower (e ∷ d ∷ es) x is = absurd (cc)
 lowered_normal_by f es x is = absurd (cc)
 
-lowered_normal_at : (a : Expr) (l : Expr-F Expr) → out-Expr a ≡ l → (x : Expr) → lowered_at l ≡ Some x → lowered (normal a) ≡ Some (normal x)
+lowered_normal_at : (a : Expr) (l : Expr-F Expr) → out-Expr a ≡ l → (x : Expr) → lower_argument_at l ≡ Some x → lower_argument (normal a) ≡ Some (normal x)
 lowered_normal_at a (Expr-F.Call f es) is x e =
-    ap lowered (ap normal (sym (sym (expr.rolls-Call f es) ∙ sym (whole_is a (Expr-F.Call f es) is))) ∙ normal-Call f es)
+    ap lower_argument (ap normal (sym (sym (expr.rolls-Call f es) ∙ sym (whole_is a (Expr-F.Call f es) is))) ∙ normal-Call f es)
     ∙ lowered_is (expr.Call f (map normal es)) _ (expr.outs-Call f (map normal es)) ∙ lowered_normal_by f es x e
 lowered_normal_at a level is x e = absurd (cc)
 
 -- the text that a fixed form lowers is fixed
-lowered_again : (a x : Expr) → normal a ≡ a → lowered a ≡ Some x → normal x ≡ x
+lowered_again : (a x : Expr) → normal a ≡ a → lower_argument a ≡ Some x → normal x ≡ x
 lowered_again a x same e =
-    let twice : Some (normal x) ≡ Some x = sym (lowered_normal_at a (out-Expr a) refl x (sym (lowered_is a (out-Expr a) refl) ∙ e)) ∙ ap lowered same ∙ e in cc
+    let twice : Some (normal x) ≡ Some x = sym (lowered_normal_at a (out-Expr a) refl x (sym (lowered_is a (out-Expr a) refl) ∙ e)) ∙ ap lower_argument same ∙ e in cc
 
-liked_by : (g : Bool) (a b : Expr) (s t : Option Expr) → lowered a ≡ s → lowered b ≡ t → liked g a b ≡ like_by g a b s t
-unfolding liked
+liked_by : (g : Bool) (a b : Expr) (s t : Option Expr) → lower_argument a ≡ s → lower_argument b ≡ t → normal_like g a b ≡ like_by g a b s t
+unfolding normal_like
 liked_by g a b s t ea eb = rw (ea, eb) refl
 
-like_stays : (g : Bool) (a b : Expr) → normal a ≡ a → normal b ≡ b → liked g a b ≡ expr.Like g a b → Fixed (expr.Like g a b)
+like_stays : (g : Bool) (a b : Expr) → normal a ≡ a → normal b ≡ b → normal_like g a b ≡ expr.Like g a b → Fixed (expr.Like g a b)
 like_stays g a b ha hb e = fixed_at (expr.Like g a b) _ (expr.outs-Like g a b) tt (normal-Like g a b ∙ rw (ha, hb) e)
 
-fixed_like_by : (g : Bool) (a b : Expr) (s t : Option Expr) → lowered a ≡ s → lowered b ≡ t → normal a ≡ a → normal b ≡ b → Fixed (like_by g a b s t)
+fixed_like_by : (g : Bool) (a b : Expr) (s t : Option Expr) → lower_argument a ≡ s → lower_argument b ≡ t → normal a ≡ a → normal b ≡ b → Fixed (like_by g a b s t)
 fixed_like_by g a b (Some x) (Some y) es et ha hb = fixed-Ilike g x y (lowered_again a x ha es) (lowered_again b y hb et)
 fixed_like_by g a b (Some x) None es et ha hb = like_stays g a b ha hb (liked_by g a b (Some x) None es et)
 fixed_like_by g a b None t es et ha hb = like_stays g a b ha hb (liked_by g a b None t es et)
 
-fixed-Like : (g : Bool) (a b : Expr) → normal a ≡ a → normal b ≡ b → Fixed (liked g a b)
-fixed-Like g a b ha hb = subst Fixed (sym (liked_by g a b (lowered a) (lowered b) refl refl)) (fixed_like_by g a b (lowered a) (lowered b) refl refl ha hb)
+fixed-Like : (g : Bool) (a b : Expr) → normal a ≡ a → normal b ≡ b → Fixed (normal_like g a b)
+fixed-Like g a b ha hb = subst Fixed (sym (liked_by g a b (lower_argument a) (lower_argument b) refl refl)) (fixed_like_by g a b (lower_argument a) (lower_argument b) refl refl ha hb)
 
 -- a fixed `like` has fixed operands that are not both lowered
-like_below_by : (g : Bool) (a b : Expr) (s t : Option Expr) → lowered (normal a) ≡ s → lowered (normal b) ≡ t → like_by g (normal a) (normal b) s t ≡ expr.Like g a b → (normal a ≡ a) × (normal b ≡ b) × (liked (not g) a b ≡ expr.Like (not g) a b)
+like_below_by : (g : Bool) (a b : Expr) (s t : Option Expr) → lower_argument (normal a) ≡ s → lower_argument (normal b) ≡ t → like_by g (normal a) (normal b) s t ≡ expr.Like g a b → (normal a ≡ a) × (normal b ≡ b) × (normal_like (not g) a b ≡ expr.Like (not g) a b)
 like_below_by g a b (Some x) (Some y) es et e =
     let levels : Expr-F.Ilike g x y ≡ Expr-F.Like g a b = sym (expr.outs-Ilike g x y) ∙ ap out-Expr e ∙ expr.outs-Like g a b in absurd (cc)
 like_below_by g a b (Some x) None es et e =
     let levels : Expr-F.Like g (normal a) (normal b) ≡ Expr-F.Like g a b = sym (expr.outs-Like g (normal a) (normal b)) ∙ ap out-Expr e ∙ expr.outs-Like g a b in
     let ha : normal a ≡ a = cc in
     let hb : normal b ≡ b = cc in
-    (ha, hb, liked_by (not g) a b (Some x) None (ap lowered (sym ha) ∙ es) (ap lowered (sym hb) ∙ et))
+    (ha, hb, liked_by (not g) a b (Some x) None (ap lower_argument (sym ha) ∙ es) (ap lower_argument (sym hb) ∙ et))
 like_below_by g a b None t es et e =
     let levels : Expr-F.Like g (normal a) (normal b) ≡ Expr-F.Like g a b = sym (expr.outs-Like g (normal a) (normal b)) ∙ ap out-Expr e ∙ expr.outs-Like g a b in
     let ha : normal a ≡ a = cc in
     let hb : normal b ≡ b = cc in
-    (ha, hb, liked_by (not g) a b None t (ap lowered (sym ha) ∙ es) (ap lowered (sym hb) ∙ et))
+    (ha, hb, liked_by (not g) a b None t (ap lower_argument (sym ha) ∙ es) (ap lower_argument (sym hb) ∙ et))
 
 like_negated : (n : Expr) (g : Bool) (a b : Expr) → out-Expr n ≡ Expr-F.Like g a b → normal n ≡ n → Fixed (expr.Like (not g) a b)
 like_negated n g a b is same =
     let n_is : expr.Like g a b ≡ n = sym (expr.rolls-Like g a b) ∙ sym (whole_is n (Expr-F.Like g a b) is) in
-    let e : like_by g (normal a) (normal b) (lowered (normal a)) (lowered (normal b)) ≡ expr.Like g a b =
-    sym (liked_by g (normal a) (normal b) (lowered (normal a)) (lowered (normal b)) refl refl) ∙ sym (normal-Like g a b) ∙ ap normal n_is ∙ same ∙ sym n_is in
-    let below : (normal a ≡ a) × (normal b ≡ b) × (liked (not g) a b ≡ expr.Like (not g) a b) = like_below_by g a b (lowered (normal a)) (lowered (normal b)) refl refl e in
+    let e : like_by g (normal a) (normal b) (lower_argument (normal a)) (lower_argument (normal b)) ≡ expr.Like g a b =
+    sym (liked_by g (normal a) (normal b) (lower_argument (normal a)) (lower_argument (normal b)) refl refl) ∙ sym (normal-Like g a b) ∙ ap normal n_is ∙ same ∙ sym n_is in
+    let below : (normal a ≡ a) × (normal b ≡ b) × (normal_like (not g) a b ≡ expr.Like (not g) a b) = like_below_by g a b (lower_argument (normal a)) (lower_argument (normal b)) refl refl e in
     like_stays (not g) a b below.0 below.1 below.2
 
 -- a `not` of a `not` of itself would be larger than itself
 not_endless : (b : Expr) → b ≡ expr.Not (expr.Not b) → ⊥
 not_endless b is = omega (arith, ap size-Expr is, sized-Not b, sized-Not (expr.Not b))
 
-below_not : (a : Expr) (x : Expr-F Expr) → out-Expr a ≡ x → negated a ≡ expr.Not a → OverNot x
+below_not : (a : Expr) (x : Expr-F Expr) → out-Expr a ≡ x → negation_of a ≡ expr.Not a → OverNot x
 below_not a (Expr-F.Not b) is e =
     absurd (not_endless b (sym (negated_by a (Expr-F.Not b) is) ∙ e ∙ ap expr.Not (sym (sym (expr.rolls-Not b) ∙ sym (whole_is a (Expr-F.Not b) is)))))
 below_not a level is e = tt
 
-negated_fixed_at : (n : Expr) (x : Expr-F Expr) → out-Expr n ≡ x → Fixed n → Fixed (negated_at n x)
+negated_fixed_at : (n : Expr) (x : Expr-F Expr) → out-Expr n ≡ x → Fixed n → Fixed (negation_of_level n x)
 negated_fixed_at n (Expr-F.Compare op a b) is h = fixed-Compare (opposite op) a b (below-Compare n op a b is h.again).0 (below-Compare n op a b is h.again).1
 negated_fixed_at n (Expr-F.IsNull g a) is h = fixed-IsNull (not g) a (below-IsNull n g a is h.again)
 negated_fixed_at n (Expr-F.Not a) is h =
@@ -274,8 +274,8 @@ negated_fixed_at n (Expr-F.Distinct g a b) is h = fixed-Distinct (not g) a b (be
 negated_fixed_at n (Expr-F.Exists g o a) is h = fixed-Exists (not g) o a (below-Exists n g o a is h.again)
 negated_fixed_at n level is h = not_fixed n h (negated_by n level is)
 
-negated_fixed : (n : Expr) → Fixed n → Fixed (negated n)
-unfolding negated
+negated_fixed : (n : Expr) → Fixed n → Fixed (negation_of n)
+unfolding negation_of
 negated_fixed n h = negated_fixed_at n (out-Expr n) refl h
 
 -- ---- all levels

@@ -8,7 +8,7 @@ use Rattle.expr_types.specs.declared.expr.Func.{Func}
 use Rattle.expr_types.specs.declared.expr.Origin.{Origin}
 use Rattle.expr_types.specs.declared.expr.Expr.{Expr}
 use Rattle.expr_types.specs.declared.expr.Expr.TheVariants as expr
-use Rattle.expr_types.specs.Normal.{normal, normal_level, negated, liked, joined_parts, and_parts, or_parts}
+use Rattle.expr_types.specs.Normal.{normal, normal_level, negation_of, normal_like, joined_parts, and_parts, or_parts}
 use Rattle.expr_types.proofs.Folds.{fold-Column, fold-Lit, fold-Compare, fold-IsNull, fold-And, fold-Or, fold-Not, fold-Arith, fold-Neg, fold-Concat, fold-Like, fold-Ilike, fold-InList, fold-Between, fold-Distinct, fold-Call, fold-CountAll, fold-Exists}
 
 pub normal-Column : (s : ℕ) (c : ColumnNo) → normal (expr.Column s c) ≡ expr.Column s c
@@ -35,7 +35,7 @@ pub normal-Or : (es : List Expr) → normal (expr.Or es) ≡ expr.Or (joined_par
 unfolding normal
 normal-Or es = fold-Or Expr normal_level es
 
-pub normal-Not : (a : Expr) → normal (expr.Not a) ≡ negated (normal a)
+pub normal-Not : (a : Expr) → normal (expr.Not a) ≡ negation_of (normal a)
 unfolding normal
 normal-Not a = fold-Not Expr normal_level a
 
@@ -51,7 +51,7 @@ pub normal-Concat : (a : Expr) (b : Expr) → normal (expr.Concat a b) ≡ expr.
 unfolding normal
 normal-Concat a b = fold-Concat Expr normal_level a b ∙ expr.rolls-Concat (normal a) (normal b)
 
-pub normal-Like : (g : Bool) (a : Expr) (b : Expr) → normal (expr.Like g a b) ≡ liked g (normal a) (normal b)
+pub normal-Like : (g : Bool) (a : Expr) (b : Expr) → normal (expr.Like g a b) ≡ normal_like g (normal a) (normal b)
 unfolding normal
 normal-Like g a b = fold-Like Expr normal_level g a b
 

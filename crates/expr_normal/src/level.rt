@@ -26,7 +26,7 @@ fn opposite(op: CompareOp) -> CompareOp
 /// The opposite of an expression.
 #[tactic(auto, unfolding(expr_types::specs::Normal::negated))]
 pub(crate) fn negated(alloc: Global, e: Expr) -> Result<Expr, AllocError>
-    ensures { IfOk result (λ n. n ≡ spec.negated e) }
+    ensures { IfOk result (λ n. n ≡ spec.negation_of e) }
 {
     match e {
         Expr::Compare(op, a, b) => Ok(Expr::Compare(opposite(op), a, b)),
@@ -117,7 +117,7 @@ fn turned(alloc: Global, items: Items<Expr>) -> Result<Items<Expr>, AllocError>
 /// Whether the expression is a text that is lowered.
 #[tactic(auto, unfolding(expr_types::specs::Normal::lowered))]
 fn is_lowered(e: &Expr) -> bool
-    ensures { result ≡ is_some (spec.lowered e.now) }
+    ensures { result ≡ is_some (spec.lower_argument e.now) }
 {
     match e {
         Expr::Call(Func::Lower, arguments) => arguments.len() == 1,
@@ -128,7 +128,7 @@ fn is_lowered(e: &Expr) -> bool
 /// The text that the expression lowers, or the expression itself.
 #[tactic(auto, unfolding(expr_types::specs::Normal::lowered))]
 fn text_in(e: Expr) -> Expr
-    ensures { result ≡ unwrap_or (spec.lowered e) e }
+    ensures { result ≡ unwrap_or (spec.lower_argument e) e }
 {
     match e {
         Expr::Call(Func::Lower, mut arguments) => {
@@ -150,7 +150,7 @@ pub(crate) fn liked(
     a: Boxed<Expr>,
     b: Boxed<Expr>,
 ) -> Result<Expr, AllocError>
-    ensures { IfOk result (λ n. n ≡ spec.liked negated a b) }
+    ensures { IfOk result (λ n. n ≡ spec.normal_like negated a b) }
 {
     if is_lowered(a.get()) && is_lowered(b.get()) {
         let (a, b) = both(

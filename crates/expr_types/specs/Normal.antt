@@ -18,21 +18,21 @@ opposite LessEqual = Greater
 opposite Greater = LessEqual
 opposite GreaterEqual = Less
 
-abbrev pub negated_at : Expr → Expr-F Expr → Expr
-negated_at e (Expr-F.Compare op a b) = expr.Compare (opposite op) a b
-negated_at e (Expr-F.IsNull negated a) = expr.IsNull (not negated) a
-negated_at e (Expr-F.Not a) = a
-negated_at e (Expr-F.Like negated a b) = expr.Like (not negated) a b
-negated_at e (Expr-F.Ilike negated a b) = expr.Ilike (not negated) a b
-negated_at e (Expr-F.InList negated a values) = expr.InList (not negated) a values
-negated_at e (Expr-F.Between negated a low high) = expr.Between (not negated) a low high
-negated_at e (Expr-F.Distinct negated a b) = expr.Distinct (not negated) a b
-negated_at e (Expr-F.Exists negated origin condition) = expr.Exists (not negated) origin condition
-negated_at e level = expr.Not e
+abbrev pub negation_of_level : Expr → Expr-F Expr → Expr
+negation_of_level e (Expr-F.Compare op a b) = expr.Compare (opposite op) a b
+negation_of_level e (Expr-F.IsNull negated a) = expr.IsNull (not negated) a
+negation_of_level e (Expr-F.Not a) = a
+negation_of_level e (Expr-F.Like negated a b) = expr.Like (not negated) a b
+negation_of_level e (Expr-F.Ilike negated a b) = expr.Ilike (not negated) a b
+negation_of_level e (Expr-F.InList negated a values) = expr.InList (not negated) a values
+negation_of_level e (Expr-F.Between negated a low high) = expr.Between (not negated) a low high
+negation_of_level e (Expr-F.Distinct negated a b) = expr.Distinct (not negated) a b
+negation_of_level e (Expr-F.Exists negated origin condition) = expr.Exists (not negated) origin condition
+negation_of_level e level = expr.Not e
 
 -- the opposite of an expression in normal form
-unfoldable pub negated : Expr → Expr
-negated e = negated_at e (out-Expr e)
+unfoldable pub negation_of : Expr → Expr
+negation_of e = negation_of_level e (out-Expr e)
 
 abbrev pub and_parts_at : Expr → Expr-F Expr → List Expr
 and_parts_at e (Expr-F.And parts) = parts
@@ -55,32 +55,32 @@ abbrev pub joined_parts : (Expr → List Expr) → List Expr → List Expr
 joined_parts parts [] = []
 joined_parts parts (e ∷ es) = parts e ++ joined_parts parts es
 
-abbrev pub lowered_by : Func → List Expr → Option Expr
-lowered_by Lower (text ∷ []) = Some text
-lowered_by function arguments = None
+abbrev pub lower_argument_by : Func → List Expr → Option Expr
+lower_argument_by Lower (text ∷ []) = Some text
+lower_argument_by function arguments = None
 
-abbrev pub lowered_at : Expr-F Expr → Option Expr
-lowered_at (Expr-F.Call function arguments) = lowered_by function arguments
-lowered_at level = None
+abbrev pub lower_argument_at : Expr-F Expr → Option Expr
+lower_argument_at (Expr-F.Call function arguments) = lower_argument_by function arguments
+lower_argument_at level = None
 
 -- the text that the expression lowers
-unfoldable pub lowered : Expr → Option Expr
-lowered e = lowered_at (out-Expr e)
+unfoldable pub lower_argument : Expr → Option Expr
+lower_argument e = lower_argument_at (out-Expr e)
 
 abbrev pub like_by : Bool → Expr → Expr → Option Expr → Option Expr → Expr
 like_by negated a b (Some x) (Some y) = expr.Ilike negated x y
 like_by negated a b x y = expr.Like negated a b
 
 -- `a like b`, of operands in normal form
-unfoldable pub liked : Bool → Expr → Expr → Expr
-liked negated a b = like_by negated a b (lowered a) (lowered b)
+unfoldable pub normal_like : Bool → Expr → Expr → Expr
+normal_like negated a b = like_by negated a b (lower_argument a) (lower_argument b)
 
 -- a level whose operands are in normal form
 abbrev pub normal_level : Expr-F Expr → Expr
 normal_level (Expr-F.And parts) = expr.And (joined_parts and_parts parts)
 normal_level (Expr-F.Or parts) = expr.Or (joined_parts or_parts parts)
-normal_level (Expr-F.Not a) = negated a
-normal_level (Expr-F.Like negated a b) = liked negated a b
+normal_level (Expr-F.Not a) = negation_of a
+normal_level (Expr-F.Like negated a b) = normal_like negated a b
 normal_level level = roll-Expr level
 
 -- the normal form

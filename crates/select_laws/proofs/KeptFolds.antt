@@ -13,7 +13,7 @@ use Rattle.expr_types.specs.declared.expr.Expr.TheOpen.{Expr-F}
 use Rattle.expr_types.specs.declared.expr.Expr.TheVariants as expr
 use Rattle.expr_types.specs.declared.expr.Expr.TheFolds.{fold-Expr}
 use Rattle.expr_types.specs.Level.{operands, scope_below}
-use Rattle.expr_types.specs.Normal.{normal, negated_at, like_by, joined_parts, and_parts, and_parts_at, or_parts, or_parts_at, lowered, opposite}
+use Rattle.expr_types.specs.Normal.{normal, negation_of_level, like_by, joined_parts, and_parts, and_parts_at, or_parts, or_parts_at, lower_argument, opposite}
 use Rattle.expr_types.proofs.Folds.{fold-Compare, fold-IsNull, fold-And, fold-Or, fold-Not, fold-Arith, fold-Neg, fold-Concat, fold-Like, fold-Ilike, fold-InList, fold-Between, fold-Distinct, fold-Call, fold-Exists, bare, by_levels, whole_is}
 use Rattle.expr_normal.proofs.Steps.{normal-Column, normal-Lit, normal-Compare, normal-IsNull, normal-And, normal-Or, normal-Not, normal-Arith, normal-Neg, normal-Concat, normal-Like, normal-Ilike, normal-InList, normal-Between, normal-Distinct, normal-Call, normal-CountAll, normal-Exists}
 use Rattle.select_laws.proofs.Forms.{and_parts_by, liked_is, lowered_whole, negated_is, or_parts_by}
@@ -80,7 +80,7 @@ module _ (A : Type 0) (step : Expr-F A → A) (keeps : Keeps A step) where
   back : (n e : Expr) (v : A) → n ≡ e → told e ≡ v → step (Expr-F.Not v) ≡ step (Expr-F.Not (told n))
   back n e v is h = ap (λ w. step (Expr-F.Not w)) (sym h ∙ ap told (sym is))
 
-  told_negated : (n : Expr) (x : Expr-F Expr) → out-Expr n ≡ x → told (negated_at n x) ≡ step (Expr-F.Not (told n))
+  told_negated : (n : Expr) (x : Expr-F Expr) → out-Expr n ≡ x → told (negation_of_level n x) ≡ step (Expr-F.Not (told n))
   told_negated n (Expr-F.Compare op a b) is =
       fold-Compare A step (opposite op) a b ∙ keeps.compares op (told a) (told b)
       ∙ back n (expr.Compare op a b) _ (whole_is n (Expr-F.Compare op a b) is ∙ expr.rolls-Compare op a b) (fold-Compare A step op a b)
@@ -109,7 +109,7 @@ module _ (A : Type 0) (step : Expr-F A → A) (keeps : Keeps A step) where
       sym (keeps.nots (told a)) ∙ back n (expr.Not a) _ (whole_is n (Expr-F.Not a) is ∙ expr.rolls-Not a) (fold-Not A step a)
   told_negated n level is = fold-Not A step n
 
-  told_liked : (g : Bool) (a b : Expr) (s t : Option Expr) → lowered a ≡ s → lowered b ≡ t → told (like_by g a b s t) ≡ step (Expr-F.Like g (told a) (told b))
+  told_liked : (g : Bool) (a b : Expr) (s t : Option Expr) → lower_argument a ≡ s → lower_argument b ≡ t → told (like_by g a b s t) ≡ step (Expr-F.Like g (told a) (told b))
   told_liked g a b (Some x) (Some y) es et =
       fold-Ilike A step g x y ∙ keeps.lowers g (told x) (told y)
       ∙ ap (λ v. step (Expr-F.Like g v (step (Expr-F.Call Lower (told y ∷ []))))) (sym (ap told (lowered_whole a x es) ∙ fold-Call A step Lower (x ∷ [])))
@@ -150,7 +150,7 @@ module _ (A : Type 0) (step : Expr-F A → A) (keeps : Keeps A step) where
       (ap told (normal-Not a.0 ∙ negated_is (normal a.0)) ∙ told_negated (normal a.0) (out-Expr (normal a.0)) refl ∙ ap (λ v. step (Expr-F.Not v)) a.1 ∙ sym (fold-Not A step a.0))
   level (Expr-F.Like g a b) =
       via _ _ (expr.rolls-Like g a.0 b.0)
-      (ap told (normal-Like g a.0 b.0 ∙ liked_is g (normal a.0) (normal b.0)) ∙ told_liked g (normal a.0) (normal b.0) (lowered (normal a.0)) (lowered (normal b.0)) refl refl
+      (ap told (normal-Like g a.0 b.0 ∙ liked_is g (normal a.0) (normal b.0)) ∙ told_liked g (normal a.0) (normal b.0) (lower_argument (normal a.0)) (lower_argument (normal b.0)) refl refl
       ∙ ap (λ v. step (Expr-F.Like g v (told (normal b.0)))) a.1 ∙ ap (λ v. step (Expr-F.Like g (told a.0) v)) b.1 ∙ sym (fold-Like A step g a.0 b.0))
   level (Expr-F.Compare op a b) =
       via _ _ (expr.rolls-Compare op a.0 b.0)

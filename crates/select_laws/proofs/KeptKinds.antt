@@ -10,7 +10,7 @@ use Rattle.expr_types.specs.declared.expr.Func.TheVariants.{Count, Sum, Min, Max
 use Rattle.expr_types.specs.declared.expr.Expr.{Expr, out-Expr, roll-Expr}
 use Rattle.expr_types.specs.declared.expr.Expr.TheOpen.{Expr-F}
 use Rattle.expr_types.specs.declared.expr.Expr.TheVariants as expr
-use Rattle.expr_types.specs.Normal.{normal, negated_at, like_by, joined_parts, and_parts, and_parts_at, or_parts, or_parts_at, lowered, opposite}
+use Rattle.expr_types.specs.Normal.{normal, negation_of_level, like_by, joined_parts, and_parts, and_parts_at, or_parts, or_parts_at, lower_argument, opposite}
 use Rattle.expr_types.proofs.Folds.{bare, by_levels, whole_is}
 use Rattle.expr_normal.proofs.Steps.{normal-Column, normal-Lit, normal-Compare, normal-IsNull, normal-And, normal-Or, normal-Not, normal-Arith, normal-Neg, normal-Concat, normal-Like, normal-Ilike, normal-InList, normal-Between, normal-Distinct, normal-Call, normal-CountAll, normal-Exists}
 use Rattle.sql_semantics.specs.Kinds.{Scope, Judged, judged, then_judge, expected, all_of, all_alike, gives, called, in_scope, value_kind}
@@ -58,7 +58,7 @@ or_booleans schema scope (n ∷ ns) h =
     (subst (AllByRecursion (IsBoolean schema scope)) (sym (or_parts_by n)) (or_booleans_at schema scope n (out-Expr n) refl h.0))
     (or_booleans schema scope ns h.1)
 
-negated_boolean : (schema : Catalog) (scope : Scope) (n : Expr) (x : Expr-F Expr) → out-Expr n ≡ x → IsBoolean schema scope n → IsBoolean schema scope (negated_at n x)
+negated_boolean : (schema : Catalog) (scope : Scope) (n : Expr) (x : Expr-F Expr) → out-Expr n ≡ x → IsBoolean schema scope n → IsBoolean schema scope (negation_of_level n x)
 negated_boolean schema scope n (Expr-F.Compare op a b) is h =
     judged-Compare schema scope (opposite op) a b ∙ sym (judged-Compare schema scope op a b) ∙ as_whole schema scope n (expr.Compare op a b) _ (whole_is n (Expr-F.Compare op a b) is ∙ expr.rolls-Compare op a b) h
 negated_boolean schema scope n (Expr-F.IsNull g a) is h =
@@ -82,7 +82,7 @@ negated_boolean schema scope n level is h = judged-Not schema scope n ∙ ap (λ
 abbrev IsText : Catalog → Scope → Expr → Type 0
 IsText schema scope e = judged schema e scope ≡ Ok kinds.Text
 
-lowered_text : (schema : Catalog) (scope : Scope) (a x : Expr) → lowered a ≡ Some x → IsText schema scope a → IsText schema scope x
+lowered_text : (schema : Catalog) (scope : Scope) (a x : Expr) → lower_argument a ≡ Some x → IsText schema scope a → IsText schema scope x
 lowered_text schema scope a x is h =
     (all_of_each kinds.Text kinds.Text (judged schema x scope ∷ []) (sym (judged-Call schema scope Lower (x ∷ [])) ∙ as_whole schema scope a (expr.Call Lower (x ∷ [])) _ (lowered_whole a x is) h)).1.0
 
@@ -92,7 +92,7 @@ text_test i j = gives kinds.Boolean (all_of kinds.Text (i ∷ j ∷ []))
 both_texts : (i j : Judged) → i ≡ Ok kinds.Text → j ≡ Ok kinds.Text → text_test i j ≡ Ok kinds.Boolean
 both_texts i j e f = ap (λ k. text_test k j) e ∙ ap (text_test (Ok kinds.Text)) f
 
-liked_boolean : (schema : Catalog) (scope : Scope) (g : Bool) (a b : Expr) (s t : Option Expr) → lowered a ≡ s → lowered b ≡ t → IsText schema scope a → IsText schema scope b → IsBoolean schema scope (like_by g a b s t)
+liked_boolean : (schema : Catalog) (scope : Scope) (g : Bool) (a b : Expr) (s t : Option Expr) → lower_argument a ≡ s → lower_argument b ≡ t → IsText schema scope a → IsText schema scope b → IsBoolean schema scope (like_by g a b s t)
 liked_boolean schema scope g a b (Some x) (Some y) es et ha hb =
     judged-Ilike schema scope g x y ∙ both_texts (judged schema x scope) (judged schema y scope) (lowered_text schema scope a x es ha) (lowered_text schema scope b y et hb)
 liked_boolean schema scope g a b (Some x) None es et ha hb = judged-Like schema scope g a b ∙ both_texts (judged schema a scope) (judged schema b scope) ha hb
@@ -245,7 +245,7 @@ level (Expr-F.Like g a b) = via _ _ (expr.rolls-Like g a.0 b.0) (λ schema scope
     let kind = gives_ok kinds.Boolean (all_of kinds.Text (judged schema a.0 scope ∷ judged schema b.0 scope ∷ [])) k (sym (judged-Like schema scope g a.0 b.0) ∙ h) in
     let js = (all_of_each kinds.Text kind.1 (judged schema a.0 scope ∷ judged schema b.0 scope ∷ []) kind.2).1 in
     ap (λ x. judged schema x scope) (normal-Like g a.0 b.0 ∙ liked_is g (normal a.0) (normal b.0))
-    ∙ liked_boolean schema scope g (normal a.0) (normal b.0) (lowered (normal a.0)) (lowered (normal b.0)) refl refl (a.1 schema scope kinds.Text js.0) (b.1 schema scope kinds.Text js.1.0)
+    ∙ liked_boolean schema scope g (normal a.0) (normal b.0) (lower_argument (normal a.0)) (lower_argument (normal b.0)) refl refl (a.1 schema scope kinds.Text js.0) (b.1 schema scope kinds.Text js.1.0)
     ∙ ap Ok (sym kind.0))
 level (Expr-F.Call f es) = via _ _ (expr.rolls-Call f (plain es)) (λ schema scope k h.
     let t = sym (judged-Call schema scope f (plain es)) ∙ h in

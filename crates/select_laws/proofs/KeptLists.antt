@@ -9,7 +9,7 @@ use Rattle.expr_types.specs.declared.expr.Expr.{Expr, out-Expr, roll-Expr}
 use Rattle.expr_types.specs.declared.expr.Expr.TheOpen.{Expr-F}
 use Rattle.expr_types.specs.declared.expr.Expr.TheVariants as expr
 use Rattle.expr_types.specs.declared.expr.Expr.TheFolds.{map-Expr}
-use Rattle.expr_types.specs.Normal.{normal, negated_at, like_by, joined_parts, and_parts as parts_of_and, and_parts_at, or_parts, or_parts_at, lowered, opposite}
+use Rattle.expr_types.specs.Normal.{normal, negation_of_level, like_by, joined_parts, and_parts as parts_of_and, and_parts_at, or_parts, or_parts_at, lower_argument, opposite}
 use Rattle.expr_types.proofs.Folds.{bare, by_levels, whole_is}
 use Rattle.expr_normal.proofs.Steps.{normal-Column, normal-Lit, normal-Compare, normal-IsNull, normal-And, normal-Or, normal-Not, normal-Arith, normal-Neg, normal-Concat, normal-Like, normal-Ilike, normal-InList, normal-Between, normal-Distinct, normal-Call, normal-CountAll, normal-Exists}
 use Rattle.sql_semantics.specs.Plain.{full_level, has_full_lists}
@@ -78,7 +78,7 @@ or_full (n ∷ ns) h =
 
 -- ---- negations and `like`
 
-full_negated : (n : Expr) (x : Expr-F Expr) → out-Expr n ≡ x → Full n → Full (negated_at n x)
+full_negated : (n : Expr) (x : Expr-F Expr) → out-Expr n ≡ x → Full n → Full (negation_of_level n x)
 full_negated n (Expr-F.Compare op a b) is h = of_level (Expr-F.Compare (opposite op) a b) _ (expr.rolls-Compare (opposite op) a b) (to_level (Expr-F.Compare op a b) n (sym (whole_is n (Expr-F.Compare op a b) is)) h)
 full_negated n (Expr-F.IsNull g a) is h = of_level (Expr-F.IsNull (not g) a) _ (expr.rolls-IsNull (not g) a) (to_level (Expr-F.IsNull g a) n (sym (whole_is n (Expr-F.IsNull g a) is)) h)
 full_negated n (Expr-F.Like g a b) is h = of_level (Expr-F.Like (not g) a b) _ (expr.rolls-Like (not g) a b) (to_level (Expr-F.Like g a b) n (sym (whole_is n (Expr-F.Like g a b) is)) h)
@@ -90,10 +90,10 @@ full_negated n (Expr-F.Exists g o a) is h = of_level (Expr-F.Exists (not g) o a)
 full_negated n (Expr-F.Not a) is h = first_true (has_full_lists a) true (to_level (Expr-F.Not a) n (sym (whole_is n (Expr-F.Not a) is)) h)
 full_negated n level is h = of_level (Expr-F.Not n) _ (expr.rolls-Not n) (one_true (has_full_lists n) h)
 
-full_lowered : (a x : Expr) → lowered a ≡ Some x → Full a → Full x
+full_lowered : (a x : Expr) → lower_argument a ≡ Some x → Full a → Full x
 full_lowered a x is h = first_true (has_full_lists x) true (to_level (Expr-F.Call Lower (x ∷ [])) a (expr.rolls-Call Lower (x ∷ []) ∙ sym (lowered_whole a x is)) h)
 
-full_liked : (g : Bool) (a b : Expr) (s t : Option Expr) → lowered a ≡ s → lowered b ≡ t → Full a → Full b → Full (like_by g a b s t)
+full_liked : (g : Bool) (a b : Expr) (s t : Option Expr) → lower_argument a ≡ s → lower_argument b ≡ t → Full a → Full b → Full (like_by g a b s t)
 full_liked g a b (Some x) (Some y) es et ha hb =
     of_level (Expr-F.Ilike g x y) _ (expr.rolls-Ilike g x y) (two_true (has_full_lists x) (has_full_lists y) (full_lowered a x es ha) (full_lowered b y et hb))
 full_liked g a b (Some x) None es et ha hb = of_level (Expr-F.Like g a b) _ (expr.rolls-Like g a b) (two_true (has_full_lists a) (has_full_lists b) ha hb)
@@ -172,7 +172,7 @@ level (Expr-F.Not a) h =
     (full_negated (normal a.0) (out-Expr (normal a.0)) refl (a.1 (first_true (has_full_lists a.0) true h)))
 level (Expr-F.Like g a b) h =
     formed _ _ (ap normal (expr.rolls-Like g a.0 b.0) ∙ normal-Like g a.0 b.0 ∙ liked_is g (normal a.0) (normal b.0))
-    (full_liked g (normal a.0) (normal b.0) (lowered (normal a.0)) (lowered (normal b.0)) refl refl
+    (full_liked g (normal a.0) (normal b.0) (lower_argument (normal a.0)) (lower_argument (normal b.0)) refl refl
     (a.1 (first_true (has_full_lists a.0) (has_full_lists b.0 && true) h)) (b.1 (first_true (has_full_lists b.0) true (rest_true (has_full_lists a.0) (has_full_lists b.0 && true) h))))
 level (Expr-F.Call f es) h =
     formed _ _ (ap normal (expr.rolls-Call f (plain es)) ∙ normal-Call f (plain es))

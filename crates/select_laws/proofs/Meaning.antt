@@ -16,7 +16,7 @@ use Rattle.expr_types.specs.declared.expr.Expr.TheFolds.{ind-Expr, map-Expr}
 use Rattle.expr_types.specs.declared.expr.Func.TheVariants.{Lower}
 use Rattle.expr_types.specs.Level.{is_aggregate_function}
 use Rattle.expr_types.specs.Normal as form
-use Rattle.expr_types.specs.Normal.{normal, negated, negated_at, liked, like_by, joined_parts, and_parts, or_parts}
+use Rattle.expr_types.specs.Normal.{normal, negation_of, negation_of_level, normal_like, like_by, joined_parts, and_parts, or_parts}
 use Rattle.expr_normal.proofs.Steps.{normal-Column, normal-Lit, normal-Compare, normal-IsNull, normal-And, normal-Or, normal-Not, normal-Arith, normal-Neg, normal-Concat, normal-Like, normal-Ilike, normal-InList, normal-Between, normal-Distinct, normal-Call, normal-CountAll, normal-Exists}
 use Rattle.expr_normal.proofs.Fixed.{not_below}
 use Rattle.schema_core.specs.Catalog.{Catalog}
@@ -59,7 +59,7 @@ lowered_pair g (Err e) s = refl
 lowered_answer : (x : Expr) (p : Place) → evaluated (expr.Call Lower (x ∷ [])) p ≡ (evaluated x p >>= λ v. Ok (lowered v))
 lowered_answer x p = ap (λ m. m p) (evaluated-Call Lower (x ∷ [])) ∙ bind_assoc (evaluated x p) (λ v. Ok (v ∷ [])) (λ vs. Ok (applied Lower vs))
 
-liked_by_same : (g : Bool) (a b : Expr) (s t : Option Expr) → form.lowered a ≡ s → form.lowered b ≡ t → (p : Place) → evaluated (like_by g a b s t) p ≡ evaluated (expr.Like g a b) p
+liked_by_same : (g : Bool) (a b : Expr) (s t : Option Expr) → form.lower_argument a ≡ s → form.lower_argument b ≡ t → (p : Place) → evaluated (like_by g a b s t) p ≡ evaluated (expr.Like g a b) p
 liked_by_same g a b (Some x) (Some y) es et p =
     ap (λ m. m p) (evaluated-Ilike g x y) ∙ lowered_pair g (evaluated x p) (evaluated y p)
     ∙ ap (λ (r : Checked Value). both r (evaluated y p >>= λ w. Ok (lowered w)) >>= λ v. truth (signed g (is_like v.0 v.1))) (sym (ap (λ m. evaluated m p) (lowered_whole a x es) ∙ lowered_answer x p))
@@ -68,8 +68,8 @@ liked_by_same g a b (Some x) (Some y) es et p =
 liked_by_same g a b (Some x) None es et p = refl
 liked_by_same g a b None t es et p = refl
 
-liked_same : (g : Bool) (a b : Expr) (p : Place) → evaluated (liked g a b) p ≡ evaluated (expr.Like g a b) p
-liked_same g a b p = ap (λ n. evaluated n p) (liked_is g a b) ∙ liked_by_same g a b (form.lowered a) (form.lowered b) refl refl p
+liked_same : (g : Bool) (a b : Expr) (p : Place) → evaluated (normal_like g a b) p ≡ evaluated (expr.Like g a b) p
+liked_same g a b p = ap (λ n. evaluated n p) (liked_is g a b) ∙ liked_by_same g a b (form.lower_argument a) (form.lower_argument b) refl refl p
 
 like_by_no_not : (g : Bool) (a b : Expr) (s t : Option Expr) (c : Expr) → out-Expr (like_by g a b s t) ≡ Expr-F.Not c → ⊥
 like_by_no_not g a b (Some x) (Some y) c is = let e : Expr-F.Ilike g x y ≡ Expr-F.Not c = sym (expr.outs-Ilike g x y) ∙ is in absurd (cc)
@@ -78,7 +78,7 @@ like_by_no_not g a b None t c is = let e : Expr-F.Like g a b ≡ Expr-F.Not c = 
 
 -- ---- negations
 
-under_not : (n : Expr) (x : Expr-F Expr) → out-Expr n ≡ x → ((b c : Expr) → x ≡ Expr-F.Not b → out-Expr b ≡ Expr-F.Not c → ⊥) → (b : Expr) → out-Expr (negated_at n x) ≡ Expr-F.Not b → n ≡ b
+under_not : (n : Expr) (x : Expr-F Expr) → out-Expr n ≡ x → ((b c : Expr) → x ≡ Expr-F.Not b → out-Expr b ≡ Expr-F.Not c → ⊥) → (b : Expr) → out-Expr (negation_of_level n x) ≡ Expr-F.Not b → n ≡ b
 under_not n (Expr-F.Compare op a b') is h b e = let l : Expr-F.Compare (form.opposite op) a b' ≡ Expr-F.Not b = sym (expr.outs-Compare (form.opposite op) a b') ∙ e in absurd (cc)
 under_not n (Expr-F.IsNull g a) is h b e = let l : Expr-F.IsNull (not g) a ≡ Expr-F.Not b = sym (expr.outs-IsNull (not g) a) ∙ e in absurd (cc)
 under_not n (Expr-F.Like g a b') is h b e = let l : Expr-F.Like (not g) a b' ≡ Expr-F.Not b = sym (expr.outs-Like (not g) a b') ∙ e in absurd (cc)
@@ -194,7 +194,7 @@ level (Expr-F.Not a) = subst Claim (sym (expr.rolls-Not a.0)) (λ schema scope o
 level (Expr-F.Arith op a b) = subst Claim (sym (expr.rolls-Arith op a.0 b.0)) (λ schema scope outer free p h g. let ops = good-Arith schema scope p.group outer free op a.0 b.0 g in record { value = ap (λ z. evaluated z p) (normal-Arith op a.0 b.0) ∙ ap (λ m. m p) (evaluated-Arith op (normal a.0) (normal b.0)) ∙ means-Arith op (evaluated (normal a.0)) (evaluated a.0) (evaluated (normal b.0)) (evaluated b.0) p (a.1 schema scope outer free p h ops.0).value (b.1 schema scope outer free p h ops.1.0).value ∙ sym (ap (λ m. m p) (evaluated-Arith op a.0 b.0)); under = λ nb is v' e. let l : (Expr-F.Arith op (normal a.0) (normal b.0)) ≡ Expr-F.Not nb = sym (expr.outs-Arith op (normal a.0) (normal b.0)) ∙ ap out-Expr (sym (normal-Arith op a.0 b.0)) ∙ is in absurd (cc) })
 level (Expr-F.Neg a) = subst Claim (sym (expr.rolls-Neg a.0)) (λ schema scope outer free p h g. let ops = good-Neg schema scope p.group outer free a.0 g in record { value = ap (λ z. evaluated z p) (normal-Neg a.0) ∙ ap (λ m. m p) (evaluated-Neg (normal a.0)) ∙ means-Neg (evaluated (normal a.0)) (evaluated a.0) p (a.1 schema scope outer free p h ops.0).value ∙ sym (ap (λ m. m p) (evaluated-Neg a.0)); under = λ nb is v' e. let l : (Expr-F.Neg (normal a.0)) ≡ Expr-F.Not nb = sym (expr.outs-Neg (normal a.0)) ∙ ap out-Expr (sym (normal-Neg a.0)) ∙ is in absurd (cc) })
 level (Expr-F.Concat a b) = subst Claim (sym (expr.rolls-Concat a.0 b.0)) (λ schema scope outer free p h g. let ops = good-Concat schema scope p.group outer free a.0 b.0 g in record { value = ap (λ z. evaluated z p) (normal-Concat a.0 b.0) ∙ ap (λ m. m p) (evaluated-Concat (normal a.0) (normal b.0)) ∙ means-Concat (evaluated (normal a.0)) (evaluated a.0) (evaluated (normal b.0)) (evaluated b.0) p (a.1 schema scope outer free p h ops.0).value (b.1 schema scope outer free p h ops.1.0).value ∙ sym (ap (λ m. m p) (evaluated-Concat a.0 b.0)); under = λ nb is v' e. let l : (Expr-F.Concat (normal a.0) (normal b.0)) ≡ Expr-F.Not nb = sym (expr.outs-Concat (normal a.0) (normal b.0)) ∙ ap out-Expr (sym (normal-Concat a.0 b.0)) ∙ is in absurd (cc) })
-level (Expr-F.Like g' a b) = subst Claim (sym (expr.rolls-Like g' a.0 b.0)) (λ schema scope outer free p h g. let ops = good-Like schema scope p.group outer free g' a.0 b.0 g in record { value = ap (λ z. evaluated z p) (normal-Like g' a.0 b.0) ∙ liked_same g' (normal a.0) (normal b.0) p ∙ ap (λ m. m p) (evaluated-Like g' (normal a.0) (normal b.0)) ∙ means-Like g' (evaluated (normal a.0)) (evaluated a.0) (evaluated (normal b.0)) (evaluated b.0) p (a.1 schema scope outer free p h ops.0).value (b.1 schema scope outer free p h ops.1.0).value ∙ sym (ap (λ m. m p) (evaluated-Like g' a.0 b.0)); under = λ nb is v' e. absurd (like_by_no_not g' (normal a.0) (normal b.0) (form.lowered (normal a.0)) (form.lowered (normal b.0)) nb (ap out-Expr (sym (normal-Like g' a.0 b.0 ∙ liked_is g' (normal a.0) (normal b.0))) ∙ is)) })
+level (Expr-F.Like g' a b) = subst Claim (sym (expr.rolls-Like g' a.0 b.0)) (λ schema scope outer free p h g. let ops = good-Like schema scope p.group outer free g' a.0 b.0 g in record { value = ap (λ z. evaluated z p) (normal-Like g' a.0 b.0) ∙ liked_same g' (normal a.0) (normal b.0) p ∙ ap (λ m. m p) (evaluated-Like g' (normal a.0) (normal b.0)) ∙ means-Like g' (evaluated (normal a.0)) (evaluated a.0) (evaluated (normal b.0)) (evaluated b.0) p (a.1 schema scope outer free p h ops.0).value (b.1 schema scope outer free p h ops.1.0).value ∙ sym (ap (λ m. m p) (evaluated-Like g' a.0 b.0)); under = λ nb is v' e. absurd (like_by_no_not g' (normal a.0) (normal b.0) (form.lower_argument (normal a.0)) (form.lower_argument (normal b.0)) nb (ap out-Expr (sym (normal-Like g' a.0 b.0 ∙ liked_is g' (normal a.0) (normal b.0))) ∙ is)) })
 level (Expr-F.Ilike g' a b) = subst Claim (sym (expr.rolls-Ilike g' a.0 b.0)) (λ schema scope outer free p h g. let ops = good-Ilike schema scope p.group outer free g' a.0 b.0 g in record { value = ap (λ z. evaluated z p) (normal-Ilike g' a.0 b.0) ∙ ap (λ m. m p) (evaluated-Ilike g' (normal a.0) (normal b.0)) ∙ means-Ilike g' (evaluated (normal a.0)) (evaluated a.0) (evaluated (normal b.0)) (evaluated b.0) p (a.1 schema scope outer free p h ops.0).value (b.1 schema scope outer free p h ops.1.0).value ∙ sym (ap (λ m. m p) (evaluated-Ilike g' a.0 b.0)); under = λ nb is v' e. let l : (Expr-F.Ilike g' (normal a.0) (normal b.0)) ≡ Expr-F.Not nb = sym (expr.outs-Ilike g' (normal a.0) (normal b.0)) ∙ ap out-Expr (sym (normal-Ilike g' a.0 b.0)) ∙ is in absurd (cc) })
 level (Expr-F.InList g' a vs) = subst Claim (sym (expr.rolls-InList g' a.0 vs)) (λ schema scope outer free p h g. let ops = good-InList schema scope p.group outer free g' a.0 vs g in record { value = ap (λ z. evaluated z p) (normal-InList g' a.0 vs) ∙ ap (λ m. m p) (evaluated-InList g' (normal a.0) vs) ∙ means-InList g' vs (evaluated (normal a.0)) (evaluated a.0) p (a.1 schema scope outer free p h ops.0).value ∙ sym (ap (λ m. m p) (evaluated-InList g' a.0 vs)); under = λ nb is v' e. let l : (Expr-F.InList g' (normal a.0) vs) ≡ Expr-F.Not nb = sym (expr.outs-InList g' (normal a.0) vs) ∙ ap out-Expr (sym (normal-InList g' a.0 vs)) ∙ is in absurd (cc) })
 level (Expr-F.Between g' a low high) = subst Claim (sym (expr.rolls-Between g' a.0 low.0 high.0)) (λ schema scope outer free p h g. let ops = good-Between schema scope p.group outer free g' a.0 low.0 high.0 g in record { value = ap (λ z. evaluated z p) (normal-Between g' a.0 low.0 high.0) ∙ ap (λ m. m p) (evaluated-Between g' (normal a.0) (normal low.0) (normal high.0)) ∙ means-Between g' (evaluated (normal a.0)) (evaluated a.0) (evaluated (normal low.0)) (evaluated low.0) (evaluated (normal high.0)) (evaluated high.0) p (a.1 schema scope outer free p h ops.0).value (low.1 schema scope outer free p h ops.1.0).value (high.1 schema scope outer free p h ops.1.1.0).value ∙ sym (ap (λ m. m p) (evaluated-Between g' a.0 low.0 high.0)); under = λ nb is v' e. let l : (Expr-F.Between g' (normal a.0) (normal low.0) (normal high.0)) ≡ Expr-F.Not nb = sym (expr.outs-Between g' (normal a.0) (normal low.0) (normal high.0)) ∙ ap out-Expr (sym (normal-Between g' a.0 low.0 high.0)) ∙ is in absurd (cc) })

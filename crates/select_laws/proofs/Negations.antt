@@ -7,7 +7,7 @@ use Rattle.expr_types.specs.declared.expr.Expr.{Expr, out-Expr}
 use Rattle.expr_types.specs.declared.expr.Expr.TheOpen.{Expr-F}
 use Rattle.expr_types.specs.declared.expr.Expr.TheVariants as expr
 use Rattle.expr_types.specs.declared.expr.CompareOp.TheVariants.{Equal, NotEqual, Less, LessEqual, Greater, GreaterEqual}
-use Rattle.expr_types.specs.Normal.{opposite, negated_at}
+use Rattle.expr_types.specs.Normal.{opposite, negation_of_level}
 use Rattle.expr_types.proofs.Folds.{whole_is}
 use Rattle.base_core.specs.Order.{same_value}
 use Rattle.sql_semantics.specs.Checked.{Checked, ◌>>=◌}
@@ -92,7 +92,7 @@ denied-Exists g o a p = ap (λ m. m p) (evaluated-Exists (not g) o a) ∙ denied
 
 -- the negation of an expression means what `not` makes of it, where a `not` stands over what is true, false or NULL
 pub denied_at : (n : Expr) (x : Expr-F Expr) → out-Expr n ≡ x → (p : Place) → ((b : Expr) → x ≡ Expr-F.Not b → (v : Value) → evaluated b p ≡ Ok v → Truthful v) →
-    evaluated (negated_at n x) p ≡ denied (evaluated n p)
+    evaluated (negation_of_level n x) p ≡ denied (evaluated n p)
 denied_at n (Expr-F.Compare op a b) is p h = denied-Compare op a b p ∙ ap (λ m. denied (evaluated m p)) (sym (expr.rolls-Compare op a b) ∙ sym (whole_is n (Expr-F.Compare op a b) is))
 denied_at n (Expr-F.IsNull g a) is p h = denied-IsNull g a p ∙ ap (λ m. denied (evaluated m p)) (sym (expr.rolls-IsNull g a) ∙ sym (whole_is n (Expr-F.IsNull g a) is))
 denied_at n (Expr-F.Like g a b) is p h = denied-Like g a b p ∙ ap (λ m. denied (evaluated m p)) (sym (expr.rolls-Like g a b) ∙ sym (whole_is n (Expr-F.Like g a b) is))

@@ -23,7 +23,7 @@ use Rattle.expr_types.specs.declared.expr.Func.{Func}
 use Rattle.expr_types.specs.declared.expr.Func.TheVariants as func
 use Rattle.expr_types.specs.declared.expr.Origin.{Origin}
 use Rattle.expr_types.specs.Level.{operands, scope_below}
-use Rattle.expr_types.specs.Normal.{normal, normal_level, negated, negated_at, liked, like_by, lowered, lowered_at}
+use Rattle.expr_types.specs.Normal.{normal, normal_level, negation_of, negation_of_level, normal_like, like_by, lower_argument, lower_argument_at}
 use Rattle.expr_types.proofs.Folds.{bare, by_levels}
 use Rattle.sql_semantics.specs.Kinds.{Scope, column_in}
 use Rattle.sql_semantics.specs.DistinctNames.{has_distinct_columns, has_distinct_names}
@@ -242,12 +242,12 @@ module _ (q : Quoting) (schema : Catalog) (named : has_distinct_names schema ≡
   two_back Mysql x y scope = refl
 
   -- `like` of two lowered texts
-  lowers : (a : Expr) → lowered (roll-Expr (Expr-F.Call func.Lower (a ∷ []))) ≡ Some a
-  unfolding lowered
-  lowers a = ap lowered (expr.rolls-Call func.Lower (a ∷ [])) ∙ ap lowered_at (expr.outs-Call func.Lower (a ∷ []))
+  lowers : (a : Expr) → lower_argument (roll-Expr (Expr-F.Call func.Lower (a ∷ []))) ≡ Some a
+  unfolding lower_argument
+  lowers a = ap lower_argument (expr.rolls-Call func.Lower (a ∷ [])) ∙ ap lower_argument_at (expr.outs-Call func.Lower (a ∷ []))
 
-  liked_lowers : (n : Bool) (a b : Expr) → liked n (roll-Expr (Expr-F.Call func.Lower (a ∷ []))) (roll-Expr (Expr-F.Call func.Lower (b ∷ []))) ≡ roll-Expr (Expr-F.Ilike n a b)
-  unfolding liked
+  liked_lowers : (n : Bool) (a b : Expr) → normal_like n (roll-Expr (Expr-F.Call func.Lower (a ∷ []))) (roll-Expr (Expr-F.Call func.Lower (b ∷ []))) ≡ roll-Expr (Expr-F.Ilike n a b)
+  unfolding normal_like
   liked_lowers n a b =
       two (like_by n (roll-Expr (Expr-F.Call func.Lower (a ∷ []))) (roll-Expr (Expr-F.Call func.Lower (b ∷ [])))) (lowers a) (lowers b) ∙ sym (expr.rolls-Ilike n a b)
 
@@ -257,10 +257,10 @@ module _ (q : Quoting) (schema : Catalog) (named : has_distinct_names schema ≡
   ilike_back Postgresql n x y scope = refl
   ilike_back Mysql n x y scope = liked_lowers n (back schema x scope) (back schema y scope)
 
-  undistinct : (a b : Expr) → negated (roll-Expr (Expr-F.Distinct true a b)) ≡ roll-Expr (Expr-F.Distinct false a b)
-  unfolding negated
+  undistinct : (a b : Expr) → negation_of (roll-Expr (Expr-F.Distinct true a b)) ≡ roll-Expr (Expr-F.Distinct false a b)
+  unfolding negation_of
   undistinct a b =
-      ap negated (expr.rolls-Distinct true a b) ∙ (ap (negated_at (expr.Distinct true a b)) (expr.outs-Distinct true a b) ∙ sym (expr.rolls-Distinct false a b))
+      ap negation_of (expr.rolls-Distinct true a b) ∙ (ap (negation_of_level (expr.Distinct true a b)) (expr.outs-Distinct true a b) ∙ sym (expr.rolls-Distinct false a b))
 
   distinct_back : (d : Quoting) (n : Bool) (x y : Sql) (scope : List Origin) → back schema (distinct_tree d n x y) scope ≡ normal_level (Expr-F.Distinct n (back schema x scope) (back schema y scope))
   unfolding back
@@ -269,9 +269,9 @@ module _ (q : Quoting) (schema : Catalog) (named : has_distinct_names schema ≡
   distinct_back Mysql true x y scope = refl
   distinct_back Mysql false x y scope = undistinct (back schema x scope) (back schema y scope)
 
-  nonexistent : (o : Origin) (a : Expr) → negated (roll-Expr (Expr-F.Exists false o a)) ≡ roll-Expr (Expr-F.Exists true o a)
-  unfolding negated
-  nonexistent o a = ap negated (expr.rolls-Exists false o a) ∙ (ap (negated_at (expr.Exists false o a)) (expr.outs-Exists false o a) ∙ sym (expr.rolls-Exists true o a))
+  nonexistent : (o : Origin) (a : Expr) → negation_of (roll-Expr (Expr-F.Exists false o a)) ≡ roll-Expr (Expr-F.Exists true o a)
+  unfolding negation_of
+  nonexistent o a = ap negation_of (expr.rolls-Exists false o a) ∙ (ap (negation_of_level (expr.Exists false o a)) (expr.outs-Exists false o a) ∙ sym (expr.rolls-Exists true o a))
 
   exists_back : (n : Bool) (source : Source) (x : Sql) (scope : List Origin)
       → back schema (exists_tree n (exists source x)) scope ≡ normal_level (Expr-F.Exists n (origin_back schema source) (back schema x (scope ++ origin_back schema source ∷ [])))
