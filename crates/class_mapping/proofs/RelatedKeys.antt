@@ -20,7 +20,7 @@ use Rattle.class_sides.specs.declared.side.Side.{Side}
 use Rattle.class_sides.specs.Keys.{TableKey}
 use Rattle.class_sides.specs.Sides.{Ends, ends_in, is_all_keys, layout_at, target_of}
 use Rattle.class_sides.specs.Pairs.{is_partner, is_plain, join_of, same_secondary, same_side}
-use Rattle.class_sides.specs.Linking.{class_or, ends_from, ends_on, far_key, far_or, is_same_pair, key_or_none, near_key, near_or, swapped}
+use Rattle.class_sides.specs.Linking.{class_or, ends_from, ends_on, far_key, far_or, is_same_pair, key_or_none, near_key, near_or, swapped_ends}
 use Rattle.class_mapping.specs.Lines.{AreLines}
 use Rattle.class_mapping.specs.Mapped.{IsClass, Mapped, layout_of, relations_of}
 use Rattle.class_mapping.specs.Related.{IsRelated, has_keys, orphans_rightly}
@@ -149,7 +149,7 @@ covers_at mapped near far class target ends n f h =
 -- ---- the keys of a side, or those of its partner the other way round
 
 abbrev pub Found : Mapped → Side → Option Ends → Type 0
-Found mapped side ends = (ends ≡ side.ends) ⊎ ((other : Side) × Has (sides_in mapped) other × IsDeclared side other × (ends ≡ swapped other.ends))
+Found mapped side ends = (ends ≡ side.ends) ⊎ ((other : Side) × Has (sides_in mapped) other × IsDeclared side other × (ends ≡ swapped_ends other.ends))
 
 module _ (mapped : Mapped) (lined : length mapped.classes.lines ≡ length mapped.classes.specs) (lines : AreLines mapped.schema.tables mapped.classes)
     (valid : IsValid mapped.schema.tables mapped.classes (layouts_in mapped) (sides_in mapped)) where
@@ -174,7 +174,7 @@ module _ (mapped : Mapped) (lined : length mapped.classes.lines ≡ length mappe
   covered_ends side h many =
       held (covers tables layouts side) side.ends (or_rest (is_plain side) (holds_of (covers tables layouts side) side.ends) (all_of (is_covered tables layouts) sides side valid.covered h) many)
 
-  found_same : (side other : Side) → Has sides side → Has sides other → is_same_pair side other ≡ true → (b : Bool) → same_side side other ≡ b → Found mapped side (if b then other.ends else swapped other.ends)
+  found_same : (side other : Side) → Has sides side → Has sides other → is_same_pair side other ≡ true → (b : Bool) → same_side side other ≡ b → Found mapped side (if b then other.ends else swapped_ends other.ends)
   found_same side other h g pair true same =
       let from = side_from mapped lined lines side h in
       let within : side.class.0 < length classes.lines = rw lined from.class in
@@ -198,7 +198,7 @@ module _ (mapped : Mapped) (lined : length mapped.classes.lines ≡ length mappe
   pub plain_found : (side : Side) → Has sides side → is_plain side ≡ true → (ends : Option Ends) → Found mapped side ends → ends ≡ None
   plain_found side h plain ends (inl e) = e ∙ plain_ends side h plain
   plain_found side h plain ends (inr found) =
-      found.3 ∙ ap swapped (plain_ends found.0 found.1 (sym (same_first side.spec.secondary found.0.spec.secondary found.2.secondary) ∙ plain))
+      found.3 ∙ ap swapped_ends (plain_ends found.0 found.1 (sym (same_first side.spec.secondary found.0.spec.secondary found.2.secondary) ∙ plain))
 
   pub both_covered : (side : Side) (keys : Ends) → covers tables layouts side keys ≡ true → covers_both tables (layout_at layouts (Some side.class)) (layout_at layouts side.target) keys ≡ true
   both_covered side keys h = and_right (is_table (named_table tables side.spec.secondary) keys.0.0) (covers_both tables (layout_at layouts (Some side.class)) (layout_at layouts side.target) keys) h
@@ -220,7 +220,7 @@ module _ (mapped : Mapped) (lined : length mapped.classes.lines ≡ length mappe
   covered_found side h many ends (inl e) = let keys = covered_ends side h many in (keys.0, e ∙ keys.1, keys.2)
   covered_found side h many ends (inr found) =
       let keys = covered_ends found.0 found.1 (sym (same_first side.spec.secondary found.0.spec.secondary found.2.secondary) ∙ many) in
-      ((keys.0.1, keys.0.0), found.3 ∙ ap swapped keys.1, turned_covers side found.0 found.2 keys.0.0 keys.0.1 keys.2)
+      ((keys.0.1, keys.0.0), found.3 ∙ ap swapped_ends keys.1, turned_covers side found.0 found.2 keys.0.0 keys.0.1 keys.2)
 
   -- ---- a declared relationship, and the backref that it makes
 

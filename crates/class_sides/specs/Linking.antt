@@ -56,16 +56,16 @@ abbrev pub key_or_none : Option TableKey → TableKey
 key_or_none None = no_key
 key_or_none (Some key) = key
 
-abbrev pub swapped : Option Ends → Option Ends
-swapped None = None
-swapped (Some ends) = Some (ends.1, ends.0)
+abbrev pub swapped_ends : Option Ends → Option Ends
+swapped_ends None = None
+swapped_ends (Some ends) = Some (ends.1, ends.0)
 
 abbrev pub is_same_pair : Side → Side → Bool
 is_same_pair side other = same_side side other || (not side.spec.backref && is_partner side other)
 
 abbrev pub ends_from : Side → Option Side → Option Ends
 ends_from side None = side.ends
-ends_from side (Some first) = if same_side side first then first.ends else swapped first.ends
+ends_from side (Some first) = if same_side side first then first.ends else swapped_ends first.ends
 
 -- the keys of the secondary table of a side, as the side of its pair that is declared first finds them
 abbrev pub ends_on : List Side → Side → Option Ends

@@ -6,7 +6,7 @@ ghost use Rattle.std.specs.List.{flat_map, position};
 ghost use Rattle.schema_core.specs.Catalog.{same_name};
 ghost use Rattle.base_core.specs.declared.refusal.Refusal.TheVariants.{Memory};
 ghost use Rattle.class_sides.specs.Pairs.{is_plain};
-ghost use Rattle.class_sides.specs.Linking.{all_names, back_relation, class_or, ends_from, ends_on, far_key, far_or, is_own, is_same_pair, key_or_none, makes_back, names_at, names_on, near_key, near_or, own_relation, place_in, place_or_none, relations_at, relations_by, relations_on, swapped};
+ghost use Rattle.class_sides.specs.Linking.{all_names, back_relation, class_or, ends_from, ends_on, far_key, far_or, is_own, is_same_pair, key_or_none, makes_back, names_at, names_on, near_key, near_or, own_relation, place_in, place_or_none, relations_at, relations_by, relations_on, swapped_ends};
 
 use crate::Side;
 use crate::ends::Ends;
@@ -144,8 +144,8 @@ fn key_or_none(key: Option<TableKey>) -> TableKey
     }
 }
 
-fn swapped(ends: Option<Ends>) -> Option<Ends>
-    ensures { result ≡ swapped ends }
+fn swapped_ends(ends: Option<Ends>) -> Option<Ends>
+    ensures { result ≡ swapped_ends ends }
 {
     match ends {
         Some(ends) => Some((ends.1, ends.0)),
@@ -172,7 +172,7 @@ fn ends_on(sides: &[Side], side: &Side) -> Option<Ends>
 {
     match first_of(sides, side) {
         Some(first) if same_side(side, first) => first.ends,
-        Some(first) => swapped(first.ends),
+        Some(first) => swapped_ends(first.ends),
         None => side.ends,
     }
 }
