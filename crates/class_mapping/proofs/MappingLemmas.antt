@@ -33,7 +33,7 @@ use Rattle.class_mapping.specs.Valid.{IsValid}
 use Rattle.class_mapping.specs.Lines.{AreLines}
 use Rattle.class_mapping.specs.Mapped.{IsLaid, IsValidMapping, Mapped, all_validators, no_attribute}
 use Rattle.class_mapping.specs.Plain.{is_over_table, is_plain_root, lines_alone}
-use Rattle.class_mapping.specs.Declaring.{class_unless, closed_unless, configure}
+use Rattle.class_mapping.specs.Declaring.{class_unless, configured_unless, configure}
 use Rattle.class_mapping.proofs.Lists.{none_append}
 use Rattle.class_mapping.proofs.ValidLemmas.{split, valid_from}
 
@@ -137,7 +137,7 @@ keys_inside tables attributes =
 -- declarations are refused where a foreign key lacks its target
 pub refused_by_targets : (mapped : Mapped) → has_targets mapped.schema.tables ≡ false → configure mapped ≡ Err (ArgumentError BadTarget)
 unfolding configure
-refused_by_targets mapped h = ap (λ (fault : Option ArgumentKind). closed_unless fault mapped) (no_targets mapped.schema.tables mapped.classes h)
+refused_by_targets mapped h = ap (λ (fault : Option ArgumentKind). configured_unless fault mapped) (no_targets mapped.schema.tables mapped.classes h)
 
 abbrev pub all_found : Catalog → Catalog
 all_found schema = record { tables = schema.tables; resolved = true }

@@ -40,13 +40,13 @@ unfoldable pub declare_class : Rules → Mapped → ClassSpec → Result (ClassI
 declare_class rules mapped spec = class_unless (class_fault rules mapped.schema.tables mapped.classes spec) mapped spec
 
 -- the mapping with all checked
-abbrev pub closed : Mapped → Mapped
-closed mapped = record { schema = record { tables = mapped.schema.tables; resolved = true }; classes = mapped.classes; configured = true }
+abbrev pub configured_mapping : Mapped → Mapped
+configured_mapping mapped = record { schema = record { tables = mapped.schema.tables; resolved = true }; classes = mapped.classes; configured = true }
 
-abbrev pub closed_unless : Option ArgumentKind → Mapped → Result (Unit {0} × Mapped) Refusal
-closed_unless (Some fault) mapped = Err (ArgumentError fault)
-closed_unless None mapped = Ok (tt, closed mapped)
+abbrev pub configured_unless : Option ArgumentKind → Mapped → Result (Unit {0} × Mapped) Refusal
+configured_unless (Some fault) mapped = Err (ArgumentError fault)
+configured_unless None mapped = Ok (tt, configured_mapping mapped)
 
 -- the answer to the check of all declarations: the mapping is closed, or its first fault
 unfoldable pub configure : Mapped → Result (Unit {0} × Mapped) Refusal
-configure mapped = closed_unless (fault_of mapped) mapped
+configure mapped = configured_unless (fault_of mapped) mapped

@@ -16,7 +16,7 @@ ghost use Rattle.class_mapping.specs.Mapped.{IsAttribute, IsClass, IsValidMappin
 ghost use Rattle.class_mapping.specs.Plain.{early_fault};
 ghost use Rattle.class_mapping.specs.PlainClass.{ArePlain, IsPlainClass};
 ghost use Rattle.class_mapping.specs.Related.{AreRelated};
-ghost use Rattle.class_mapping.specs.Declaring.{closed, configure, declare_class, declare_table, with_class, with_table};
+ghost use Rattle.class_mapping.specs.Declaring.{configured_mapping, configure, declare_class, declare_table, with_class, with_table};
 
 use crate::lookup::{before_last, class_or, table_or_none};
 use crate::plain::early_fault;
@@ -347,7 +347,7 @@ impl Mapping {
     /// target. A refusal changes nothing.
     pub fn configure(&mut self) -> Result<(), Refusal>
         ensures step { Takes (λ _. tt) (configure self.old) self.old result self.new }
-        ensures closed { OnOk result (self.new ≡ closed self.old) }
+        ensures closed { OnOk result (self.new ≡ configured_mapping self.old) }
         ensures valid { OnOk result (IsValidMapping self.new) }
         ensures related { OnOk result (AreRelated self.new) }
         ensures sound { result ≡ Err Memory → has_targets self.old.schema.tables ≡ true }

@@ -7,7 +7,7 @@ use Rattle.base_core.specs.Answers.{Gives, Takes}
 use Rattle.programs.specs.Moment.{Runs}
 use Rattle.class_types.specs.Rules.{Rules}
 use Rattle.class_mapping.specs.Mapped.{Mapped, fault_of}
-use Rattle.class_mapping.specs.Declaring.{closed, closed_unless, configure}
+use Rattle.class_mapping.specs.Declaring.{configured_mapping, configured_unless, configure}
 use Rattle.class_mapping.specs.PlainClass.{ArePlain}
 use Rattle.shell_parts.specs.Lines.{IsOfReading}
 use Rattle.shell_parts.specs.declared.block.Block.{Block}
@@ -68,7 +68,7 @@ kept_declared {stage = stage} {after = after} {mapping = mapping} {now = now} is
     subst (λ (s : Stage). IsKept s after) (sym is) (subst (λ (s : Stage). IsKept (Declaring mapping) s) (sym next) plain)
 
 -- a mapping is refused for a fault of its declarations
-closing_refusal : (fault : Option ArgumentKind) (mapping : Mapped) (e : Refusal) → closed_unless fault mapping ≡ Err e → IsOwn e
+closing_refusal : (fault : Option ArgumentKind) (mapping : Mapped) (e : Refusal) → configured_unless fault mapping ≡ Err e → IsOwn e
 closing_refusal (Some kind) mapping e is = let same : ArgumentError kind ≡ e = cc in subst IsOwn same (refl, refl)
 closing_refusal None mapping e is = absurd (cc)
 
@@ -86,7 +86,7 @@ not_opened {stage = stage} {after = after} {mapping = mapping} {now = now} {e = 
     (subst (λ (s : Stage). IsStageTurn {X = Unit {0}} opened_stage s (Err e) (Declaring now)) (sym is)
     (record { step = stays_open mapping now e p; kept = λ plain. subst ArePlain (sym p.0) plain }))
 
-pub plain_closed : {stage : Stage} {mapping now : Mapped} → stage ≡ Declaring mapping → now ≡ closed mapping → IsPlainStage stage → ArePlain now
+pub plain_closed : {stage : Stage} {mapping now : Mapped} → stage ≡ Declaring mapping → now ≡ configured_mapping mapping → IsPlainStage stage → ArePlain now
 plain_closed is next plain = subst ArePlain (sym next) (subst IsPlainStage is plain)
 
 pub ruleset declaring = (kept_same, kept_declared, stay_same, declares, turns_ok, turns_err, turns_lost)
