@@ -4,7 +4,7 @@ use Rattle.std.proofs.lemmas.List.FromFn.{get_or-range_with_len, length-range_wi
 use Rattle.std.specs.List.{All, find, list_any, range_with_len}
 use Rattle.std.specs.Option.{option_to_list, unwrap_or}
 use Rattle.flush_order.specs.Places.{cycle_from, first_places, from_row, holds_up, is_among, is_ready, least_left, next_blocker, next_place, order, order_or_cycle, trail, unless_left}
-use Rattle.flush_order.specs.Lists.{AreListsOf, listed}
+use Rattle.flush_order.specs.Lists.{AreListsOf, waits_in}
 use Rattle.flush_order.proofs.Cycles.{blocker_below}
 
 -- both say the same of rows below the number
@@ -96,5 +96,5 @@ same_order size one two agree =
     ∙ unless_same size one two (least_left size (order two size)) agree (λ row e. least_within size (order two size) row e)
 
 -- the lists of what waits have the order of what waits
-pub listed_order : (waits : ℕ → ℕ → Bool) (size : ℕ) (lists : List (List ℕ)) → AreListsOf waits size lists → order_or_cycle (listed lists) (length lists) ≡ order_or_cycle waits size
-listed_order waits size lists are = ap (order_or_cycle (listed lists)) are.whole ∙ same_order size (listed lists) waits are.each
+pub listed_order : (waits : ℕ → ℕ → Bool) (size : ℕ) (lists : List (List ℕ)) → AreListsOf waits size lists → order_or_cycle (waits_in lists) (length lists) ≡ order_or_cycle waits size
+listed_order waits size lists are = ap (order_or_cycle (waits_in lists)) are.whole ∙ same_order size (waits_in lists) waits are.each

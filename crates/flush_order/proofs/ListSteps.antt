@@ -9,7 +9,7 @@ use Rattle.std.specs.List.{All, range_with_len}
 use Rattle.std.specs.Option.{option_to_list}
 use Rattle.base_core.proofs.Tests.{or_false}
 use Rattle.flush_order.specs.Places.{cycle_from, first_places, is_among, is_ready, least_left, next_place, order, order_or_cycle, unless_left}
-use Rattle.flush_order.specs.Lists.{Stands, list_at, listed}
+use Rattle.flush_order.specs.Lists.{Stands, list_at, waits_in}
 use Rattle.flush_order.proofs.Alike.{found_within, range_all}
 use Rattle.flush_order.proofs.SearchLemmas.{find_first, find_nothing}
 
@@ -112,14 +112,14 @@ pub order_below : (waits : ℕ → ℕ → Bool) (size : ℕ) (placed : List ℕ
 unfolding order
 order_below waits size placed e = subst (All (λ row. row < size)) (sym e) (first_below waits size size)
 
-pub order_told : (lists : List (List ℕ)) (placed counts : List ℕ) (left : List Bool) (ready : BTreeSet ℕ) → Stands lists placed counts left ready → placed ≡ order (listed lists) (length lists) → ((k : ℕ) → get_or left k false ≡ false) → Ok placed ≡ order_or_cycle (listed lists) (length lists)
+pub order_told : (lists : List (List ℕ)) (placed counts : List ℕ) (left : List Bool) (ready : BTreeSet ℕ) → Stands lists placed counts left ready → placed ≡ order (waits_in lists) (length lists) → ((k : ℕ) → get_or left k false ≡ false) → Ok placed ≡ order_or_cycle (waits_in lists) (length lists)
 unfolding order_or_cycle
 order_told lists placed counts left ready stands e none =
     ap Ok e
-    ∙ sym (ap (unless_left (listed lists) (length lists)) (ap (least_left (length lists)) (sym e) ∙ least_none lists placed counts left ready stands none))
+    ∙ sym (ap (unless_left (waits_in lists) (length lists)) (ap (least_left (length lists)) (sym e) ∙ least_none lists placed counts left ready stands none))
 
-pub cycle_told : (lists : List (List ℕ)) (placed counts : List ℕ) (left : List Bool) (ready : BTreeSet ℕ) (row : ℕ) (path : List ℕ) → Stands lists placed counts left ready → placed ≡ order (listed lists) (length lists) → row < length left → get_or left row false ≡ true → ((k : ℕ) → k < row → get_or left k false ≡ false) → path ≡ cycle_from (listed lists) (length lists) row → Err path ≡ order_or_cycle (listed lists) (length lists)
+pub cycle_told : (lists : List (List ℕ)) (placed counts : List ℕ) (left : List Bool) (ready : BTreeSet ℕ) (row : ℕ) (path : List ℕ) → Stands lists placed counts left ready → placed ≡ order (waits_in lists) (length lists) → row < length left → get_or left row false ≡ true → ((k : ℕ) → k < row → get_or left k false ≡ false) → path ≡ cycle_from (waits_in lists) (length lists) row → Err path ≡ order_or_cycle (waits_in lists) (length lists)
 unfolding order_or_cycle
 cycle_told lists placed counts left ready row path stands e within here before f =
     ap Err f
-    ∙ sym (ap (unless_left (listed lists) (length lists)) (ap (least_left (length lists)) (sym e) ∙ least_is lists placed counts left ready row stands within here before))
+    ∙ sym (ap (unless_left (waits_in lists) (length lists)) (ap (least_left (length lists)) (sym e) ∙ least_is lists placed counts left ready row stands within here before))

@@ -12,7 +12,7 @@ use Rattle.schema_core.specs.declared.changes.RowChanges.{RowChanges}
 use Rattle.schema_core.specs.declared.table.ColumnSpec.{ColumnSpec}
 use Rattle.schema_core.specs.Catalog.{Catalog, spec_of}
 use Rattle.flush_order.specs.declared.refers.ReadyRow.{ReadyRow}
-use Rattle.flush_order.specs.Cells.{cleared, first_cells, is_late, key_parts, known, no_row, part_at}
+use Rattle.flush_order.specs.Cells.{cells_cleared, first_cells, is_late, key_parts, known_value, no_row, part_at}
 use Rattle.flush_order.specs.Ready.{AreFirst, AreReady, ready_row}
 
 pub ready_at : (schema : Catalog) (changes : RowChanges) (rows : List ReadyRow) (place : ℕ) (d : ReadyRow) → AreReady schema changes rows → place < length rows → get_or rows place d ≡ ready_row schema changes place
@@ -21,20 +21,20 @@ ready_at schema changes rows place d ready h = get_or_from_slice_get rows place 
 pub new_is : (changes : RowChanges) (place : ℕ) (row : NewRow) → slice_get changes.fresh place ≡ Some row → get_or changes.fresh place no_row ≡ row
 new_is changes place row e = get_or_from_slice_get changes.fresh place row no_row e
 
-pub known_none : (schema : Catalog) (changes : RowChanges) (n i place part : ℕ) → i < n → part_at schema changes place part ≡ Given Null → known schema changes (n - i) (KeyOf place part) ≡ Null
+pub known_none : (schema : Catalog) (changes : RowChanges) (n i place part : ℕ) → i < n → part_at schema changes place part ≡ Given Null → known_value schema changes (n - i) (KeyOf place part) ≡ Null
 known_none schema changes n i place part h none =
     let e : n - i ≡ suc (n - (i + 1)) = omega arith in
-    ap (λ k. known schema changes k (KeyOf place part)) e ∙ ap (known schema changes (n - (i + 1))) none
+    ap (λ k. known_value schema changes k (KeyOf place part)) e ∙ ap (known_value schema changes (n - (i + 1))) none
 
-pub known_step : (schema : Catalog) (changes : RowChanges) (n i place part : ℕ) → i < n → known schema changes (n - (i + 1)) (part_at schema changes place part) ≡ known schema changes (n - i) (KeyOf place part)
+pub known_step : (schema : Catalog) (changes : RowChanges) (n i place part : ℕ) → i < n → known_value schema changes (n - (i + 1)) (part_at schema changes place part) ≡ known_value schema changes (n - i) (KeyOf place part)
 known_step schema changes n i place part h =
     let e : suc (n - (i + 1)) ≡ n - i = omega arith in
-    ap (λ k. known schema changes k (KeyOf place part)) e
+    ap (λ k. known_value schema changes k (KeyOf place part)) e
 
-pub known_end : (schema : Catalog) (changes : RowChanges) (n i place part : ℕ) → n ≤ i → known schema changes (n - i) (KeyOf place part) ≡ Null
+pub known_end : (schema : Catalog) (changes : RowChanges) (n i place part : ℕ) → n ≤ i → known_value schema changes (n - i) (KeyOf place part) ≡ Null
 known_end schema changes n i place part h =
     let e : n - i ≡ 0 = omega arith in
-    ap (λ k. known schema changes k (KeyOf place part)) e
+    ap (λ k. known_value schema changes k (KeyOf place part)) e
 
 pub ruleset known_steps = (known_none, known_step, known_end)
 
@@ -46,7 +46,7 @@ get_kept xs x i h = get_before xs (x ∷ []) i h
 
 pub ruleset push_steps = (get_pushed, get_kept)
 
-pub cleared_none : {A : Type 0} (test : ColumnSpec → Bool) (none : A) (cs : List ColumnSpec) → cleared test none cs [] ≡ []
+pub cleared_none : {A : Type 0} (test : ColumnSpec → Bool) (none : A) (cs : List ColumnSpec) → cells_cleared test none cs [] ≡ []
 cleared_none test none [] = refl
 cleared_none test none (c ∷ cs) = refl
 
@@ -57,7 +57,7 @@ parts_none (c ∷ cs) = refl
 pub part_past : (schema : Catalog) (changes : RowChanges) (place part : ℕ) → length changes.fresh ≤ place → Given Null ≡ part_at schema changes place part
 part_past schema changes place part h =
     let table = no_row.name.table in
-    sym (ap (λ (r : NewRow). slice_index_or (key_parts (spec_of schema r.name.table).columns (cleared (is_late schema changes r.name.table) (Given Null) (spec_of schema r.name.table).columns r.cells)) part (Given Null)) (get_beyond changes.fresh place no_row h)
+    sym (ap (λ (r : NewRow). slice_index_or (key_parts (spec_of schema r.name.table).columns (cells_cleared (is_late schema changes r.name.table) (Given Null) (spec_of schema r.name.table).columns r.cells)) part (Given Null)) (get_beyond changes.fresh place no_row h)
     ∙ ap (λ cells. slice_index_or (key_parts (spec_of schema table).columns cells) part (Given Null)) (cleared_none (is_late schema changes table) (Given Null) (spec_of schema table).columns)
     ∙ ap (λ cells. slice_index_or cells part (Given Null)) (parts_none (spec_of schema table).columns))
 

@@ -15,7 +15,7 @@ use Rattle.std.specs.Ordering.{nat_cmp}
 use Rattle.base_core.proofs.Lists.{get_beyond}
 use Rattle.base_core.proofs.Tests.{or_false, or_first, or_rest, or_then}
 use Rattle.flush_order.specs.Places.{holds_up, is_among, is_ready, next_place}
-use Rattle.flush_order.specs.Lists.{AreMirrored, AreRows, Stands, left_in, list_at, listed, times}
+use Rattle.flush_order.specs.Lists.{AreMirrored, AreRows, Stands, left_in, list_at, waits_in, times}
 use Rattle.flush_order.proofs.Ranges.{find_found, find_none, find_passed}
 
 -- ---- tests
@@ -133,15 +133,15 @@ up_false true b h = refl
 up_false false true h = let e : false ≡ true = h refl in absurd (cc)
 up_false false false h = refl
 
-waits_any : (lists : List (List ℕ)) (placed : List ℕ) (row : ℕ) → AreRows lists → list_any (holds_up (listed lists) placed row) (range_with_len 0 (length lists)) ≡ not (nat_eq (left_in placed (list_at lists row)) 0)
+waits_any : (lists : List (List ℕ)) (placed : List ℕ) (row : ℕ) → AreRows lists → list_any (holds_up (waits_in lists) placed row) (range_with_len 0 (length lists)) ≡ not (nat_eq (left_in placed (list_at lists row)) 0)
 waits_any lists placed row rows = elim (eqb_tells (left_in placed (list_at lists row)) 0) [
   | inl w ↦
-      none_range (holds_up (listed lists) placed row) (length lists) (λ o l. up_false (is_among placed o) (listed lists row o) (none_left placed (list_at lists row) w.1 o))
+      none_range (holds_up (waits_in lists) placed row) (length lists) (λ o l. up_false (is_among placed o) (waits_in lists row o) (none_left placed (list_at lists row) w.1 o))
       ∙ ap not (sym w.0)
   | inr w ↦
       let found = some_left placed (list_at lists row) (omega (arith, w.1)) in
-      any_range (holds_up (listed lists) placed row) (length lists) found.0 (among_within (length lists) (list_at lists row) (rows row) found.0 found.1)
-      (ap (λ b. not b && listed lists row found.0) found.2 ∙ found.1)
+      any_range (holds_up (waits_in lists) placed row) (length lists) found.0 (among_within (length lists) (list_at lists row) (rows row) found.0 found.1)
+      (ap (λ b. not b && waits_in lists row found.0) found.2 ∙ found.1)
       ∙ ap not (sym w.0)
 ]
 
@@ -149,29 +149,29 @@ not_not : (a b c : Bool) → c ≡ not b → (a && not c) ≡ (a && b)
 not_not a true c e = ap (λ b. a && not b) e
 not_not a false c e = ap (λ b. a && not b) e
 
-ready_is : (lists : List (List ℕ)) (placed : List ℕ) (row : ℕ) → AreRows lists → is_ready (listed lists) (length lists) placed row ≡ (not (is_among placed row) && nat_eq (left_in placed (list_at lists row)) 0)
-ready_is lists placed row rows = not_not (not (is_among placed row)) (nat_eq (left_in placed (list_at lists row)) 0) (list_any (holds_up (listed lists) placed row) (range_with_len 0 (length lists))) (waits_any lists placed row rows)
+ready_is : (lists : List (List ℕ)) (placed : List ℕ) (row : ℕ) → AreRows lists → is_ready (waits_in lists) (length lists) placed row ≡ (not (is_among placed row) && nat_eq (left_in placed (list_at lists row)) 0)
+ready_is lists placed row rows = not_not (not (is_among placed row)) (nat_eq (left_in placed (list_at lists row)) 0) (list_any (holds_up (waits_in lists) placed row) (range_with_len 0 (length lists))) (waits_any lists placed row rows)
 
-ready_counted : (lists : List (List ℕ)) (placed counts : List ℕ) (left : List Bool) (ready : BTreeSet ℕ) (row : ℕ) → AreRows lists → Stands lists placed counts left ready → row < length lists → contains nat_cmp ready row ≡ is_ready (listed lists) (length lists) placed row
+ready_counted : (lists : List (List ℕ)) (placed counts : List ℕ) (left : List Bool) (ready : BTreeSet ℕ) (row : ℕ) → AreRows lists → Stands lists placed counts left ready → row < length lists → contains nat_cmp ready row ≡ is_ready (waits_in lists) (length lists) placed row
 ready_counted lists placed counts left ready row rows stands h =
     stands.readies row
     ∙ ap (λ b. b && (not (is_among placed row) && nat_eq (get_or counts row 0) 0)) (lt-ltb row (length lists) h)
     ∙ ap (λ n. not (is_among placed row) && nat_eq n 0) (stands.holds row h)
     ∙ sym (ready_is lists placed row rows)
 
-pub next_is : (lists : List (List ℕ)) (placed counts : List ℕ) (left : List Bool) (ready : BTreeSet ℕ) (row : ℕ) → AreRows lists → Stands lists placed counts left ready → contains nat_cmp ready row ≡ true → ((k : ℕ) → k < row → contains nat_cmp ready k ≡ false) → next_place (listed lists) (length lists) placed ≡ Some row
+pub next_is : (lists : List (List ℕ)) (placed counts : List ℕ) (left : List Bool) (ready : BTreeSet ℕ) (row : ℕ) → AreRows lists → Stands lists placed counts left ready → contains nat_cmp ready row ≡ true → ((k : ℕ) → k < row → contains nat_cmp ready k ≡ false) → next_place (waits_in lists) (length lists) placed ≡ Some row
 unfolding next_place
 next_is lists placed counts left ready row rows stands here before =
     let parts = both (nat_lt row (length lists)) (not (is_among placed row)) (nat_eq (get_or counts row 0) 0) (sym (stands.readies row) ∙ here) in
     let less : row < length lists = ltb-true row (length lists) parts.0 in
-    find_first (is_ready (listed lists) (length lists) placed) (length lists) row less
+    find_first (is_ready (waits_in lists) (length lists) placed) (length lists) row less
     (sym (ready_counted lists placed counts left ready row rows stands less) ∙ here)
     (λ k l. sym (ready_counted lists placed counts left ready k rows stands (omega (arith, l, less))) ∙ before k l)
 
-pub next_none : (lists : List (List ℕ)) (placed counts : List ℕ) (left : List Bool) (ready : BTreeSet ℕ) → AreRows lists → Stands lists placed counts left ready → ((k : ℕ) → contains nat_cmp ready k ≡ false) → next_place (listed lists) (length lists) placed ≡ None
+pub next_none : (lists : List (List ℕ)) (placed counts : List ℕ) (left : List Bool) (ready : BTreeSet ℕ) → AreRows lists → Stands lists placed counts left ready → ((k : ℕ) → contains nat_cmp ready k ≡ false) → next_place (waits_in lists) (length lists) placed ≡ None
 unfolding next_place
 next_none lists placed counts left ready rows stands none =
-    find_nothing (is_ready (listed lists) (length lists) placed) (length lists)
+    find_nothing (is_ready (waits_in lists) (length lists) placed) (length lists)
     (λ k l. sym (ready_counted lists placed counts left ready k rows stands l) ∙ none k)
 
 -- ---- how the search stands after one more row

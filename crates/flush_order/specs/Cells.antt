@@ -23,10 +23,10 @@ abbrev pub is_late : Catalog → RowChanges → TableId → ColumnSpec → Bool
 is_late schema changes table column = late_name schema changes table column.name
 
 -- the cells, with another one in the columns that pass
-abbrev pub cleared : {A : Type 0} → (ColumnSpec → Bool) → A → List ColumnSpec → List A → List A
-cleared test none [] cells = []
-cleared test none (column ∷ columns) [] = []
-cleared test none (column ∷ columns) (cell ∷ cells) = cond (test column) none cell ∷ cleared test none columns cells
+abbrev pub cells_cleared : {A : Type 0} → (ColumnSpec → Bool) → A → List ColumnSpec → List A → List A
+cells_cleared test none [] cells = []
+cells_cleared test none (column ∷ columns) [] = []
+cells_cleared test none (column ∷ columns) (cell ∷ cells) = cond (test column) none cell ∷ cells_cleared test none columns cells
 
 -- the cells of the primary key
 abbrev pub key_parts : {A : Type 0} → List ColumnSpec → List A → List A
@@ -46,18 +46,18 @@ table_at changes place = (new_at changes place).name.table
 
 -- the cells that the INSERT of a new row writes
 abbrev pub first_cells : Catalog → RowChanges → ℕ → List RowCell
-first_cells schema changes place = cleared (is_late schema changes (table_at changes place)) (Given Null) (spec_of schema (table_at changes place)).columns (new_at changes place).cells
+first_cells schema changes place = cells_cleared (is_late schema changes (table_at changes place)) (Given Null) (spec_of schema (table_at changes place)).columns (new_at changes place).cells
 
 -- the cell of a new row's key
 abbrev pub part_at : Catalog → RowChanges → ℕ → ℕ → RowCell
 part_at schema changes place part = slice_index_or (key_parts (spec_of schema (table_at changes place)).columns (first_cells schema changes place)) part (Given Null)
 
 -- the cell's value as far as it is known before a key is drawn, going back over so many rows; NULL where it is not
-abbrev pub known : Catalog → RowChanges → ℕ → RowCell → Value
-known schema changes steps (Given value) = value
-known schema changes zero (KeyOf place part) = Null
-known schema changes (suc steps) (KeyOf place part) = known schema changes steps (part_at schema changes place part)
+abbrev pub known_value : Catalog → RowChanges → ℕ → RowCell → Value
+known_value schema changes steps (Given value) = value
+known_value schema changes zero (KeyOf place part) = Null
+known_value schema changes (suc steps) (KeyOf place part) = known_value schema changes steps (part_at schema changes place part)
 
 -- a new row as far as it is known
 abbrev pub known_row : Catalog → RowChanges → ℕ → List Value
-known_row schema changes place = map (known schema changes (length changes.fresh)) (first_cells schema changes place)
+known_row schema changes place = map (known_value schema changes (length changes.fresh)) (first_cells schema changes place)

@@ -10,8 +10,8 @@ abbrev pub list_at : List (List ℕ) → ℕ → List ℕ
 list_at lists row = slice_index_or lists row []
 
 -- a row waits for those that it lists
-abbrev pub listed : List (List ℕ) → ℕ → ℕ → Bool
-listed lists row other = is_among (list_at lists row) other
+abbrev pub waits_in : List (List ℕ) → ℕ → ℕ → Bool
+waits_in lists row other = is_among (list_at lists row) other
 
 -- how often a row stands in a list
 abbrev pub times : ℕ → List ℕ → ℕ
@@ -39,7 +39,7 @@ pub record AreMirrored (lists waiting : List (List ℕ)) : Type 0 where
 pub record AreListsOf (waits : ℕ → ℕ → Bool) (size : ℕ) (lists : List (List ℕ)) : Type 0 where
   pub whole : length lists ≡ size
   pub rows : AreRows lists
-  pub each : (row other : ℕ) → row < size → other < size → listed lists row other ≡ waits row other
+  pub each : (row other : ℕ) → row < size → other < size → waits_in lists row other ≡ waits row other
 
 -- how a search stands once these rows are placed: how many rows each still waits for, which are left, and which are ready
 pub record Stands (lists : List (List ℕ)) (placed counts : List ℕ) (left : List Bool) (ready : BTreeSet ℕ) : Type 0 where

@@ -11,7 +11,7 @@ use Rattle.schema_core.specs.declared.changes.RowChanges.{RowChanges}
 use Rattle.schema_core.specs.declared.table.ForeignSpec.{ForeignSpec}
 use Rattle.schema_core.specs.Catalog.{Catalog, spec_of, target_of}
 use Rattle.schema_core.specs.Tables.{cells_of, has_null, key_of, same_values}
-use Rattle.flush_order.specs.Cells.{cleared, first_cells, is_late, known_row, table_at}
+use Rattle.flush_order.specs.Cells.{cells_cleared, first_cells, is_late, known_row, table_at}
 
 abbrev pub is_table : TableId → Option TableId → Bool
 is_table table None = false
@@ -44,7 +44,7 @@ gone_key schema row = key_of (spec_of schema row.name.table) row.base
 
 -- a deleted row's base without what is cleared before it is deleted
 abbrev pub last_base : Catalog → RowChanges → GoneRow → List Value
-last_base schema changes row = cleared (is_late schema changes row.name.table) Null (spec_of schema row.name.table).columns row.base
+last_base schema changes row = cells_cleared (is_late schema changes row.name.table) Null (spec_of schema row.name.table).columns row.base
 
 -- a deleted row waits for those that refer to it
 abbrev pub gone_refers : Catalog → RowChanges → GoneRow → GoneRow → Bool

@@ -6,9 +6,9 @@ use Rattle.schema_core.specs.declared.changes.RowCell.TheVariants.{Given}
 use Rattle.flush_order.specs.declared.places.Ordered.{Ordered}
 use Rattle.flush_order.specs.declared.places.Ordered.TheVariants.{Order, Cycle}
 
-abbrev pub told : Ordered → Result (List ℕ) (List ℕ)
-told (Order rows) = Ok rows
-told (Cycle rows) = Err rows
+abbrev pub order_result : Ordered → Result (List ℕ) (List ℕ)
+order_result (Order rows) = Ok rows
+order_result (Cycle rows) = Err rows
 
 abbrev pub rows_of : Ordered → List ℕ
 rows_of (Order rows) = rows

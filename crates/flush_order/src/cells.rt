@@ -8,7 +8,7 @@ ghost use Rattle.schema_core.specs.declared.changes.RowCell.TheVariants.{Given};
 ghost use Rattle.base_core.specs.declared.value.Value.TheVariants.{Null};
 ghost use Rattle.schema_core.specs.Catalog.{has_name, IsTable};
 ghost use Rattle.schema_core.specs.Tables.{cell_of, has_null, is_null, same_values, value_or_null};
-ghost use Rattle.flush_order.specs.Cells.{cleared, is_in, is_late, key_parts, late_name};
+ghost use Rattle.flush_order.specs.Cells.{cells_cleared, is_in, is_late, key_parts, late_name};
 ghost use Rattle.flush_order.specs.Refers.{comes_from};
 ghost use Rattle.flush_order.specs.Told.{held_cell};
 ghost use Rattle.std.specs.Ordering.{is_eq};
@@ -64,7 +64,7 @@ pub fn push_cleared<T: Copied + Drop>(
 ) -> Result<(), AllocError>
     requires { IsTable schema.now table }
     ensures { OnOk result (out.new.items ≡ out.old.items
-        ++ cleared (is_late schema.now changes.now table) none.now columns.now cells.now) }
+        ++ cells_cleared (is_late schema.now changes.now table) none.now columns.now cells.now) }
 {
     if let (Some((column, columns)), Some((cell, cells))) = (
         columns.split_first(),

@@ -4,8 +4,8 @@ ghost use Rattle.std.specs.Prelude.{◌≡◌, ◌<◌, ◌≤◌, ◌&&◌, ◌
 ghost use Rattle.std.specs.List.{All};
 ghost use Rattle.base_core.specs.declared.refusal.Refusal.TheVariants.{Memory};
 ghost use Rattle.flush_order.specs.Places.{is_among, order_or_cycle};
-ghost use Rattle.flush_order.specs.Lists.{AreListsOf, AreRows, listed};
-ghost use Rattle.flush_order.specs.Told.{rows_of, told};
+ghost use Rattle.flush_order.specs.Lists.{AreListsOf, AreRows, waits_in};
+ghost use Rattle.flush_order.specs.Told.{rows_of, order_result};
 
 use crate::places::{Ordered, Waits, cycle_from, is_among};
 use crate::search::{Rows, search_order};
@@ -15,11 +15,11 @@ use std::alloc::Global;
 
 impl<'a> Waits for Rows<'a> {
     ghost use Rattle.std.specs.Prelude.{◌≤◌, length};
-    ghost use Rattle.flush_order.specs.Lists.{listed};
+    ghost use Rattle.flush_order.specs.Lists.{waits_in};
 
     ghost size = { λ rows. length rows.lists.now };
 
-    ghost waits = { λ rows. listed rows.lists.now };
+    ghost waits = { λ rows. waits_in rows.lists.now };
 
     ghost holds = { λ rows. length rows.lists.now ≤ 4294967295 };
 
@@ -54,7 +54,7 @@ pub fn order_of_lists(alloc: Global, lists: &[ListOf<u32>]) -> Result<Ordered, R
     requires size { length lists.now ≤ 4294967295 }
     requires rows { AreRows lists.now }
     ensures told { IfOk result
-        (λ ordered. told ordered ≡ order_or_cycle (listed lists.now) (length lists.now)) }
+        (λ ordered. order_result ordered ≡ order_or_cycle (waits_in lists.now) (length lists.now)) }
     ensures within { IfOk result
         (λ ordered. All (λ row. row < length lists.now) (rows_of ordered)) }
     ensures cause { IfErr result (λ e. e ≡ Memory) }
@@ -131,7 +131,7 @@ fn lists_of<W: Waits>(alloc: Global, rows: &W) -> Result<Vec<ListOf<u32>>, Refus
 pub fn order_or_cycle<W: Waits>(alloc: Global, rows: &W) -> Result<Ordered, Refusal>
     requires holds { W.holds rows.now }
     ensures told { IfOk result
-        (λ ordered. told ordered ≡ order_or_cycle (W.waits rows.now) (W.size rows.now)) }
+        (λ ordered. order_result ordered ≡ order_or_cycle (W.waits rows.now) (W.size rows.now)) }
     ensures within { IfOk result
         (λ ordered. All (λ row. row < W.size rows.now) (rows_of ordered)) }
     ensures cause { IfErr result (λ e. e ≡ Memory) }

@@ -4,7 +4,7 @@ ghost use Rattle.std.specs.Prelude.{◌≡◌, ◌<◌, ◌++◌, ℕ, Bool, not
 ghost use Rattle.std.specs.List.{All, find, list_any};
 ghost use Rattle.std.specs.Option.{option_to_list};
 ghost use Rattle.base_core.specs.declared.refusal.Refusal.TheVariants.{Memory};
-ghost use Rattle.flush_order.specs.Told.{rows_of, told};
+ghost use Rattle.flush_order.specs.Told.{rows_of, order_result};
 ghost use Rattle.flush_order.specs.Places.{cycle_from, from_row, holds_up, is_among, is_ready, least_left, next_blocker, next_place, order, order_or_cycle};
 
 use base_core::{ListOf, Refusal};
@@ -199,7 +199,7 @@ pub enum Ordered {
 pub fn plain_order_or_cycle<W: Waits>(alloc: Global, rows: &W) -> Result<Ordered, Refusal>
     requires holds { W.holds rows.now }
     ensures told { IfOk result
-        (λ ordered. told ordered ≡ order_or_cycle (W.waits rows.now) (W.size rows.now)) }
+        (λ ordered. order_result ordered ≡ order_or_cycle (W.waits rows.now) (W.size rows.now)) }
     ensures within { IfOk result
         (λ ordered. All (λ row. row < W.size rows.now) (rows_of ordered)) }
     ensures cause { IfErr result (λ e. e ≡ Memory) }

@@ -5,7 +5,7 @@ ghost use Rattle.std.specs.Option.{option_copied};
 ghost use Rattle.base_core.specs.declared.refusal.Refusal.TheVariants.{Memory};
 ghost use Rattle.schema_core.specs.Catalog.{IsTable, spec_of};
 ghost use Rattle.schema_core.specs.Tables.{key_cells, value_or_null};
-ghost use Rattle.flush_order.specs.Cells.{first_cells, known, known_row, part_at, table_at};
+ghost use Rattle.flush_order.specs.Cells.{first_cells, known_value, known_row, part_at, table_at};
 ghost use Rattle.flush_order.specs.Ready.{AreFirst, AreInRange, AreReady, ready_row};
 ghost use Rattle.flush_order.specs.Told.{held_cell};
 
@@ -85,7 +85,7 @@ fn part_at<'a>(
 
 #[tactic(auto, using(crate::proofs::ReadyLemmas::known_steps))]
 /// The value of a cell as far as it is known.
-fn known<'a>(
+fn known_value<'a>(
     schema: &Schema,
     changes: &RowChanges,
     firsts: &'a [ListOf<RowCell>],
@@ -94,7 +94,7 @@ fn known<'a>(
     requires range { AreInRange schema.now changes.now }
     requires firsts { AreFirst schema.now changes.now firsts.now }
     ensures { value_or_null (option_copied result)
-        ≡ known schema.now changes.now (length changes.now.fresh) start.now }
+        ≡ known_value schema.now changes.now (length changes.now.fresh) start.now }
 {
     let mut cell = start;
     for _step in 0..changes.fresh.len() {
@@ -125,10 +125,10 @@ fn push_known(
     requires range { AreInRange schema.now changes.now }
     requires firsts { AreFirst schema.now changes.now firsts.now }
     ensures { OnOk result (out.new.items ≡ out.old.items
-        ++ map (known schema.now changes.now (length changes.now.fresh)) cells.now) }
+        ++ map (known_value schema.now changes.now (length changes.now.fresh)) cells.now) }
 {
     if let Some((cell, cells)) = cells.split_first() {
-        match known(schema, changes, firsts, cell) {
+        match known_value(schema, changes, firsts, cell) {
             Some(value) => out.push(value.copied()?)?,
             None => out.push(Value::Null)?,
         }

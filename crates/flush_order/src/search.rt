@@ -7,7 +7,7 @@ ghost use Rattle.std.specs.Ordering.{nat_cmp};
 ghost use Rattle.std.specs.BTreeSet.{contains};
 ghost use Rattle.base_core.specs.declared.refusal.Refusal.TheVariants.{Memory};
 ghost use Rattle.flush_order.specs.Places.{next_place, order};
-ghost use Rattle.flush_order.specs.Lists.{AreMirrored, AreRows, Stands, list_at, listed, times};
+ghost use Rattle.flush_order.specs.Lists.{AreMirrored, AreRows, Stands, list_at, waits_in, times};
 
 use base_core::{ListOf, Refusal};
 use std::alloc::Global;
@@ -92,7 +92,7 @@ fn place_next(search: &mut Search, rows: &Rows) -> Result<(), Refusal>
     ensures stands { OnOk result (Stands rows.now.lists.now search.new.placed.items
         search.new.counts.items search.new.left.items search.new.ready) }
     ensures placed { OnOk result (search.new.placed.items ≡ search.old.placed.items
-        ++ option_to_list (next_place (listed rows.now.lists.now) (length rows.now.lists.now)
+        ++ option_to_list (next_place (waits_in rows.now.lists.now) (length rows.now.lists.now)
         search.old.placed.items)) }
     ensures cause { IfErr result (λ e. e ≡ Memory) }
 {
@@ -187,7 +187,7 @@ pub(crate) fn search_order(alloc: Global, rows: &Rows) -> Result<Search, Refusal
     ensures stands { IfOk result (λ search. Stands rows.now.lists.now search.placed.items
         search.counts.items search.left.items search.ready) }
     ensures order { IfOk result (λ search. search.placed.items
-        ≡ order (listed rows.now.lists.now) (length rows.now.lists.now)) }
+        ≡ order (waits_in rows.now.lists.now) (length rows.now.lists.now)) }
     ensures cause { IfErr result (λ e. e ≡ Memory) }
 {
     let mut search = start(alloc, rows.lists)?;

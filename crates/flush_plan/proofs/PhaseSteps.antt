@@ -13,7 +13,7 @@ use Rattle.flush_order.specs.declared.places.Ordered.{Ordered}
 use Rattle.flush_order.specs.declared.refers.ReadyGone.{ReadyGone}
 use Rattle.flush_order.specs.Orders.{delete_order, gone_at, gone_rows}
 use Rattle.flush_order.specs.Ready.{AreReadyGone}
-use Rattle.flush_order.specs.Told.{rows_of, told}
+use Rattle.flush_order.specs.Told.{rows_of, order_result}
 use Rattle.flush_order.proofs.GoneLemmas.{gone_size}
 use Rattle.flush_plan.specs.Planning.{statements, unless_gone_cycle}
 
@@ -29,7 +29,7 @@ pub rows_within : (schema : Catalog) (changes : RowChanges) (ready slice : List 
 rows_within schema changes ready slice ordered rows list are lent of same within =
     subst (All (λ row. row < length slice)) (of ∙ sym same) (subst (λ n. All (λ row. row < n) (rows_of ordered)) (sym (ap length lent ∙ gone_size schema changes ready are)) within)
 
-pub planned : (schema : Catalog) (changes : RowChanges) (new_order rows list : List ℕ) (ordered : Ordered) (result : Result (List Planned) Refusal) → told ordered ≡ delete_order schema changes (gone_rows schema changes) → told ordered ≡ Ok rows → list ≡ rows
+pub planned : (schema : Catalog) (changes : RowChanges) (new_order rows list : List ℕ) (ordered : Ordered) (result : Result (List Planned) Refusal) → order_result ordered ≡ delete_order schema changes (gone_rows schema changes) → order_result ordered ≡ Ok rows → list ≡ rows
     → IfOk result (λ plan. plan ≡ statements schema changes new_order list) → IfErr result (λ e. e ≡ Memory)
     → Gives (λ plan. plan) result (unless_gone_cycle schema changes new_order (delete_order schema changes (gone_rows schema changes)))
 planned schema changes new_order rows list ordered (Ok plan) is of same made cause =
@@ -37,7 +37,7 @@ planned schema changes new_order rows list ordered (Ok plan) is of same made cau
 planned schema changes new_order rows list ordered (Err e) is of same made cause =
     subst (λ e. Refuses e (unless_gone_cycle schema changes new_order (delete_order schema changes (gone_rows schema changes)))) (sym cause) tt
 
-pub cycled : (schema : Catalog) (changes : RowChanges) (new_order rows list : List ℕ) (ordered : Ordered) (names : List RowName) → told ordered ≡ delete_order schema changes (gone_rows schema changes) → told ordered ≡ Err rows → list ≡ rows
+pub cycled : (schema : Catalog) (changes : RowChanges) (new_order rows list : List ℕ) (ordered : Ordered) (names : List RowName) → order_result ordered ≡ delete_order schema changes (gone_rows schema changes) → order_result ordered ≡ Err rows → list ≡ rows
     → names ≡ map (λ row. (gone_at (gone_rows schema changes) row).name) list → unless_gone_cycle schema changes new_order (delete_order schema changes (gone_rows schema changes)) ≡ Err (CircularDependencyError names)
 cycled schema changes new_order rows list ordered names is of same made =
     ap (unless_gone_cycle schema changes new_order) (sym is ∙ of ∙ ap Err (sym same)) ∙ ap (λ names. Err (CircularDependencyError names)) (sym made)

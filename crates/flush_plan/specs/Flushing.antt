@@ -31,19 +31,19 @@ abbrev pub key_of_new : Keys → ℕ → List Value
 key_of_new keys place = unwrap_or (lookup (nat_eq place) keys) []
 
 -- the cell with the key put in
-abbrev pub put : Keys → RowCell → Value
-put keys (Given value) = value
-put keys (KeyOf place part) = slice_index_or (key_of_new keys place) part Null
+abbrev pub value_of_cell : Keys → RowCell → Value
+value_of_cell keys (Given value) = value
+value_of_cell keys (KeyOf place part) = slice_index_or (key_of_new keys place) part Null
 
 -- the row of an INSERT with the keys put in
 abbrev pub row_sent : Catalog → RowChanges → Keys → ℕ → List Value
-row_sent schema changes keys place = map (put keys) (first_cells schema changes place)
+row_sent schema changes keys place = map (value_of_cell keys) (first_cells schema changes place)
 
 -- the statement with the keys put in
-abbrev pub sent : Catalog → RowChanges → Keys → Planned → RowStmt
-sent schema changes keys (Insert table places) = statement.Insert table (map (row_sent schema changes keys) places)
-sent schema changes keys (Update table key cells) = statement.Update table (map (put keys) key) (map (λ cell. (cell.0, put keys cell.1)) cells)
-sent schema changes keys (Remove table key) = statement.Delete table key
+abbrev pub statement_sent : Catalog → RowChanges → Keys → Planned → RowStmt
+statement_sent schema changes keys (Insert table places) = statement.Insert table (map (row_sent schema changes keys) places)
+statement_sent schema changes keys (Update table key cells) = statement.Update table (map (value_of_cell keys) key) (map (λ cell. (cell.0, value_of_cell keys cell.1)) cells)
+statement_sent schema changes keys (Remove table key) = statement.Delete table key
 
 -- the keys with those that new rows got
 abbrev pub with_keys : Keys → List ℕ → List (List Value) → Keys
@@ -81,20 +81,20 @@ pub record Sofar : Type 0 where
 abbrev pub Flushed : Type 0
 Flushed = Result Sofar (TableId × Violation)
 
-abbrev pub accepted : Catalog → RowChanges → Sofar → Planned → Outcome → Flushed
-accepted schema changes sofar planned (Err violation) = Err (table_of planned, violation)
-accepted schema changes sofar planned (Ok answer) =
+abbrev pub after_outcome : Catalog → RowChanges → Sofar → Planned → Outcome → Flushed
+after_outcome schema changes sofar planned (Err violation) = Err (table_of planned, violation)
+after_outcome schema changes sofar planned (Ok answer) =
     if was_missing schema changes planned answer.0 then Err (table_of planned, Missing)
     else Ok (record { tables = answer.1; keys = keys_then sofar.keys planned answer.0 })
 
 unfoldable pub send : Catalog → RowChanges → Sofar → Planned → Flushed
-send schema changes sofar planned = accepted schema changes sofar planned (apply schema sofar.tables (sent schema changes sofar.keys planned))
+send schema changes sofar planned = after_outcome schema changes sofar planned (apply schema sofar.tables (statement_sent schema changes sofar.keys planned))
 
 abbrev pub send_on : Catalog → RowChanges → Flushed → Planned → Flushed
 send_on schema changes (Err stop) planned = Err stop
 send_on schema changes (Ok sofar) planned = send schema changes sofar planned
 
 -- a plan, statement by statement, up to the first refusal
-abbrev pub flushed : Catalog → RowChanges → Flushed → List Planned → Flushed
-flushed schema changes sofar [] = sofar
-flushed schema changes sofar (planned ∷ plan) = flushed schema changes (send_on schema changes sofar planned) plan
+abbrev pub send_all : Catalog → RowChanges → Flushed → List Planned → Flushed
+send_all schema changes sofar [] = sofar
+send_all schema changes sofar (planned ∷ plan) = send_all schema changes (send_on schema changes sofar planned) plan

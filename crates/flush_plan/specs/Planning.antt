@@ -75,13 +75,13 @@ abbrev pub updates : Catalog → RowChanges → List Planned
 updates schema changes = updates_to schema changes (changed_rows changes)
 
 -- the cells other than NULL in the columns that pass, from this column's number on
-abbrev pub numbered : (ColumnSpec → Bool) → ℕ → List ColumnSpec → List RowCell → List (ColumnNo × RowCell)
-numbered test place [] cells = []
-numbered test place (column ∷ columns) [] = []
-numbered test place (column ∷ columns) (cell ∷ cells) = cond (test column && not (is_nothing cell)) ((record { 0 = place }, cell) ∷ numbered test (suc place) columns cells) (numbered test (suc place) columns cells)
+abbrev pub cells_from_number : (ColumnSpec → Bool) → ℕ → List ColumnSpec → List RowCell → List (ColumnNo × RowCell)
+cells_from_number test place [] cells = []
+cells_from_number test place (column ∷ columns) [] = []
+cells_from_number test place (column ∷ columns) (cell ∷ cells) = cond (test column && not (is_nothing cell)) ((record { 0 = place }, cell) ∷ cells_from_number test (suc place) columns cells) (cells_from_number test (suc place) columns cells)
 
 abbrev pub late_cells : Catalog → RowChanges → TableId → List RowCell → List (ColumnNo × RowCell)
-late_cells schema changes table cells = numbered (is_late schema changes table) 0 (spec_of schema table).columns cells
+late_cells schema changes table cells = cells_from_number (is_late schema changes table) 0 (spec_of schema table).columns cells
 
 -- the parts of a new row's key
 abbrev pub key_at : Catalog → RowChanges → ℕ → List RowCell

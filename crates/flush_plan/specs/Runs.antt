@@ -39,16 +39,16 @@ joins schema changes run place =
     && list_all (goes_with schema changes place) run
 
 -- the run that ends here, where it has begun
-abbrev pub ended : List ℕ → List (List ℕ)
-ended [] = []
-ended (place ∷ places) = (place ∷ places) ∷ []
+abbrev pub nonempty_run : List ℕ → List (List ℕ)
+nonempty_run [] = []
+nonempty_run (place ∷ places) = (place ∷ places) ∷ []
 
 -- the run takes rows as long as they can stand in it; the next row begins another
-abbrev pub cut : Catalog → RowChanges → List ℕ → List ℕ → List (List ℕ)
-cut schema changes run [] = ended run
-cut schema changes run (place ∷ places) =
-    if joins schema changes run place then cut schema changes (run ++ place ∷ []) places else ended run ++ cut schema changes (place ∷ []) places
+abbrev pub runs_from : Catalog → RowChanges → List ℕ → List ℕ → List (List ℕ)
+runs_from schema changes run [] = nonempty_run run
+runs_from schema changes run (place ∷ places) =
+    if joins schema changes run place then runs_from schema changes (run ++ place ∷ []) places else nonempty_run run ++ runs_from schema changes (place ∷ []) places
 
 -- the new rows of this order as runs, each as long as it can be
 abbrev pub runs : Catalog → RowChanges → List ℕ → List (List ℕ)
-runs schema changes order = cut schema changes [] order
+runs schema changes order = runs_from schema changes [] order

@@ -18,7 +18,7 @@ use Rattle.schema_core.specs.Catalog.{Catalog, spec_of}
 use Rattle.schema_core.specs.Declaration.{some_two}
 use Rattle.schema_core.specs.Tables.{Rows, Tables, has_null, is_created, key_of, row_under, rows_in, with_row, with_rows, without_row}
 use Rattle.flush_order.specs.Cells.{first_cells, is_late, known_row, new_at, table_at}
-use Rattle.flush_plan.specs.Flushing.{Keys, Sofar, key_of_new, put}
+use Rattle.flush_plan.specs.Flushing.{Keys, Sofar, key_of_new, value_of_cell}
 use Rattle.flush_order.specs.Orders.{place_of_gone}
 use Rattle.flush_plan.specs.Planning.{late_gone, writes_some}
 use Rattle.flush_order.specs.Refers.{names}
@@ -34,7 +34,7 @@ abbrev pub placed_in : Catalog → RowChanges → Sofar → ℕ → Option Rows 
 placed_in schema changes sofar place None = None
 placed_in schema changes sofar place (Some rows) =
     placed_under (spec_of schema (table_at changes place)) sofar place (table_at changes place) rows
-    (with_own_key (spec_of schema (table_at changes place)) rows (map (put sofar.keys) (first_cells schema changes place)))
+    (with_own_key (spec_of schema (table_at changes place)) rows (map (value_of_cell sofar.keys) (first_cells schema changes place)))
 
 -- one more new row stands among the rows before it
 unfoldable pub place_new : Catalog → RowChanges → Sofar → ℕ → Option Sofar
@@ -66,8 +66,8 @@ abbrev pub edited_in : Tables → Edit → Option Rows → Tables
 edited_in tables edit None = tables
 edited_in tables edit (Some rows) = with_rows tables edit.0.0 (edited_rows rows edit.0.1 edit.1)
 
-unfoldable pub edited : Tables → Edit → Tables
-edited tables edit = edited_in tables edit (rows_in tables edit.0.0)
+unfoldable pub with_edit : Tables → Edit → Tables
+with_edit tables edit = edited_in tables edit (rows_in tables edit.0.0)
 
 -- the first row, but for the columns that pass: these are of the second
 abbrev pub blend : (ColumnSpec → Bool) → List ColumnSpec → List Value → List Value → List Value
@@ -85,7 +85,7 @@ abbrev pub edit_new : Catalog → RowChanges → Sofar → ℕ → Edit
 edit_new schema changes placed place = (
   place_of_new changes placed.keys place,
   Some (blend (is_late schema changes (table_at changes place)) (spec_of schema (table_at changes place)).columns
-      (unwrap_or (row_at placed.tables (place_of_new changes placed.keys place)) []) (map (put placed.keys) (new_at changes place).cells)),
+      (unwrap_or (row_at placed.tables (place_of_new changes placed.keys place)) []) (map (value_of_cell placed.keys) (new_at changes place).cells)),
 )
 
 abbrev pub old_row : Tables → ChangedRow → List Value
@@ -95,7 +95,7 @@ abbrev pub put_cells : (RowCell → Value) → List (ColumnNo × RowCell) → Li
 put_cells value cells = map (λ cell. (cell.0, value cell.1)) cells
 
 abbrev pub edit_changed : Tables → Keys → ChangedRow → Edit
-edit_changed tables keys row = ((row.name.table, row.key), Some (with_cells (old_row tables row) (put_cells (put keys) row.cells)))
+edit_changed tables keys row = ((row.name.table, row.key), Some (with_cells (old_row tables row) (put_cells (value_of_cell keys) row.cells)))
 
 abbrev pub edit_gone : Catalog → GoneRow → Edit
 edit_gone schema row = (place_of_gone schema row, None)
@@ -136,18 +136,18 @@ abbrev pub stated_under : Catalog → Tables → RowChanges → List ℕ → Opt
 stated_under schema tables changes order None = None
 stated_under schema tables changes order (Some placed) =
     if tables_stand tables changes && rows_stand schema tables changes && keys_are_new schema tables changes order placed.keys
-    then Some (fold edited tables (edits schema tables changes order placed))
+    then Some (fold with_edit tables (edits schema tables changes order placed))
     else None
 
 -- the tables that the changes state, where they do
-unfoldable pub stated : Catalog → Tables → RowChanges → List ℕ → Option Tables
-stated schema tables changes order = stated_under schema tables changes order (all_placed schema changes tables order)
+unfoldable pub stated_tables : Catalog → Tables → RowChanges → List ℕ → Option Tables
+stated_tables schema tables changes order = stated_under schema tables changes order (all_placed schema changes tables order)
 
 -- ---- Guess
 
-abbrev pub given : RowCell → Value
-given (Given value) = value
-given (KeyOf place part) = Null
+abbrev pub given_value : RowCell → Value
+given_value (Given value) = value
+given_value (KeyOf place part) = Null
 
 -- a part of the new row's key is generated, or comes from one that is
 abbrev pub is_open : Catalog → RowChanges → ℕ → Bool
@@ -160,5 +160,5 @@ guesses schema changes order keys table row =
 
 unfoldable pub guess : Catalog → Tables → RowChanges → List ℕ → Keys → Bool
 guess schema tables changes order keys =
-    list_any (λ place. guesses schema changes order keys (table_at changes place) (map given (new_at changes place).cells)) order
-    || list_any (λ row. guesses schema changes order keys row.name.table (with_cells (old_row tables row) (put_cells given row.cells))) (written_rows changes)
+    list_any (λ place. guesses schema changes order keys (table_at changes place) (map given_value (new_at changes place).cells)) order
+    || list_any (λ row. guesses schema changes order keys row.name.table (with_cells (old_row tables row) (put_cells given_value row.cells))) (written_rows changes)

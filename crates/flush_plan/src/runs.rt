@@ -6,7 +6,7 @@ ghost use Rattle.base_core.specs.declared.refusal.Refusal.TheVariants.{Memory};
 ghost use Rattle.flush_order.specs.Cells.{key_parts, table_at};
 ghost use Rattle.flush_plan.specs.Planning.{insert_run};
 ghost use Rattle.flush_order.specs.Ready.{AreReady};
-ghost use Rattle.flush_plan.specs.Runs.{cut, ended, goes_with, is_nothing, joins, leaves_key, runs, width};
+ghost use Rattle.flush_plan.specs.Runs.{runs_from, nonempty_run, goes_with, is_nothing, joins, leaves_key, runs, width};
 
 use base_core::{ListOf, Refusal, TableId, Value};
 use flush_order::{NewRows, Waits};
@@ -59,7 +59,7 @@ fn push_run(
 ) -> Result<(), Refusal>
     requires { All (λ row. row < length changes.now.fresh) run.now }
     ensures insert { OnOk result (out.new.items
-        ≡ out.old.items ++ map (insert_run changes.now) (ended run.now)) }
+        ≡ out.old.items ++ map (insert_run changes.now) (nonempty_run run.now)) }
     ensures cause { IfErr result (λ e. e ≡ Memory) }
 {
     if let Some((first, _rest)) = run.split_first() {
@@ -149,9 +149,9 @@ fn take_row(
     requires row { row < length new.now.rows.now }
     ensures cut { OnOk result ((rest : List ℕ) → statements.new.items
         ++ map (insert_run new.now.changes.now)
-        (cut new.now.schema.now new.now.changes.now run.new.items rest)
+        (runs_from new.now.schema.now new.now.changes.now run.new.items rest)
         ≡ statements.old.items ++ map (insert_run new.now.changes.now)
-        (cut new.now.schema.now new.now.changes.now run.old.items (row ∷ rest))) }
+        (runs_from new.now.schema.now new.now.changes.now run.old.items (row ∷ rest))) }
     ensures within { OnOk result
         (All (λ other. other < length new.now.rows.now) run.new.items) }
     ensures cause { IfErr result (λ e. e ≡ Memory) }

@@ -8,7 +8,7 @@ ghost use Rattle.schema_core.specs.declared.changes.RowCell.TheVariants.{Given};
 ghost use Rattle.schema_core.specs.Catalog.{IsTable, spec_of};
 ghost use Rattle.flush_order.specs.Cells.{is_late};
 ghost use Rattle.flush_order.specs.Orders.{place_of_gone};
-ghost use Rattle.flush_plan.specs.Planning.{cells_when, is_written_when, late_gone, numbered, place_of_changed, update_of};
+ghost use Rattle.flush_plan.specs.Planning.{cells_when, is_written_when, late_gone, cells_from_number, place_of_changed, update_of};
 ghost use Rattle.flush_order.specs.Ready.{AreInRange, IsInTable};
 ghost use Rattle.flush_order.specs.Refers.{gone_key};
 
@@ -126,7 +126,7 @@ pub fn push_late(
     requires declared { IsTable schema.now table }
     requires narrow { number + length columns.now ≤ 4294967295 }
     ensures late { OnOk result (out.new ≡ out.old
-        ++ numbered (is_late schema.now changes.now table) number columns.now cells.now) }
+        ++ cells_from_number (is_late schema.now changes.now table) number columns.now cells.now) }
     ensures cause { IfErr result (λ e. e ≡ Memory) }
 {
     if let (Some((column, columns)), Some((cell, cells))) = (
@@ -154,7 +154,7 @@ fn push_gone(
     requires declared { IsTable schema.now table }
     requires narrow { number + length columns.now ≤ 4294967295 }
     ensures late { OnOk result (out.new ≡ out.old ++ map (λ cell. (cell.0, Given Null))
-        (numbered (is_late schema.now changes.now table) number columns.now
+        (cells_from_number (is_late schema.now changes.now table) number columns.now
         (map Given cells.now))) }
     ensures cause { IfErr result (λ e. e ≡ Memory) }
 {

@@ -13,7 +13,7 @@ use Rattle.schema_core.specs.Tables.{Rows, Tables, is_created, row_under, rows_i
 use Rattle.table_laws.proofs.Entries.{all_insert, all_lookup}
 use Rattle.table_laws.proofs.SameValues.{same_key, same_table, is_equal}
 use Rattle.flush_order.specs.Sorted.{Place}
-use Rattle.flush_plan.specs.Stating.{Edit, edited, edited_in, edited_rows, row_at}
+use Rattle.flush_plan.specs.Stating.{Edit, with_edit, edited_in, edited_rows, row_at}
 use Rattle.plan_laws.specs.Premises.{IsSorted}
 use Rattle.plan_laws.proofs.Lookups.{all_found, lookup_insert, lookup_remove, same_lists, sorted_insert, sorted_remove}
 use Rattle.plan_laws.proofs.Facts.{some_or_none, true_false}
@@ -31,19 +31,19 @@ pub under_edited : (rows : Rows) (key : List Value) (row : Option (List Value)) 
 under_edited rows key None q sorted = lookup_remove values_cmp values_total same_key rows key q sorted
 under_edited rows key (Some row) q sorted = lookup_insert values_cmp values_total rows key row q
 
-pub edit_is : (tables : Tables) (edit : Edit) (rows : Rows) → rows_in tables edit.0.0 ≡ Some rows → edited tables edit ≡ with_rows tables edit.0.0 (edited_rows rows edit.0.1 edit.1)
-unfolding edited
+pub edit_is : (tables : Tables) (edit : Edit) (rows : Rows) → rows_in tables edit.0.0 ≡ Some rows → with_edit tables edit ≡ with_rows tables edit.0.0 (edited_rows rows edit.0.1 edit.1)
+unfolding with_edit
 edit_is tables edit rows found = ap (edited_in tables edit) found
 
-pub edit_none : (tables : Tables) (edit : Edit) → rows_in tables edit.0.0 ≡ None → edited tables edit ≡ tables
-unfolding edited
+pub edit_none : (tables : Tables) (edit : Edit) → rows_in tables edit.0.0 ≡ None → with_edit tables edit ≡ tables
+unfolding with_edit
 edit_none tables edit none = ap (edited_in tables edit) none
 
-pub in_edited : (tables : Tables) (edit : Edit) (rows : Rows) (table : TableId) → rows_in tables edit.0.0 ≡ Some rows → rows_in (edited tables edit) table ≡ cond (is_eq (table_cmp table edit.0.0)) (Some (edited_rows rows edit.0.1 edit.1)) (rows_in tables table)
+pub in_edited : (tables : Tables) (edit : Edit) (rows : Rows) (table : TableId) → rows_in tables edit.0.0 ≡ Some rows → rows_in (with_edit tables edit) table ≡ cond (is_eq (table_cmp table edit.0.0)) (Some (edited_rows rows edit.0.1 edit.1)) (rows_in tables table)
 in_edited tables edit rows table found =
     ap (λ t. rows_in t table) (edit_is tables edit rows found) ∙ lookup_insert table_cmp tables_total tables edit.0.0 (edited_rows rows edit.0.1 edit.1) table
 
-pub edited_sorted : (tables : Tables) (edit : Edit) → IsSorted tables → IsSorted (edited tables edit)
+pub edited_sorted : (tables : Tables) (edit : Edit) → IsSorted tables → IsSorted (with_edit tables edit)
 edited_sorted tables edit sorted =
     elim (some_or_none (rows_in tables edit.0.0)) [
       | inl found ↦ subst IsSorted (sym (edit_is tables edit found.0 found.1)) (record {
@@ -61,7 +61,7 @@ still : (b : Bool) (rows edited : Rows) (o p : Option Rows) → o ≡ Some rows 
 still true rows edited o p e same = sym (ap is_some (same refl ∙ e))
 still false rows edited o p e same = refl
 
-pub edited_created : (tables : Tables) (edit : Edit) (table : TableId) → is_created (edited tables edit) table ≡ is_created tables table
+pub edited_created : (tables : Tables) (edit : Edit) (table : TableId) → is_created (with_edit tables edit) table ≡ is_created tables table
 edited_created tables edit table =
     elim (some_or_none (rows_in tables edit.0.0)) [
       | inl found ↦
@@ -71,9 +71,9 @@ edited_created tables edit table =
     ]
 
 -- what stands under the place of an edit
-pub at_edit : (tables : Tables) (edit : Edit) (rows : Rows) → IsSorted tables → rows_in tables edit.0.0 ≡ Some rows → row_at (edited tables edit) edit.0 ≡ edit.1
+pub at_edit : (tables : Tables) (edit : Edit) (rows : Rows) → IsSorted tables → rows_in tables edit.0.0 ≡ Some rows → row_at (with_edit tables edit) edit.0 ≡ edit.1
 at_edit tables edit rows sorted found =
-    let here : rows_in (edited tables edit) edit.0.0 ≡ Some (edited_rows rows edit.0.1 edit.1) =
+    let here : rows_in (with_edit tables edit) edit.0.0 ≡ Some (edited_rows rows edit.0.1 edit.1) =
     in_edited tables edit rows edit.0.0 found ∙ ap (λ o. cond (is_eq o) (Some (edited_rows rows edit.0.1 edit.1)) (rows_in tables edit.0.0)) (tied_itself tables_total edit.0.0) in
     ap (option_and_then (λ r. row_under r edit.0.1)) here
     ∙ under_edited rows edit.0.1 edit.1 edit.0.1 (rows_sorted tables edit.0.0 rows sorted found)
@@ -96,7 +96,7 @@ other_step tables edit rows q true at sorted found apart =
 other_step tables edit rows q false at sorted found apart = refl
 
 -- elsewhere nothing changes
-pub at_other : (tables : Tables) (edit : Edit) (q : Place) → IsSorted tables → (edit.0 ≡ q → ⊥) → row_at (edited tables edit) q ≡ row_at tables q
+pub at_other : (tables : Tables) (edit : Edit) (q : Place) → IsSorted tables → (edit.0 ≡ q → ⊥) → row_at (with_edit tables edit) q ≡ row_at tables q
 at_other tables edit q sorted apart =
     elim (some_or_none (rows_in tables edit.0.0)) [
       | inl found ↦

@@ -17,7 +17,7 @@ use Rattle.plan_laws.proofs.Numbers.{less_equal, entered_sorted, latest_have, pl
 use Rattle.plan_laws.proofs.Facts.{none_some, true_false, or_cases}
 use Rattle.base_core.proofs.Tests.{or_then}
 use Rattle.flush_order.specs.Places.{is_among}
-use Rattle.flush_order.specs.Sorted.{Place, entered, place_cmp, same_place, sorted_numbers}
+use Rattle.flush_order.specs.Sorted.{Place, entries_with_places, place_cmp, same_place, sorted_numbers}
 
 abbrev no_place : Place
 no_place = (record { 0 = 0 }, [])
@@ -67,13 +67,13 @@ module _ (places : List Place) where
       (ap (λ x. cond (is_eq (place_cmp q x)) (Some number) (lookup (is_at (place_cmp q)) entries)) at
       ∙ sym (lookup_insert place_cmp place_total entries p number q) ∙ found)
 
-  latest_all : (entries : List (Place × ℕ)) (number : ℕ) (rest : List Place) → ((i : ℕ) → i < length rest → place_at places (number + i) ≡ place_at rest i) → Found number entries → Found (number + length rest) (entered entries number rest)
+  latest_all : (entries : List (Place × ℕ)) (number : ℕ) (rest : List Place) → ((i : ℕ) → i < length rest → place_at places (number + i) ≡ place_at rest i) → Found number entries → Found (number + length rest) (entries_with_places entries number rest)
   latest_all entries number [] at before = subst (λ most. Found most entries) (plus_zero number) before
     where
       plus_zero : (n : ℕ) → n ≡ n + 0
       plus_zero n = omega arith
   latest_all entries number (p ∷ rest) at before =
-      subst (λ most. Found most (entered (insert_entry place_cmp entries p number) (suc number) rest)) (plus_suc number (length rest))
+      subst (λ most. Found most (entries_with_places (insert_entry place_cmp entries p number) (suc number) rest)) (plus_suc number (length rest))
       (latest_all (insert_entry place_cmp entries p number) (suc number) rest
       (λ i h. ap (place_at places) (plus_suc number i) ∙ at (suc i) (omega arith))
       (latest_put entries number p (ap (place_at places) (plus_zero number) ∙ at 0 (omega arith)) before))
@@ -87,7 +87,7 @@ module _ (places : List Place) where
   -- ---- the numbers
 
   abbrev all_entries : List (Place × ℕ)
-  all_entries = entered [] 0 places
+  all_entries = entries_with_places [] 0 places
 
   sorted : T (is_sorted place_cmp all_entries)
   sorted = entered_sorted [] 0 places tt

@@ -16,7 +16,7 @@ use Rattle.schema_core.specs.Tables.{Tables}
 use Rattle.table_laws.proofs.RowFits.{and_true}
 use Rattle.flush_order.specs.Cells.{late_name}
 use Rattle.flush_order.specs.Sorted.{Place}
-use Rattle.flush_plan.specs.Flushing.{Keys, Sofar, put}
+use Rattle.flush_plan.specs.Flushing.{Keys, Sofar, value_of_cell}
 use Rattle.flush_plan.specs.Planning.{Writing, cells_when, is_written_when, no_changed, no_column, place_of_changed, writes_some}
 use Rattle.flush_plan.specs.Stating.{edit_changed, edit_gone, edit_new, edits, is_present, old_row, put_cells, row_at, written_rows}
 use Rattle.plan_laws.specs.Laws.{are_at}
@@ -34,7 +34,7 @@ use Rattle.plan_laws.proofs.Facts.{none_some, or_cases, same_some, true_false, a
 abbrev pub step_of : Bool → Writing → Step
 step_of late row = (late, (row.0.0, map Given row.0.1, row.1))
 
-put_given : (keys : Keys) (key : List Value) → map (put keys) (map Given key) ≡ key
+put_given : (keys : Keys) (key : List Value) → map (value_of_cell keys) (map Given key) ≡ key
 put_given keys [] = refl
 put_given keys (v ∷ key) = ap (λ k. v ∷ k) (put_given keys key)
 
@@ -102,7 +102,7 @@ module _ (schema : Catalog) (old : Tables) (changes : RowChanges) (order : List 
   cs_at n = (spec_of schema (changed_at n).name.table).columns
 
   abbrev its_cells : ℕ → List (ColumnNo × Value)
-  its_cells n = put_cells (put placed.keys) (changed_at n).cells
+  its_cells n = put_cells (value_of_cell placed.keys) (changed_at n).cells
 
   abbrev its_row : ℕ → List Value
   its_row n = with_cells (old_row old (changed_at n)) (its_cells n)
@@ -130,7 +130,7 @@ module _ (schema : Catalog) (old : Tables) (changes : RowChanges) (order : List 
   stands n is = stated_edit schema old changes order placed after told (edit_changed old placed.keys (changed_at n)) (is_edit n is)
 
   once : (n : ℕ) → IsWritten n → IsOnce (its_cells n)
-  once n is = (once_cells (put placed.keys) 0 (cs_at n) (changed_at n).cells (all_at (λ (row : ChangedRow). are_at 0 (spec_of schema row.name.table).columns row.cells ≡ true) changes.changed n no_changed told.projected.changed_cells is.0)).once
+  once n is = (once_cells (value_of_cell placed.keys) 0 (cs_at n) (changed_at n).cells (all_at (λ (row : ChangedRow). are_at 0 (spec_of schema row.name.table).columns row.cells ≡ true) changes.changed n no_changed told.projected.changed_cells is.0)).once
 
   its_long : (n : ℕ) → IsWritten n → Long (cs_at n) (its_row n)
   its_long n is = told_long schema old changes order placed after told (at n) (its_row n) (inr (stands n is))
@@ -149,25 +149,25 @@ module _ (schema : Catalog) (old : Tables) (changes : RowChanges) (order : List 
   after_comes n late is (inl comes) = comes
   after_comes n late is (inr none) = absurd (not_missing n is none.1)
 
-  early_cells : (n : ℕ) → put_cells (put placed.keys) (writing_at false n).1 ≡ filter (λ c. not (its_late n (get_or (cs_at n) c.0.0 no_column).name)) (its_cells n)
+  early_cells : (n : ℕ) → put_cells (value_of_cell placed.keys) (writing_at false n).1 ≡ filter (λ c. not (its_late n (get_or (cs_at n) c.0.0 no_column).name)) (its_cells n)
   early_cells n =
-      ap (put_cells (put placed.keys)) (filter_same (λ (cell : ColumnNo × RowCell). is_written_when schema changes false (changed_at n).name.table cell.0) (λ (cell : ColumnNo × RowCell). not (its_late n (get_or (cs_at n) cell.0.0 no_column).name)) (changed_at n).cells
+      ap (put_cells (value_of_cell placed.keys)) (filter_same (λ (cell : ColumnNo × RowCell). is_written_when schema changes false (changed_at n).name.table cell.0) (λ (cell : ColumnNo × RowCell). not (its_late n (get_or (cs_at n) cell.0.0 no_column).name)) (changed_at n).cells
       (λ cell. early_test (its_late n (get_or (cs_at n) cell.0.0 no_column).name)))
-      ∙ put_filter (put placed.keys) (λ k. not (its_late n (get_or (cs_at n) k no_column).name)) (changed_at n).cells
+      ∙ put_filter (value_of_cell placed.keys) (λ k. not (its_late n (get_or (cs_at n) k no_column).name)) (changed_at n).cells
 
-  late_cells : (n : ℕ) → put_cells (put placed.keys) (writing_at true n).1 ≡ filter (λ c. its_late n (get_or (cs_at n) c.0.0 no_column).name) (its_cells n)
+  late_cells : (n : ℕ) → put_cells (value_of_cell placed.keys) (writing_at true n).1 ≡ filter (λ c. its_late n (get_or (cs_at n) c.0.0 no_column).name) (its_cells n)
   late_cells n =
-      ap (put_cells (put placed.keys)) (filter_same (λ (cell : ColumnNo × RowCell). is_written_when schema changes true (changed_at n).name.table cell.0) (λ (cell : ColumnNo × RowCell). its_late n (get_or (cs_at n) cell.0.0 no_column).name) (changed_at n).cells
+      ap (put_cells (value_of_cell placed.keys)) (filter_same (λ (cell : ColumnNo × RowCell). is_written_when schema changes true (changed_at n).name.table cell.0) (λ (cell : ColumnNo × RowCell). its_late n (get_or (cs_at n) cell.0.0 no_column).name) (changed_at n).cells
       (λ cell. late_test (its_late n (get_or (cs_at n) cell.0.0 no_column).name)))
-      ∙ put_filter (put placed.keys) (λ k. its_late n (get_or (cs_at n) k no_column).name) (changed_at n).cells
+      ∙ put_filter (value_of_cell placed.keys) (λ k. its_late n (get_or (cs_at n) k no_column).name) (changed_at n).cells
 
-  writes_early : (n : ℕ) (early late : List Value) → IsWritten n → Comes old after (at n) early → Long (cs_at n) late → with_cells (Blend schema changes old after placed.keys (at n) early late) (put_cells (put placed.keys) (writing_at false n).1) ≡ Blend schema changes old after placed.keys (at n) (its_row n) late
+  writes_early : (n : ℕ) (early late : List Value) → IsWritten n → Comes old after (at n) early → Long (cs_at n) late → with_cells (Blend schema changes old after placed.keys (at n) early late) (put_cells (value_of_cell placed.keys) (writing_at false n).1) ≡ Blend schema changes old after placed.keys (at n) (its_row n) late
   writes_early n early late is comes long =
       ap (with_cells (Blend schema changes old after placed.keys (at n) early late)) (early_cells n)
       ∙ early_changed (its_late n) (cs_at n) no_column early late (its_cells n) (once n is) (told_long schema old changes order placed after told (at n) early comes) long
       ∙ ap (λ r. Blend schema changes old after placed.keys (at n) r late) (writes_row n early is comes)
 
-  writes_late : (n : ℕ) (early late : List Value) → IsWritten n → Long (cs_at n) early → Comes old after (at n) late → with_cells (Blend schema changes old after placed.keys (at n) early late) (put_cells (put placed.keys) (writing_at true n).1) ≡ Blend schema changes old after placed.keys (at n) early (its_row n)
+  writes_late : (n : ℕ) (early late : List Value) → IsWritten n → Long (cs_at n) early → Comes old after (at n) late → with_cells (Blend schema changes old after placed.keys (at n) early late) (put_cells (value_of_cell placed.keys) (writing_at true n).1) ≡ Blend schema changes old after placed.keys (at n) early (its_row n)
   writes_late n early late is long comes =
       ap (with_cells (Blend schema changes old after placed.keys (at n) early late)) (late_cells n)
       ∙ late_changed (its_late n) (cs_at n) no_column early late (its_cells n) (once n is) long (told_long schema old changes order placed after told (at n) late comes)
@@ -217,8 +217,8 @@ module _ (schema : Catalog) (old : Tables) (changes : RowChanges) (order : List 
       self : row ≡ Blend schema changes old after placed.keys (at n) row row
       self = sym (blend_self (its_late n) (cs_at n) row long)
 
-      no_cells : (late : Bool) (r : List Value) → writes_some (writing_at late n).1 ≡ false → r ≡ with_cells r (put_cells (put placed.keys) (writing_at late n).1)
-      no_cells late r none = sym (ap (λ cells. with_cells r (put_cells (put placed.keys) cells)) (none_written (writing_at late n).1 none))
+      no_cells : (late : Bool) (r : List Value) → writes_some (writing_at late n).1 ≡ false → r ≡ with_cells r (put_cells (value_of_cell placed.keys) (writing_at late n).1)
+      no_cells late r none = sym (ap (λ cells. with_cells r (put_cells (value_of_cell placed.keys) cells)) (none_written (writing_at late n).1 none))
 
       early_done : writes_some (writing_at false n).1 ≡ false → row ≡ Blend schema changes old after placed.keys (at n) (its_row n) row
       early_done none =

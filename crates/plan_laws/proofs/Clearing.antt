@@ -15,7 +15,7 @@ use Rattle.schema_core.specs.WellFormed.{is_row}
 use Rattle.flush_order.specs.Cells.{is_late, late_name}
 use Rattle.flush_order.specs.Orders.{no_gone, place_of_gone}
 use Rattle.flush_order.specs.Sorted.{Place}
-use Rattle.flush_plan.specs.Flushing.{Keys, Sofar, put}
+use Rattle.flush_plan.specs.Flushing.{Keys, Sofar, value_of_cell}
 use Rattle.flush_plan.specs.Planning.{Writing, late_cells, late_gone, writes_some}
 use Rattle.flush_plan.specs.Stating.{blend, edit_changed, edit_gone, edit_new, is_present, put_cells, row_at, written_rows}
 use Rattle.plan_laws.proofs.Blend.{Long, blend_self, nulls, nulls_are_long, test}
@@ -37,10 +37,10 @@ long_base (c ∷ cs) [] l = absurd l
 long_base (c ∷ cs) (v ∷ base) l = long_base cs base l
 
 abbrev put_nulls : Keys → List (ColumnNo × RowCell) → List (ColumnNo × Value)
-put_nulls keys cells = put_cells (put keys) (map (λ cell. (cell.0, Given Null)) cells)
+put_nulls keys cells = put_cells (value_of_cell keys) (map (λ cell. (cell.0, Given Null)) cells)
 
 nulls_put : (keys : Keys) (cells : List (ColumnNo × RowCell)) → put_nulls keys cells ≡ put_cells null_cell cells
-nulls_put keys cells = map_map (λ (cell : ColumnNo × RowCell). (cell.0, put keys cell.1)) (λ (cell : ColumnNo × RowCell). (cell.0, Given Null)) cells
+nulls_put keys cells = map_map (λ (cell : ColumnNo × RowCell). (cell.0, value_of_cell keys cell.1)) (λ (cell : ColumnNo × RowCell). (cell.0, Given Null)) cells
 
 cell_step : (t : Bool) (b v : Value) → cond t b v ≡ v → t ≡ true → is_null b ≡ true → v ≡ Null
 cell_step true b v same e n = sym same ∙ null_is b n
@@ -117,7 +117,7 @@ module _ (schema : Catalog) (old : Tables) (changes : RowChanges) (order : List 
     subst (Long (cs_at n)) (sym none.0) (nulls_are_long (cs_at n)),
   )
 
-  writes : (n : ℕ) (early late : List Value) → n < length changes.gone → Long (cs_at n) early → After schema changes old after placed.keys (at n) late → with_cells (Blend schema changes old after placed.keys (at n) early late) (put_cells (put placed.keys) (clearing_at n).1) ≡ Blend schema changes old after placed.keys (at n) early (nulls (cs_at n))
+  writes : (n : ℕ) (early late : List Value) → n < length changes.gone → Long (cs_at n) early → After schema changes old after placed.keys (at n) late → with_cells (Blend schema changes old after placed.keys (at n) early late) (put_cells (value_of_cell placed.keys) (clearing_at n).1) ≡ Blend schema changes old after placed.keys (at n) early (nulls (cs_at n))
   writes n early late h long then =
       let s = after_stands n late h then in
       ap (with_cells (Blend schema changes old after placed.keys (at n) early late)) (nulls_put placed.keys (late_cells schema changes (gone_at n).name.table (map Given (gone_at n).base)))
@@ -159,7 +159,7 @@ module _ (schema : Catalog) (old : Tables) (changes : RowChanges) (order : List 
           early = row;
           late = nulls (cs_at n);
           is = self
-              ∙ sym (ap (λ cells. with_cells (Blend schema changes old after placed.keys (at n) row row) (put_cells (put placed.keys) cells)) (none_written (clearing_at n).1 nothing))
+              ∙ sym (ap (λ cells. with_cells (Blend schema changes old after placed.keys (at n) row row) (put_cells (value_of_cell placed.keys) cells)) (none_written (clearing_at n).1 nothing))
               ∙ writes n row row h long (inl (inl was));
           from = inl was;
           after = inr (refl, inr none);

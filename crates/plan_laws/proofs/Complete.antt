@@ -20,14 +20,14 @@ use Rattle.schema_core.specs.WellFormed.{is_row, may_hold}
 use Rattle.base_core.proofs.Lists.{every_append}
 use Rattle.table_laws.proofs.Entries.{all_map}
 use Rattle.table_laws.proofs.RowFits.{and_true}
-use Rattle.flush_order.specs.Cells.{cleared, first_cells, is_late, late_name, new_at, no_row, table_at}
+use Rattle.flush_order.specs.Cells.{cells_cleared, first_cells, is_late, late_name, new_at, no_row, table_at}
 use Rattle.flush_order.specs.Orders.{insert_order, place_of_gone}
 use Rattle.flush_order.specs.Places.{is_among}
 use Rattle.flush_order.specs.Refers.{new_refers}
 use Rattle.flush_order.specs.Sorted.{Place}
-use Rattle.flush_plan.specs.Flushing.{Keys, Sofar, put}
+use Rattle.flush_plan.specs.Flushing.{Keys, Sofar, value_of_cell}
 use Rattle.flush_plan.specs.Planning.{late_gone, place_of_changed, writes_some}
-use Rattle.flush_plan.specs.Stating.{Edit, all_placed, blend, edit_changed, edit_gone, edit_new, edits, given, is_present, old_row, place_of_new, put_cells, row_at, stated, written_rows}
+use Rattle.flush_plan.specs.Stating.{Edit, all_placed, blend, edit_changed, edit_gone, edit_new, edits, given_value, is_present, old_row, place_of_new, put_cells, row_at, stated_tables, written_rows}
 use Rattle.plan_laws.proofs.Drawn.{drawn_under}
 use Rattle.plan_laws.specs.Laws.{IsComplete, IsProjected, before}
 use Rattle.plan_laws.specs.Premises.{Ends, IsSorted}
@@ -51,13 +51,13 @@ held_is_long [] (v ∷ row) e = false_true e
 held_is_long (c ∷ cs) [] e = false_true e
 held_is_long (c ∷ cs) (v ∷ row) e = held_is_long cs row (and_true (may_hold c v) (pointwise may_hold cs row) e).1
 
-pub long_put : (keys : Keys) (cs : List ColumnSpec) (cells : List RowCell) → Long cs (map given cells) → Long cs (map (put keys) cells)
+pub long_put : (keys : Keys) (cs : List ColumnSpec) (cells : List RowCell) → Long cs (map given_value cells) → Long cs (map (value_of_cell keys) cells)
 long_put keys [] [] l = tt
 long_put keys [] (cell ∷ cells) l = absurd l
 long_put keys (c ∷ cs) [] l = absurd l
 long_put keys (c ∷ cs) (cell ∷ cells) l = long_put keys cs cells l
 
-long_first : (t : ColumnSpec → Bool) (keys : Keys) (cs : List ColumnSpec) (cells : List RowCell) → Long cs (map given cells) → Long cs (map (put keys) (cleared t (Given Null) cs cells))
+long_first : (t : ColumnSpec → Bool) (keys : Keys) (cs : List ColumnSpec) (cells : List RowCell) → Long cs (map given_value cells) → Long cs (map (value_of_cell keys) (cells_cleared t (Given Null) cs cells))
 long_first t keys [] [] l = tt
 long_first t keys [] (cell ∷ cells) l = absurd l
 long_first t keys (c ∷ cs) [] l = absurd l
@@ -99,7 +99,7 @@ pub record IsStated (schema : Catalog) (old : Tables) (changes : RowChanges) (or
   pub legal : Legal schema old
   pub ordered : insert_order schema changes ≡ Ok order
   pub keys : all_placed schema changes old order ≡ Some placed
-  pub states : stated schema old changes order ≡ Some after
+  pub states : stated_tables schema old changes order ≡ Some after
 
 pub told_of : (schema : Catalog) (old : Tables) (changes : RowChanges) (order : List ℕ) (placed : Sofar) (after : Tables) → IsComplete schema old changes order placed after → IsStated schema old changes order placed after
 told_of schema old changes order placed after complete = record {
@@ -128,10 +128,10 @@ module _ (schema : Catalog) (old : Tables) (changes : RowChanges) (order : List 
   pub found_placed : (place : ℕ) → is_among order place ≡ true → Placed schema changes order placed place
   found_placed place among = placed_step schema changes order (before old) placed place once told.sorted leads (new_apart schema old changes order placed after known_facts) among
 
-  pub new_long : (place : ℕ) → is_among order place ≡ true → Long (spec_of schema (table_at changes place)).columns (map given (new_at changes place).cells)
+  pub new_long : (place : ℕ) → is_among order place ≡ true → Long (spec_of schema (table_at changes place)).columns (map given_value (new_at changes place).cells)
   new_long place among =
-      held_is_long (spec_of schema (table_at changes place)).columns (map given (new_at changes place).cells)
-      (all_at (λ (row : NewRow). is_row (spec_of schema row.name.table) (map given row.cells) ≡ true) changes.fresh place no_row told.projected.new_cells (within place among))
+      held_is_long (spec_of schema (table_at changes place)).columns (map given_value (new_at changes place).cells)
+      (all_at (λ (row : NewRow). is_row (spec_of schema row.name.table) (map given_value row.cells) ≡ true) changes.fresh place no_row told.projected.new_cells (within place among))
 
   pub created_parts : (list_all (λ row. is_created old row.name.table) changes.fresh ≡ true) × (list_all (λ row. is_created old row.name.table) changes.changed ≡ true) × (list_all (λ row. is_created old row.name.table) changes.gone ≡ true)
   created_parts =
@@ -164,11 +164,11 @@ module _ (schema : Catalog) (old : Tables) (changes : RowChanges) (order : List 
       let cs : List ColumnSpec = (spec_of schema (table_at changes place)).columns in
       let found = found_placed place among in
       let same : found.step.row ≡ row = same_some found.step.row row (sym found.stands ∙ at) in
-      let first : List Value = map (put found.sofar.keys) (first_cells schema changes place) in
+      let first : List Value = map (value_of_cell found.sofar.keys) (first_cells schema changes place) in
       let long_row : Long cs row = subst (Long cs) same (long_by (spec_of schema (table_at changes place)) found.step.rows first found.step.row (wants_key (spec_of schema (table_at changes place)) first) (long_first (is_late schema changes (table_at changes place)) found.sofar.keys cs (new_at changes place).cells (new_long place among)) found.step.draws) in
       let null_row : NullLate (late_name schema changes (table_at changes place)) cs row = subst (NullLate (late_name schema changes (table_at changes place)) cs) same
       (drawn_null (late_name schema changes (table_at changes place)) (spec_of schema (table_at changes place)) found.step.rows first found.step.row (told.projected.fit.no_key (table_at changes place)) (null_first (late_name schema changes (table_at changes place)) found.sofar.keys cs (new_at changes place).cells) found.step.draws) in
-      let others : List Value = map (put placed.keys) (new_at changes place).cells in
+      let others : List Value = map (value_of_cell placed.keys) (new_at changes place).cells in
       let written : List Value = blend (is_late schema changes (table_at changes place)) cs row others in (
         written,
         stated_new schema old changes order placed after told.sorted known_facts apart place among (new_created place among)
@@ -184,7 +184,7 @@ module _ (schema : Catalog) (old : Tables) (changes : RowChanges) (order : List 
     apart = new_apart schema old changes order placed after known_facts;
     fresh = new_fresh schema old changes order placed after known_facts;
     stands = stands;
-    whole = λ place sofar next step legal. drawn_whole (spec_of schema (table_at changes place)) step.rows (map (put sofar.keys) (first_cells schema changes place)) step.row legal step.draws;
+    whole = λ place sofar next step legal. drawn_whole (spec_of schema (table_at changes place)) step.rows (map (value_of_cell sofar.keys) (first_cells schema changes place)) step.row legal step.draws;
     cover = stated_cover schema old changes order placed after told.sorted known_facts apart all_created;
   }
 
@@ -198,7 +198,7 @@ module _ (schema : Catalog) (old : Tables) (changes : RowChanges) (order : List 
   placed_long place among =
       let spec : TableSpec = spec_of schema (table_at changes place) in
       let found = found_placed place among in
-      let first : List Value = map (put found.sofar.keys) (first_cells schema changes place) in
+      let first : List Value = map (value_of_cell found.sofar.keys) (first_cells schema changes place) in
       subst (λ o. Long spec.columns (unwrap_or o [])) (sym found.stands)
       (long_by spec found.step.rows first found.step.row (wants_key spec first) (long_first (is_late schema changes (table_at changes place)) found.sofar.keys spec.columns (new_at changes place).cells (new_long place among)) found.step.draws)
 
@@ -222,14 +222,14 @@ module _ (schema : Catalog) (old : Tables) (changes : RowChanges) (order : List 
         | inr new ↦
             let p = new_case schema old changes order placed after told.sorted known_facts order edit new in
             let cs : List ColumnSpec = (spec_of schema (table_at changes p.0)).columns in
-            let long = blend_long (late_name schema changes (table_at changes p.0)) cs (unwrap_or (row_at placed.tables (place_of_new changes placed.keys p.0)) []) (map (put placed.keys) (new_at changes p.0).cells) (placed_long p.0 p.1) (long_put placed.keys cs (new_at changes p.0).cells (new_long p.0 p.1)) in
+            let long = blend_long (late_name schema changes (table_at changes p.0)) cs (unwrap_or (row_at placed.tables (place_of_new changes placed.keys p.0)) []) (map (value_of_cell placed.keys) (new_at changes p.0).cells) (placed_long p.0 p.1) (long_put placed.keys cs (new_at changes p.0).cells (new_long p.0 p.1)) in
             edit_row schema edit (edit_new schema changes placed p.0) row _ p.2 e refl long
         | inl before ↦ elim (member_split edit (map (edit_gone schema) changes.gone) (map (edit_changed old placed.keys) (written_rows changes)) before) [
           | inl gone ↦ let g = mapped_member (edit_gone schema) edit changes.gone gone in absurd (none_some row (ap (λ d. d.1) g.2 ∙ e))
           | inr changed ↦
               let r = mapped_member (edit_changed old placed.keys) edit (written_rows changes) changed in
               let there : is_present old (place_of_changed r.0) ≡ true = member_all (λ row. is_present old (place_of_changed row) ≡ true) (written_rows changes) r.0 written_there r.1 in
-              edit_row schema edit (edit_changed old placed.keys r.0) row _ r.2 e refl (long_cells (columns schema (place_of_changed r.0)) (old_row old r.0) (put_cells (put placed.keys) r.0.cells) (old_long (place_of_changed r.0) (row_at old (place_of_changed r.0)) refl there))
+              edit_row schema edit (edit_changed old placed.keys r.0) row _ r.2 e refl (long_cells (columns schema (place_of_changed r.0)) (old_row old r.0) (put_cells (value_of_cell placed.keys) r.0.cells) (old_long (place_of_changed r.0) (row_at old (place_of_changed r.0)) refl there))
         ]
       ]
 

@@ -17,7 +17,7 @@ use Rattle.schema_core.specs.Tables.{Tables, cells_of, has_null, same_values}
 use Rattle.schema_core.specs.WellFormed.{is_row}
 use Rattle.base_core.proofs.Tests.{or_then}
 use Rattle.table_laws.proofs.Entries.{all_both, any_none}
-use Rattle.flush_order.specs.Cells.{cleared, is_late, late_name}
+use Rattle.flush_order.specs.Cells.{cells_cleared, is_late, late_name}
 use Rattle.flush_order.specs.Orders.{delete_order, gone_at, gone_rows, no_gone, place_of_gone}
 use Rattle.flush_order.specs.Places.{IsOrder, is_among, next_place}
 use Rattle.flush_order.specs.Refers.{gone_key, gone_refers, last_base, names}
@@ -78,7 +78,7 @@ split_at (x ∷ xs) j among =
 
 -- ---- a base that is cleared
 
-cleared_blend : (t : ColumnSpec → Bool) (cs : List ColumnSpec) (row : List Value) → Long cs row → cleared t Null cs row ≡ blend t cs row (nulls cs)
+cleared_blend : (t : ColumnSpec → Bool) (cs : List ColumnSpec) (row : List Value) → Long cs row → cells_cleared t Null cs row ≡ blend t cs row (nulls cs)
 cleared_blend t [] row l = refl
 cleared_blend t (c ∷ cs) [] l = absurd l
 cleared_blend t (c ∷ cs) (v ∷ row) l = ap (λ r. cond (t c) Null v ∷ r) (cleared_blend t cs row l)

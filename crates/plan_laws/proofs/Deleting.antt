@@ -15,8 +15,8 @@ use Rattle.schema_core.specs.Tables.{Legal, Rows, Tables, cells_of, dangles, has
 use Rattle.table_laws.proofs.Entries.{all_both, all_map}
 use Rattle.flush_order.specs.Cells.{late_name}
 use Rattle.flush_order.specs.Sorted.{Place}
-use Rattle.flush_plan.specs.Flushing.{Sofar, accepted, send}
-use Rattle.flush_plan.specs.Stating.{edited, is_present, row_at}
+use Rattle.flush_plan.specs.Flushing.{Sofar, after_outcome, send}
+use Rattle.flush_plan.specs.Stating.{with_edit, is_present, row_at}
 use Rattle.plan_laws.specs.Premises.{Ends, IsSorted}
 use Rattle.plan_laws.proofs.Accept.{delete_accepted}
 use Rattle.plan_laws.proofs.At.{at_edit, at_other, edited_created, edited_sorted, place_cases, same_tables}
@@ -30,11 +30,11 @@ abbrev pub remove_at : Place → Planned
 remove_at place = Remove place.0 place.1
 
 -- where nothing stands, taking it out leaves the tables
-pub unchanged : (place : Place) (tables : Tables) (rows : Rows) → IsSorted tables → rows_in tables place.0 ≡ Some rows → row_under rows place.1 ≡ None → edited tables (place, None) ≡ tables
+pub unchanged : (place : Place) (tables : Tables) (rows : Rows) → IsSorted tables → rows_in tables place.0 ≡ Some rows → row_under rows place.1 ≡ None → with_edit tables (place, None) ≡ tables
 unchanged place tables rows sorted table free =
-    same_tables (edited tables (place, None)) tables (edited_sorted tables (place, None) sorted) sorted (edited_created tables (place, None))
+    same_tables (with_edit tables (place, None)) tables (edited_sorted tables (place, None) sorted) sorted (edited_created tables (place, None))
     (λ q. elim (place_cases place q) [
-      | inl same ↦ ap (row_at (edited tables (place, None))) (sym same) ∙ at_edit tables (place, None) rows sorted table ∙ sym (ap (option_and_then (λ r. row_under r place.1)) table ∙ free) ∙ ap (row_at tables) same
+      | inl same ↦ ap (row_at (with_edit tables (place, None))) (sym same) ∙ at_edit tables (place, None) rows sorted table ∙ sym (ap (option_and_then (λ r. row_under r place.1)) table ∙ free) ∙ ap (row_at tables) same
       | inr apart ↦ at_other tables (place, None) q sorted apart
     ])
 
@@ -75,7 +75,7 @@ module _ (schema : Catalog) (changes : RowChanges) (old stated : Tables) where
   keep_rows place q rest row apart (inl at) = inl at
   keep_rows place q rest row apart (inr gone) = inr (drop_member place q rest apart gone.0, gone.1, gone.2)
 
-  pub gone_then : (place : Place) (rest : List Place) (sofar : Sofar) (rows : Rows) → Going (place ∷ rest) sofar → row_at stated place ≡ None → (Member place rest → ⊥) → rows_in sofar.tables place.0 ≡ Some rows → Going rest (record { tables = edited sofar.tables (place, None); keys = sofar.keys })
+  pub gone_then : (place : Place) (rest : List Place) (sofar : Sofar) (rows : Rows) → Going (place ∷ rest) sofar → row_at stated place ≡ None → (Member place rest → ⊥) → rows_in sofar.tables place.0 ≡ Some rows → Going rest (record { tables = with_edit sofar.tables (place, None); keys = sofar.keys })
   gone_then place rest sofar rows going gone once table = record {
     sorted = edited_sorted sofar.tables (place, None) going.sorted;
     created = λ t. edited_created sofar.tables (place, None) t ∙ going.created t;
@@ -91,7 +91,7 @@ module _ (schema : Catalog) (changes : RowChanges) (old stated : Tables) where
         ];
     rows = λ q row at.
         elim (place_cases place q) [
-          | inl same ↦ absurd (none_some row (sym (at_edit sofar.tables (place, None) rows going.sorted table) ∙ ap (row_at (edited sofar.tables (place, None))) same ∙ at))
+          | inl same ↦ absurd (none_some row (sym (at_edit sofar.tables (place, None) rows going.sorted table) ∙ ap (row_at (with_edit sofar.tables (place, None))) same ∙ at))
           | inr apart ↦ keep_rows place q rest row apart (going.rows q row (sym (at_other sofar.tables (place, None) q going.sorted apart) ∙ at))
         ];
   }
@@ -173,11 +173,11 @@ module _ (schema : Catalog) (changes : RowChanges) (old stated : Tables) where
     unfolding send
     sent_remove place rest sofar ordered going =
         let rows = some_of (rows_in sofar.tables place.0) (going.created place.0 ∙ ordered.1) in
-        let next : Sofar = record { tables = edited sofar.tables (place, None); keys = sofar.keys } in
+        let next : Sofar = record { tables = with_edit sofar.tables (place, None); keys = sofar.keys } in
         let after : Going rest next = gone_then place rest sofar rows.0 going ordered.0 ordered.2 rows.1 in
         let answer : apply schema sofar.tables (statement.Delete place.0 place.1) ≡ Ok (place.1 ∷ [], next.tables) =
         delete_accepted schema sofar.tables place.0 rows.0 place.1 rows.1 (going_legal rest next after ordered.3) (unchanged place sofar.tables rows.0 going.sorted rows.1) in
-        (next, ap (accepted schema changes sofar (remove_at place)) answer, after)
+        (next, ap (after_outcome schema changes sofar (remove_at place)) answer, after)
 
     -- all DELETEs
     pub deletes_go : (rest : List Place) (sofar : Sofar) → Closed rest → Ordered rest → Going rest sofar → (end : Sofar) × Goes schema changes sofar (map remove_at rest) end × Going [] end

@@ -16,8 +16,8 @@ use Rattle.base_core.specs.declared.value.Kind.TheVariants as kinds
 use Rattle.schema_core.specs.Tables.{Rows, cell_of, cells_of, has_null, is_null, key_cells, key_of}
 use Rattle.table_laws.proofs.Entries.{all_map}
 use Rattle.table_laws.proofs.RowFits.{and_true, only_key}
-use Rattle.flush_order.specs.Cells.{cleared, key_parts}
-use Rattle.flush_plan.specs.Flushing.{Keys, put}
+use Rattle.flush_order.specs.Cells.{cells_cleared, key_parts}
+use Rattle.flush_plan.specs.Flushing.{Keys, value_of_cell}
 use Rattle.plan_laws.proofs.Drawn.{drawn_under}
 use Rattle.plan_laws.specs.Laws.{AreLoose, cell_named, is_given}
 use Rattle.plan_laws.proofs.Blend.{same_names}
@@ -66,28 +66,28 @@ clear_step : (t : Bool) (cell : RowCell) → is_given cell ≡ true → is_given
 clear_step true cell e = refl
 clear_step false cell e = e
 
-pub loose_cleared : (foreigns : List ForeignSpec) (t : ColumnSpec → Bool) (cs : List ColumnSpec) (cells : List RowCell) → AreLoose foreigns cs cells → AreLoose foreigns cs (cleared t (Given Null) cs cells)
+pub loose_cleared : (foreigns : List ForeignSpec) (t : ColumnSpec → Bool) (cs : List ColumnSpec) (cells : List RowCell) → AreLoose foreigns cs cells → AreLoose foreigns cs (cells_cleared t (Given Null) cs cells)
 loose_cleared foreigns t [] cells loose = tt
 loose_cleared foreigns t (c ∷ cs) [] loose = tt
 loose_cleared foreigns t (c ∷ cs) (cell ∷ cells) loose = ((λ free. clear_step (t c) cell (loose.0 free)), loose_cleared foreigns t cs cells loose.1)
 
-pub long_cleared : (t : ColumnSpec → Bool) (cs : List ColumnSpec) (cells : List RowCell) → LongCells cs cells → LongCells cs (cleared t (Given Null) cs cells)
+pub long_cleared : (t : ColumnSpec → Bool) (cs : List ColumnSpec) (cells : List RowCell) → LongCells cs cells → LongCells cs (cells_cleared t (Given Null) cs cells)
 long_cleared t [] [] l = tt
 long_cleared t [] (cell ∷ cells) l = absurd l
 long_cleared t (c ∷ cs) [] l = absurd l
 long_cleared t (c ∷ cs) (cell ∷ cells) l = long_cleared t cs cells l
 
-given_null : (keys : Keys) (cell : RowCell) → is_given cell ≡ true → is_null (put keys cell) ≡ true → cell ≡ Given Null
+given_null : (keys : Keys) (cell : RowCell) → is_given cell ≡ true → is_null (value_of_cell keys cell) ≡ true → cell ≡ Given Null
 given_null keys (Given value) g n = ap Given (null_is value n)
 given_null keys (KeyOf place part) g n = absurd (true_false (sym g))
 
-one_part : (keys : Keys) (parts : List RowCell) → length parts ≡ 1 → AllByRecursion (λ p. is_given p ≡ true) parts → has_null (map (put keys) parts) ≡ true → AllByRecursion (λ p. p ≡ Given Null) parts
+one_part : (keys : Keys) (parts : List RowCell) → length parts ≡ 1 → AllByRecursion (λ p. is_given p ≡ true) parts → has_null (map (value_of_cell keys) parts) ≡ true → AllByRecursion (λ p. p ≡ Given Null) parts
 one_part keys [] e g n = tt
-one_part keys (cell ∷ []) e g n = (given_null keys cell g.0 (sym (or_none_right (is_null (put keys cell))) ∙ n), tt)
+one_part keys (cell ∷ []) e g n = (given_null keys cell g.0 (sym (or_none_right (is_null (value_of_cell keys cell))) ∙ n), tt)
 one_part keys (cell ∷ other ∷ parts) e g n = absurd (omega (arith, e))
 
 -- a key that was given is drawn
-plain_drawn : (keys : Keys) (parts : List RowCell) → Drawn keys parts (map (put keys) parts)
+plain_drawn : (keys : Keys) (parts : List RowCell) → Drawn keys parts (map (value_of_cell keys) parts)
 plain_drawn keys [] = tt
 plain_drawn keys (cell ∷ parts) = (inl refl, plain_drawn keys parts)
 
@@ -95,11 +95,11 @@ keyed_step : (keys : Keys) (k : Bool) (cell : RowCell) (v key : Value) (parts : 
 keyed_step keys true cell v key parts rest more all = (inr all.0, more all.1)
 keyed_step keys false cell v key parts rest more all = more all
 
-keyed_drawn : (keys : Keys) (cs : List ColumnSpec) (cells : List RowCell) (key : Value) → AllByRecursion (λ p. p ≡ Given Null) (key_parts cs cells) → Drawn keys (key_parts cs cells) (key_cells cs (with_key cs key (map (put keys) cells)))
+keyed_drawn : (keys : Keys) (cs : List ColumnSpec) (cells : List RowCell) (key : Value) → AllByRecursion (λ p. p ≡ Given Null) (key_parts cs cells) → Drawn keys (key_parts cs cells) (key_cells cs (with_key cs key (map (value_of_cell keys) cells)))
 keyed_drawn keys [] cells key all = tt
 keyed_drawn keys (c ∷ cs) [] key all = tt
 keyed_drawn keys (c ∷ cs) (cell ∷ cells) key all =
-    keyed_step keys c.key cell (put keys cell) key (key_parts cs cells) (key_cells cs (with_key cs key (map (put keys) cells))) (keyed_drawn keys cs cells key) all
+    keyed_step keys c.key cell (value_of_cell keys cell) key (key_parts cs cells) (key_cells cs (with_key cs key (map (value_of_cell keys) cells))) (keyed_drawn keys cs cells key) all
 
 -- where a key is generated its column is in no foreign key
 key_free : (spec : TableSpec) → has_generated_key spec ≡ true → AllByRecursion (λ c. c.key ≡ true → IsFree spec.foreigns c) spec.columns
@@ -109,25 +109,25 @@ key_free spec e =
     (λ c free k. not_true (list_any (λ foreign. has_name foreign.columns c.name) spec.foreigns) (and_true (same_kind (kind_of c.kind) kinds.Integer) (not (list_any (λ foreign. has_name foreign.columns c.name) spec.foreigns)) (free k)).1)
     spec.columns (only_key (is_free_integer spec.foreigns) spec.columns (eqb-true (count_by (λ c. c.key) spec.columns) 1 both.0) both.1)
 
-under_drawn : (spec : TableSpec) (keys : Keys) (cells : List RowCell) (row : List Value) (key : Option ℤ) → AllByRecursion (λ p. p ≡ Given Null) (key_parts spec.columns cells) → drawn_under spec (map (put keys) cells) key ≡ Some row → Drawn keys (key_parts spec.columns cells) (key_of spec row)
+under_drawn : (spec : TableSpec) (keys : Keys) (cells : List RowCell) (row : List Value) (key : Option ℤ) → AllByRecursion (λ p. p ≡ Given Null) (key_parts spec.columns cells) → drawn_under spec (map (value_of_cell keys) cells) key ≡ Some row → Drawn keys (key_parts spec.columns cells) (key_of spec row)
 under_drawn spec keys cells row None all e = absurd (none_some row e)
 under_drawn spec keys cells row (Some n) all e =
-    subst (λ r. Drawn keys (key_parts spec.columns cells) (key_of spec r)) (same_some (with_key spec.columns (Int n) (map (put keys) cells)) row e) (keyed_drawn keys spec.columns cells (Int n) all)
+    subst (λ r. Drawn keys (key_parts spec.columns cells) (key_of spec r)) (same_some (with_key spec.columns (Int n) (map (value_of_cell keys) cells)) row e) (keyed_drawn keys spec.columns cells (Int n) all)
 
-drawn_by : (spec : TableSpec) (rows : Rows) (keys : Keys) (cells : List RowCell) (row : List Value) (b : Bool) → wants_key spec (map (put keys) cells) ≡ b → LongCells spec.columns cells → AreLoose spec.foreigns spec.columns cells → cond b (drawn_under spec (map (put keys) cells) (next_key rows)) (Some (map (put keys) cells)) ≡ Some row → Drawn keys (key_parts spec.columns cells) (key_of spec row)
+drawn_by : (spec : TableSpec) (rows : Rows) (keys : Keys) (cells : List RowCell) (row : List Value) (b : Bool) → wants_key spec (map (value_of_cell keys) cells) ≡ b → LongCells spec.columns cells → AreLoose spec.foreigns spec.columns cells → cond b (drawn_under spec (map (value_of_cell keys) cells) (next_key rows)) (Some (map (value_of_cell keys) cells)) ≡ Some row → Drawn keys (key_parts spec.columns cells) (key_of spec row)
 drawn_by spec rows keys cells row true wants l loose e =
-    let both = and_true (has_generated_key spec) (has_null (key_of spec (map (put keys) cells))) wants in
+    let both = and_true (has_generated_key spec) (has_null (key_of spec (map (value_of_cell keys) cells))) wants in
     let one = and_true (eqb (count_by (λ c. c.key) spec.columns) 1) (list_any (λ c. c.key && is_free_integer spec.foreigns c) spec.columns) both.0 in
     under_drawn spec keys cells row (next_key rows)
     (one_part keys (key_parts spec.columns cells) (parts_count spec.columns cells l ∙ eqb-true (count_by (λ c. c.key) spec.columns) 1 one.0)
     (parts_given spec.foreigns spec.columns cells (key_free spec both.0) loose)
-    (sym (ap has_null (key_map (put keys) spec.columns cells)) ∙ both.1))
+    (sym (ap has_null (key_map (value_of_cell keys) spec.columns cells)) ∙ both.1))
     e
 drawn_by spec rows keys cells row false wants l loose e =
-    subst (Drawn keys (key_parts spec.columns cells)) (sym (key_map (put keys) spec.columns cells) ∙ ap (key_of spec) (same_some (map (put keys) cells) row e)) (plain_drawn keys (key_parts spec.columns cells))
+    subst (Drawn keys (key_parts spec.columns cells)) (sym (key_map (value_of_cell keys) spec.columns cells) ∙ ap (key_of spec) (same_some (map (value_of_cell keys) cells) row e)) (plain_drawn keys (key_parts spec.columns cells))
 
-pub key_drawn : (spec : TableSpec) (rows : Rows) (keys : Keys) (cells : List RowCell) (row : List Value) → LongCells spec.columns cells → AreLoose spec.foreigns spec.columns cells → with_own_key spec rows (map (put keys) cells) ≡ Some row → Drawn keys (key_parts spec.columns cells) (key_of spec row)
-key_drawn spec rows keys cells row l loose e = drawn_by spec rows keys cells row (wants_key spec (map (put keys) cells)) refl l loose e
+pub key_drawn : (spec : TableSpec) (rows : Rows) (keys : Keys) (cells : List RowCell) (row : List Value) → LongCells spec.columns cells → AreLoose spec.foreigns spec.columns cells → with_own_key spec rows (map (value_of_cell keys) cells) ≡ Some row → Drawn keys (key_parts spec.columns cells) (key_of spec row)
+key_drawn spec rows keys cells row l loose e = drawn_by spec rows keys cells row (wants_key spec (map (value_of_cell keys) cells)) refl l loose e
 
 -- ---- the cells of a foreign key
 
@@ -168,13 +168,13 @@ cells_by spec rows row placed foreign true wants apart e = under_cells spec row 
 cells_by spec rows row placed foreign false wants apart e = ap (λ r. cells_of spec r foreign.columns) (sym (same_some row placed e))
 
 -- each foreign key of a row that is drawn has the cells that were put in
-pub foreign_drawn : (spec : TableSpec) (rows : Rows) (keys : Keys) (cells : List RowCell) (placed : List Value) (foreigns : List ForeignSpec) → ((c : ColumnSpec) → IsFree spec.foreigns c → IsFree foreigns c) → with_own_key spec rows (map (put keys) cells) ≡ Some placed → AllByRecursion (λ foreign. cells_of spec placed foreign.columns ≡ map (put keys) (map (cell_named spec.columns cells) foreign.columns)) foreigns
+pub foreign_drawn : (spec : TableSpec) (rows : Rows) (keys : Keys) (cells : List RowCell) (placed : List Value) (foreigns : List ForeignSpec) → ((c : ColumnSpec) → IsFree spec.foreigns c → IsFree foreigns c) → with_own_key spec rows (map (value_of_cell keys) cells) ≡ Some placed → AllByRecursion (λ foreign. cells_of spec placed foreign.columns ≡ map (value_of_cell keys) (map (cell_named spec.columns cells) foreign.columns)) foreigns
 foreign_drawn spec rows keys cells placed [] part e = tt
 foreign_drawn spec rows keys cells placed (foreign ∷ foreigns) part e = (
-  cells_by spec rows (map (put keys) cells) placed foreign (wants_key spec (map (put keys) cells)) refl
+  cells_by spec rows (map (value_of_cell keys) cells) placed foreign (wants_key spec (map (value_of_cell keys) cells)) refl
       (all_map (λ c. c.key ≡ true → IsFree spec.foreigns c) (λ c. c.key ≡ true → has_name foreign.columns c.name ≡ false)
       (λ c free k. (or_false (has_name foreign.columns c.name) (list_any (λ f. has_name f.columns c.name) foreigns) (part c (free k))).0) spec.columns)
       e
-      ∙ all_named (put keys) refl spec.columns cells foreign.columns,
+      ∙ all_named (value_of_cell keys) refl spec.columns cells foreign.columns,
   foreign_drawn spec rows keys cells placed foreigns (λ c free. (or_false (has_name foreign.columns c.name) (list_any (λ f. has_name f.columns c.name) foreigns) (part c free)).1) e,
 )

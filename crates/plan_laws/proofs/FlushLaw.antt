@@ -21,7 +21,7 @@ use Rattle.flush_plan.specs.Flushing.{Sofar, is_stale}
 use Rattle.flush_plan.specs.Planning.{cells_when, column_of, is_written_when, late_gone, no_changed, place_of_changed, writes_some}
 use Rattle.flush_plan.specs.Runs.{runs}
 use Rattle.flush_plan.specs.Planning.{insert_run}
-use Rattle.flush_plan.specs.Stating.{all_placed, edited, edits, is_present, place_of_new, row_at, stated, stated_under, written_rows}
+use Rattle.flush_plan.specs.Stating.{all_placed, with_edit, edits, is_present, place_of_new, row_at, stated_tables, stated_under, written_rows}
 use Rattle.plan_laws.specs.Laws.{AcceptedIsLegal, AcceptedIsStated, AreNamed, IsProjected, before}
 use Rattle.plan_laws.specs.Premises.{IsSorted}
 use Rattle.plan_laws.proofs.Accepted.{Accepts, accepts_legal, accepts_of, accepts_split}
@@ -176,7 +176,7 @@ module _ (schema : Catalog) (old : Tables) (changes : RowChanges) (order gone : 
   -- ---- what is stated
 
   abbrev after : Tables
-  after = fold edited old (edits schema old changes order placed)
+  after = fold with_edit old (edits schema old changes order placed)
 
   facts : Facts schema old changes order placed after
   facts = record {
@@ -205,8 +205,8 @@ module _ (schema : Catalog) (old : Tables) (changes : RowChanges) (order gone : 
   unfolding all_placed
   keys = puts_leads schema changes (before old) placed order was.puts
 
-  states : stated schema old changes order ≡ Some after
-  unfolding stated
+  states : stated_tables schema old changes order ≡ Some after
+  unfolding stated_tables
   states =
       ap (stated_under schema old changes order) keys
       ∙ (λ i. cond (facts.tables i && facts.rows i && (not (facts.free i) && not (facts.gone i) && not (facts.twice i))) (Some after) None)
@@ -238,7 +238,7 @@ module _ (schema : Catalog) (old : Tables) (changes : RowChanges) (order gone : 
         ];
   }
 
-  pub leaves_stated : stated schema old changes order ≡ Some end.tables
+  pub leaves_stated : stated_tables schema old changes order ≡ Some end.tables
   leaves_stated =
       let middle : Middle schema changes old after placed.keys [] was.middle =
       updates_end schema changes old after placed.keys (all_steps schema changes order) placed was.middle (steps_ok schema old changes order placed after told)

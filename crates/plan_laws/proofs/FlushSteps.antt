@@ -10,8 +10,8 @@ use Rattle.schema_core.specs.Catalog.{Catalog}
 use Rattle.schema_core.specs.Tables.{Rows, Tables, is_created, rows_in}
 use Rattle.table_laws.proofs.Entries.{all_map}
 use Rattle.flush_order.specs.Sorted.{Place}
-use Rattle.flush_plan.specs.Flushing.{Keys, Sofar, put}
-use Rattle.flush_plan.specs.Stating.{edited, is_present, put_cells, row_at}
+use Rattle.flush_plan.specs.Flushing.{Keys, Sofar, value_of_cell}
+use Rattle.flush_plan.specs.Stating.{with_edit, is_present, put_cells, row_at}
 use Rattle.plan_laws.specs.Premises.{IsSorted}
 use Rattle.plan_laws.proofs.Accepted.{Accepts, sent_of}
 use Rattle.plan_laws.proofs.At.{at_other, edited_created, edited_sorted, place_cases}
@@ -26,18 +26,18 @@ record Read (sofar : Sofar) (step : Step) (next : Sofar) : Type 0 where
   table : rows_in sofar.tables step.1.0 ≡ Some rows
   row : List Value
   at : row_at sofar.tables (step_place sofar.keys step) ≡ Some row
-  is : next ≡ record { tables = edited sofar.tables (step_place sofar.keys step, Some (with_cells row (put_cells (put sofar.keys) step.1.2))); keys = sofar.keys }
+  is : next ≡ record { tables = with_edit sofar.tables (step_place sofar.keys step, Some (with_cells row (put_cells (value_of_cell sofar.keys) step.1.2))); keys = sofar.keys }
 
 module _ (schema : Catalog) (changes : RowChanges) where
   read : (sofar end : Sofar) (step : Step) (steps : List Step) → (a : Accepts schema changes sofar (map planned_of (step ∷ steps)) end) → Read sofar step a.0
   read sofar end step steps a =
       let one = sent_of schema changes sofar a.0 (planned_of step) a.1 in
-      let u = update_read schema sofar.tables step.1.0 (map (put sofar.keys) step.1.1) (put_cells (put sofar.keys) step.1.2) one.answer one.done in
+      let u = update_read schema sofar.tables step.1.0 (map (value_of_cell sofar.keys) step.1.1) (put_cells (value_of_cell sofar.keys) step.1.2) one.answer one.done in
       record {
         rows = u.rows;
         table = u.table_rows;
         row = u.row;
-        at = at_found sofar.tables step.1.0 (map (put sofar.keys) step.1.1) u.row u.rows u.table_rows u.under;
+        at = at_found sofar.tables step.1.0 (map (value_of_cell sofar.keys) step.1.1) u.row u.rows u.table_rows u.under;
         is = one.is ∙ ap (λ t. record { tables = t; keys = sofar.keys }) u.is;
       }
 
@@ -48,7 +48,7 @@ module _ (schema : Catalog) (changes : RowChanges) where
   sorted_then : (sofar end : Sofar) (step : Step) (steps : List Step) → (a : Accepts schema changes sofar (map planned_of (step ∷ steps)) end) → IsSorted sofar.tables → IsSorted a.0.tables
   sorted_then sofar end step steps a sorted =
       let r = read sofar end step steps a in
-      subst (λ s. IsSorted s.tables) (sym r.is) (edited_sorted sofar.tables (step_place sofar.keys step, Some (with_cells r.row (put_cells (put sofar.keys) step.1.2))) sorted)
+      subst (λ s. IsSorted s.tables) (sym r.is) (edited_sorted sofar.tables (step_place sofar.keys step, Some (with_cells r.row (put_cells (value_of_cell sofar.keys) step.1.2))) sorted)
 
   pub updates_sorted : (steps : List Step) (sofar end : Sofar) → IsSorted sofar.tables → Accepts schema changes sofar (map planned_of steps) end → IsSorted end.tables
   updates_sorted [] sofar end sorted a = subst (λ s. IsSorted s.tables) a sorted
@@ -59,7 +59,7 @@ module _ (schema : Catalog) (changes : RowChanges) where
   updates_created (step ∷ steps) sofar end table a =
       let r = read sofar end step steps a in
       updates_created steps a.0 end table a.2 ∙ ap (λ s. is_created s.tables table) r.is
-      ∙ edited_created sofar.tables (step_place sofar.keys step, Some (with_cells r.row (put_cells (put sofar.keys) step.1.2))) table
+      ∙ edited_created sofar.tables (step_place sofar.keys step, Some (with_cells r.row (put_cells (value_of_cell sofar.keys) step.1.2))) table
 
   -- an UPDATE writes a row that is there, and brings no other
   was_there : (sofar end : Sofar) (step : Step) (steps : List Step) (q : Place) → (a : Accepts schema changes sofar (map planned_of (step ∷ steps)) end) → IsSorted sofar.tables → is_present a.0.tables q ≡ true → is_present sofar.tables q ≡ true
@@ -68,7 +68,7 @@ module _ (schema : Catalog) (changes : RowChanges) where
       elim (place_cases (step_place sofar.keys step) q) [
         | inl same ↦ ap (is_present sofar.tables) (sym same) ∙ ap is_some r.at
         | inr apart ↦
-            ap is_some (sym (ap (λ s. row_at s.tables q) r.is ∙ at_other sofar.tables (step_place sofar.keys step, Some (with_cells r.row (put_cells (put sofar.keys) step.1.2))) q sorted apart)) ∙ there
+            ap is_some (sym (ap (λ s. row_at s.tables q) r.is ∙ at_other sofar.tables (step_place sofar.keys step, Some (with_cells r.row (put_cells (value_of_cell sofar.keys) step.1.2))) q sorted apart)) ∙ there
       ]
 
   -- each row that is written is there
@@ -89,10 +89,10 @@ module _ (schema : Catalog) (changes : RowChanges) where
     updates_end (step ∷ steps) sofar end are middle a =
         let r = read sofar end step steps a in
         let at : row_at sofar.tables (step_place keys step) ≡ Some r.row = ap (λ k. row_at sofar.tables (step_place k step)) (sym middle.known) ∙ r.at in
-        let then : Middle schema changes old stated keys steps (record { tables = edited sofar.tables (step_place keys step, Some (with_cells r.row (put_cells (put keys) step.1.2))); keys = keys }) =
+        let then : Middle schema changes old stated keys steps (record { tables = with_edit sofar.tables (step_place keys step, Some (with_cells r.row (put_cells (value_of_cell keys) step.1.2))); keys = keys }) =
         after_step schema changes old stated keys step steps sofar r.row r.rows middle are.0.1 r.table at in
-        let is : a.0 ≡ record { tables = edited sofar.tables (step_place keys step, Some (with_cells r.row (put_cells (put keys) step.1.2))); keys = keys } =
-        r.is ∙ ap (λ k. record { tables = edited sofar.tables (step_place k step, Some (with_cells r.row (put_cells (put k) step.1.2))); keys = k }) middle.known in
+        let is : a.0 ≡ record { tables = with_edit sofar.tables (step_place keys step, Some (with_cells r.row (put_cells (value_of_cell keys) step.1.2))); keys = keys } =
+        r.is ∙ ap (λ k. record { tables = with_edit sofar.tables (step_place k step, Some (with_cells r.row (put_cells (value_of_cell k) step.1.2))); keys = k }) middle.known in
         updates_end steps a.0 end are.1 (subst (Middle schema changes old stated keys steps) (sym is) then) a.2
 
   -- ---- DELETEs
@@ -100,7 +100,7 @@ module _ (schema : Catalog) (changes : RowChanges) where
   record Gone (sofar : Sofar) (place : Place) (next : Sofar) : Type 0 where
     rows : Rows
     table : rows_in sofar.tables place.0 ≡ Some rows
-    is : next ≡ record { tables = edited sofar.tables (place, None); keys = sofar.keys }
+    is : next ≡ record { tables = with_edit sofar.tables (place, None); keys = sofar.keys }
 
   gone : (sofar end : Sofar) (place : Place) (places : List Place) → IsSorted sofar.tables → (a : Accepts schema changes sofar (map remove_at (place ∷ places)) end) → Gone sofar place a.0
   gone sofar end place places sorted a =

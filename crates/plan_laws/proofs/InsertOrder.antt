@@ -18,13 +18,13 @@ use Rattle.base_core.proofs.Lists.{get_beyond}
 use Rattle.base_core.proofs.Tests.{or_then}
 use Rattle.table_laws.proofs.Entries.{all_map, any_none, none_any}
 use Rattle.flush_order.proofs.ReadyLemmas.{cleared_none, parts_none}
-use Rattle.flush_order.specs.Cells.{cleared, first_cells, is_late, key_parts, known_row, late_name, new_at, no_row, table_at}
+use Rattle.flush_order.specs.Cells.{cells_cleared, first_cells, is_late, key_parts, known_row, late_name, new_at, no_row, table_at}
 use Rattle.flush_order.specs.Places.{IsOrder, is_among, next_place}
 use Rattle.flush_order.specs.Refers.{comes_from, names, new_refers, refers_to}
 use Rattle.flush_order.specs.Sorted.{Place}
-use Rattle.flush_plan.specs.Flushing.{Keys, Sofar, key_of_new, put}
+use Rattle.flush_plan.specs.Flushing.{Keys, Sofar, key_of_new, value_of_cell}
 use Rattle.schema_core.specs.Apply.{with_cells, with_own_key}
-use Rattle.flush_plan.specs.Stating.{given, guess, guesses, is_open, old_row, place_of_new, put_cells, row_at, written_rows}
+use Rattle.flush_plan.specs.Stating.{given_value, guess, guesses, is_open, old_row, place_of_new, put_cells, row_at, written_rows}
 use Rattle.plan_laws.specs.Laws.{AreLoose, IsOneKind, before, cell_named, cells_named}
 use Rattle.plan_laws.proofs.Between.{early_part}
 use Rattle.plan_laws.proofs.Blend.{Long, blend_late, nulls, nulls_are_long, nulls_null, same_names, test}
@@ -70,7 +70,7 @@ out_before (x ∷ ahead) rest q apart among =
 
 -- ---- cells
 
-long_cells : (cs : List ColumnSpec) (cells : List RowCell) → Long cs (map given cells) → LongCells cs cells
+long_cells : (cs : List ColumnSpec) (cells : List RowCell) → Long cs (map given_value cells) → LongCells cs cells
 long_cells [] [] l = tt
 long_cells [] (cell ∷ cells) l = absurd l
 long_cells (c ∷ cs) [] l = absurd l
@@ -96,7 +96,7 @@ both_given : (b : Bool) → Given Null ≡ cond b (Given Null) (Given Null)
 both_given true = refl
 both_given false = refl
 
-named_cleared : (late : List ℕ → Bool) (cs : List ColumnSpec) (cells : List RowCell) (name : List ℕ) → cell_named cs (cleared (test late) (Given Null) cs cells) name ≡ cond (late name) (Given Null) (cell_named cs cells name)
+named_cleared : (late : List ℕ → Bool) (cs : List ColumnSpec) (cells : List RowCell) (name : List ℕ) → cell_named cs (cells_cleared (test late) (Given Null) cs cells) name ≡ cond (late name) (Given Null) (cell_named cs cells name)
 named_cleared late [] cells name = both_given (late name)
 named_cleared late (c ∷ cs) [] name = both_given (late name)
 named_cleared late (c ∷ cs) (cell ∷ cells) name =
@@ -104,20 +104,20 @@ named_cleared late (c ∷ cs) (cell ∷ cells) name =
     ∙ named_step (same_name c.name name) late c name cell (cell_named cs cells name) refl
 
 -- where none of the columns is late nothing is cleared
-early_named : (late : List ℕ → Bool) (cs : List ColumnSpec) (cells : List RowCell) (names : List (List ℕ)) → list_any late names ≡ false → map (cell_named cs (cleared (test late) (Given Null) cs cells)) names ≡ map (cell_named cs cells) names
+early_named : (late : List ℕ → Bool) (cs : List ColumnSpec) (cells : List RowCell) (names : List (List ℕ)) → list_any late names ≡ false → map (cell_named cs (cells_cleared (test late) (Given Null) cs cells)) names ≡ map (cell_named cs cells) names
 early_named late cs cells [] e = refl
 early_named late cs cells (name ∷ names) e =
     let both = or_false (late name) (list_any late names) e in
     λ i. (named_cleared late cs cells name ∙ ap (λ b. cond b (Given Null) (cell_named cs cells name)) both.0) i ∷ early_named late cs cells names both.1 i
 
 -- cells that come from rows whose keys are known already
-kept_cells : (one other : Keys) (cells : List RowCell) → ((q : ℕ) → (key_of_new one q ≡ key_of_new other q) ⊎ (list_any (comes_from q) cells ≡ false)) → map (put one) cells ≡ map (put other) cells
+kept_cells : (one other : Keys) (cells : List RowCell) → ((q : ℕ) → (key_of_new one q ≡ key_of_new other q) ⊎ (list_any (comes_from q) cells ≡ false)) → map (value_of_cell one) cells ≡ map (value_of_cell other) cells
 kept_cells one other [] kept = refl
 kept_cells one other (Given value ∷ cells) kept = ap (λ vs. value ∷ vs) (kept_cells one other cells kept)
 kept_cells one other (KeyOf place part ∷ cells) kept =
     λ i. here i ∷ kept_cells one other cells (λ q. later q (kept q)) i
   where
-    here : put one (KeyOf place part) ≡ put other (KeyOf place part)
+    here : value_of_cell one (KeyOf place part) ≡ value_of_cell other (KeyOf place part)
     here = elim (kept place) [
       | inl same ↦ ap (λ key. slice_index_or key part Null) same
       | inr none ↦ absurd (true_false (sym (ap (λ b. b || list_any (comes_from place) cells) (eq-eqb place place refl)) ∙ none))
@@ -182,7 +182,7 @@ module _ (schema : Catalog) (old : Tables) (changes : RowChanges) (order : List 
       (refers_not ahead rest place other split among)).1
 
   -- the row that was placed, in terms of the keys as they are at the end
-  pub last_draws : (place : ℕ) (found : Placed schema changes order placed place) → with_own_key (spec_of schema (table_at changes place)) found.step.rows (map (put placed.keys) (first_cells schema changes place)) ≡ Some found.step.row
+  pub last_draws : (place : ℕ) (found : Placed schema changes order placed place) → with_own_key (spec_of schema (table_at changes place)) found.step.rows (map (value_of_cell placed.keys) (first_cells schema changes place)) ≡ Some found.step.row
   last_draws place found =
       ap (with_own_key (spec_of schema (table_at changes place)) found.step.rows)
       (kept_cells placed.keys found.sofar.keys (first_cells schema changes place)
@@ -213,7 +213,7 @@ module _ (schema : Catalog) (old : Tables) (changes : RowChanges) (order : List 
             ] in
             let row : new_at changes place ≡ no_row = get_beyond changes.fresh place no_row past in
             let parts : key_parts (columns_at place) (first_cells schema changes place) ≡ [] =
-            ap (λ (r : NewRow). key_parts (spec_of schema r.name.table).columns (cleared (is_late schema changes r.name.table) (Given Null) (spec_of schema r.name.table).columns r.cells)) row
+            ap (λ (r : NewRow). key_parts (spec_of schema r.name.table).columns (cells_cleared (is_late schema changes r.name.table) (Given Null) (spec_of schema r.name.table).columns r.cells)) row
             ∙ ap (key_parts (spec_of schema no_row.name.table).columns) (cleared_none (is_late schema changes no_row.name.table) (Given Null) (spec_of schema no_row.name.table).columns)
             ∙ parts_none (spec_of schema no_row.name.table).columns in
             let key : key_of_new placed.keys place ≡ [] = keys_kept schema changes order (before old) placed place (leads schema old changes order placed after told) out in
@@ -230,11 +230,11 @@ module _ (schema : Catalog) (old : Tables) (changes : RowChanges) (order : List 
   -- what is known of each foreign key of a new row
   abbrev Known : ℕ → ℕ → List Value → ForeignSpec → Type 0
   Known place other row foreign =
-      (cells_of (spec_of schema (table_at changes place)) row foreign.columns ≡ map (put placed.keys) (map (cell_named (columns_at place) (first_cells schema changes place)) foreign.columns))
+      (cells_of (spec_of schema (table_at changes place)) row foreign.columns ≡ map (value_of_cell placed.keys) (map (cell_named (columns_at place) (first_cells schema changes place)) foreign.columns))
       × ((IsOneKind schema changes foreign (cells_named schema (table_at changes place) (raw place) foreign.columns))
       × (((list_all (late_at place) foreign.columns ≡ true) ⊎ (list_any (late_at place) foreign.columns ≡ false))
       × ((names schema (known_row schema changes place) (table_at changes place) (table_at changes other) (key_of (spec_of schema (table_at changes other)) (known_row schema changes other)) foreign ≡ false)
-      × (list_any (λ p. is_open schema changes p && names schema (map given (raw place)) (table_at changes place) (table_at changes p) (key_of_new placed.keys p) foreign) order ≡ false))))
+      × (list_any (λ p. is_open schema changes p && names schema (map given_value (raw place)) (table_at changes place) (table_at changes p) (key_of_new placed.keys p) foreign) order ≡ false))))
 
   its_place : ℕ → Place
   its_place = place_of_new changes placed.keys
@@ -254,12 +254,12 @@ module _ (schema : Catalog) (old : Tables) (changes : RowChanges) (order : List 
   by_kind ahead rest place other row written foreign split left is long (cells, (kind, (inr early, (value, guessed)))) target none same =
       let among : is_among order other ≡ true = among_split ahead (place ∷ rest) other split left in
       let named : cells_named schema (table_at changes place) (first_cells schema changes place) foreign.columns ≡ cells_named schema (table_at changes place) (raw place) foreign.columns = early_named (late_at place) (columns_at place) (raw place) foreign.columns early in
-      names_not schema changes placed.keys all_drawn place other row (map given (raw place)) foreign
+      names_not schema changes placed.keys all_drawn place other row (map given_value (raw place)) foreign
       (record {
         cells = cells;
         kind = subst (IsOneKind schema changes foreign) (sym named) kind;
-        guess_cells = all_named given refl (columns_at place) (raw place) foreign.columns ∙ ap (map given) (sym named);
-        no_guess = any_among (λ p. is_open schema changes p && names schema (map given (raw place)) (table_at changes place) (table_at changes p) (key_of_new placed.keys p) foreign) order other guessed among;
+        guess_cells = all_named given_value refl (columns_at place) (raw place) foreign.columns ∙ ap (map given_value) (sym named);
+        no_guess = any_among (λ p. is_open schema changes p && names schema (map given_value (raw place)) (table_at changes place) (table_at changes p) (key_of_new placed.keys p) foreign) order other guessed among;
         no_value = value;
         no_part = part_not ahead rest place other split left;
         some_key = some_key other among;
@@ -270,12 +270,12 @@ module _ (schema : Catalog) (old : Tables) (changes : RowChanges) (order : List 
       (ap (λ r. cells_of (spec_of schema (table_at changes place)) r foreign.columns) is ∙ same)
 
   module _ (no_guess : guess schema old changes order placed.keys ≡ false) where
-    no_guesses : (place : ℕ) → is_among order place ≡ true → guesses schema changes order placed.keys (table_at changes place) (map given (raw place)) ≡ false
+    no_guesses : (place : ℕ) → is_among order place ≡ true → guesses schema changes order placed.keys (table_at changes place) (map given_value (raw place)) ≡ false
     unfolding guess
     no_guesses place among =
-        any_among (λ p. guesses schema changes order placed.keys (table_at changes p) (map given (raw p))) order place
-        (or_false (list_any (λ p. guesses schema changes order placed.keys (table_at changes p) (map given (raw p))) order)
-        (list_any (λ row. guesses schema changes order placed.keys row.name.table (with_cells (old_row old row) (put_cells given row.cells))) (written_rows changes))
+        any_among (λ p. guesses schema changes order placed.keys (table_at changes p) (map given_value (raw p))) order place
+        (or_false (list_any (λ p. guesses schema changes order placed.keys (table_at changes p) (map given_value (raw p))) order)
+        (list_any (λ row. guesses schema changes order placed.keys row.name.table (with_cells (old_row old row) (put_cells given_value row.cells))) (written_rows changes))
         no_guess).0
         among
 
@@ -292,28 +292,28 @@ module _ (schema : Catalog) (old : Tables) (changes : RowChanges) (order : List 
         (told_long schema old changes order placed after told (place_of_new changes placed.keys place) written (inr at)) known)
         foreigns
         (all_zip
-        (λ foreign. cells_of (spec_of schema (table_at changes place)) found.step.row foreign.columns ≡ map (put placed.keys) (map (cell_named (columns_at place) (first_cells schema changes place)) foreign.columns))
+        (λ foreign. cells_of (spec_of schema (table_at changes place)) found.step.row foreign.columns ≡ map (value_of_cell placed.keys) (map (cell_named (columns_at place) (first_cells schema changes place)) foreign.columns))
         (λ foreign. (IsOneKind schema changes foreign (cells_named schema (table_at changes place) (raw place) foreign.columns))
         × (((list_all (late_at place) foreign.columns ≡ true) ⊎ (list_any (late_at place) foreign.columns ≡ false))
         × ((names schema (known_row schema changes place) (table_at changes place) (table_at changes other) (key_of (spec_of schema (table_at changes other)) (known_row schema changes other)) foreign ≡ false)
-        × (list_any (λ p. is_open schema changes p && names schema (map given (raw place)) (table_at changes place) (table_at changes p) (key_of_new placed.keys p) foreign) order ≡ false))))
+        × (list_any (λ p. is_open schema changes p && names schema (map given_value (raw place)) (table_at changes place) (table_at changes p) (key_of_new placed.keys p) foreign) order ≡ false))))
         foreigns
         (foreign_drawn (spec_of schema (table_at changes place)) found.step.rows placed.keys (first_cells schema changes place) found.step.row foreigns (λ c free. free) (last_draws place found))
         (all_zip (λ foreign. IsOneKind schema changes foreign (cells_named schema (table_at changes place) (raw place) foreign.columns))
         (λ foreign. ((list_all (late_at place) foreign.columns ≡ true) ⊎ (list_any (late_at place) foreign.columns ≡ false))
         × ((names schema (known_row schema changes place) (table_at changes place) (table_at changes other) (key_of (spec_of schema (table_at changes other)) (known_row schema changes other)) foreign ≡ false)
-        × (list_any (λ p. is_open schema changes p && names schema (map given (raw place)) (table_at changes place) (table_at changes p) (key_of_new placed.keys p) foreign) order ≡ false)))
+        × (list_any (λ p. is_open schema changes p && names schema (map given_value (raw place)) (table_at changes place) (table_at changes p) (key_of_new placed.keys p) foreign) order ≡ false)))
         foreigns
         (all_at (λ (row : NewRow). AllByRecursion (λ foreign. IsOneKind schema changes foreign (cells_named schema row.name.table row.cells foreign.columns)) (spec_of schema row.name.table).foreigns) changes.fresh place no_row told.projected.new_foreigns (within schema old changes order placed after told place here))
         (all_zip (λ foreign. (list_all (late_at place) foreign.columns ≡ true) ⊎ (list_any (late_at place) foreign.columns ≡ false))
         (λ foreign. (names schema (known_row schema changes place) (table_at changes place) (table_at changes other) (key_of (spec_of schema (table_at changes other)) (known_row schema changes other)) foreign ≡ false)
-        × (list_any (λ p. is_open schema changes p && names schema (map given (raw place)) (table_at changes place) (table_at changes p) (key_of_new placed.keys p) foreign) order ≡ false))
+        × (list_any (λ p. is_open schema changes p && names schema (map given_value (raw place)) (table_at changes place) (table_at changes p) (key_of_new placed.keys p) foreign) order ≡ false))
         foreigns (told.projected.fit.foreigns (table_at changes place))
         (all_zip (λ foreign. names schema (known_row schema changes place) (table_at changes place) (table_at changes other) (key_of (spec_of schema (table_at changes other)) (known_row schema changes other)) foreign ≡ false)
-        (λ foreign. list_any (λ p. is_open schema changes p && names schema (map given (raw place)) (table_at changes place) (table_at changes p) (key_of_new placed.keys p) foreign) order ≡ false)
+        (λ foreign. list_any (λ p. is_open schema changes p && names schema (map given_value (raw place)) (table_at changes place) (table_at changes p) (key_of_new placed.keys p) foreign) order ≡ false)
         foreigns
         (any_none (names schema (known_row schema changes place) (table_at changes place) (table_at changes other) (key_of (spec_of schema (table_at changes other)) (known_row schema changes other))) foreigns (value_not ahead rest place other split left))
-        (any_none (λ foreign. list_any (λ p. is_open schema changes p && names schema (map given (raw place)) (table_at changes place) (table_at changes p) (key_of_new placed.keys p) foreign) order) foreigns (no_guesses place here))))))
+        (any_none (λ foreign. list_any (λ p. is_open schema changes p && names schema (map given_value (raw place)) (table_at changes place) (table_at changes p) (key_of_new placed.keys p) foreign) order) foreigns (no_guesses place here))))))
 
     in_order : (ahead rest : List ℕ) → order ≡ ahead ++ rest → InOrder schema changes old after placed rest
     in_order ahead [] split = tt

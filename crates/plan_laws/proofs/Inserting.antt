@@ -17,8 +17,8 @@ use Rattle.table_laws.proofs.Entries.{all_both, all_map}
 use Rattle.flush_order.specs.Cells.{first_cells, late_name, table_at}
 use Rattle.flush_order.specs.Places.{is_among}
 use Rattle.flush_order.specs.Sorted.{Place}
-use Rattle.flush_plan.specs.Flushing.{Keys, Sofar, accepted, is_stale, key_of_new, put, send}
-use Rattle.flush_plan.specs.Stating.{edited, is_present, place_of_new, row_at}
+use Rattle.flush_plan.specs.Flushing.{Keys, Sofar, after_outcome, is_stale, key_of_new, value_of_cell, send}
+use Rattle.flush_plan.specs.Stating.{with_edit, is_present, place_of_new, row_at}
 use Rattle.plan_laws.specs.Premises.{Ends, IsSorted}
 use Rattle.plan_laws.specs.Laws.{insert_of}
 use Rattle.plan_laws.proofs.Accept.{insert_accepted}
@@ -48,7 +48,7 @@ module _ (schema : Catalog) (changes : RowChanges) (old stated : Tables) (placed
     pub apart : (place other : ℕ) → is_among order place ≡ true → is_among order other ≡ true → new_place place ≡ new_place other → place ≡ other
     pub fresh : (place : ℕ) → is_among order place ≡ true → is_stale schema changes (table_at changes place) (key_of_new placed.keys place) ≡ false
     pub stands : (place : ℕ) (row : List Value) → is_among order place ≡ true → row_at placed.tables (new_place place) ≡ Some row → (written : List Value) × (row_at stated (new_place place) ≡ Some written) × (row ≡ First (new_place place) written)
-    pub whole : (place : ℕ) (sofar next : Sofar) (step : Step schema changes sofar place next) → is_legal_row (spec_of schema (table_at changes place)) step.row ≡ true → lacks_value (is_demanded (spec_of schema (table_at changes place))) (spec_of schema (table_at changes place)).columns (map (put sofar.keys) (first_cells schema changes place)) ≡ false
+    pub whole : (place : ℕ) (sofar next : Sofar) (step : Step schema changes sofar place next) → is_legal_row (spec_of schema (table_at changes place)) step.row ≡ true → lacks_value (is_demanded (spec_of schema (table_at changes place))) (spec_of schema (table_at changes place)).columns (map (value_of_cell sofar.keys) (first_cells schema changes place)) ≡ false
     pub cover : (place : Place) → is_present stated place ≡ true → (is_present old place ≡ true) ⊎ ((other : ℕ) × (is_among order other ≡ true) × (new_place other ≡ place))
 
   -- each row left names none that is left after it, nor itself
@@ -97,10 +97,10 @@ module _ (schema : Catalog) (changes : RowChanges) (old stated : Tables) (placed
         ]
 
     -- what is there stays
-    still : (tables : Tables) (at : Place) (row : List Value) (rows : Rows) (place : Place) → IsSorted tables → rows_in tables at.0 ≡ Some rows → is_present tables place ≡ true → is_present (edited tables (at, Some row)) place ≡ true
+    still : (tables : Tables) (at : Place) (row : List Value) (rows : Rows) (place : Place) → IsSorted tables → rows_in tables at.0 ≡ Some rows → is_present tables place ≡ true → is_present (with_edit tables (at, Some row)) place ≡ true
     still tables at row rows place sorted e was =
         elim (place_cases at place) [
-          | inl same ↦ ap (λ q. is_present (edited tables (at, Some row)) q) (sym same) ∙ ap is_some (at_edit tables (at, Some row) rows sorted e)
+          | inl same ↦ ap (λ q. is_present (with_edit tables (at, Some row)) q) (sym same) ∙ ap is_some (at_edit tables (at, Some row) rows sorted e)
           | inr apart ↦ ap is_some (at_other tables (at, Some row) place sorted apart) ∙ was
         ]
 
@@ -115,24 +115,24 @@ module _ (schema : Catalog) (changes : RowChanges) (old stated : Tables) (placed
           ]
         ]
 
-    bound_new : (order rest : List ℕ) (news : News order) (place : ℕ) (sofar : Sofar) (rows : Rows) (written : List Value) → is_among order place ≡ true → (foreign : ForeignSpec) → Putting order (place ∷ rest) sofar → rows_in sofar.tables (table_at changes place) ≡ Some rows → row_at stated (new_place place) ≡ Some written → ((other : ℕ) → is_among (place ∷ rest) other ≡ true → NamesNot (new_place other) (new_place place) written foreign) → FromRow schema changes old stated ends (new_place place) (First (new_place place) written) foreign → dangles schema (edited sofar.tables (new_place place, Some (First (new_place place) written))) (spec_of schema (table_at changes place)) (First (new_place place) written) foreign ≡ false
+    bound_new : (order rest : List ℕ) (news : News order) (place : ℕ) (sofar : Sofar) (rows : Rows) (written : List Value) → is_among order place ≡ true → (foreign : ForeignSpec) → Putting order (place ∷ rest) sofar → rows_in sofar.tables (table_at changes place) ≡ Some rows → row_at stated (new_place place) ≡ Some written → ((other : ℕ) → is_among (place ∷ rest) other ≡ true → NamesNot (new_place other) (new_place place) written foreign) → FromRow schema changes old stated ends (new_place place) (First (new_place place) written) foreign → dangles schema (with_edit sofar.tables (new_place place, Some (First (new_place place) written))) (spec_of schema (table_at changes place)) (First (new_place place) written) foreign ≡ false
     bound_new order rest news place sofar rows written among foreign putting table at never (inl s) =
         absurd (none_some s.0 (sym (news.free place among) ∙ s.1))
     bound_new order rest news place sofar rows written among foreign putting table at never (inr (inl s)) =
-        moved schema stated (edited sofar.tables (new_place place, Some (First (new_place place) written))) (spec_of schema (table_at changes place)) (First (new_place place) written) s.0 foreign s.2 s.3
+        moved schema stated (with_edit sofar.tables (new_place place, Some (First (new_place place) written))) (spec_of schema (table_at changes place)) (First (new_place place) written) s.0 foreign s.2 s.3
         (λ t target whole there.
         still sofar.tables (new_place place) (First (new_place place) written) rows (t, cells_of (spec_of schema (table_at changes place)) s.0 foreign.columns) putting.stood.sorted table
         (named_there order rest news place sofar written (t, cells_of (spec_of schema (table_at changes place)) s.0 foreign.columns) putting
         (λ other left is. never other left (target ∙ ap Some (sym (ap (λ q. q.0) is))) (ap has_null s.2 ∙ whole) (s.2 ∙ sym (ap (λ q. q.1) is)))
         there))
-    bound_new order rest news place sofar rows written among foreign putting table at never (inr (inr null)) = null_bound schema (edited sofar.tables (new_place place, Some (First (new_place place) written))) (spec_of schema (table_at changes place)) (First (new_place place) written) foreign null
+    bound_new order rest news place sofar rows written among foreign putting table at never (inr (inr null)) = null_bound schema (with_edit sofar.tables (new_place place, Some (First (new_place place) written))) (spec_of schema (table_at changes place)) (First (new_place place) written) foreign null
 
     abbrev Placed : ℕ → List Value → List Value → Keys → Tables → Sofar
-    Placed place written key keys tables = record { tables = edited tables (new_place place, Some (First (new_place place) written)); keys = (place, key) ∷ keys }
+    Placed place written key keys tables = record { tables = with_edit tables (new_place place, Some (First (new_place place) written)); keys = (place, key) ∷ keys }
 
     module _ (order rest : List ℕ) (news : News order) (place : ℕ) (sofar : Sofar) (rows : Rows) (written : List Value) (among : is_among order place ≡ true) (out : is_among rest place ≡ false) (putting : Putting order (place ∷ rest) sofar) (table : rows_in sofar.tables (table_at changes place) ≡ Some rows) (at : row_at stated (new_place place) ≡ Some written) (inside : (other : ℕ) → is_among rest other ≡ true → is_among order other ≡ true) where
       abbrev then : Tables
-      then = edited sofar.tables (new_place place, Some (First (new_place place) written))
+      then = with_edit sofar.tables (new_place place, Some (First (new_place place) written))
 
       -- it stood before, or it is the new row
       then_cases : (q : Place) (row : List Value) → row_at then q ≡ Some row → ((new_place place ≡ q) × (First (new_place place) written ≡ row)) ⊎ ((new_place place ≡ q → ⊥) × (row_at sofar.tables q ≡ Some row))
@@ -207,7 +207,7 @@ module _ (schema : Catalog) (changes : RowChanges) (old stated : Tables) (placed
         let sorted : IsSorted next.tables = subst (λ s. IsSorted s.tables) (sym step.is) (edited_sorted sofar.tables ((table_at changes place, key), Some step.row) putting.stood.sorted) in
         let here : row_at next.tables (new_place place) ≡ Some step.row =
         ap (λ s. row_at s.tables (new_place place)) step.is
-        ∙ sym (ap (row_at (edited sofar.tables ((table_at changes place, key), Some step.row))) is)
+        ∙ sym (ap (row_at (with_edit sofar.tables ((table_at changes place, key), Some step.row))) is)
         ∙ at_edit sofar.tables ((table_at changes place, key), Some step.row) step.rows putting.stood.sorted step.table in
         let kept : row_at placed.tables (new_place place) ≡ Some step.row =
         rows_kept schema changes rest next placed (new_place place) (distinct_rest schema changes place rest once) sorted leads
@@ -215,20 +215,20 @@ module _ (schema : Catalog) (changes : RowChanges) (old stated : Tables) (placed
         ∙ here in
         let stands = news.stands place step.row among kept in
         let edit : ((table_at changes place, key), Some step.row) ≡ (new_place place, Some (First (new_place place) stands.0)) = λ i. (is i, Some (stands.2 i)) in
-        let then : next ≡ Placed place stands.0 key sofar.keys sofar.tables = step.is ∙ ap (λ e. record { tables = edited sofar.tables e; keys = (place, key) ∷ sofar.keys }) edit in
+        let then : next ≡ Placed place stands.0 key sofar.keys sofar.tables = step.is ∙ ap (λ e. record { tables = with_edit sofar.tables e; keys = (place, key) ∷ sofar.keys }) edit in
         let after : Putting order rest next = subst (Putting order rest) (sym then) (then_putting order rest news place sofar step.rows stands.0 among out putting step.table stands.1 inside ordered key) in
-        let legal : Legal schema (edited sofar.tables ((table_at changes place, key), Some step.row)) = subst (λ s. Legal schema s.tables) step.is after.legal in
+        let legal : Legal schema (with_edit sofar.tables ((table_at changes place, key), Some step.row)) = subst (λ s. Legal schema s.tables) step.is after.legal in
         let free : row_under step.rows key ≡ None =
         sym (ap (option_and_then (λ r. row_under r key)) step.table) ∙ ap (row_at sofar.tables) is ∙ not_there order rest news place sofar among out inside putting in
         let fits : is_legal_row (spec_of schema (table_at changes place)) step.row ≡ true =
         ap (is_legal_row (spec_of schema (table_at changes place))) stands.2
         ∙ good_legal schema changes old stated ends (new_place place) (First (new_place place) stands.0) (good_row order rest news (new_place place) (First (new_place place) stands.0) (inr (place, among, out, refl, (stands.0, stands.1, refl)))) in
-        let answer : apply schema sofar.tables (statement.Insert (table_at changes place) (map (put sofar.keys) (first_cells schema changes place) ∷ [])) ≡ Ok (key ∷ [], edited sofar.tables ((table_at changes place, key), Some step.row)) =
-        insert_accepted schema sofar.tables (table_at changes place) step.rows (map (put sofar.keys) (first_cells schema changes place)) step.row putting.stood.sorted step.table (news.whole place sofar next step fits) step.draws free legal in
+        let answer : apply schema sofar.tables (statement.Insert (table_at changes place) (map (value_of_cell sofar.keys) (first_cells schema changes place) ∷ [])) ≡ Ok (key ∷ [], with_edit sofar.tables ((table_at changes place, key), Some step.row)) =
+        insert_accepted schema sofar.tables (table_at changes place) step.rows (map (value_of_cell sofar.keys) (first_cells schema changes place)) step.row putting.stood.sorted step.table (news.whole place sofar next step fits) step.draws free legal in
         let new : is_stale schema changes (table_at changes place) key ≡ false = ap (λ q. is_stale schema changes (table_at changes place) q.1) is ∙ news.fresh place among in (
-          ◌∙◌ {b = accepted schema changes sofar (insert_of changes place) (Ok (key ∷ [], edited sofar.tables ((table_at changes place, key), Some step.row)))} (ap (accepted schema changes sofar (insert_of changes place)) answer)
-              (◌∙◌ {b = Ok (record { tables = edited sofar.tables ((table_at changes place, key), Some step.row); keys = (place, key) ∷ sofar.keys })}
-              (ap (λ b. cond (b || false) (Err (table_at changes place, Missing)) (Ok (record { tables = edited sofar.tables ((table_at changes place, key), Some step.row); keys = (place, key) ∷ sofar.keys }))) new)
+          ◌∙◌ {b = after_outcome schema changes sofar (insert_of changes place) (Ok (key ∷ [], with_edit sofar.tables ((table_at changes place, key), Some step.row)))} (ap (after_outcome schema changes sofar (insert_of changes place)) answer)
+              (◌∙◌ {b = Ok (record { tables = with_edit sofar.tables ((table_at changes place, key), Some step.row); keys = (place, key) ∷ sofar.keys })}
+              (ap (λ b. cond (b || false) (Err (table_at changes place, Missing)) (Ok (record { tables = with_edit sofar.tables ((table_at changes place, key), Some step.row); keys = (place, key) ∷ sofar.keys }))) new)
               (ap Ok (sym step.is))),
           after,
         )

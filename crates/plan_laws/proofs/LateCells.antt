@@ -7,7 +7,7 @@ use Rattle.base_core.specs.declared.ids.ColumnNo.{ColumnNo}
 use Rattle.base_core.specs.declared.value.Value.{Value}
 use Rattle.schema_core.specs.declared.changes.RowCell.{RowCell}
 use Rattle.schema_core.specs.declared.table.ColumnSpec.{ColumnSpec}
-use Rattle.flush_plan.specs.Planning.{numbered}
+use Rattle.flush_plan.specs.Planning.{cells_from_number}
 use Rattle.flush_plan.specs.Runs.{is_nothing}
 use Rattle.flush_plan.specs.Stating.{blend, put_cells}
 use Rattle.plan_laws.proofs.Blend.{Long, test}
@@ -44,21 +44,21 @@ behind_step true value place cell more n h none = ap (λ b. cond b (Some (value 
 behind_step false value place cell more n h none = none
 
 -- no cell is of a column before the first
-numbered_behind : (value : RowCell → Value) (t : ColumnSpec → Bool) (place : ℕ) (cs : List ColumnSpec) (cells : List RowCell) (n : ℕ) → n < place → cell_at (put_cells value (numbered t place cs cells)) n ≡ None
+numbered_behind : (value : RowCell → Value) (t : ColumnSpec → Bool) (place : ℕ) (cs : List ColumnSpec) (cells : List RowCell) (n : ℕ) → n < place → cell_at (put_cells value (cells_from_number t place cs cells)) n ≡ None
 numbered_behind value t place [] cells n h = refl
 numbered_behind value t place (c ∷ cs) [] n h = refl
 numbered_behind value t place (c ∷ cs) (cell ∷ cells) n h =
-    behind_step (t c && not (is_nothing cell)) value place cell (numbered t (suc place) cs cells) n h (numbered_behind value t (suc place) cs cells n (omega arith))
+    behind_step (t c && not (is_nothing cell)) value place cell (cells_from_number t (suc place) cs cells) n h (numbered_behind value t (suc place) cs cells n (omega arith))
 
 numbered_step : (b : Bool) (value : RowCell → Value) (place : ℕ) (cell : RowCell) (more : List (ColumnNo × RowCell)) → cell_at (put_cells value more) place ≡ None → IsOnce (put_cells value more) → IsOnce (put_cells value (cond b ((record { 0 = place }, cell) ∷ more) more))
 numbered_step true value place cell more none once = (none, once)
 numbered_step false value place cell more none once = once
 
-pub numbered_once : (value : RowCell → Value) (t : ColumnSpec → Bool) (place : ℕ) (cs : List ColumnSpec) (cells : List RowCell) → IsOnce (put_cells value (numbered t place cs cells))
+pub numbered_once : (value : RowCell → Value) (t : ColumnSpec → Bool) (place : ℕ) (cs : List ColumnSpec) (cells : List RowCell) → IsOnce (put_cells value (cells_from_number t place cs cells))
 numbered_once value t place [] cells = tt
 numbered_once value t place (c ∷ cs) [] = tt
 numbered_once value t place (c ∷ cs) (cell ∷ cells) =
-    numbered_step (t c && not (is_nothing cell)) value place cell (numbered t (suc place) cs cells)
+    numbered_step (t c && not (is_nothing cell)) value place cell (cells_from_number t (suc place) cs cells)
     (numbered_behind value t (suc place) cs cells place (omega arith)) (numbered_once value t (suc place) cs cells)
 
 here_step : (b : Bool) (value : RowCell → Value) (place : ℕ) (cell : RowCell) (more : List (ColumnNo × RowCell)) → cell_at (put_cells value more) place ≡ None → cell_at (put_cells value (cond b ((record { 0 = place }, cell) ∷ more) more)) place ≡ cond b (Some (value cell)) None
@@ -86,7 +86,7 @@ value_step true false e v w x a b = b refl refl
 value_step false n e v w x a b = refl
 
 -- the cells other than NULL that are written into the late columns of a row
-pub numbered_written : (value : RowCell → Value) (late : List ℕ → Bool) (place : ℕ) (cs : List ColumnSpec) (cells : List RowCell) (early row last : List Value) → Long cs early → Long cs row → Long cs last → Long cs (map value cells) → Stands value late cs cells row last → written place (blend (test late) cs early row) (put_cells value (numbered (test late) place cs cells)) ≡ blend (test late) cs early last
+pub numbered_written : (value : RowCell → Value) (late : List ℕ → Bool) (place : ℕ) (cs : List ColumnSpec) (cells : List RowCell) (early row last : List Value) → Long cs early → Long cs row → Long cs last → Long cs (map value cells) → Stands value late cs cells row last → written place (blend (test late) cs early row) (put_cells value (cells_from_number (test late) place cs cells)) ≡ blend (test late) cs early last
 numbered_written value late place [] cells early row last e r l m s = refl
 numbered_written value late place (c ∷ cs) cells [] row last e r l m s = absurd e
 numbered_written value late place (c ∷ cs) cells (x ∷ early) [] last e r l m s = absurd r
@@ -94,7 +94,7 @@ numbered_written value late place (c ∷ cs) cells (x ∷ early) (v ∷ row) [] 
 numbered_written value late place (c ∷ cs) [] (x ∷ early) (v ∷ row) (w ∷ last) e r l m s = absurd m
 numbered_written value late place (c ∷ cs) (cell ∷ cells) (x ∷ early) (v ∷ row) (w ∷ last) e r l m s =
     let b : Bool = late c.name && not (is_nothing cell) in
-    let more : List (ColumnNo × RowCell) = numbered (test late) (suc place) cs cells in
+    let more : List (ColumnNo × RowCell) = cells_from_number (test late) (suc place) cs cells in
     let here : unwrap_or (cell_at (put_cells value (cond b ((record { 0 = place }, cell) ∷ more) more)) place) (cond (late c.name) v x) ≡ cond (late c.name) w x =
     ap (λ o. unwrap_or o (cond (late c.name) v x)) (here_step b value place cell more (numbered_behind value (test late) (suc place) cs cells place (omega arith)))
     ∙ value_step (late c.name) (is_nothing cell) x v w (value cell) s.0 s.1 in
@@ -137,7 +137,7 @@ late_changed late cs d row other cells once r o =
     ∙ ap (λ x. blend (test late) cs row x) (sym (with_written other cells once))
 
 -- those of a new or deleted row
-pub late_numbered : (value : RowCell → Value) (late : List ℕ → Bool) (cs : List ColumnSpec) (cells : List RowCell) (early row last : List Value) → Long cs early → Long cs row → Long cs last → Long cs (map value cells) → Stands value late cs cells row last → with_cells (blend (test late) cs early row) (put_cells value (numbered (test late) 0 cs cells)) ≡ blend (test late) cs early last
+pub late_numbered : (value : RowCell → Value) (late : List ℕ → Bool) (cs : List ColumnSpec) (cells : List RowCell) (early row last : List Value) → Long cs early → Long cs row → Long cs last → Long cs (map value cells) → Stands value late cs cells row last → with_cells (blend (test late) cs early row) (put_cells value (cells_from_number (test late) 0 cs cells)) ≡ blend (test late) cs early last
 late_numbered value late cs cells early row last e r l m s =
-    with_written (blend (test late) cs early row) (put_cells value (numbered (test late) 0 cs cells)) (numbered_once value (test late) 0 cs cells)
+    with_written (blend (test late) cs early row) (put_cells value (cells_from_number (test late) 0 cs cells)) (numbered_once value (test late) 0 cs cells)
     ∙ numbered_written value late 0 cs cells early row last e r l m s

@@ -14,7 +14,7 @@ use Rattle.schema_core.specs.Tables.{Tables}
 use Rattle.flush_order.specs.Cells.{is_late, late_name, new_at, table_at}
 use Rattle.flush_order.specs.Places.{is_among}
 use Rattle.flush_order.specs.Sorted.{Place}
-use Rattle.flush_plan.specs.Flushing.{Keys, Sofar, put}
+use Rattle.flush_plan.specs.Flushing.{Keys, Sofar, value_of_cell}
 use Rattle.flush_plan.specs.Runs.{is_nothing}
 use Rattle.flush_plan.specs.Planning.{key_at, late_new, writes_some}
 use Rattle.flush_plan.specs.Stating.{blend, place_of_new, put_cells, row_at}
@@ -31,7 +31,7 @@ use Rattle.plan_laws.proofs.Facts.{bool_cases, none_some, same_some, true_false}
 
 -- ---- late cells
 
-nothing_put : (keys : Keys) (cell : RowCell) → is_nothing cell ≡ true → put keys cell ≡ Null
+nothing_put : (keys : Keys) (cell : RowCell) → is_nothing cell ≡ true → value_of_cell keys cell ≡ Null
 nothing_put keys (Given value) e = null_is value e
 nothing_put keys (KeyOf place part) e = absurd (true_false (sym e))
 
@@ -39,18 +39,18 @@ late_cell : (t : Bool) (v w : Value) → t ≡ true → cond t w v ≡ w
 late_cell true v w e = refl
 late_cell false v w e = absurd (true_false (sym e))
 
-stands_same : (keys : Keys) (late : List ℕ → Bool) (cs : List ColumnSpec) (cells : List RowCell) (row : List Value) → Stands (put keys) late cs cells (blend (test late) cs row (map (put keys) cells)) (blend (test late) cs row (map (put keys) cells))
+stands_same : (keys : Keys) (late : List ℕ → Bool) (cs : List ColumnSpec) (cells : List RowCell) (row : List Value) → Stands (value_of_cell keys) late cs cells (blend (test late) cs row (map (value_of_cell keys) cells)) (blend (test late) cs row (map (value_of_cell keys) cells))
 stands_same keys late [] cells row = tt
 stands_same keys late (c ∷ cs) [] row = tt
 stands_same keys late (c ∷ cs) (cell ∷ cells) [] = tt
-stands_same keys late (c ∷ cs) (cell ∷ cells) (v ∷ row) = ((λ t n. refl), (λ t n. sym (late_cell (late c.name) v (put keys cell) t)), stands_same keys late cs cells row)
+stands_same keys late (c ∷ cs) (cell ∷ cells) (v ∷ row) = ((λ t n. refl), (λ t n. sym (late_cell (late c.name) v (value_of_cell keys cell) t)), stands_same keys late cs cells row)
 
-stands_null : (keys : Keys) (late : List ℕ → Bool) (cs : List ColumnSpec) (cells : List RowCell) (row : List Value) → Stands (put keys) late cs cells (nulls cs) (blend (test late) cs row (map (put keys) cells))
+stands_null : (keys : Keys) (late : List ℕ → Bool) (cs : List ColumnSpec) (cells : List RowCell) (row : List Value) → Stands (value_of_cell keys) late cs cells (nulls cs) (blend (test late) cs row (map (value_of_cell keys) cells))
 stands_null keys late [] cells row = tt
 stands_null keys late (c ∷ cs) [] row = tt
 stands_null keys late (c ∷ cs) (cell ∷ cells) [] = tt
 stands_null keys late (c ∷ cs) (cell ∷ cells) (v ∷ row) =
-    ((λ t n. sym (late_cell (late c.name) v (put keys cell) t ∙ nothing_put keys cell n)), (λ t n. sym (late_cell (late c.name) v (put keys cell) t)), stands_null keys late cs cells row)
+    ((λ t n. sym (late_cell (late c.name) v (value_of_cell keys cell) t ∙ nothing_put keys cell n)), (λ t n. sym (late_cell (late c.name) v (value_of_cell keys cell) t)), stands_null keys late cs cells row)
 
 abbrev pub new_step : Catalog → RowChanges → TableId → ℕ → Step
 new_step schema changes table place = (true, (table, key_at schema changes place, late_new schema changes place))
@@ -63,7 +63,7 @@ module _ (schema : Catalog) (old : Tables) (changes : RowChanges) (order : List 
   cs_at place = (spec_of schema (table_at changes place)).columns
 
   abbrev last_row : ℕ → List Value
-  last_row place = blend (is_late schema changes (table_at changes place)) (cs_at place) (unwrap_or (row_at placed.tables (at place)) []) (map (put placed.keys) (new_at changes place).cells)
+  last_row place = blend (is_late schema changes (table_at changes place)) (cs_at place) (unwrap_or (row_at placed.tables (at place)) []) (map (value_of_cell placed.keys) (new_at changes place).cells)
 
   last_is : (place : ℕ) → is_among order place ≡ true → row_at after (at place) ≡ Some (last_row place)
   last_is place among = stated_new schema old changes order placed after told.sorted (known_facts schema old changes order placed after told) (apart schema old changes order placed after told) place among (new_created schema old changes order placed after told place among)
@@ -74,30 +74,30 @@ module _ (schema : Catalog) (old : Tables) (changes : RowChanges) (order : List 
   pub step_at : (place : ℕ) → step_place placed.keys (new_step schema changes (table_at changes place) place) ≡ at place
   step_at place = λ i. (table_at changes place, put_key schema changes placed.keys (all_drawn schema old changes order placed after told) place i)
 
-  raw_long : (place : ℕ) → is_among order place ≡ true → Long (cs_at place) (map (put placed.keys) (new_at changes place).cells)
+  raw_long : (place : ℕ) → is_among order place ≡ true → Long (cs_at place) (map (value_of_cell placed.keys) (new_at changes place).cells)
   raw_long place among = long_put placed.keys (cs_at place) (new_at changes place).cells (new_long schema old changes order placed after told place among)
 
   last_long : (place : ℕ) → is_among order place ≡ true → Long (cs_at place) (last_row place)
   last_long place among = told_long schema old changes order placed after told (at place) (last_row place) (inr (last_is place among))
 
-  stands_any : (place : ℕ) (late : List Value) → is_among order place ≡ true → After schema changes old after placed.keys (at place) late → Stands (put placed.keys) (late_name schema changes (table_at changes place)) (cs_at place) (new_at changes place).cells late (last_row place) × Long (cs_at place) late
+  stands_any : (place : ℕ) (late : List Value) → is_among order place ≡ true → After schema changes old after placed.keys (at place) late → Stands (value_of_cell placed.keys) (late_name schema changes (table_at changes place)) (cs_at place) (new_at changes place).cells late (last_row place) × Long (cs_at place) late
   stands_any place late among (inl (inl is)) = absurd (none_some late (sym (free place among) ∙ is))
   stands_any place late among (inl (inr is)) =
       let same : last_row place ≡ late = same_some (last_row place) late (sym (last_is place among) ∙ is) in (
-        subst (λ l. Stands (put placed.keys) (late_name schema changes (table_at changes place)) (cs_at place) (new_at changes place).cells l (last_row place)) same
+        subst (λ l. Stands (value_of_cell placed.keys) (late_name schema changes (table_at changes place)) (cs_at place) (new_at changes place).cells l (last_row place)) same
             (stands_same placed.keys (late_name schema changes (table_at changes place)) (cs_at place) (new_at changes place).cells (unwrap_or (row_at placed.tables (at place)) [])),
         subst (Long (cs_at place)) same (last_long place among),
       )
   stands_any place late among (inr none) = (
-    subst (λ l. Stands (put placed.keys) (late_name schema changes (table_at changes place)) (cs_at place) (new_at changes place).cells l (last_row place)) (sym none.0)
+    subst (λ l. Stands (value_of_cell placed.keys) (late_name schema changes (table_at changes place)) (cs_at place) (new_at changes place).cells l (last_row place)) (sym none.0)
         (stands_null placed.keys (late_name schema changes (table_at changes place)) (cs_at place) (new_at changes place).cells (unwrap_or (row_at placed.tables (at place)) [])),
     subst (Long (cs_at place)) (sym none.0) (nulls_are_long (cs_at place)),
   )
 
-  pub writes : (place : ℕ) (early late : List Value) → is_among order place ≡ true → Long (cs_at place) early → After schema changes old after placed.keys (at place) late → with_cells (blend (is_late schema changes (table_at changes place)) (cs_at place) early late) (put_cells (put placed.keys) (late_new schema changes place)) ≡ blend (is_late schema changes (table_at changes place)) (cs_at place) early (last_row place)
+  pub writes : (place : ℕ) (early late : List Value) → is_among order place ≡ true → Long (cs_at place) early → After schema changes old after placed.keys (at place) late → with_cells (blend (is_late schema changes (table_at changes place)) (cs_at place) early late) (put_cells (value_of_cell placed.keys) (late_new schema changes place)) ≡ blend (is_late schema changes (table_at changes place)) (cs_at place) early (last_row place)
   writes place early late among long then =
       let s = stands_any place late among then in
-      late_numbered (put placed.keys) (late_name schema changes (table_at changes place)) (cs_at place) (new_at changes place).cells early late (last_row place) long s.1 (last_long place among) (raw_long place among) s.0
+      late_numbered (value_of_cell placed.keys) (late_name schema changes (table_at changes place)) (cs_at place) (new_at changes place).cells early late (last_row place) long s.1 (last_long place among) (raw_long place among) s.0
 
   pub step_ok : (place : ℕ) → is_among order place ≡ true → IsStep schema changes old after placed.keys (new_step schema changes (table_at changes place) place)
   step_ok place among =
@@ -131,7 +131,7 @@ module _ (schema : Catalog) (old : Tables) (changes : RowChanges) (order : List 
         | inr none ↦ record {
           early = written;
           late = written;
-          is = sym (ap (λ cells. with_cells (early_part schema changes (at place) written) (put_cells (put placed.keys) cells)) (none_written (late_new schema changes place) none))
+          is = sym (ap (λ cells. with_cells (early_part schema changes (at place) written) (put_cells (value_of_cell placed.keys) cells)) (none_written (late_new schema changes place) none))
               ∙ writes place written (nulls (cs_at place)) among long (inr (refl, inl (free place among)))
               ∙ ap (blend (is_late schema changes (table_at changes place)) (cs_at place) written) (same_some (last_row place) written (sym (last_is place among) ∙ stated));
           from = inr stated;

@@ -2,7 +2,7 @@
 use Rattle.std.proofs.Common.{◌≡◌, ℕ, Bool, true, false, cond, List, [], ◌∷◌, ◌++◌, refl, sym, ap, ◌∙◌, subst, append_assoc}
 use Rattle.schema_core.specs.declared.changes.RowChanges.{RowChanges}
 use Rattle.schema_core.specs.Catalog.{Catalog}
-use Rattle.flush_plan.specs.Runs.{cut, ended, joins, runs}
+use Rattle.flush_plan.specs.Runs.{runs_from, nonempty_run, joins, runs}
 use Rattle.plan_laws.specs.AsSets.{AreRuns}
 use Rattle.plan_laws.proofs.Items.{append_none}
 use Rattle.plan_laws.proofs.RunsWhole.{all_rows, runs_whole}
@@ -12,7 +12,7 @@ module _ (schema : Catalog) (changes : RowChanges) where
   join run place = joins schema changes run place
 
   abbrev cuts : List ℕ → List ℕ → List (List ℕ)
-  cuts run places = cut schema changes run places
+  cuts run places = runs_from schema changes run places
 
   -- each row keeps the rules behind those before it
   abbrev Joins : List ℕ → List ℕ → Type 0
@@ -52,7 +52,7 @@ module _ (schema : Catalog) (changes : RowChanges) where
     others : List (List ℕ)
     is : parts ≡ (first ∷ more) ∷ others
 
-  head_by : (first : ℕ) (rest : List ℕ) (place : ℕ) (places : List ℕ) (b : Bool) → Heads first (cuts ((first ∷ rest) ++ place ∷ []) places) → Heads first (cond b (cuts ((first ∷ rest) ++ place ∷ []) places) (ended (first ∷ rest) ++ cuts (place ∷ []) places))
+  head_by : (first : ℕ) (rest : List ℕ) (place : ℕ) (places : List ℕ) (b : Bool) → Heads first (cuts ((first ∷ rest) ++ place ∷ []) places) → Heads first (cond b (cuts ((first ∷ rest) ++ place ∷ []) places) (nonempty_run (first ∷ rest) ++ cuts (place ∷ []) places))
   head_by first rest place places true more = more
   head_by first rest place places false more = record { more = rest; others = cuts (place ∷ []) places; is = refl }
 
@@ -60,11 +60,11 @@ module _ (schema : Catalog) (changes : RowChanges) where
   cut_head [] first rest = record { more = rest; others = []; is = refl }
   cut_head (place ∷ places) first rest = head_by first rest place places (join (first ∷ rest) place) (cut_head places first (rest ++ place ∷ []))
 
-  ended_is : (run : List ℕ) (place : ℕ) (places : List ℕ) → Begun run → join run place ≡ false → IsCut (cuts (place ∷ []) places) → IsCut (ended run ++ cuts (place ∷ []) places)
+  ended_is : (run : List ℕ) (place : ℕ) (places : List ℕ) → Begun run → join run place ≡ false → IsCut (cuts (place ∷ []) places) → IsCut (nonempty_run run ++ cuts (place ∷ []) places)
   ended_is [] place places b e more = more
   ended_is (first ∷ rest) place places b e more = let head = cut_head places place [] in (b, subst (Ends (first ∷ rest)) (sym head.is) e, more)
 
-  cut_by : (run : List ℕ) (place : ℕ) (places : List ℕ) (b : Bool) → join run place ≡ b → Begun run → (Begun (run ++ place ∷ []) → IsCut (cuts (run ++ place ∷ []) places)) → IsCut (cuts (place ∷ []) places) → IsCut (cond b (cuts (run ++ place ∷ []) places) (ended run ++ cuts (place ∷ []) places))
+  cut_by : (run : List ℕ) (place : ℕ) (places : List ℕ) (b : Bool) → join run place ≡ b → Begun run → (Begun (run ++ place ∷ []) → IsCut (cuts (run ++ place ∷ []) places)) → IsCut (cuts (place ∷ []) places) → IsCut (cond b (cuts (run ++ place ∷ []) places) (nonempty_run run ++ cuts (place ∷ []) places))
   cut_by run place places true e b joined apart = joined (begun_on run place b e)
   cut_by run place places false e b joined apart = ended_is run place places b e apart
 
@@ -98,7 +98,7 @@ module _ (schema : Catalog) (changes : RowChanges) where
   take_all : (ahead rest tail : List ℕ) → Joins ahead rest → cuts ahead (rest ++ tail) ≡ cuts (ahead ++ rest) tail
   take_all ahead [] tail j = ap (λ run. cuts run tail) (sym (append_none ahead))
   take_all ahead (place ∷ rest) tail j =
-      ap (λ b. cond b (cuts (ahead ++ place ∷ []) (rest ++ tail)) (ended ahead ++ cuts (place ∷ []) (rest ++ tail))) j.0
+      ap (λ b. cond b (cuts (ahead ++ place ∷ []) (rest ++ tail)) (nonempty_run ahead ++ cuts (place ∷ []) (rest ++ tail))) j.0
       ∙ take_all (ahead ++ place ∷ []) rest tail j.1
       ∙ ap (λ run. cuts run tail) (append_assoc ahead (place ∷ []) rest)
 

@@ -20,7 +20,7 @@ use Rattle.base_core.proofs.Exact.{values_total}
 use Rattle.schema_core.proofs.TableOrder.{tables_total}
 use Rattle.base_core.proofs.Tests.{or_then}
 use Rattle.flush_order.specs.Places.{is_among}
-use Rattle.flush_order.specs.Sorted.{Place, entered, place_cmp, same_place, sorted_numbers}
+use Rattle.flush_order.specs.Sorted.{Place, entries_with_places, place_cmp, same_place, sorted_numbers}
 
 pub place_total : IsTotalOrder place_cmp
 place_total = then_total (on_total (λ (p : Place). p.0) tables_total) (on_total (λ (p : Place). p.1) values_total)
@@ -38,7 +38,7 @@ Entries : Type 0
 Entries = List (Place × ℕ)
 
 -- what holds of each place and number holds of each entry
-entered_all : (P : Place × ℕ → Type 0) (entries : List (Place × ℕ)) (number : ℕ) (places : List Place) (d : Place) → AllByRecursion P entries → ((k : ℕ) → k < length places → P (get_or places k d, number + k)) → AllByRecursion P (entered entries number places)
+entered_all : (P : Place × ℕ → Type 0) (entries : List (Place × ℕ)) (number : ℕ) (places : List Place) (d : Place) → AllByRecursion P entries → ((k : ℕ) → k < length places → P (get_or places k d, number + k)) → AllByRecursion P (entries_with_places entries number places)
 entered_all P entries number [] d all each = all
 entered_all P entries number (p ∷ ps) d all each =
     entered_all P (insert_entry place_cmp entries p number) (suc number) ps d
@@ -51,11 +51,11 @@ entered_all P entries number (p ∷ ps) d all each =
     plus_suc : (n k : ℕ) → n + suc k ≡ suc n + k
     plus_suc n k = omega arith
 
-pub entered_sorted : (entries : List (Place × ℕ)) (number : ℕ) (places : List Place) → T (is_sorted place_cmp entries) → T (is_sorted place_cmp (entered entries number places))
+pub entered_sorted : (entries : List (Place × ℕ)) (number : ℕ) (places : List Place) → T (is_sorted place_cmp entries) → T (is_sorted place_cmp (entries_with_places entries number places))
 entered_sorted entries number [] sorted = sorted
 entered_sorted entries number (p ∷ ps) sorted = entered_sorted (insert_entry place_cmp entries p number) (suc number) ps (sorted_insert place_cmp place_total entries p number sorted)
 
-entered_keeps : (entries : List (Place × ℕ)) (number : ℕ) (places : List Place) (q d : Place) (n : ℕ) → lookup (is_at (place_cmp q)) entries ≡ Some n → ((k : ℕ) → k < length places → q ≡ get_or places k d → ⊥) → lookup (is_at (place_cmp q)) (entered entries number places) ≡ Some n
+entered_keeps : (entries : List (Place × ℕ)) (number : ℕ) (places : List Place) (q d : Place) (n : ℕ) → lookup (is_at (place_cmp q)) entries ≡ Some n → ((k : ℕ) → k < length places → q ≡ get_or places k d → ⊥) → lookup (is_at (place_cmp q)) (entries_with_places entries number places) ≡ Some n
 entered_keeps entries number [] q d n e apart = e
 entered_keeps entries number (p ∷ ps) q d n e apart =
     entered_keeps (insert_entry place_cmp entries p number) (suc number) ps q d n
@@ -71,7 +71,7 @@ AreOther places d = (i j : ℕ) → i < length places → j < length places → 
 abbrev IsLatest : List Place → Place → ℕ → Type 0
 IsLatest places d k = (j : ℕ) → k < j → j < length places → get_or places k d ≡ get_or places j d → ⊥
 
-entered_has : (entries : List (Place × ℕ)) (number : ℕ) (places : List Place) (d : Place) (k : ℕ) → k < length places → IsLatest places d k → lookup (is_at (place_cmp (get_or places k d))) (entered entries number places) ≡ Some (number + k)
+entered_has : (entries : List (Place × ℕ)) (number : ℕ) (places : List Place) (d : Place) (k : ℕ) → k < length places → IsLatest places d k → lookup (is_at (place_cmp (get_or places k d))) (entries_with_places entries number places) ≡ Some (number + k)
 entered_has entries number [] d k h latest = absurd (omega arith)
 entered_has entries number (p ∷ ps) d zero h latest =
     entered_keeps (insert_entry place_cmp entries p number) (suc number) ps p d (number + 0)
@@ -135,19 +135,19 @@ zero_plus k = omega arith
 
 pub latest_have : (places : List Place) (d : Place) (k : ℕ) → k < length places → IsLatest places d k → is_among (sorted_numbers places) k ≡ true
 unfolding sorted_numbers
-latest_have places d k h latest = value_among (get_or places k d) (entered [] 0 places) k (entered_has [] 0 places d k h latest ∙ ap Some (zero_plus k))
+latest_have places d k h latest = value_among (get_or places k d) (entries_with_places [] 0 places) k (entered_has [] 0 places d k h latest ∙ ap Some (zero_plus k))
 
 pub numbers_have : (places : List Place) (d : Place) (k : ℕ) → k < length places → AreOther places d → is_among (sorted_numbers places) k ≡ true
 numbers_have places d k h apart = latest_have places d k h (λ j less more same. let e = apart k j h more same in omega (arith, e, less))
 
 pub numbers_within : (places : List Place) (d : Place) (n : ℕ) → is_among (sorted_numbers places) n ≡ true → n < length places
 unfolding sorted_numbers
-numbers_within places d n among = values_all (λ k. k < length places) (entered [] 0 places) n (entered_all (λ e. e.1 < length places) [] 0 places d tt (λ k h. omega arith)) among
+numbers_within places d n among = values_all (λ k. k < length places) (entries_with_places [] 0 places) n (entered_all (λ e. e.1 < length places) [] 0 places d tt (λ k h. omega arith)) among
 
 pub numbers_distinct : (places : List Place) (d : Place) → IsDistinct eqb (sorted_numbers places)
 unfolding sorted_numbers
 numbers_distinct places d =
-    values_distinct (λ n. get_or places n d) (entered [] 0 places)
+    values_distinct (λ n. get_or places n d) (entries_with_places [] 0 places)
     (entered_all (λ e. e.0 ≡ get_or places e.1 d) [] 0 places d tt (λ k h. ap (λ n. get_or places n d) (sym (zero_plus k))))
     (entered_sorted [] 0 places tt)
 

@@ -13,8 +13,8 @@ use Rattle.table_laws.proofs.Entries.{none_any}
 use Rattle.flush_order.specs.Cells.{first_cells, table_at}
 use Rattle.flush_order.specs.Places.{is_among}
 use Rattle.flush_order.specs.Sorted.{Place}
-use Rattle.flush_plan.specs.Flushing.{Keys, Sofar, key_of_new, put}
-use Rattle.flush_plan.specs.Stating.{edited, place_new, place_of_new, place_on, placed_in, placed_under, row_at}
+use Rattle.flush_plan.specs.Flushing.{Keys, Sofar, key_of_new, value_of_cell}
+use Rattle.flush_plan.specs.Stating.{with_edit, place_new, place_of_new, place_on, placed_in, placed_under, row_at}
 use Rattle.plan_laws.specs.Premises.{IsSorted}
 use Rattle.plan_laws.proofs.At.{at_edit, at_other, edit_is, edited_sorted}
 use Rattle.plan_laws.proofs.Facts.{none_some, or_cases, or_false, true_false}
@@ -29,10 +29,10 @@ module _ (schema : Catalog) (changes : RowChanges) where
     pub rows : Rows
     pub row : List Value
     pub table : rows_in sofar.tables (table_at changes place) ≡ Some rows
-    pub draws : with_own_key (spec_of schema (table_at changes place)) rows (map (put sofar.keys) (first_cells schema changes place)) ≡ Some row
-    pub is : next ≡ record { tables = edited sofar.tables ((table_at changes place, key_of (spec_of schema (table_at changes place)) row), Some row); keys = (place, key_of (spec_of schema (table_at changes place)) row) ∷ sofar.keys }
+    pub draws : with_own_key (spec_of schema (table_at changes place)) rows (map (value_of_cell sofar.keys) (first_cells schema changes place)) ≡ Some row
+    pub is : next ≡ record { tables = with_edit sofar.tables ((table_at changes place, key_of (spec_of schema (table_at changes place)) row), Some row); keys = (place, key_of (spec_of schema (table_at changes place)) row) ∷ sofar.keys }
 
-  step_under : (sofar next : Sofar) (place : ℕ) (rows : Rows) (o : Option (List Value)) → rows_in sofar.tables (table_at changes place) ≡ Some rows → with_own_key (spec_of schema (table_at changes place)) rows (map (put sofar.keys) (first_cells schema changes place)) ≡ o → placed_under (spec_of schema (table_at changes place)) sofar place (table_at changes place) rows o ≡ Some next → Step sofar place next
+  step_under : (sofar next : Sofar) (place : ℕ) (rows : Rows) (o : Option (List Value)) → rows_in sofar.tables (table_at changes place) ≡ Some rows → with_own_key (spec_of schema (table_at changes place)) rows (map (value_of_cell sofar.keys) (first_cells schema changes place)) ≡ o → placed_under (spec_of schema (table_at changes place)) sofar place (table_at changes place) rows o ≡ Some next → Step sofar place next
   step_under sofar next place rows None table draws e = absurd (none_some next e)
   step_under sofar next place rows (Some row) table draws e = record {
     rows = rows;
@@ -45,7 +45,7 @@ module _ (schema : Catalog) (changes : RowChanges) where
 
   step_in : (sofar next : Sofar) (place : ℕ) (o : Option Rows) → rows_in sofar.tables (table_at changes place) ≡ o → placed_in schema changes sofar place o ≡ Some next → Step sofar place next
   step_in sofar next place None table e = absurd (none_some next e)
-  step_in sofar next place (Some rows) table e = step_under sofar next place rows (with_own_key (spec_of schema (table_at changes place)) rows (map (put sofar.keys) (first_cells schema changes place))) table refl e
+  step_in sofar next place (Some rows) table e = step_under sofar next place rows (with_own_key (spec_of schema (table_at changes place)) rows (map (value_of_cell sofar.keys) (first_cells schema changes place))) table refl e
 
   pub step_of : (sofar next : Sofar) (place : ℕ) → place_new schema changes sofar place ≡ Some next → Step sofar place next
   unfolding place_new
@@ -153,7 +153,7 @@ module _ (schema : Catalog) (changes : RowChanges) where
               stands = rows_kept rest step.0 placed (place_of_new changes placed.keys first) (distinct_rest first rest once) (step_sorted sofar step.0 first step.1 sorted) step.2
                   (λ other left is. true_false (sym (subst (λ n. is_among rest n ≡ true) (apart other first (or_then (eqb other first) (is_among rest other) left) (ap (λ b. b || is_among rest first) (eq-eqb first first refl)) is) left) ∙ out))
                   ∙ ap (λ s. row_at s.tables (place_of_new changes placed.keys first)) step.1.is
-                  ∙ sym (ap (row_at (edited sofar.tables ((table_at changes first, key_of (spec_of schema (table_at changes first)) step.1.row), Some step.1.row))) key)
+                  ∙ sym (ap (row_at (with_edit sofar.tables ((table_at changes first, key_of (spec_of schema (table_at changes first)) step.1.row), Some step.1.row))) key)
                   ∙ at_edit sofar.tables ((table_at changes first, key_of (spec_of schema (table_at changes first)) step.1.row), Some step.1.row) step.1.rows sorted step.1.table;
               key = key;
             })

@@ -20,7 +20,7 @@ use Rattle.flush_order.specs.Cells.{first_cells, table_at}
 use Rattle.flush_order.specs.Refers.{comes_from}
 use Rattle.flush_plan.specs.Flushing.{Keys, Sofar, is_stale, row_sent, with_keys}
 use Rattle.flush_plan.specs.Planning.{insert_run}
-use Rattle.flush_plan.specs.Runs.{cut, ended, joins, runs}
+use Rattle.flush_plan.specs.Runs.{runs_from, nonempty_run, joins, runs}
 use Rattle.flush_plan.specs.Stating.{place_new, placed_in, placed_under, row_at}
 use Rattle.plan_laws.specs.Premises.{IsSorted}
 use Rattle.plan_laws.proofs.Accepted.{Accepts, sent_of}
@@ -173,21 +173,21 @@ module _ (schema : Catalog) (changes : RowChanges) where
       let one : Puts sofar (place ∷ places) a.0 = run_put place places sofar a.0 sorted are.0 (a.0, a.1, refl) in
       puts_on sofar a.0 next (place ∷ places) (flat_map (λ run. run) parts) one (parts_put parts a.0 next (puts_sorted sofar a.0 (place ∷ places) one sorted) are.1 a.2)
 
-  ended_rows : (run : List ℕ) → IsRun schema changes run → (more : List (List ℕ)) → AllByRecursion AreRows more → AllByRecursion AreRows (ended run ++ more)
+  ended_rows : (run : List ℕ) → IsRun schema changes run → (more : List (List ℕ)) → AllByRecursion AreRows more → AllByRecursion AreRows (nonempty_run run ++ more)
   ended_rows [] is more are = are
   ended_rows (place ∷ places) is more are = (is, are)
 
-  cut_rows : (places run : List ℕ) → IsRun schema changes run → AllByRecursion AreRows (cut schema changes run places)
+  cut_rows : (places run : List ℕ) → IsRun schema changes run → AllByRecursion AreRows (runs_from schema changes run places)
   cut_rows [] run is = at run is
     where
-      at : (run : List ℕ) → IsRun schema changes run → AllByRecursion AreRows (ended run)
+      at : (run : List ℕ) → IsRun schema changes run → AllByRecursion AreRows (nonempty_run run)
       at [] is = tt
       at (place ∷ places) is = (is, tt)
   cut_rows (place ∷ places) run is = by (joins schema changes run place) refl (λ joined. cut_rows places (run ++ place ∷ []) joined) (cut_rows places (place ∷ []) ((tt, tt), (table_at changes place, (refl, tt))))
     where
-      by : (b : Bool) → joins schema changes run place ≡ b → (IsRun schema changes (run ++ place ∷ []) → AllByRecursion AreRows (cut schema changes (run ++ place ∷ []) places)) → AllByRecursion AreRows (cut schema changes (place ∷ []) places) → AllByRecursion AreRows (cond b (cut schema changes (run ++ place ∷ []) places) (ended run ++ cut schema changes (place ∷ []) places))
+      by : (b : Bool) → joins schema changes run place ≡ b → (IsRun schema changes (run ++ place ∷ []) → AllByRecursion AreRows (runs_from schema changes (run ++ place ∷ []) places)) → AllByRecursion AreRows (runs_from schema changes (place ∷ []) places) → AllByRecursion AreRows (cond b (runs_from schema changes (run ++ place ∷ []) places) (nonempty_run run ++ runs_from schema changes (place ∷ []) places))
       by true e joined apart = joined (joins_run schema changes run place is e)
-      by false e joined apart = ended_rows run is (cut schema changes (place ∷ []) places) apart
+      by false e joined apart = ended_rows run is (runs_from schema changes (place ∷ []) places) apart
 
   -- accepted INSERTs put in the rows of the order
   pub order_put : (order : List ℕ) (sofar next : Sofar) → IsSorted sofar.tables → Accepts schema changes sofar (map (insert_run changes) (runs schema changes order)) next → Puts sofar order next

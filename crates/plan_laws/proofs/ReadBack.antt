@@ -11,7 +11,7 @@ use Rattle.schema_core.specs.Catalog.{Catalog, spec_of}
 use Rattle.schema_core.specs.Judged.{and_then, change_all, lacks_value, remove_all, some_lacks, some_loses_row, some_repeats, some_written_dangles, with_all, write_all}
 use Rattle.schema_core.specs.Tables.{Rows, Tables, row_under, rows_in, with_rows, without_row}
 use Rattle.table_laws.proofs.Legality.{and_ok, guard_ok, keys_ok, no_ok, same_ok}
-use Rattle.flush_plan.specs.Stating.{edited}
+use Rattle.flush_plan.specs.Stating.{with_edit}
 use Rattle.plan_laws.specs.Premises.{IsSorted}
 use Rattle.plan_laws.proofs.At.{edit_is}
 use Rattle.plan_laws.proofs.Deleting.{unchanged}
@@ -66,9 +66,9 @@ pub record Updated (tables : Tables) (table : TableId) (key : List Value) (cells
   pub table_rows : rows_in tables table ≡ Some rows
   pub row : List Value
   pub under : row_under rows key ≡ Some row
-  pub is : left ≡ edited tables ((table, key), Some (with_cells row cells))
+  pub is : left ≡ with_edit tables ((table, key), Some (with_cells row cells))
 
-change_left : (schema : Catalog) (tables left : Tables) (table : TableId) (rows : Rows) (key row : List Value) → rows_in tables table ≡ Some rows → change_all schema tables table rows ((key, row) ∷ []) ≡ Ok left → left ≡ edited tables ((table, key), Some row)
+change_left : (schema : Catalog) (tables left : Tables) (table : TableId) (rows : Rows) (key row : List Value) → rows_in tables table ≡ Some rows → change_all schema tables table rows ((key, row) ∷ []) ≡ Ok left → left ≡ with_edit tables ((table, key), Some row)
 unfolding change_all
 change_left schema tables left table rows key row found e =
     let one = guard_ok (some_lacks (spec_of schema table) ((key, row) ∷ [])) NotNull (write_all schema tables table rows ((key, row) ∷ [])) left e in
@@ -98,9 +98,9 @@ update_read schema tables table key cells answer e = update_in schema tables tab
 pub record Deleted (tables : Tables) (table : TableId) (key : List Value) (left : Tables) : Type 0 where
   pub rows : Rows
   pub table_rows : rows_in tables table ≡ Some rows
-  pub is : left ≡ edited tables ((table, key), None)
+  pub is : left ≡ with_edit tables ((table, key), None)
 
-remove_left : (schema : Catalog) (tables left : Tables) (table : TableId) (rows : Rows) (key : List Value) → rows_in tables table ≡ Some rows → remove_all schema tables table rows (key ∷ []) ≡ Ok left → left ≡ edited tables ((table, key), None)
+remove_left : (schema : Catalog) (tables left : Tables) (table : TableId) (rows : Rows) (key : List Value) → rows_in tables table ≡ Some rows → remove_all schema tables table rows (key ∷ []) ≡ Ok left → left ≡ with_edit tables ((table, key), None)
 unfolding remove_all
 remove_left schema tables left table rows key found e =
     let after : Tables = with_rows tables table (without_row rows key) in

@@ -15,11 +15,11 @@ use Rattle.schema_core.specs.declared.table.ColumnSpec.{ColumnSpec}
 use Rattle.schema_core.specs.declared.table.ForeignSpec.{ForeignSpec}
 use Rattle.schema_core.specs.Catalog.{Catalog, same_name, spec_of, target_of}
 use Rattle.schema_core.specs.Tables.{cell_of, cells_of, has_null, is_null, key_cells, key_of, same_values}
-use Rattle.flush_order.specs.Cells.{first_cells, key_parts, known, known_row, part_at, table_at}
+use Rattle.flush_order.specs.Cells.{first_cells, key_parts, known_value, known_row, part_at, table_at}
 use Rattle.flush_order.specs.Refers.{comes_from, is_table, names}
-use Rattle.flush_plan.specs.Flushing.{Keys, key_of_new, put}
+use Rattle.flush_plan.specs.Flushing.{Keys, key_of_new, value_of_cell}
 use Rattle.flush_plan.specs.Planning.{key_at}
-use Rattle.flush_plan.specs.Stating.{given, is_open}
+use Rattle.flush_plan.specs.Stating.{given_value, is_open}
 use Rattle.plan_laws.specs.Laws.{IsOneKind, cell_named, cells_named, is_given}
 use Rattle.plan_laws.proofs.Facts.{or_false, true_false}
 use Rattle.base_core.proofs.Exact.{values_total}
@@ -65,9 +65,9 @@ abbrev pub Drawn : Keys → List RowCell → List Value → Type 0
 Drawn keys [] [] = Unit {0}
 Drawn keys [] (v ∷ key) = ⊥
 Drawn keys (cell ∷ parts) [] = ⊥
-Drawn keys (cell ∷ parts) (v ∷ key) = ((v ≡ put keys cell) ⊎ (cell ≡ Given Null)) × Drawn keys parts key
+Drawn keys (cell ∷ parts) (v ∷ key) = ((v ≡ value_of_cell keys cell) ⊎ (cell ≡ Given Null)) × Drawn keys parts key
 
-part_of : (keys : Keys) (parts : List RowCell) (key : List Value) (part : ℕ) → Drawn keys parts key → (slice_index_or key part Null ≡ put keys (slice_index_or parts part (Given Null))) ⊎ (slice_index_or parts part (Given Null) ≡ Given Null)
+part_of : (keys : Keys) (parts : List RowCell) (key : List Value) (part : ℕ) → Drawn keys parts key → (slice_index_or key part Null ≡ value_of_cell keys (slice_index_or parts part (Given Null))) ⊎ (slice_index_or parts part (Given Null) ≡ Given Null)
 part_of keys [] [] part d = inr refl
 part_of keys [] (v ∷ key) part d = absurd d
 part_of keys (cell ∷ parts) [] part d = absurd d
@@ -83,7 +83,7 @@ module _ (schema : Catalog) (changes : RowChanges) (keys : Keys) where
   AllDrawn = (place : ℕ) → Drawn keys (key_parts (spec_at place) (first_cells schema changes place)) (key_of_new keys place)
 
   -- what is known of a cell before keys are drawn is what is put there
-  pub known_put : AllDrawn → (steps : ℕ) (cell : RowCell) → (known schema changes steps cell ≡ Null) ⊎ (put keys cell ≡ known schema changes steps cell)
+  pub known_put : AllDrawn → (steps : ℕ) (cell : RowCell) → (known_value schema changes steps cell ≡ Null) ⊎ (value_of_cell keys cell ≡ known_value schema changes steps cell)
   known_put drawn steps (Given value) = inr refl
   known_put drawn zero (KeyOf place part) = inl refl
   known_put drawn (suc steps) (KeyOf place part) =
@@ -92,38 +92,38 @@ module _ (schema : Catalog) (changes : RowChanges) (keys : Keys) where
           | inl none ↦ inl none
           | inr is ↦ inr (same ∙ is)
         ]
-        | inr none ↦ inl (ap (known schema changes steps) none)
+        | inr none ↦ inl (ap (known_value schema changes steps) none)
       ]
 
-  known_parts : AllDrawn → (steps : ℕ) (parts : List RowCell) (key : List Value) → Drawn keys parts key → has_null (map (known schema changes steps) parts) ≡ false → key ≡ map (known schema changes steps) parts
+  known_parts : AllDrawn → (steps : ℕ) (parts : List RowCell) (key : List Value) → Drawn keys parts key → has_null (map (known_value schema changes steps) parts) ≡ false → key ≡ map (known_value schema changes steps) parts
   known_parts drawn steps [] [] d whole = refl
   known_parts drawn steps [] (v ∷ key) d whole = absurd d
   known_parts drawn steps (cell ∷ parts) [] d whole = absurd d
   known_parts drawn steps (cell ∷ parts) (v ∷ key) d whole =
-      let both = or_false (is_null (known schema changes steps cell)) (has_null (map (known schema changes steps) parts)) whole in
-      let here : v ≡ known schema changes steps cell = elim d.0 [
+      let both = or_false (is_null (known_value schema changes steps cell)) (has_null (map (known_value schema changes steps) parts)) whole in
+      let here : v ≡ known_value schema changes steps cell = elim d.0 [
         | inl same ↦ elim (known_put drawn steps cell) [
           | inl none ↦ absurd (true_false (sym (ap is_null none) ∙ both.0))
           | inr is ↦ same ∙ is
         ]
-        | inr none ↦ absurd (true_false (sym (ap (λ c. is_null (known schema changes steps c)) none) ∙ both.0))
+        | inr none ↦ absurd (true_false (sym (ap (λ c. is_null (known_value schema changes steps c)) none) ∙ both.0))
       ] in
       λ i. here i ∷ known_parts drawn steps parts key d.1 both.1 i
 
   -- a key that is wholly known is the key
   pub known_key : AllDrawn → (place : ℕ) → is_open schema changes place ≡ false → key_of (spec_of schema (table_at changes place)) (known_row schema changes place) ≡ key_of_new keys place
   known_key drawn place whole =
-      let is : key_of (spec_of schema (table_at changes place)) (known_row schema changes place) ≡ map (known schema changes (length changes.fresh)) (key_parts (spec_at place) (first_cells schema changes place)) = key_map (known schema changes (length changes.fresh)) (spec_at place) (first_cells schema changes place) in
+      let is : key_of (spec_of schema (table_at changes place)) (known_row schema changes place) ≡ map (known_value schema changes (length changes.fresh)) (key_parts (spec_at place) (first_cells schema changes place)) = key_map (known_value schema changes (length changes.fresh)) (spec_at place) (first_cells schema changes place) in
       is ∙ sym (known_parts drawn (length changes.fresh) (key_parts (spec_at place) (first_cells schema changes place)) (key_of_new keys place) (drawn place) (ap has_null (sym is) ∙ whole))
 
   -- ---- cells that are given are known
 
-  given_known : (steps : ℕ) (cells : List RowCell) → list_all is_given cells ≡ true → map (known schema changes steps) cells ≡ map (put keys) cells
+  given_known : (steps : ℕ) (cells : List RowCell) → list_all is_given cells ≡ true → map (known_value schema changes steps) cells ≡ map (value_of_cell keys) cells
   given_known steps [] all = refl
   given_known steps (Given value ∷ cells) all = λ i. value ∷ given_known steps cells all i
   given_known steps (KeyOf place part ∷ cells) all = absurd (true_false (sym all))
 
-  given_put : (cells : List RowCell) → list_all is_given cells ≡ true → map given cells ≡ map (put keys) cells
+  given_put : (cells : List RowCell) → list_all is_given cells ≡ true → map given_value cells ≡ map (value_of_cell keys) cells
   given_put [] all = refl
   given_put (Given value ∷ cells) all = λ i. value ∷ given_put cells all i
   given_put (KeyOf place part ∷ cells) all = absurd (true_false (sym all))
@@ -175,14 +175,14 @@ module _ (schema : Catalog) (changes : RowChanges) (keys : Keys) where
       plus_one : (a k : ℕ) → (a + 1) + k ≡ a + suc k
       plus_one a k = omega arith
 
-  map_map : (other : ℕ) (is : List ℕ) → map (put keys) (map (KeyOf other) is) ≡ map (λ i. slice_index_or (key_of_new keys other) i Null) is
+  map_map : (other : ℕ) (is : List ℕ) → map (value_of_cell keys) (map (KeyOf other) is) ≡ map (λ i. slice_index_or (key_of_new keys other) i Null) is
   map_map other [] = refl
   map_map other (i ∷ is) = ap (λ rest. slice_index_or (key_of_new keys other) i Null ∷ rest) (map_map other is)
 
   plus_none : (i : ℕ) → 0 + i ≡ i
   plus_none i = omega arith
 
-  pub put_key : AllDrawn → (other : ℕ) → map (put keys) (key_at schema changes other) ≡ key_of_new keys other
+  pub put_key : AllDrawn → (other : ℕ) → map (value_of_cell keys) (key_at schema changes other) ≡ key_of_new keys other
   put_key drawn other =
       map_map other (range_with_len 0 (length (key_parts (spec_at other) (first_cells schema changes other))))
       ∙ read_parts (key_of_new keys other) 0 (key_parts (spec_at other) (first_cells schema changes other)) (key_of_new keys other) (drawn other) (λ i. ap (λ n. slice_index_or (key_of_new keys other) n Null) (plus_none i))
@@ -205,9 +205,9 @@ module _ (schema : Catalog) (changes : RowChanges) (keys : Keys) where
 
   -- what is asked of a foreign key of a new row, that it may name no row that it does not refer to
   pub record IsSafe (place other : ℕ) (row guess : List Value) (foreign : ForeignSpec) : Type 0 where
-    pub cells : cells_of (spec_of schema (table_at changes place)) row foreign.columns ≡ map (put keys) (cells_named schema (table_at changes place) (first_cells schema changes place) foreign.columns)
+    pub cells : cells_of (spec_of schema (table_at changes place)) row foreign.columns ≡ map (value_of_cell keys) (cells_named schema (table_at changes place) (first_cells schema changes place) foreign.columns)
     pub kind : IsOneKind schema changes foreign (cells_named schema (table_at changes place) (first_cells schema changes place) foreign.columns)
-    pub guess_cells : cells_of (spec_of schema (table_at changes place)) guess foreign.columns ≡ map given (cells_named schema (table_at changes place) (first_cells schema changes place) foreign.columns)
+    pub guess_cells : cells_of (spec_of schema (table_at changes place)) guess foreign.columns ≡ map given_value (cells_named schema (table_at changes place) (first_cells schema changes place) foreign.columns)
     pub no_guess : (is_open schema changes other && names schema guess (table_at changes place) (table_at changes other) (key_of_new keys other) foreign) ≡ false
     pub no_value : names schema (known_row schema changes place) (table_at changes place) (table_at changes other) (key_of (spec_of schema (table_at changes other)) (known_row schema changes other)) foreign ≡ false
     pub no_part : list_any (comes_from other) (first_cells schema changes place) ≡ false
@@ -229,14 +229,14 @@ module _ (schema : Catalog) (changes : RowChanges) (keys : Keys) where
           ∙ key_same (key_of_new keys other) (key_of_new keys other) refl) ∙ no)
       by_value all (inr knows) =
           let is : cells_of (spec_of schema (table_at changes place)) (known_row schema changes place) foreign.columns ≡ key_of_new keys other =
-          all_named (known schema changes (length changes.fresh)) refl (spec_at place) (first_cells schema changes place) foreign.columns
+          all_named (known_value schema changes (length changes.fresh)) refl (spec_at place) (first_cells schema changes place) foreign.columns
           ∙ given_known (length changes.fresh) named all ∙ sym safe.cells ∙ same in
           true_false (sym (values_refer place other foreign (key_of_new keys other) target is (ap has_null (sym same) ∙ whole) (sym (known_key drawn other knows))) ∙ safe.no_value)
 
       by_kind : IsOneKind schema changes foreign named → ⊥
       by_kind (inl all) = by_value all (open_or_known (is_open schema changes other))
       by_kind (inr from) =
-          let key : key_of_new keys from.0 ≡ key_of_new keys other = sym (put_key drawn from.0) ∙ sym (ap (map (put keys)) from.3) ∙ sym safe.cells ∙ same in
+          let key : key_of_new keys from.0 ≡ key_of_new keys other = sym (put_key drawn from.0) ∙ sym (ap (map (value_of_cell keys)) from.3) ∙ sym safe.cells ∙ same in
           let is : from.0 ≡ other = safe.one_key from.0 from.1 (same_table (table_at changes from.0) (table_at changes other) (sym from.2 ∙ target)) key in
           let comes : list_any (comes_from other) named ≡ true =
           ap (list_any (comes_from other)) (from.3 ∙ ap (key_at schema changes) is)

@@ -13,8 +13,8 @@ use Rattle.plan_laws.proofs.Drawn.{drawn_under}
 use Rattle.schema_core.specs.Catalog.{has_generated_key, is_required}
 use Rattle.schema_core.specs.Tables.{Rows, has_null, is_legal_row, is_null, key_of}
 use Rattle.table_laws.proofs.RowFits.{and_true}
-use Rattle.flush_order.specs.Cells.{cleared}
-use Rattle.flush_plan.specs.Flushing.{Keys, put}
+use Rattle.flush_order.specs.Cells.{cells_cleared}
+use Rattle.flush_plan.specs.Flushing.{Keys, value_of_cell}
 use Rattle.flush_plan.specs.Stating.{blend}
 use Rattle.plan_laws.proofs.Blend.{Long, legal_lacks_none, nulls, test}
 use Rattle.plan_laws.proofs.Facts.{none_some, or_false, same_some, true_false}
@@ -26,11 +26,11 @@ module _ (late : List ℕ → Bool) where
   NullLate (c ∷ cs) [] = Unit {0}
   NullLate (c ∷ cs) (v ∷ row) = (late c.name ≡ true → v ≡ Null) × NullLate cs row
 
-  put_cleared : (keys : Keys) (t : Bool) (cell : RowCell) → t ≡ true → put keys (cond t (Given Null) cell) ≡ Null
+  put_cleared : (keys : Keys) (t : Bool) (cell : RowCell) → t ≡ true → value_of_cell keys (cond t (Given Null) cell) ≡ Null
   put_cleared keys true cell e = refl
   put_cleared keys false cell e = absurd (true_false (sym e))
 
-  pub null_first : (keys : Keys) (cs : List ColumnSpec) (cells : List RowCell) → NullLate cs (map (put keys) (cleared (test late) (Given Null) cs cells))
+  pub null_first : (keys : Keys) (cs : List ColumnSpec) (cells : List RowCell) → NullLate cs (map (value_of_cell keys) (cells_cleared (test late) (Given Null) cs cells))
   null_first keys [] cells = tt
   null_first keys (c ∷ cs) [] = tt
   null_first keys (c ∷ cs) (cell ∷ cells) = (put_cleared keys (late c.name) cell, null_first keys cs cells)

@@ -25,9 +25,9 @@ use Rattle.table_laws.proofs.OneByOne.{as_one}
 use Rattle.table_laws.proofs.RowFits.{and_true}
 use Rattle.flush_order.specs.Cells.{first_cells, table_at}
 use Rattle.flush_order.specs.Refers.{comes_from, new_refers}
-use Rattle.flush_plan.specs.Flushing.{Keys, Sofar, accepted, is_stale, put, row_sent, send, with_keys}
+use Rattle.flush_plan.specs.Flushing.{Keys, Sofar, after_outcome, is_stale, value_of_cell, row_sent, send, with_keys}
 use Rattle.flush_plan.specs.Planning.{insert_run}
-use Rattle.flush_plan.specs.Runs.{cut, ended, goes_with, joins, leaves_key, runs}
+use Rattle.flush_plan.specs.Runs.{runs_from, nonempty_run, goes_with, joins, leaves_key, runs}
 use Rattle.plan_laws.specs.Laws.{insert_of}
 use Rattle.plan_laws.proofs.Items.{append_none}
 use Rattle.plan_laws.proofs.Prefixes.{Goes, goes_on}
@@ -84,12 +84,12 @@ module _ (schema : Catalog) (changes : RowChanges) where
   fresh_by true e then next f = absurd (err_ok e next f)
   fresh_by false e then next f = (refl, sym (same_ok (TableId × Violation) then next f))
 
-  sent_by : (sofar next : Sofar) (place : ℕ) (o : Outcome) → apply schema sofar.tables (Insert (table_at changes place) (row_sent schema changes sofar.keys place ∷ [])) ≡ o → accepted schema changes sofar (insert_of changes place) o ≡ Ok next → OneSent sofar next place
+  sent_by : (sofar next : Sofar) (place : ℕ) (o : Outcome) → apply schema sofar.tables (Insert (table_at changes place) (row_sent schema changes sofar.keys place ∷ [])) ≡ o → after_outcome schema changes sofar (insert_of changes place) o ≡ Ok next → OneSent sofar next place
   sent_by sofar next place (Err v) e f = absurd (err_ok (table_at changes place, v) next f)
   sent_by sofar next place (Ok answer) e f =
       let k = one_key schema sofar.tables (table_at changes place) (row_sent schema changes sofar.keys place) answer e in
       let is : answer ≡ (k.0 ∷ [], answer.1) = λ i. (k.1 i, answer.1) in
-      let last = fresh_by (is_stale schema changes (table_at changes place) k.0) (table_at changes place, Missing) (record { tables = answer.1; keys = (place, k.0) ∷ sofar.keys }) next (subst (λ a. accepted schema changes sofar (insert_of changes place) (Ok a) ≡ Ok next) is f) in
+      let last = fresh_by (is_stale schema changes (table_at changes place) k.0) (table_at changes place, Missing) (record { tables = answer.1; keys = (place, k.0) ∷ sofar.keys }) next (subst (λ a. after_outcome schema changes sofar (insert_of changes place) (Ok a) ≡ Ok next) is f) in
       record {
         key = k.0;
         tables = answer.1;
@@ -115,14 +115,14 @@ module _ (schema : Catalog) (changes : RowChanges) where
   abbrev pub IsRun : List ℕ → Type 0
   IsRun run = Apart run × ((table : TableId) × AreOf table run)
 
-  cell_kept : (keys : Keys) (place : ℕ) (key : List Value) (cell : RowCell) → comes_from place cell ≡ false → put ((place, key) ∷ keys) cell ≡ put keys cell
+  cell_kept : (keys : Keys) (place : ℕ) (key : List Value) (cell : RowCell) → comes_from place cell ≡ false → value_of_cell ((place, key) ∷ keys) cell ≡ value_of_cell keys cell
   cell_kept keys place key (Given value) e = refl
   cell_kept keys place key (KeyOf other part) e = ap (λ b. put_under (unwrap_or (cond b (Some key) (lookup (nat_eq other) keys)) []) part) e
     where
       put_under : List Value → ℕ → Value
-      put_under known part = put ((0, known) ∷ []) (KeyOf 0 part)
+      put_under known part = value_of_cell ((0, known) ∷ []) (KeyOf 0 part)
 
-  pub row_kept : (keys : Keys) (place : ℕ) (key : List Value) (cells : List RowCell) → list_any (comes_from place) cells ≡ false → map (put ((place, key) ∷ keys)) cells ≡ map (put keys) cells
+  pub row_kept : (keys : Keys) (place : ℕ) (key : List Value) (cells : List RowCell) → list_any (comes_from place) cells ≡ false → map (value_of_cell ((place, key) ∷ keys)) cells ≡ map (value_of_cell keys) cells
   row_kept keys place key [] e = refl
   row_kept keys place key (cell ∷ cells) e =
       let both = or_false (comes_from place cell) (list_any (comes_from place) cells) e in
@@ -167,7 +167,7 @@ module _ (schema : Catalog) (changes : RowChanges) where
       let table : TableId = table_at changes place in
       let of : AreOf table (place ∷ places) = subst (λ t. AreOf t (place ∷ places)) (sym is.1.1.0) is.1.1 in
       let all = ran sofar.keys table (place ∷ places) sofar end of is.0 (all_same sofar.keys (place ∷ places)) goes in
-      ap (accepted schema changes sofar (insert_run changes (place ∷ places)))
+      ap (after_outcome schema changes sofar (insert_run changes (place ∷ places)))
       (as_one schema sofar.tables table (map (row_sent schema changes sofar.keys) (place ∷ places)) all.answer (some_row (row_sent schema changes sofar.keys place) (map (row_sent schema changes sofar.keys) places)) all.done)
       ∙ ap (λ b. cond b (Err (table, Missing)) (Ok (record { tables = all.answer.1; keys = with_keys sofar.keys (place ∷ places) all.answer.0 }))) all.fresh
       ∙ ap Ok (sym all.is)
@@ -188,7 +188,7 @@ module _ (schema : Catalog) (changes : RowChanges) where
       let rest = goes_split goes.1.0 end plan more goes.1.2 in
       (rest.0, (goes.0, (goes.1.0, goes.1.1, rest.1)), rest.2)
 
-  run_goes : (run : List ℕ) (sofar end : Sofar) → IsRun run → Goes schema changes sofar (map (insert_of changes) run) end → Goes schema changes sofar (map (insert_run changes) (ended run)) end
+  run_goes : (run : List ℕ) (sofar end : Sofar) → IsRun run → Goes schema changes sofar (map (insert_of changes) run) end → Goes schema changes sofar (map (insert_run changes) (nonempty_run run)) end
   run_goes [] sofar end is goes = goes
   run_goes (place ∷ places) sofar end is goes = (goes.0, (end, run_sent place places sofar end is goes, (refl, goes_end sofar end (map (insert_of changes) (place ∷ places)) goes)))
 
@@ -228,27 +228,27 @@ module _ (schema : Catalog) (changes : RowChanges) where
   -- ---- all runs
 
   abbrev Cuts : List Planned → Sofar → List ℕ → Type 0
-  Cuts more end places = (run : List ℕ) (sofar : Sofar) → IsRun run → Goes schema changes sofar (map (insert_of changes) (run ++ places) ++ more) end → Goes schema changes sofar (map (insert_run changes) (cut schema changes run places) ++ more) end
+  Cuts more end places = (run : List ℕ) (sofar : Sofar) → IsRun run → Goes schema changes sofar (map (insert_of changes) (run ++ places) ++ more) end → Goes schema changes sofar (map (insert_run changes) (runs_from schema changes run places) ++ more) end
 
-  cut_by : (more : List Planned) (end : Sofar) (place : ℕ) (places run : List ℕ) (sofar : Sofar) (b : Bool) → joins schema changes run place ≡ b → Cuts more end places → IsRun run → Goes schema changes sofar (map (insert_of changes) (run ++ place ∷ places) ++ more) end → Goes schema changes sofar (map (insert_run changes) (cond b (cut schema changes (run ++ place ∷ []) places) (ended run ++ cut schema changes (place ∷ []) places)) ++ more) end
+  cut_by : (more : List Planned) (end : Sofar) (place : ℕ) (places run : List ℕ) (sofar : Sofar) (b : Bool) → joins schema changes run place ≡ b → Cuts more end places → IsRun run → Goes schema changes sofar (map (insert_of changes) (run ++ place ∷ places) ++ more) end → Goes schema changes sofar (map (insert_run changes) (cond b (runs_from schema changes (run ++ place ∷ []) places) (nonempty_run run ++ runs_from schema changes (place ∷ []) places)) ++ more) end
   cut_by more end place places run sofar true e cuts is goes =
       cuts (run ++ place ∷ []) sofar (joins_run run place is e)
       (subst (λ ps. Goes schema changes sofar (map (insert_of changes) ps ++ more) end) (sym (append_assoc run (place ∷ []) places)) goes)
   cut_by more end place places run sofar false e cuts is goes =
       let apart : map (insert_of changes) (run ++ place ∷ places) ++ more ≡ map (insert_of changes) run ++ (map (insert_of changes) (place ∷ places) ++ more) =
       ap (λ ps. ps ++ more) (map-append (insert_of changes) run (place ∷ places)) ∙ append_assoc (map (insert_of changes) run) (map (insert_of changes) (place ∷ places)) more in
-      let joined : map (insert_run changes) (ended run ++ cut schema changes (place ∷ []) places) ++ more ≡ map (insert_run changes) (ended run) ++ (map (insert_run changes) (cut schema changes (place ∷ []) places) ++ more) =
-      ap (λ ps. ps ++ more) (map-append (insert_run changes) (ended run) (cut schema changes (place ∷ []) places)) ∙ append_assoc (map (insert_run changes) (ended run)) (map (insert_run changes) (cut schema changes (place ∷ []) places)) more in
+      let joined : map (insert_run changes) (nonempty_run run ++ runs_from schema changes (place ∷ []) places) ++ more ≡ map (insert_run changes) (nonempty_run run) ++ (map (insert_run changes) (runs_from schema changes (place ∷ []) places) ++ more) =
+      ap (λ ps. ps ++ more) (map-append (insert_run changes) (nonempty_run run) (runs_from schema changes (place ∷ []) places)) ∙ append_assoc (map (insert_run changes) (nonempty_run run)) (map (insert_run changes) (runs_from schema changes (place ∷ []) places)) more in
       let split = goes_split sofar end (map (insert_of changes) run) (map (insert_of changes) (place ∷ places) ++ more) (subst (λ ps. Goes schema changes sofar ps end) apart goes) in
       subst (λ ps. Goes schema changes sofar ps end) (sym joined)
-      (goes_on schema changes sofar split.0 end (map (insert_run changes) (ended run)) (map (insert_run changes) (cut schema changes (place ∷ []) places) ++ more)
+      (goes_on schema changes sofar split.0 end (map (insert_run changes) (nonempty_run run)) (map (insert_run changes) (runs_from schema changes (place ∷ []) places) ++ more)
       (run_goes run sofar split.0 is split.1)
       (cuts (place ∷ []) split.0 ((tt, tt), (table_at changes place, (refl, tt))) split.2))
 
   cut_goes : (more : List Planned) (end : Sofar) (places : List ℕ) → Cuts more end places
   cut_goes more end [] run sofar is goes =
       let split = goes_split sofar end (map (insert_of changes) run) more (subst (λ ps. Goes schema changes sofar (map (insert_of changes) ps ++ more) end) (append_none run) goes) in
-      goes_on schema changes sofar split.0 end (map (insert_run changes) (ended run)) more (run_goes run sofar split.0 is split.1) split.2
+      goes_on schema changes sofar split.0 end (map (insert_run changes) (nonempty_run run)) more (run_goes run sofar split.0 is split.1) split.2
   cut_goes more end (place ∷ places) run sofar is goes = cut_by more end place places run sofar (joins schema changes run place) refl (cut_goes more end places) is goes
 
   -- where the rows of an order are accepted one by one, so are they in runs

@@ -4,24 +4,24 @@ use Rattle.std.proofs.lemmas.Grind.{flat_map-append}
 use Rattle.std.specs.List.{flat_map}
 use Rattle.schema_core.specs.declared.changes.RowChanges.{RowChanges}
 use Rattle.schema_core.specs.Catalog.{Catalog}
-use Rattle.flush_plan.specs.Runs.{cut, ended, joins, runs}
+use Rattle.flush_plan.specs.Runs.{runs_from, nonempty_run, joins, runs}
 use Rattle.plan_laws.proofs.Items.{append_none}
 
 abbrev pub all_rows : List (List ℕ) → List ℕ
 all_rows parts = flat_map (λ part. part) parts
 
-ended_whole : (run : List ℕ) → all_rows (ended run) ≡ run
+ended_whole : (run : List ℕ) → all_rows (nonempty_run run) ≡ run
 ended_whole [] = refl
 ended_whole (place ∷ places) = append_none (place ∷ places)
 
-cut_whole : (schema : Catalog) (changes : RowChanges) (run places : List ℕ) → all_rows (cut schema changes run places) ≡ run ++ places
+cut_whole : (schema : Catalog) (changes : RowChanges) (run places : List ℕ) → all_rows (runs_from schema changes run places) ≡ run ++ places
 cut_whole schema changes run [] = ended_whole run ∙ sym (append_none run)
 cut_whole schema changes run (place ∷ places) =
     by (joins schema changes run place) (cut_whole schema changes (run ++ place ∷ []) places) (cut_whole schema changes (place ∷ []) places)
   where
-    by : (b : Bool) → all_rows (cut schema changes (run ++ place ∷ []) places) ≡ (run ++ place ∷ []) ++ places → all_rows (cut schema changes (place ∷ []) places) ≡ place ∷ places → all_rows (cond b (cut schema changes (run ++ place ∷ []) places) (ended run ++ cut schema changes (place ∷ []) places)) ≡ run ++ place ∷ places
+    by : (b : Bool) → all_rows (runs_from schema changes (run ++ place ∷ []) places) ≡ (run ++ place ∷ []) ++ places → all_rows (runs_from schema changes (place ∷ []) places) ≡ place ∷ places → all_rows (cond b (runs_from schema changes (run ++ place ∷ []) places) (nonempty_run run ++ runs_from schema changes (place ∷ []) places)) ≡ run ++ place ∷ places
     by true joined apart = joined ∙ append_assoc run (place ∷ []) places
-    by false joined apart = flat_map-append (λ part. part) (ended run) (cut schema changes (place ∷ []) places) ∙ (λ i. ended_whole run i ++ apart i)
+    by false joined apart = flat_map-append (λ part. part) (nonempty_run run) (runs_from schema changes (place ∷ []) places) ∙ (λ i. ended_whole run i ++ apart i)
 
 pub runs_whole : (schema : Catalog) (changes : RowChanges) (order : List ℕ) → flat_map (λ run. run) (runs schema changes order) ≡ order
 runs_whole schema changes order = cut_whole schema changes [] order

@@ -15,8 +15,8 @@ use Rattle.schema_core.specs.Catalog.{Catalog}
 use Rattle.schema_core.specs.Tables.{Legal, Rows, Tables, is_created, rows_in}
 use Rattle.flush_order.specs.Cells.{is_late}
 use Rattle.flush_order.specs.Sorted.{Place}
-use Rattle.flush_plan.specs.Flushing.{Keys, Sofar, accepted, put, send}
-use Rattle.flush_plan.specs.Stating.{blend, edited, is_present, put_cells, row_at}
+use Rattle.flush_plan.specs.Flushing.{Keys, Sofar, after_outcome, value_of_cell, send}
+use Rattle.flush_plan.specs.Stating.{blend, with_edit, is_present, put_cells, row_at}
 use Rattle.plan_laws.specs.Premises.{Ends, IsSorted}
 use Rattle.plan_laws.proofs.Accept.{update_accepted}
 use Rattle.plan_laws.proofs.At.{at_edit, at_other, edited_created, edited_sorted, place_cases}
@@ -34,7 +34,7 @@ planned_of step = Update step.1.0 step.1.1 step.1.2
 
 module _ (keys : Keys) where
   abbrev pub step_place : Step → Place
-  step_place step = (step.1.0, map (put keys) step.1.1)
+  step_place step = (step.1.0, map (value_of_cell keys) step.1.1)
 
   abbrev pub ToCome : Bool → Place → List Step → Type 0
   ToCome late place [] = ⊥
@@ -66,8 +66,8 @@ module _ (schema : Catalog) (changes : RowChanges) (old stated : Tables) (keys :
 
   -- an early UPDATE writes the early columns as they are stated, a late one the late columns
   abbrev pub Writes : Step → Type 0
-  Writes (false, update) = (stated_row : List Value) × (row_at stated (update.0, map (put keys) update.1) ≡ Some stated_row) × ((early late : List Value) → Comes old stated (update.0, map (put keys) update.1) early → After (update.0, map (put keys) update.1) late → with_cells (Blend (update.0, map (put keys) update.1) early late) (put_cells (put keys) update.2) ≡ Blend (update.0, map (put keys) update.1) stated_row late)
-  Writes (true, update) = (last : List Value) × IsLast (update.0, map (put keys) update.1) last × After (update.0, map (put keys) update.1) last × ((early late : List Value) → Comes old stated (update.0, map (put keys) update.1) early → After (update.0, map (put keys) update.1) late → with_cells (Blend (update.0, map (put keys) update.1) early late) (put_cells (put keys) update.2) ≡ Blend (update.0, map (put keys) update.1) early last)
+  Writes (false, update) = (stated_row : List Value) × (row_at stated (update.0, map (value_of_cell keys) update.1) ≡ Some stated_row) × ((early late : List Value) → Comes old stated (update.0, map (value_of_cell keys) update.1) early → After (update.0, map (value_of_cell keys) update.1) late → with_cells (Blend (update.0, map (value_of_cell keys) update.1) early late) (put_cells (value_of_cell keys) update.2) ≡ Blend (update.0, map (value_of_cell keys) update.1) stated_row late)
+  Writes (true, update) = (last : List Value) × IsLast (update.0, map (value_of_cell keys) update.1) last × After (update.0, map (value_of_cell keys) update.1) last × ((early late : List Value) → Comes old stated (update.0, map (value_of_cell keys) update.1) early → After (update.0, map (value_of_cell keys) update.1) late → with_cells (Blend (update.0, map (value_of_cell keys) update.1) early late) (put_cells (value_of_cell keys) update.2) ≡ Blend (update.0, map (value_of_cell keys) update.1) early last)
 
   abbrev pub IsStep : Step → Type 0
   IsStep step = ((is_present old (step_place keys step) ≡ true) ⊎ (is_present stated (step_place keys step) ≡ true)) × Writes step
@@ -107,43 +107,43 @@ module _ (schema : Catalog) (changes : RowChanges) (old stated : Tables) (keys :
   other_tag_late X place update steps (inr (inl here)) = absurd (true_false here.0)
   other_tag_late X place update steps (inr (inr there)) = inr there
 
-  written : (step : Step) (steps : List Step) (row : List Value) → Writes step → OnWay (step ∷ steps) (step_place keys step) row → OnWay steps (step_place keys step) (with_cells row (put_cells (put keys) step.1.2))
+  written : (step : Step) (steps : List Step) (row : List Value) → Writes step → OnWay (step ∷ steps) (step_place keys step) row → OnWay steps (step_place keys step) (with_cells row (put_cells (value_of_cell keys) step.1.2))
   written (false, update) steps row writes way = record {
     early = writes.0;
     late = way.late;
-    is = ap (λ r. with_cells r (put_cells (put keys) update.2)) way.is ∙ writes.2 way.early way.late way.from way.after;
+    is = ap (λ r. with_cells r (put_cells (value_of_cell keys) update.2)) way.is ∙ writes.2 way.early way.late way.from way.after;
     from = inr writes.1;
     after = way.after;
     early_done = inl (inl writes.1);
-    late_done = other_tag (IsLast (update.0, map (put keys) update.1) way.late) (update.0, map (put keys) update.1) update steps way.late_done;
+    late_done = other_tag (IsLast (update.0, map (value_of_cell keys) update.1) way.late) (update.0, map (value_of_cell keys) update.1) update steps way.late_done;
   }
   written (true, update) steps row writes way = record {
     early = way.early;
     late = writes.0;
-    is = ap (λ r. with_cells r (put_cells (put keys) update.2)) way.is ∙ writes.3 way.early way.late way.from way.after;
+    is = ap (λ r. with_cells r (put_cells (value_of_cell keys) update.2)) way.is ∙ writes.3 way.early way.late way.from way.after;
     from = way.from;
     after = writes.2;
-    early_done = other_tag_late (IsFirst (update.0, map (put keys) update.1) way.early) (update.0, map (put keys) update.1) update steps way.early_done;
+    early_done = other_tag_late (IsFirst (update.0, map (value_of_cell keys) update.1) way.early) (update.0, map (value_of_cell keys) update.1) update steps way.early_done;
     late_done = inl writes.1;
   }
 
-  pick : (P : Place → List Value → Type 0) (tables : Tables) (at : Place) (row : List Value) (rows : Rows) → IsSorted tables → rows_in tables at.0 ≡ Some rows → P at row → ((place : Place) (r : List Value) → (at ≡ place → ⊥) → row_at tables place ≡ Some r → P place r) → (place : Place) (r : List Value) → row_at (edited tables (at, Some row)) place ≡ Some r → P place r
+  pick : (P : Place → List Value → Type 0) (tables : Tables) (at : Place) (row : List Value) (rows : Rows) → IsSorted tables → rows_in tables at.0 ≡ Some rows → P at row → ((place : Place) (r : List Value) → (at ≡ place → ⊥) → row_at tables place ≡ Some r → P place r) → (place : Place) (r : List Value) → row_at (with_edit tables (at, Some row)) place ≡ Some r → P place r
   pick P tables at row rows sorted e here there place r is =
       elim (place_cases at place) [
-        | inl same ↦ subst (λ q. P q r) same (subst (P at) (same_some row r (sym (at_edit tables (at, Some row) rows sorted e) ∙ ap (row_at (edited tables (at, Some row))) same ∙ is)) here)
+        | inl same ↦ subst (λ q. P q r) same (subst (P at) (same_some row r (sym (at_edit tables (at, Some row) rows sorted e) ∙ ap (row_at (with_edit tables (at, Some row))) same ∙ is)) here)
         | inr apart ↦ there place r apart (sym (at_other tables (at, Some row) place sorted apart) ∙ is)
       ]
 
-  still : (tables : Tables) (at : Place) (row : List Value) (rows : Rows) (place : Place) → IsSorted tables → rows_in tables at.0 ≡ Some rows → is_present tables place ≡ true → is_present (edited tables (at, Some row)) place ≡ true
+  still : (tables : Tables) (at : Place) (row : List Value) (rows : Rows) (place : Place) → IsSorted tables → rows_in tables at.0 ≡ Some rows → is_present tables place ≡ true → is_present (with_edit tables (at, Some row)) place ≡ true
   still tables at row rows place sorted e was =
       elim (place_cases at place) [
-        | inl same ↦ ap (λ q. is_present (edited tables (at, Some row)) q) (sym same) ∙ ap is_some (at_edit tables (at, Some row) rows sorted e)
+        | inl same ↦ ap (λ q. is_present (with_edit tables (at, Some row)) q) (sym same) ∙ ap is_some (at_edit tables (at, Some row) rows sorted e)
         | inr apart ↦ ap is_some (at_other tables (at, Some row) place sorted apart) ∙ was
       ]
 
-  pub after_step : (step : Step) (steps : List Step) (sofar : Sofar) (row : List Value) (rows : Rows) → Middle (step ∷ steps) sofar → Writes step → rows_in sofar.tables step.1.0 ≡ Some rows → row_at sofar.tables (step_place keys step) ≡ Some row → Middle steps (record { tables = edited sofar.tables (step_place keys step, Some (with_cells row (put_cells (put keys) step.1.2))); keys = keys })
+  pub after_step : (step : Step) (steps : List Step) (sofar : Sofar) (row : List Value) (rows : Rows) → Middle (step ∷ steps) sofar → Writes step → rows_in sofar.tables step.1.0 ≡ Some rows → row_at sofar.tables (step_place keys step) ≡ Some row → Middle steps (record { tables = with_edit sofar.tables (step_place keys step, Some (with_cells row (put_cells (value_of_cell keys) step.1.2))); keys = keys })
   after_step step steps sofar row rows middle writes table at =
-      let new : List Value = with_cells row (put_cells (put keys) step.1.2) in
+      let new : List Value = with_cells row (put_cells (value_of_cell keys) step.1.2) in
       record {
         known = refl;
         sorted = edited_sorted sofar.tables (step_place keys step, Some new) middle.sorted;
@@ -175,17 +175,17 @@ module _ (schema : Catalog) (changes : RowChanges) (old stated : Tables) (keys :
     sent_step step steps sofar is middle =
         let row = some_of (row_at sofar.tables (step_place keys step)) (there step sofar steps middle is.0) in
         let f = found sofar.tables (step_place keys step) row.0 row.1 in
-        let new : List Value = with_cells row.0 (put_cells (put keys) step.1.2) in
-        let next : Sofar = record { tables = edited sofar.tables (step_place keys step, Some new); keys = keys } in
+        let new : List Value = with_cells row.0 (put_cells (value_of_cell keys) step.1.2) in
+        let next : Sofar = record { tables = with_edit sofar.tables (step_place keys step, Some new); keys = keys } in
         let after : Middle steps next = after_step step steps sofar row.0 f.rows middle is.1 f.table row.1 in
         let legal : Legal schema next.tables = middle_legal steps next after in
         let way : OnWay steps (step_place keys step) new = after.rows (step_place keys step) new (at_edit sofar.tables (step_place keys step, Some new) f.rows middle.sorted f.table) in
-        let answer : apply schema sofar.tables (statement.Update step.1.0 (map (put keys) step.1.1) (put_cells (put keys) step.1.2)) ≡ Ok (map (put keys) step.1.1 ∷ [], next.tables) =
-        update_accepted schema sofar.tables step.1.0 f.rows (map (put keys) step.1.1) row.0 (put_cells (put keys) step.1.2) middle.sorted f.table f.under
+        let answer : apply schema sofar.tables (statement.Update step.1.0 (map (value_of_cell keys) step.1.1) (put_cells (value_of_cell keys) step.1.2)) ≡ Ok (map (value_of_cell keys) step.1.1 ∷ [], next.tables) =
+        update_accepted schema sofar.tables step.1.0 f.rows (map (value_of_cell keys) step.1.1) row.0 (put_cells (value_of_cell keys) step.1.2) middle.sorted f.table f.under
         (good_legal schema changes old stated ends (step_place keys step) new (good_of steps (step_place keys step) new way)) legal in (
           next,
-          ap (λ k. accepted schema changes sofar (planned_of step) (apply schema sofar.tables (statement.Update step.1.0 (map (put k) step.1.1) (put_cells (put k) step.1.2)))) middle.known
-              ∙ ap (accepted schema changes sofar (planned_of step)) answer
+          ap (λ k. after_outcome schema changes sofar (planned_of step) (apply schema sofar.tables (statement.Update step.1.0 (map (value_of_cell k) step.1.1) (put_cells (value_of_cell k) step.1.2)))) middle.known
+              ∙ ap (after_outcome schema changes sofar (planned_of step)) answer
               ∙ ap (λ k. Ok (record { tables = next.tables; keys = k })) middle.known,
           after,
         )

@@ -21,10 +21,10 @@ use Rattle.schema_core.specs.WellFormed.{IsWellFormed, is_row}
 use Rattle.flush_order.specs.Cells.{is_late, table_at}
 use Rattle.flush_order.specs.Orders.{insert_order, place_of_gone}
 use Rattle.flush_order.specs.Sorted.{same_place}
-use Rattle.flush_plan.specs.Flushing.{Sofar, flushed, send, sent}
+use Rattle.flush_plan.specs.Flushing.{Sofar, send_all, send, statement_sent}
 use Rattle.schema_core.specs.declared.changes.Planned.TheVariants.{Insert}
 use Rattle.flush_plan.specs.Planning.{key_at, place_of_changed, plan, writes_some}
-use Rattle.flush_plan.specs.Stating.{all_placed, blend, given, guess, row_at, stated}
+use Rattle.flush_plan.specs.Stating.{all_placed, blend, given_value, guess, row_at, stated_tables}
 use Rattle.plan_laws.specs.Premises.{IsClear, IsFit, IsSorted}
 
 -- the INSERT of one row
@@ -71,7 +71,7 @@ are_at place (column ∷ columns) (cell ∷ cells) = (nat_lt place cell.0.0 && a
 pub record IsProjected (schema : Catalog) (old : Tables) (changes : RowChanges) : Type 0 where
   pub fit : IsFit schema changes
   -- a new row has a cell for each column, and each foreign key is of one kind
-  pub new_cells : AllByRecursion (λ (row : NewRow). is_row (spec_of schema row.name.table) (map given row.cells) ≡ true) changes.fresh
+  pub new_cells : AllByRecursion (λ (row : NewRow). is_row (spec_of schema row.name.table) (map given_value row.cells) ≡ true) changes.fresh
   pub new_loose : AllByRecursion (λ (row : NewRow). AreLoose (spec_of schema row.name.table).foreigns (spec_of schema row.name.table).columns row.cells) changes.fresh
   pub new_keyed : AllByRecursion (λ (row : NewRow). list_any (λ column. column.key) (spec_of schema row.name.table).columns ≡ true) changes.fresh
   pub new_foreigns : AllByRecursion (λ (row : NewRow). AllByRecursion (λ foreign. IsOneKind schema changes foreign (cells_named schema row.name.table row.cells foreign.columns)) (spec_of schema row.name.table).foreigns) changes.fresh
@@ -94,7 +94,7 @@ pub record IsComplete (schema : Catalog) (old : Tables) (changes : RowChanges) (
   pub legal : Legal schema old
   pub ordered : insert_order schema changes ≡ Ok order
   pub keys : all_placed schema changes old order ≡ Some placed
-  pub states : stated schema old changes order ≡ Some after
+  pub states : stated_tables schema old changes order ≡ Some after
   pub legal_after : Legal schema after
   pub clear : IsClear schema old after
   pub no_guess : guess schema old changes order placed.keys ≡ false
@@ -104,34 +104,34 @@ abbrev pub InsertPrefixesAreLegal : Type 0
 InsertPrefixesAreLegal =
     (schema : Catalog) (old : Tables) (changes : RowChanges) (order : List ℕ) (placed : Sofar) (after : Tables)
     → IsComplete schema old changes order placed after
-    → (n : ℕ) → (sofar : Sofar) × (flushed schema changes (Ok (before old)) (take n (map (insert_of changes) order)) ≡ Ok sofar) × Legal schema sofar.tables
+    → (n : ℕ) → (sofar : Sofar) × (send_all schema changes (Ok (before old)) (take n (map (insert_of changes) order)) ≡ Ok sofar) × Legal schema sofar.tables
 
 -- all INSERTs leave the tables and keys that `Keys` tells
 abbrev pub InsertsLeaveKeys : Type 0
 InsertsLeaveKeys =
     (schema : Catalog) (old : Tables) (changes : RowChanges) (order : List ℕ) (placed : Sofar) (after : Tables)
     → IsComplete schema old changes order placed after
-    → flushed schema changes (Ok (before old)) (map (insert_of changes) order) ≡ Ok placed
+    → send_all schema changes (Ok (before old)) (map (insert_of changes) order) ≡ Ok placed
 
 -- every prefix of the plan is accepted and leaves legal tables
 abbrev pub PrefixesAreLegal : Type 0
 PrefixesAreLegal =
     (schema : Catalog) (old : Tables) (changes : RowChanges) (order : List ℕ) (placed : Sofar) (after : Tables) (statements : List Planned)
     → IsComplete schema old changes order placed after → plan schema changes ≡ Ok statements
-    → (n : ℕ) → (sofar : Sofar) × (flushed schema changes (Ok (before old)) (take n statements) ≡ Ok sofar) × Legal schema sofar.tables
+    → (n : ℕ) → (sofar : Sofar) × (send_all schema changes (Ok (before old)) (take n statements) ≡ Ok sofar) × Legal schema sofar.tables
 
 -- the whole leaves the stated tables
 abbrev pub WholeIsStated : Type 0
 WholeIsStated =
     (schema : Catalog) (old : Tables) (changes : RowChanges) (order : List ℕ) (placed : Sofar) (after : Tables) (statements : List Planned)
     → IsComplete schema old changes order placed after → plan schema changes ≡ Ok statements
-    → (sofar : Sofar) × (flushed schema changes (Ok (before old)) statements ≡ Ok sofar) × (sofar.tables ≡ after)
+    → (sofar : Sofar) × (send_all schema changes (Ok (before old)) statements ≡ Ok sofar) × (sofar.tables ≡ after)
 
 -- each statement fits the schema when it is sent
 abbrev pub AreWellFormed : Catalog → RowChanges → Sofar → List Planned → Type 0
 AreWellFormed schema changes sofar [] = Unit {0}
 AreWellFormed schema changes sofar (planned ∷ plan) =
-    IsWellFormed schema (sent schema changes sofar.keys planned) × ((next : Sofar) → send schema changes sofar planned ≡ Ok next → AreWellFormed schema changes next plan)
+    IsWellFormed schema (statement_sent schema changes sofar.keys planned) × ((next : Sofar) → send schema changes sofar planned ≡ Ok next → AreWellFormed schema changes next plan)
 
 -- a changed row is of a declared table; one without cells, of which nothing is sent, of a created one
 pub record AreNamed (schema : Catalog) (old : Tables) (changes : RowChanges) : Type 0 where
@@ -144,13 +144,13 @@ AcceptedIsStated =
     (schema : Catalog) (old : Tables) (changes : RowChanges) (order : List ℕ) (statements : List Planned) (sofar : Sofar)
     → IsProjected schema old changes → IsSorted old → Legal schema old → AreNamed schema old changes
     → insert_order schema changes ≡ Ok order → plan schema changes ≡ Ok statements
-    → flushed schema changes (Ok (before old)) statements ≡ Ok sofar
-    → stated schema old changes order ≡ Some sofar.tables
+    → send_all schema changes (Ok (before old)) statements ≡ Ok sofar
+    → stated_tables schema old changes order ≡ Some sofar.tables
 
 -- and legal ones, where its statements fit the schema
 abbrev pub AcceptedIsLegal : Type 0
 AcceptedIsLegal =
     (schema : Catalog) (old : Tables) (changes : RowChanges) (statements : List Planned) (sofar : Sofar)
     → Legal schema old → AreWellFormed schema changes (before old) statements
-    → flushed schema changes (Ok (before old)) statements ≡ Ok sofar
+    → send_all schema changes (Ok (before old)) statements ≡ Ok sofar
     → Legal schema sofar.tables

@@ -86,19 +86,19 @@ new_entry id widget = record { name = record { table = of_entries; object = reco
 abbrev pub of_new : List NewRow → List (TableId × ℕ) → RowChanges
 of_new fresh post = record { fresh = fresh; changed = []; gone = []; post = post; warnings = [] }
 
-abbrev pub nothing : RowCell
-nothing = Given value.Null
+abbrev pub cell_of_null : RowCell
+cell_of_null = Given value.Null
 
 -- a widget and its entry, each with a link to the other
 abbrev pub both_new : List (TableId × ℕ) → RowChanges
-both_new post = of_new (new_widget nothing (KeyOf 1 0) ∷ new_entry nothing (KeyOf 0 0) ∷ []) post
+both_new post = of_new (new_widget cell_of_null (KeyOf 1 0) ∷ new_entry cell_of_null (KeyOf 0 0) ∷ []) post
 
 abbrev pub late : List (TableId × ℕ)
 late = (of_widgets, 0) ∷ []
 
 -- an entry before the widget that its values name
 abbrev pub by_value : RowChanges
-by_value = of_new (new_entry nothing (Given (int 5)) ∷ new_widget (Given (int 5)) nothing ∷ []) []
+by_value = of_new (new_entry cell_of_null (Given (int 5)) ∷ new_widget (Given (int 5)) cell_of_null ∷ []) []
 
 abbrev pub no_rows : Tables
 no_rows = (of_widgets, []) ∷ (of_entries, []) ∷ []
@@ -128,7 +128,7 @@ new_node object id next = record { name = node_name object; cells = id ∷ next 
 
 -- new nodes, of which each refers to the new node of the next place, or to none
 abbrev pub new_nodes : List RowCell → List (TableId × ℕ) → RowChanges
-new_nodes nexts post = of_new (map (λ node. new_node node.0 nothing node.1) (enumerate_from 0 nexts)) post
+new_nodes nexts post = of_new (map (λ node. new_node node.0 cell_of_null node.1) (enumerate_from 0 nexts)) post
 
 abbrev pub to_new : ℕ → RowCell
 to_new place = KeyOf place 0
@@ -138,7 +138,7 @@ late_next = (of_nodes, 0) ∷ []
 
 -- new nodes with these keys, which refer to none
 abbrev pub keyed_nodes : List RowCell → RowChanges
-keyed_nodes keys = of_new (map (λ node. new_node node.0 node.1 nothing) (enumerate_from 0 keys)) []
+keyed_nodes keys = of_new (map (λ node. new_node node.0 node.1 cell_of_null) (enumerate_from 0 keys)) []
 
 abbrev pub gone_node : ℕ → Value → GoneRow
 gone_node key next = record { name = node_name key; base = int key ∷ next ∷ [] }
@@ -156,9 +156,9 @@ abbrev pub next_is : RowCell → List (ColumnNo × RowCell)
 next_is cell = (record { 0 = 1 }, cell) ∷ []
 
 -- node 1 is to refer to a new node, as this does to itself, and node 2, which refers to node 1, is deleted; all that is written last
-abbrev pub mixed : RowChanges
-mixed = record {
-  fresh = new_node 3 nothing (to_new 0) ∷ [];
+abbrev pub mixed_changes : RowChanges
+mixed_changes = record {
+  fresh = new_node 3 cell_of_null (to_new 0) ∷ [];
   changed = changed_node 1 (next_is (to_new 0)) ∷ [];
   gone = gone_node 2 (int 1) ∷ [];
   post = late_next;
@@ -187,7 +187,7 @@ abbrev pub mixed_keys : Keys
 mixed_keys = (0, int 3 ∷ []) ∷ []
 
 abbrev pub mixed_plan : List Planned
-mixed_plan = put_nodes (0 ∷ []) ∷ change_node (to_new 0) (to_new 0) ∷ change_node (Given (int 1)) (to_new 0) ∷ change_node (Given (int 2)) nothing ∷ remove_node 2 ∷ []
+mixed_plan = put_nodes (0 ∷ []) ∷ change_node (to_new 0) (to_new 0) ∷ change_node (Given (int 1)) (to_new 0) ∷ change_node (Given (int 2)) cell_of_null ∷ remove_node 2 ∷ []
 
 -- the refusal of a cycle of nodes
 abbrev pub cycle_of : List ℕ → Refusal
@@ -217,11 +217,11 @@ abbrev pub entry_by_value : List Planned
 entry_by_value = Insert of_widgets (1 ∷ []) ∷ Insert of_entries (0 ∷ []) ∷ []
 
 abbrev pub removes_cleared : List Planned
-removes_cleared = Update of_widgets (Given (int 1) ∷ []) (favourite_is nothing) ∷ Remove of_entries (int 1 ∷ []) ∷ Remove of_widgets (int 1 ∷ []) ∷ []
+removes_cleared = Update of_widgets (Given (int 1) ∷ []) (favourite_is cell_of_null) ∷ Remove of_entries (int 1 ∷ []) ∷ Remove of_widgets (int 1 ∷ []) ∷ []
 
 -- an entry and a widget without links
 abbrev pub entry_then_widget : RowChanges
-entry_then_widget = of_new (new_entry nothing nothing ∷ new_widget nothing nothing ∷ []) []
+entry_then_widget = of_new (new_entry cell_of_null cell_of_null ∷ new_widget cell_of_null cell_of_null ∷ []) []
 
 abbrev pub two_tables : List Planned
 two_tables = Insert of_entries (0 ∷ []) ∷ Insert of_widgets (1 ∷ []) ∷ []

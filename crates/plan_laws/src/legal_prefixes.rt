@@ -2,9 +2,9 @@
 
 ghost use Rattle.std.specs.Prelude.{◌≡◌, [], ◌∷◌, Ok};
 ghost use Rattle.flush_plan.specs.Planning.{plan};
-ghost use Rattle.flush_plan.specs.Flushing.{Sofar, flushed};
+ghost use Rattle.flush_plan.specs.Flushing.{Sofar, send_all};
 ghost use Rattle.plan_laws.specs.Laws.{AcceptedIsLegal, AcceptedIsStated, AreNamed, AreWellFormed, InsertPrefixesAreLegal, InsertsLeaveKeys, IsComplete, PrefixesAreLegal, WholeIsStated, before};
-ghost use Rattle.plan_laws.specs.Worked.{by_value, mixed, mixed_keys, mixed_old, mixed_plan, mixed_rows, no_rows, schema, value_rows};
+ghost use Rattle.plan_laws.specs.Worked.{by_value, mixed_changes, mixed_keys, mixed_old, mixed_plan, mixed_rows, no_rows, schema, value_rows};
 
 /// Under completeness's premises every prefix of the INSERTs is accepted and leaves legal tables, and all of them leave the
 /// keys that are told beforehand.
@@ -34,10 +34,10 @@ pub fn premises_are_met()
     ensures new { (placed : Sofar)
         × IsComplete schema no_rows by_value (1 ∷ 0 ∷ []) placed value_rows }
     ensures late { (placed : Sofar)
-        × IsComplete schema mixed_old mixed (0 ∷ []) placed mixed_rows }
-    ensures late_plan { plan schema mixed ≡ Ok mixed_plan }
-    ensures named { AreNamed schema mixed_old mixed }
-    ensures formed { AreWellFormed schema mixed (before mixed_old) mixed_plan }
-    ensures sent { flushed schema mixed (Ok (before mixed_old)) mixed_plan
+        × IsComplete schema mixed_old mixed_changes (0 ∷ []) placed mixed_rows }
+    ensures late_plan { plan schema mixed_changes ≡ Ok mixed_plan }
+    ensures named { AreNamed schema mixed_old mixed_changes }
+    ensures formed { AreWellFormed schema mixed_changes (before mixed_old) mixed_plan }
+    ensures sent { send_all schema mixed_changes (Ok (before mixed_old)) mixed_plan
         ≡ Ok (record { tables = mixed_rows; keys = mixed_keys }) }
 {}

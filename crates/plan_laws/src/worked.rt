@@ -4,10 +4,10 @@ ghost use Rattle.std.specs.Prelude.{◌≡◌, [], ◌∷◌, Some, Ok, Err};
 ghost use Rattle.base_core.specs.declared.value.Value.TheVariants as value;
 ghost use Rattle.schema_core.specs.declared.changes.RowCell.TheVariants.{Given};
 ghost use Rattle.flush_plan.specs.Planning.{plan};
-ghost use Rattle.flush_plan.specs.Flushing.{flushed};
-ghost use Rattle.flush_plan.specs.Stating.{stated};
+ghost use Rattle.flush_plan.specs.Flushing.{send_all};
+ghost use Rattle.flush_plan.specs.Stating.{stated_tables};
 ghost use Rattle.plan_laws.specs.Laws.{before};
-ghost use Rattle.plan_laws.specs.Worked.{both_gone, both_keys, both_new, both_rows, by_value, change_node, changed_node, changed_nodes, cycle_of, entry_by_value, entry_then_widget, gone_cycle, gone_node, gone_nodes, int, keyed_nodes, late, late_next, late_plan, new_cycle, new_nodes, next_is, no_rows, nothing, put_nodes, removes_cleared, remove_node, schema, to_new, two_tables};
+ghost use Rattle.plan_laws.specs.Worked.{both_gone, both_keys, both_new, both_rows, by_value, change_node, changed_node, changed_nodes, cycle_of, entry_by_value, entry_then_widget, gone_cycle, gone_node, gone_nodes, int, keyed_nodes, late, late_next, late_plan, new_cycle, new_nodes, next_is, no_rows, cell_of_null, put_nodes, removes_cleared, remove_node, schema, to_new, two_tables};
 
 /// Plans of a widget and an entry, each with a link to the other, and the tables that they leave.
 pub fn worked_plans()
@@ -22,10 +22,10 @@ pub fn worked_plans()
     ensures cleared { plan schema (both_gone late) ≡ Ok removes_cleared }
     ensures gone_cycle { plan schema (both_gone []) ≡ Err gone_cycle }
     // What is sent leaves what is stated.
-    ensures sent { flushed schema (both_new late) (Ok (before no_rows)) late_plan
+    ensures sent { send_all schema (both_new late) (Ok (before no_rows)) late_plan
         ≡ Ok (record { tables = both_rows (int 1); keys = both_keys }) }
-    ensures states { stated schema no_rows (both_new late) (0 ∷ 1 ∷ []) ≡ Some (both_rows (int 1)) }
-    ensures states_gone { stated schema (both_rows (int 1)) (both_gone late) [] ≡ Some no_rows }
+    ensures states { stated_tables schema no_rows (both_new late) (0 ∷ 1 ∷ []) ≡ Some (both_rows (int 1)) }
+    ensures states_gone { stated_tables schema (both_rows (int 1)) (both_gone late) [] ≡ Some no_rows }
 {}
 
 /// Cycles of new nodes, told from the least row left: the way from it to the least row for which a row waits, from the first
@@ -46,15 +46,15 @@ pub fn worked_cycles()
 
 /// Runs of new nodes.
 pub fn worked_runs()
-    ensures together { plan schema (new_nodes (nothing ∷ nothing ∷ nothing ∷ []) [])
+    ensures together { plan schema (new_nodes (cell_of_null ∷ cell_of_null ∷ cell_of_null ∷ []) [])
         ≡ Ok (put_nodes (0 ∷ 1 ∷ 2 ∷ []) ∷ []) }
     // A row stands in no run with a row to which it refers.
-    ensures reference { plan schema (new_nodes (to_new 1 ∷ nothing ∷ []) [])
+    ensures reference { plan schema (new_nodes (to_new 1 ∷ cell_of_null ∷ []) [])
         ≡ Ok (put_nodes (1 ∷ []) ∷ put_nodes (0 ∷ []) ∷ []) }
-    ensures third { plan schema (new_nodes (nothing ∷ to_new 0 ∷ nothing ∷ []) [])
+    ensures third { plan schema (new_nodes (cell_of_null ∷ to_new 0 ∷ cell_of_null ∷ []) [])
         ≡ Ok (put_nodes (0 ∷ []) ∷ put_nodes (1 ∷ 2 ∷ []) ∷ []) }
     // The key is given in all rows of a run, or in none.
-    ensures keys { plan schema (keyed_nodes (nothing ∷ Given (int 5) ∷ Given (int 6) ∷ []))
+    ensures keys { plan schema (keyed_nodes (cell_of_null ∷ Given (int 5) ∷ Given (int 6) ∷ []))
         ≡ Ok (put_nodes (0 ∷ []) ∷ put_nodes (1 ∷ 2 ∷ []) ∷ []) }
 {}
 
@@ -66,10 +66,10 @@ pub fn worked_old()
     ensures referring { plan schema (gone_nodes (gone_node 2 value.Null ∷ gone_node 1 (int 2) ∷ []))
         ≡ Ok (remove_node 1 ∷ remove_node 2 ∷ []) }
     // Changed rows go by key, and one without cells is not sent.
-    ensures changed { plan schema (changed_nodes (changed_node 3 (next_is nothing)
-        ∷ changed_node 2 [] ∷ changed_node 1 (next_is nothing) ∷ []) [])
-        ≡ Ok (change_node (Given (int 1)) nothing ∷ change_node (Given (int 3)) nothing ∷ []) }
-    ensures changed_late { plan schema (changed_nodes (changed_node 3 (next_is nothing)
-        ∷ changed_node 1 (next_is nothing) ∷ []) late_next)
-        ≡ Ok (change_node (Given (int 1)) nothing ∷ change_node (Given (int 3)) nothing ∷ []) }
+    ensures changed { plan schema (changed_nodes (changed_node 3 (next_is cell_of_null)
+        ∷ changed_node 2 [] ∷ changed_node 1 (next_is cell_of_null) ∷ []) [])
+        ≡ Ok (change_node (Given (int 1)) cell_of_null ∷ change_node (Given (int 3)) cell_of_null ∷ []) }
+    ensures changed_late { plan schema (changed_nodes (changed_node 3 (next_is cell_of_null)
+        ∷ changed_node 1 (next_is cell_of_null) ∷ []) late_next)
+        ≡ Ok (change_node (Given (int 1)) cell_of_null ∷ change_node (Given (int 3)) cell_of_null ∷ []) }
 {}

@@ -1,6 +1,6 @@
 use Rattle.std.proofs.Common.{◌<◌, Ok, Err, false, get_or, length, sym, ap, ◌∙◌, subst, arith}
 use Rattle.std.specs.List.{All}
-use Rattle.flush_order.specs.Lists.{listed}
+use Rattle.flush_order.specs.Lists.{waits_in}
 use Rattle.flush_order.proofs.Cycles.{cycle_within}
 use Rattle.flush_order.proofs.ListSteps.{cycle_told, order_below, order_told}
 use Rattle.flush_order.proofs.lists.order_of_lists.Goals as goal
@@ -15,7 +15,7 @@ returns-in-None-clause-told c =
 pub returns-in-None-clause-within : goal.returns-in-None-clause-within
 returns-in-None-clause-within c =
     let lists = c.args.lists.now in
-    subst (All (λ row. row < length lists)) (sym c.from_vec.ensures) (order_below (listed lists) (length lists) c.in_ok-search.search.placed.items c.in_ok-search.ensures.order)
+    subst (All (λ row. row < length lists)) (sym c.from_vec.ensures) (order_below (waits_in lists) (length lists) c.in_ok-search.search.placed.items c.in_ok-search.ensures.order)
 
 pub returns-clause-told : goal.returns-clause-told
 returns-clause-told c =
@@ -32,4 +32,4 @@ pub returns-clause-within : goal.returns-clause-within
 returns-clause-within c =
     let lists = c.args.lists.now in
     let less : c.in-Some.row < length lists = omega (arith, c.in-Some.ensures.within, ap length c.as_slice-2.ensures.value, c.in_ok-search.ensures.stands.marked) in
-    subst (All (λ row. row < length lists)) (sym c.from_vec-in-Some.ensures) (cycle_within (listed lists) (length lists) c.in-Some.row c.in_ok-path-in-Some.path.items c.in_ok-path-in-Some.ensures.rows less)
+    subst (All (λ row. row < length lists)) (sym c.from_vec-in-Some.ensures) (cycle_within (waits_in lists) (length lists) c.in-Some.row c.in_ok-path-in-Some.path.items c.in_ok-path-in-Some.ensures.rows less)

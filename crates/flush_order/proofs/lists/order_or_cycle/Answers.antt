@@ -1,5 +1,5 @@
 use Rattle.std.proofs.Common.{◌≡◌, ◌≤◌, IfOk, length, sym, subst}
-use Rattle.flush_order.specs.Told.{told}
+use Rattle.flush_order.specs.Told.{order_result}
 use Rattle.flush_order.specs.Lists.{AreListsOf}
 use Rattle.flush_order.proofs.Alike.{listed_order}
 use Rattle.flush_order.proofs.lists.order_or_cycle.Goals as goal
@@ -12,4 +12,4 @@ returns-clause-told g c =
     let waits = g.W.Waits.waits c.args.rows.now in
     let size = g.W.Waits.size c.args.rows.now in
     let are : AreListsOf waits size c.as_slice.result.now = subst (AreListsOf waits size) (sym c.as_slice.ensures.value) c.in_ok-lists.ensures.lists in
-    subst (λ target. IfOk c.order_of_lists.result (λ ordered. told ordered ≡ target)) (listed_order waits size c.as_slice.result.now are) c.order_of_lists.ensures.told
+    subst (λ target. IfOk c.order_of_lists.result (λ ordered. order_result ordered ≡ target)) (listed_order waits size c.as_slice.result.now are) c.order_of_lists.ensures.told

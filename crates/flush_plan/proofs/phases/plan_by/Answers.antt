@@ -1,5 +1,5 @@
 use Rattle.std.proofs.Common.{ap}
-use Rattle.flush_order.specs.Told.{rows_of, told}
+use Rattle.flush_order.specs.Told.{rows_of, order_result}
 use Rattle.flush_plan.proofs.PhaseSteps.{cycled, planned, rows_within}
 use Rattle.flush_plan.proofs.phases.plan_by.Goals as goal
 
@@ -11,7 +11,7 @@ statements-requires-clause-gone_order c =
 pub returns-in-Order : goal.returns-in-Order
 returns-in-Order c =
     planned c.args.new.now.schema.now c.args.new.now.changes.now c.args.new_order.now c.in-Order.rows c.as_slice-in-Order.result.now c.in_ok-rows.field-0 c.statements.result
-    c.in_ok-rows.ensures.told (ap told c.in-Order.is) c.as_slice-in-Order.ensures c.statements.ensures.statements c.statements.ensures.cause
+    c.in_ok-rows.ensures.told (ap order_result c.in-Order.is) c.as_slice-in-Order.ensures c.statements.ensures.statements c.statements.ensures.cause
 
 pub gone_names-requires-clause-within : goal.gone_names-requires-clause-within
 gone_names-requires-clause-within c =
@@ -21,4 +21,4 @@ gone_names-requires-clause-within c =
 pub returns : goal.returns
 returns c =
     cycled c.args.new.now.schema.now c.args.new.now.changes.now c.args.new_order.now c.in-Cycle.rows c.as_slice-in-Cycle.result.now c.in_ok-rows.field-0 c.in_ok-gone_names-in-Cycle.field-0
-    c.in_ok-rows.ensures.told (ap told c.in-Cycle.is) c.as_slice-in-Cycle.ensures c.in_ok-gone_names-in-Cycle.ensures.names
+    c.in_ok-rows.ensures.told (ap order_result c.in-Cycle.is) c.as_slice-in-Cycle.ensures c.in_ok-gone_names-in-Cycle.ensures.names

@@ -5,7 +5,7 @@ use Rattle.flush_order.specs.Places.{cycle_from, first_places, least_left, next_
 use Rattle.flush_order.specs.Sorted.{sorted_numbers}
 use Rattle.flush_plan.specs.Flushing.{send}
 use Rattle.flush_plan.specs.Planning.{plan}
-use Rattle.flush_plan.specs.Stating.{all_placed, edited, place_new, stated}
+use Rattle.flush_plan.specs.Stating.{all_placed, with_edit, place_new, stated_tables}
 use Rattle.plan_laws.proofs.worked.worked_plans.Goals as goal
 
 pub returns-clause-cycle : goal.returns-clause-cycle
@@ -37,9 +37,9 @@ unfolding send apply delete_row insert_rows update_row change_all remove_all wri
 returns-clause-sent c = refl
 
 pub returns-clause-states : goal.returns-clause-states
-unfolding stated all_placed place_new edited
+unfolding stated_tables all_placed place_new with_edit
 returns-clause-states c = refl
 
 pub returns-clause-states_gone : goal.returns-clause-states_gone
-unfolding stated all_placed place_new edited
+unfolding stated_tables all_placed place_new with_edit
 returns-clause-states_gone c = refl

@@ -1,6 +1,0 @@
-use Rattle.std.proofs.Common.{◌≡◌, ◌-◌, length}
-use Rattle.flush_order.specs.Cells.{known}
-use Rattle.flush_order.proofs.ready.known.Given as goal
-
-abbrev pub invariant-loop-step : goal.invariant-loop-step
-invariant-loop-step l = known l.schema l.changes (length l.changes.fresh - l._step) l.cell ≡ known l.schema l.changes (length l.changes.fresh) l.start
