@@ -28,7 +28,7 @@ use Rattle.sql_semantics.specs.Rows.{answer}
 use Rattle.expr_types.specs.declared.select.Bulk.{Bulk}
 use Rattle.sql_semantics.specs.Applied.{applied}
 use Rattle.sql_semantics.specs.Applied as bulks
-use Rattle.programs.specs.Store.{Store, committed_of, created, dropped}
+use Rattle.programs.specs.Store.{Store, committed_of, with_empty_table, without_table}
 
 -- ---- refusals of a keeper as refusals of the layers above
 
@@ -64,12 +64,12 @@ sends statement after answer = record { events = Sends statement (committed_of a
 unfoldable pub create : TableId → Store → Run Store Bool
 create table w =
     if is_created w.tables table then quiet (Ok false) w
-    else sends (sent.Create table) (record { tables = created w.tables table; scopes = w.scopes }) (Ok true)
+    else sends (sent.Create table) (record { tables = with_empty_table w.tables table; scopes = w.scopes }) (Ok true)
 
 -- the table is dropped, and committed at once; true where it was there
 unfoldable pub drop_table : TableId → Store → Run Store Bool
 drop_table table w =
-    if is_created w.tables table then sends (sent.Drop table) (record { tables = dropped w.tables table; scopes = w.scopes }) (Ok true)
+    if is_created w.tables table then sends (sent.Drop table) (record { tables = without_table w.tables table; scopes = w.scopes }) (Ok true)
     else quiet (Ok false) w
 
 -- a transaction starts

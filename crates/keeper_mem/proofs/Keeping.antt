@@ -16,7 +16,7 @@ use Rattle.programs.specs.declared.target.Target.{Target}
 use Rattle.programs.specs.declared.target.Target.TheVariants as targets
 use Rattle.programs.specs.Programs.{Run, after_events, ends_early, is_fault, is_of_tables, quiet, give}
 use Rattle.programs.specs.Moment.{AsTold, IsCutOff, IsRun, Keeps, Outcome, Ran, Refused, Runs, Stops, Told, counters}
-use Rattle.programs.specs.Store.{Store, committed_of, created, dropped, outermost}
+use Rattle.programs.specs.Store.{Store, committed_of, with_empty_table, without_table, outermost}
 use Rattle.programs.proofs.Counts.{no_fault, own_is_no_fault}
 use Rattle.keeper_core.specs.Calls as call
 use Rattle.keeper_core.specs.Calls.{sends}
@@ -248,32 +248,32 @@ outside_none : (old : Kept) → is_taken old.attachment ≡ true → depth_by ol
 outside_none old taken outside = sym (depth_taken old.attachment old taken) ∙ outside
 
 pub made : (table : TableId) (old new : Kept) → is_taken old.attachment ≡ true → depth_by old.attachment old ≡ 0 → is_created old.store.tables table ≡ false
-    → new ≡ sent_by (counted old) (sent.Create table) (record { tables = created old.store.tables table; scopes = old.store.scopes }) → keeping.IsCreate moment_of table old (Ok true) new
+    → new ≡ sent_by (counted old) (sent.Create table) (record { tables = with_empty_table old.store.tables table; scopes = old.store.scopes }) → keeping.IsCreate moment_of table old (Ok true) new
 unfolding call.create
 made table old new taken outside absent is =
-    sent_call (call.create table) (sent.Create table) (record { tables = created old.store.tables table; scopes = old.store.scopes }) 0 true old new taken
-    (ap (λ b. if b then quiet (Ok false) old.store else sends (sent.Create table) (record { tables = created old.store.tables table; scopes = old.store.scopes }) (Ok true)) absent) (outside_none old taken outside) is
+    sent_call (call.create table) (sent.Create table) (record { tables = with_empty_table old.store.tables table; scopes = old.store.scopes }) 0 true old new taken
+    (ap (λ b. if b then quiet (Ok false) old.store else sends (sent.Create table) (record { tables = with_empty_table old.store.tables table; scopes = old.store.scopes }) (Ok true)) absent) (outside_none old taken outside) is
 
 pub not_made : (table : TableId) (old new : Kept) → is_taken old.attachment ≡ true → depth_by old.attachment old ≡ 0 → is_created old.store.tables table ≡ true → new ≡ counted old
     → keeping.IsCreate moment_of table old (Ok false) new
 unfolding call.create
 not_made table old new taken outside there is =
     quiet_call (call.create table) 0 false old new taken
-    (ap (λ b. if b then quiet (Ok false) old.store else sends (sent.Create table) (record { tables = created old.store.tables table; scopes = old.store.scopes }) (Ok true)) there) outside is
+    (ap (λ b. if b then quiet (Ok false) old.store else sends (sent.Create table) (record { tables = with_empty_table old.store.tables table; scopes = old.store.scopes }) (Ok true)) there) outside is
 
 pub removed : (table : TableId) (old new : Kept) → is_taken old.attachment ≡ true → depth_by old.attachment old ≡ 0 → is_created old.store.tables table ≡ true
-    → new ≡ sent_by (counted old) (sent.Drop table) (record { tables = dropped old.store.tables table; scopes = old.store.scopes }) → keeping.IsDrop moment_of table old (Ok true) new
+    → new ≡ sent_by (counted old) (sent.Drop table) (record { tables = without_table old.store.tables table; scopes = old.store.scopes }) → keeping.IsDrop moment_of table old (Ok true) new
 unfolding call.drop_table
 removed table old new taken outside there is =
-    sent_call (call.drop_table table) (sent.Drop table) (record { tables = dropped old.store.tables table; scopes = old.store.scopes }) 0 true old new taken
-    (ap (λ b. if b then sends (sent.Drop table) (record { tables = dropped old.store.tables table; scopes = old.store.scopes }) (Ok true) else quiet (Ok false) old.store) there) (outside_none old taken outside) is
+    sent_call (call.drop_table table) (sent.Drop table) (record { tables = without_table old.store.tables table; scopes = old.store.scopes }) 0 true old new taken
+    (ap (λ b. if b then sends (sent.Drop table) (record { tables = without_table old.store.tables table; scopes = old.store.scopes }) (Ok true) else quiet (Ok false) old.store) there) (outside_none old taken outside) is
 
 pub not_removed : (table : TableId) (old new : Kept) → is_taken old.attachment ≡ true → depth_by old.attachment old ≡ 0 → is_created old.store.tables table ≡ false → new ≡ counted old
     → keeping.IsDrop moment_of table old (Ok false) new
 unfolding call.drop_table
 not_removed table old new taken outside absent is =
     quiet_call (call.drop_table table) 0 false old new taken
-    (ap (λ b. if b then sends (sent.Drop table) (record { tables = dropped old.store.tables table; scopes = old.store.scopes }) (Ok true) else quiet (Ok false) old.store) absent) outside is
+    (ap (λ b. if b then sends (sent.Drop table) (record { tables = without_table old.store.tables table; scopes = old.store.scopes }) (Ok true) else quiet (Ok false) old.store) absent) outside is
 
 pub scanned : (table : TableId) (rows : Option (List (List Value))) (old new : Kept) → is_taken old.attachment ≡ true
     → rows ≡ option_map (λ rows. map (λ entry. entry.1) rows) (rows_in old.store.tables table) → new ≡ counted old → keeping.IsScan moment_of table old (Ok rows) new

@@ -13,7 +13,7 @@ ghost use Rattle.sql_semantics.specs.Created.{bare};
 ghost use Rattle.sql_semantics.specs.Shapes.{AreGiven, AreLegalRows, AreOfItems, AreRows, AreWide};
 ghost use Rattle.programs.specs.declared.sent.Sent.TheVariants as sent;
 ghost use Rattle.programs.specs.Programs.{as_refusal};
-ghost use Rattle.programs.specs.Store.{committed_of, created, dropped};
+ghost use Rattle.programs.specs.Store.{committed_of, with_empty_table, without_table};
 ghost use Rattle.keeper_core.specs.declared.keeper.KeeperStop.TheVariants as stops;
 ghost use Rattle.keeper_core.specs.Calls as call;
 ghost use Rattle.keeper_core.specs.Calls.{query_refusal, write_refusal};
@@ -196,7 +196,7 @@ impl MemKeeper {
         ensures ok { OnOk result (self.new ≡ sent_by
             self.old (sent.Create table)
             (record {
-              tables = created self.old.store.tables table;
+              tables = with_empty_table self.old.store.tables table;
               scopes = self.old.store.scopes;
             })) }
         ensures err { IfErr result (λ _. self.new ≡ self.old) }
@@ -212,7 +212,7 @@ impl MemKeeper {
         ensures ok { OnOk result (self.new ≡ sent_by
             self.old (sent.Drop table)
             (record {
-              tables = dropped self.old.store.tables table;
+              tables = without_table self.old.store.tables table;
               scopes = self.old.store.scopes;
             })) }
         ensures err { IfErr result (λ _. self.new ≡ self.old) }

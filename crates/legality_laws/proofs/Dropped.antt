@@ -11,7 +11,7 @@ use Rattle.base_core.specs.declared.ids.TableId.{TableId}
 use Rattle.schema_core.specs.Catalog.{Catalog, IsTable}
 use Rattle.schema_core.specs.Tables.{AreAscending, Rows, Tables, is_created, table_cmp}
 use Rattle.programs.specs.Programs.{Run, ◌>>=◌, each, give}
-use Rattle.programs.specs.Store.{Store, dropped}
+use Rattle.programs.specs.Store.{Store, without_table}
 use Rattle.keeper_core.specs.Calls.{drop_table}
 use Rattle.table_laws.proofs.Entries.{all_map, all_remove}
 use Rattle.table_laws.proofs.Members.{In}
@@ -79,7 +79,7 @@ drop_step table order scopes w p = by (is_created w.tables table) refl
     by : (b : Bool) → is_created w.tables table ≡ b → IsDropping order (drop_table table w).after scopes
     by true is = rw is (record {
       ascending = ascending_without w.tables table p.ascending;
-      left = others_left table order (dropped w.tables table) (removed_apart table_cmp same_table table w.tables p.ascending.numbers)
+      left = others_left table order (without_table w.tables table) (removed_apart table_cmp same_table table w.tables p.ascending.numbers)
           (all_remove (is_at (table_cmp table)) (λ c. In c.0 (table ∷ order)) w.tables p.left);
       stay = p.stay;
     })

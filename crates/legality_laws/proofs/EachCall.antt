@@ -19,7 +19,7 @@ use Rattle.schema_core.specs.Tables.{AreAscending, Legal, Rows, Tables, cells_of
 use Rattle.schema_core.specs.WellFormed.{IsWellFormed}
 use Rattle.expr_types.specs.declared.select.Select.{Select}
 use Rattle.programs.specs.Programs.{give}
-use Rattle.programs.specs.Store.{Store, committed_of, created, dropped, outermost}
+use Rattle.programs.specs.Store.{Store, committed_of, with_empty_table, without_table, outermost}
 use Rattle.keeper_core.specs.Calls as call
 use Rattle.table_laws.proofs.Ascending.{accepted_ascends, ascending_with, sorted_remove}
 use Rattle.table_laws.proofs.Entries.{all_insert, all_map, all_remove}
@@ -99,37 +99,37 @@ absent (Some rows) key none = cc
 
 -- a key names a row beside a new table where it names one without
 name_same : (schema : Catalog) (tables : Tables) (table : TableId) (foreign : ForeignSpec) (key : List Value) → is_created tables table ≡ false
-    → names_row schema tables foreign key ≡ names_row schema (created tables table) foreign key
+    → names_row schema tables foreign key ≡ names_row schema (with_empty_table tables table) foreign key
 name_same schema tables table foreign key none = by (target_of schema foreign)
   where
-    at : (target : TableId) → (rows_in (created tables table) target ≡ rows_in tables target) ⊎ ((table_cmp target table ≡ Equal) × (rows_in (created tables table) target ≡ Some []))
-        → has_row key (rows_in tables target) ≡ has_row key (rows_in (created tables table) target)
+    at : (target : TableId) → (rows_in (with_empty_table tables table) target ≡ rows_in tables target) ⊎ ((table_cmp target table ≡ Equal) × (rows_in (with_empty_table tables table) target ≡ Some []))
+        → has_row key (rows_in tables target) ≡ has_row key (rows_in (with_empty_table tables table) target)
     at target (inl is) = ap (has_row key) (sym is)
     at target (inr is) =
         ap (λ t. has_row key (rows_in tables t)) (same_table target table is.0) ∙ absent (rows_in tables table) key none ∙ sym (ap (has_row key) is.1)
 
-    by : (target : Option TableId) → has_row key (option_and_then (rows_in tables) target) ≡ has_row key (option_and_then (rows_in (created tables table)) target)
+    by : (target : Option TableId) → has_row key (option_and_then (rows_in tables) target) ≡ has_row key (option_and_then (rows_in (with_empty_table tables table)) target)
     by None = refl
     by (Some target) = at target (lookup_after table_cmp same_table tables table target [])
 
 dangle_same : (schema : Catalog) (tables : Tables) (table : TableId) (spec : TableSpec) (cells : List Value) → is_created tables table ≡ false
-    → some_dangles schema tables spec cells ≡ some_dangles schema (created tables table) spec cells
+    → some_dangles schema tables spec cells ≡ some_dangles schema (with_empty_table tables table) spec cells
 dangle_same schema tables table spec cells none =
     λ i. list_any (λ (f : ForeignSpec). not (has_null (cells_of spec cells f.columns)) && not (name_same schema tables table f (cells_of spec cells f.columns) none i)) spec.foreigns
 
-created_bound : (schema : Catalog) (tables : Tables) (table : TableId) → has_dangling schema tables ≡ false → is_created tables table ≡ false → has_dangling schema (created tables table) ≡ false
+created_bound : (schema : Catalog) (tables : Tables) (table : TableId) → has_dangling schema tables ≡ false → is_created tables table ≡ false → has_dangling schema (with_empty_table tables table) ≡ false
 created_bound schema tables table old none =
-    bound_by schema (created tables table) (all_insert table_cmp same_table (Bound schema (created tables table)) tables table []
-    (all_map (Bound schema tables) (Bound schema (created tables table))
-    (λ c e. all_map (λ row. some_dangles schema tables (spec_of schema c.0) row.1 ≡ false) (λ row. some_dangles schema (created tables table) (spec_of schema c.0) row.1 ≡ false)
+    bound_by schema (with_empty_table tables table) (all_insert table_cmp same_table (Bound schema (with_empty_table tables table)) tables table []
+    (all_map (Bound schema tables) (Bound schema (with_empty_table tables table))
+    (λ c e. all_map (λ row. some_dangles schema tables (spec_of schema c.0) row.1 ≡ false) (λ row. some_dangles schema (with_empty_table tables table) (spec_of schema c.0) row.1 ≡ false)
     (λ row p. sym (dangle_same schema tables table (spec_of schema c.0) row.1 none) ∙ p) c.1 e) tables (bound_at schema tables old)) tt)
 
 -- what holds of each row of each table holds of each beside a new table
 each_created : (P : TableId → Rows → List Value × List Value → Type 0) (tables : Tables) (table : TableId) → AllByRecursion (λ c. AllByRecursion (P c.0 c.1) c.1) tables
-    → AllByRecursion (λ c. AllByRecursion (P c.0 c.1) c.1) (created tables table)
+    → AllByRecursion (λ c. AllByRecursion (P c.0 c.1) c.1) (with_empty_table tables table)
 each_created P tables table all = all_insert table_cmp same_table (λ c. AllByRecursion (P c.0 c.1) c.1) tables table [] all tt
 
-created_legal : (schema : Catalog) (tables : Tables) (table : TableId) → IsTable schema table → Legal schema tables → is_created tables table ≡ false → Legal schema (created tables table)
+created_legal : (schema : Catalog) (tables : Tables) (table : TableId) → IsTable schema table → Legal schema tables → is_created tables table ≡ false → Legal schema (with_empty_table tables table)
 created_legal schema tables table declared legal none = record {
   created = all_insert table_cmp same_table (λ c. IsTable schema c.0) tables table [] legal.created declared;
   keys = each_created (λ t rows row. key_of (spec_of schema t) row.1 ≡ row.0) tables table legal.keys;
@@ -142,17 +142,17 @@ no_rows_ascend : IsStrictlySortedBy {K = List Value} values_cmp []
 unfolding IsStrictlySortedBy
 no_rows_ascend = tt
 
-created_sound : (schema : Catalog) (tables : Tables) (table : TableId) → IsTable schema table → AreSound schema tables → is_created tables table ≡ false → AreSound schema (created tables table)
+created_sound : (schema : Catalog) (tables : Tables) (table : TableId) → IsTable schema table → AreSound schema tables → is_created tables table ≡ false → AreSound schema (with_empty_table tables table)
 created_sound schema tables table declared sound none =
     record { legal = created_legal schema tables table declared sound.legal none; ascending = ascending_with tables table [] sound.ascending no_rows_ascend }
 
-create_has : (P : Tables → Type 0) (table : TableId) → ((tables : Tables) → P tables → is_created tables table ≡ false → P (created tables table)) → Keeps (Throughout P) (call.create table)
+create_has : (P : Tables → Type 0) (table : TableId) → ((tables : Tables) → P tables → is_created tables table ≡ false → P (with_empty_table tables table)) → Keeps (Throughout P) (call.create table)
 unfolding call.create
 create_has P table stays = record { kept = λ w all. by w (is_created w.tables table) refl all }
   where
     by : (w : Store) (b : Bool) → is_created w.tables table ≡ b → Throughout P w → Throughout P (call.create table w).after
     by w true is all = rw is all
-    by w false is all = rw is (with_tables P (created w.tables table) w (stays w.tables all.tables is) all)
+    by w false is all = rw is (with_tables P (with_empty_table w.tables table) w (stays w.tables all.tables is) all)
 
 pub create_legal : (schema : Catalog) (table : TableId) → IsTable schema table → KeepsLegal schema (call.create table)
 create_legal schema table declared = create_has (AreSound schema) table (λ tables sound none. created_sound schema tables table declared sound none)
@@ -162,7 +162,7 @@ create_ascends table = create_has AreAscending table (λ tables up none. ascendi
 
 -- ---- a table that is dropped
 
-pub ascending_without : (tables : Tables) (table : TableId) → AreAscending tables → AreAscending (dropped tables table)
+pub ascending_without : (tables : Tables) (table : TableId) → AreAscending tables → AreAscending (without_table tables table)
 ascending_without tables table up = record {
   numbers = sorted_remove table_cmp (is_at (table_cmp table)) tables up.numbers;
   keys = all_remove (is_at (table_cmp table)) (λ c. IsStrictlySortedBy values_cmp (keys_of c.1)) tables up.keys;
@@ -173,7 +173,7 @@ unfolding call.drop_table
 drop_ascends table = record { kept = λ w up. by w (is_created w.tables table) refl up }
   where
     by : (w : Store) (b : Bool) → is_created w.tables table ≡ b → IsAscendingStore w → IsAscendingStore (call.drop_table table w).after
-    by w true is up = rw is (with_tables AreAscending (dropped w.tables table) w (ascending_without w.tables table up.tables) up)
+    by w true is up = rw is (with_tables AreAscending (without_table w.tables table) w (ascending_without w.tables table up.tables) up)
     by w false is up = rw is up
 
 -- ---- a statement on rows

@@ -2,7 +2,7 @@
 use Rattle.std.proofs.Common.{◌≡◌, List, [], ◌∷◌, Result, Ok, Err, refl}
 use Rattle.std.specs.List.{AllByRecursion}
 use Rattle.base_core.specs.declared.refusal.Refusal.{Refusal}
-use Rattle.programs.specs.Programs.{Event, Run, ◌>>=◌, asked, become, becomes, caught, change, each, followed, give, guarded, mended, quiet, recovered, refuse, rescued}
+use Rattle.programs.specs.Programs.{Event, Run, ◌>>=◌, ask, become, becomes, handle_refusal, change, each, continue_from, give, with_undo, undo_on_refusal, quiet, recover_from, refuse, rescue}
 use Rattle.programs.specs.Store.{Store}
 use Rattle.programs.specs.Beside.{Beside, by_own, changes, on_own, on_store}
 use Rattle.legality_laws.specs.Legality.{Keeps}
@@ -18,8 +18,8 @@ pub keeps_refuse : {W A : Type 0} (P : W → Type 0) (e : Refusal) → Keeps {A 
 unfolding refuse
 keeps_refuse P e = record { kept = λ w p. p }
 
-pub keeps_asked : {W A : Type 0} (P : W → Type 0) (question : W → Result A Refusal) → Keeps P (asked question)
-unfolding asked
+pub keeps_asked : {W A : Type 0} (P : W → Type 0) (question : W → Result A Refusal) → Keeps P (ask question)
+unfolding ask
 keeps_asked P question = record { kept = λ w p. p }
 
 pub keeps_change : {W : Type 0} (P : W → Type 0) (f : W → W) → ((w : W) → P w → P (f w)) → Keeps P (change f)
@@ -39,7 +39,7 @@ pub keeps_then : {W A B : Type 0} (P : W → Type 0) (m : W → Run W A) (next :
 unfolding ◌>>=◌
 keeps_then {W = W} {A = A} P m next first rest = record { kept = λ w p. by w (m w).answer refl p }
   where
-    by : (w : W) (r : Result A Refusal) → (m w).answer ≡ r → P w → P (followed (m w).events (m w).after r next).after
+    by : (w : W) (r : Result A Refusal) → (m w).answer ≡ r → P w → P (continue_from (m w).events (m w).after r next).after
     by w (Ok a) is p = (rest w a p is).kept (m w).after (first.kept w p)
     by w (Err e) is p = first.kept w p
 
@@ -48,24 +48,24 @@ unfolding each
 keeps_each P step s [] one = keeps_give P s
 keeps_each P step s (x ∷ xs) one = keeps_then P (step x s) (λ t. each step t xs) (one.0 s) (λ w t p is. keeps_each P step t xs one.1)
 
-pub keeps_caught : {W A : Type 0} (P : W → Type 0) (instead : Refusal → W → Run W A) (m : W → Run W A) → Keeps P m → ((w : W) (e : Refusal) → P w → (m w).answer ≡ Err e → Keeps P (instead e)) → Keeps P (caught instead m)
-unfolding caught
+pub keeps_caught : {W A : Type 0} (P : W → Type 0) (instead : Refusal → W → Run W A) (m : W → Run W A) → Keeps P m → ((w : W) (e : Refusal) → P w → (m w).answer ≡ Err e → Keeps P (instead e)) → Keeps P (handle_refusal instead m)
+unfolding handle_refusal
 keeps_caught {W = W} {A = A} P instead m first rest = record { kept = λ w p. by w (m w).answer refl p }
   where
-    by : (w : W) (r : Result A Refusal) → (m w).answer ≡ r → P w → P (recovered (m w).events (m w).after r instead).after
+    by : (w : W) (r : Result A Refusal) → (m w).answer ≡ r → P w → P (recover_from (m w).events (m w).after r instead).after
     by w (Ok a) is p = first.kept w p
     by w (Err e) is p = (rest w e p is).kept (m w).after (first.kept w p)
 
-pub keeps_guarded : {W A : Type 0} (P : W → Type 0) (m : W → Run W A) (undo : W → Run W (Unit {0})) → Keeps P m → Keeps P undo → Keeps P (guarded m undo)
-unfolding guarded
+pub keeps_guarded : {W A : Type 0} (P : W → Type 0) (m : W → Run W A) (undo : W → Run W (Unit {0})) → Keeps P m → Keeps P undo → Keeps P (with_undo m undo)
+unfolding with_undo
 keeps_guarded {W = W} {A = A} P m undo first back = record { kept = λ w p. by (m w).events (m w).after (m w).answer (first.kept w p) }
   where
-    by : (events : List Event) (w : W) (r : Result A Refusal) → P w → P (mended events w r undo).after
+    by : (events : List Event) (w : W) (r : Result A Refusal) → P w → P (undo_on_refusal events w r undo).after
     by events w (Ok a) p = p
     by events w (Err e) p = (keeps_then P undo (λ u. refuse {A = A} e) back (λ w u p is. keeps_refuse P e)).kept w p
 
-pub keeps_rescued : {W A : Type 0} (P : W → Type 0) (text : Refusal → A) (m : W → Run W A) → Keeps P m → Keeps P (rescued text m)
-unfolding rescued
+pub keeps_rescued : {W A : Type 0} (P : W → Type 0) (text : Refusal → A) (m : W → Run W A) → Keeps P m → Keeps P (rescue text m)
+unfolding rescue
 keeps_rescued P text m first = record { kept = first.kept }
 
 -- ---- what stands beside the store

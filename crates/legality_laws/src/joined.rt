@@ -5,7 +5,7 @@ ghost use Rattle.std.specs.List.{AllByRecursion};
 ghost use Rattle.base_core.specs.declared.refusal.Refusal.{Refusal};
 ghost use Rattle.schema_core.specs.Catalog.{Catalog};
 ghost use Rattle.programs.specs.Beside.{Beside, by_own, changes, on_own, on_store};
-ghost use Rattle.programs.specs.Programs.{Event, Run, ◌>>=◌ as then_run, asked, becomes, caught, change, each, give, guarded, quiet, refuse, rescued};
+ghost use Rattle.programs.specs.Programs.{Event, Run, ◌>>=◌ as then_run, ask, becomes, handle_refusal, change, each, give, with_undo, quiet, refuse, rescue};
 ghost use Rattle.programs.specs.Store.{Store};
 ghost use Rattle.legality_laws.specs.Legality.{IsLegalStore, KeepsLegal, KeepsLegalBeside, KeepsLegalIn};
 
@@ -18,8 +18,8 @@ pub fn quiet_programs_keep_legal<W, A>()
         → KeepsLegalIn store_of schema (quiet answer) }
     ensures refuse { (store_of : W → Store) (schema : Catalog) (e : Refusal)
         → KeepsLegalIn {A = A} store_of schema (refuse e) }
-    ensures asked { (store_of : W → Store) (schema : Catalog) (question : W → Result A Refusal)
-        → KeepsLegalIn store_of schema (asked question) }
+    ensures ask { (store_of : W → Store) (schema : Catalog) (question : W → Result A Refusal)
+        → KeepsLegalIn store_of schema (ask question) }
     ensures change { (store_of : W → Store) (schema : Catalog) (f : W → W)
         → ((w : W) → IsLegalStore schema (store_of w) → IsLegalStore schema (store_of (f w)))
         → KeepsLegalIn store_of schema (change f) }
@@ -42,17 +42,17 @@ pub fn joined_programs_keep_legal<W, A, B, S>()
         (items : List A)
         → AllByRecursion (λ item. (s : S) → KeepsLegalIn store_of schema (step item s)) items
         → KeepsLegalIn store_of schema (each step s items) }
-    ensures caught { (store_of : W → Store) (schema : Catalog) (instead : Refusal → W → Run W A)
+    ensures handle_refusal { (store_of : W → Store) (schema : Catalog) (instead : Refusal → W → Run W A)
         (m : W → Run W A) → KeepsLegalIn store_of schema m
         → ((w : W) (e : Refusal) → IsLegalStore schema (store_of w) → (m w).answer ≡ Err e
         → KeepsLegalIn store_of schema (instead e))
-        → KeepsLegalIn store_of schema (caught instead m) }
-    ensures guarded { (store_of : W → Store) (schema : Catalog) (m : W → Run W A)
+        → KeepsLegalIn store_of schema (handle_refusal instead m) }
+    ensures with_undo { (store_of : W → Store) (schema : Catalog) (m : W → Run W A)
         (undo : W → Run W (Unit {0})) → KeepsLegalIn store_of schema m
-        → KeepsLegalIn store_of schema undo → KeepsLegalIn store_of schema (guarded m undo) }
-    ensures rescued { (store_of : W → Store) (schema : Catalog) (text : Refusal → A)
+        → KeepsLegalIn store_of schema undo → KeepsLegalIn store_of schema (with_undo m undo) }
+    ensures rescue { (store_of : W → Store) (schema : Catalog) (text : Refusal → A)
         (m : W → Run W A) → KeepsLegalIn store_of schema m
-        → KeepsLegalIn store_of schema (rescued text m) }
+        → KeepsLegalIn store_of schema (rescue text m) }
 {}
 
 /// A program of the store leaves it legal also where something stands beside it, and programs of what stands there leave it as it is.

@@ -5,7 +5,7 @@ use Rattle.base_core.specs.declared.refusal.Refusal.{Refusal}
 use Rattle.base_core.specs.declared.refusal.Refusal.TheVariants.{Memory}
 use Rattle.programs.specs.declared.sent.Sent.{Sent}
 use Rattle.programs.specs.Store.{Store}
-use Rattle.programs.specs.Programs.{Event, Sends, Writes, Log, Run, ◌>>=◌, after_event, after_events, asked, become, becomes, change, ends_early, is_fault, is_of_tables, quiet}
+use Rattle.programs.specs.Programs.{Event, Sends, Writes, Log, Run, ◌>>=◌, after_event, after_events, ask, become, becomes, change, ends_early, is_fault, is_of_tables, quiet}
 use Rattle.programs.specs.Moment.{AsTold, Counters, IsCutOff, IsRun, Keeps, Moment, Outcome, Ran, Runs, Told, counters}
 use Rattle.programs.specs.Beside.{Beside, moment_answering, moment_beside, on_own, quiet_run, told_beside}
 use Rattle.programs.specs.Alone.{alone, no_log, IsQuiet, IsTold, Tells, Told as WasTold, IsTurned, Turns, Turned}
@@ -59,14 +59,14 @@ alone_lost {v = v} {m = m} {own = own} {now = now} = Ran (record {
 
 -- ---- questions, and what becomes of what stands there
 
-pub asked_ok : {S A X : Type 0} {v : X → A} (question : S → Result A Refusal) {s : S} {x : X} → question s ≡ Ok (v x) → Runs alone v (asked question) s (Ok x) s
-unfolding asked
-asked_ok {v = v} question {s = s} {x = x} is = alone_ok {v = v} (asked question) (ap (λ r. quiet r s) is)
+pub asked_ok : {S A X : Type 0} {v : X → A} (question : S → Result A Refusal) {s : S} {x : X} → question s ≡ Ok (v x) → Runs alone v (ask question) s (Ok x) s
+unfolding ask
+asked_ok {v = v} question {s = s} {x = x} is = alone_ok {v = v} (ask question) (ap (λ r. quiet r s) is)
 
 pub asked_err : {S A X : Type 0} {v : X → A} (question : S → Result A Refusal) {s : S} {e : Refusal}
-    → ends_early e ≡ false → is_of_tables e ≡ false → question s ≡ Err e → Runs alone v (asked question) s (Err e) s
-unfolding asked
-asked_err {v = v} question {s = s} {e = e} early apart is = alone_err {v = v} (asked question) early apart (ap (λ r. quiet r s) is)
+    → ends_early e ≡ false → is_of_tables e ≡ false → question s ≡ Err e → Runs alone v (ask question) s (Err e) s
+unfolding ask
+asked_err {v = v} question {s = s} {e = e} early apart is = alone_err {v = v} (ask question) early apart (ap (λ r. quiet r s) is)
 
 pub becomes_ok : {S X : Type 0} (step : S → Result S Refusal) {own now : S} {x : X} → step own ≡ Ok now → Runs alone (λ (_ : X). tt) (becomes step) own (Ok x) now
 unfolding becomes
@@ -96,13 +96,13 @@ tells_err {v = v} {told = told} {e = e} early apart is = WasTold (tells_err_is v
 pub tells_lost : {A X : Type 0} {v : X → A} {told : Result A Refusal} → Tells v told (Err Memory)
 tells_lost = WasTold tt
 
-asked_by : {S A X : Type 0} (v : X → A) (question : S → Result A Refusal) (s : S) (r : Result X Refusal) → IsTold v (question s) r → Runs alone v (asked question) s r s
+asked_by : {S A X : Type 0} (v : X → A) (question : S → Result A Refusal) (s : S) (r : Result X Refusal) → IsTold v (question s) r → Runs alone v (ask question) s r s
 asked_by v question s (Ok x) p = asked_ok question p
 asked_by v question s (Err Memory) p = alone_lost
 asked_by v question s (Err e) p = asked_err question p.1.0 p.1.1 p.0
 
 -- a question that was answered
-pub asked_tells : {S A X : Type 0} {v : X → A} (question : S → Result A Refusal) {s : S} {r : Result X Refusal} → Tells v (question s) r → Runs alone v (asked question) s r s
+pub asked_tells : {S A X : Type 0} {v : X → A} (question : S → Result A Refusal) {s : S} {r : Result X Refusal} → Tells v (question s) r → Runs alone v (ask question) s r s
 asked_tells {v = v} question {s = s} {r = r} (WasTold p) = asked_by v question s r p
 
 pub tells_memory : {A X : Type 0} {v : X → A} {told : Result A Refusal} {e : Refusal} → e ≡ Memory → Tells v told (Err e)

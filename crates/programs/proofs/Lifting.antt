@@ -5,7 +5,7 @@ use Rattle.base_core.specs.declared.refusal.Refusal.TheVariants.{Memory}
 use Rattle.programs.specs.Store.{Store}
 use Rattle.programs.specs.Programs.{Event, Log, Run, ◌>>=◌, after_events, ends_early, is_of_tables, quiet}
 use Rattle.programs.specs.Moment.{Acted, Acts, AsTold, IsCutOff, IsRun, Moment, Outcome, Ran, Runs, Told}
-use Rattle.programs.specs.Beside.{Beside, IsNoted, IsNotedAs, Noted, beside_run, by_own, changes, moment_answering, moment_beside, on_own, on_store, quiet_run, told_beside, unnoted}
+use Rattle.programs.specs.Beside.{Beside, IsNoted, IsNotedAs, Noted, beside_run, by_own, changes, moment_answering, moment_beside, on_own, on_store, quiet_run, told_beside, no_note}
 use Rattle.programs.specs.Alone.{IsQuiet}
 use Rattle.programs.proofs.Counts.{keeps_answer, keeps_memory, keeps_refusal}
 use Rattle.programs.proofs.Sequence.{no_memory, then_err, then_ok}
@@ -51,7 +51,7 @@ unfolding moment_beside
 on_keeper_noted {moment = moment} {note = note} {v = v} {m = m} {own = own} {now = now} {old = old} {new = new} {r = r} (Noted noted) (Ran p) =
     Ran (record { told = told_on_store note v m own now (moment old).told (moment new).told r noted p.told; keeps = p.keeps })
 
-nothing_noted : {S A X : Type 0} (v : X → A) (m : Store → Run Store A) (own : S) (r : Result X Refusal) → IsNotedAs unnoted v m own r own
+nothing_noted : {S A X : Type 0} (v : X → A) (m : Store → Run Store A) (own : S) (r : Result X Refusal) → IsNotedAs no_note v m own r own
 nothing_noted v m own (Ok x) = λ w is. refl
 nothing_noted {S = S} v m own (Err e) = by (ends_early e)
   where
@@ -61,8 +61,8 @@ nothing_noted {S = S} v m own (Err e) = by (ends_early e)
 
 -- a call of the keeper leaves what stands beside it and notes nothing
 pub on_keeper : {S K A X : Type 0} {moment : K → Moment Store} {v : X → A} {m : Store → Run Store A} {own : S} {old new : K} {r : Result X Refusal}
-    → Runs moment v m old r new → Runs (moment_beside {S = S} moment) v (on_store unnoted m) (own, old) r (own, new)
-on_keeper {S = S} {v = v} {m = m} {own = own} {r = r} p = on_keeper_noted {note = unnoted} (Noted (nothing_noted v m own r)) p
+    → Runs moment v m old r new → Runs (moment_beside {S = S} moment) v (on_store no_note m) (own, old) r (own, new)
+on_keeper {S = S} {v = v} {m = m} {own = own} {r = r} p = on_keeper_noted {note = no_note} (Noted (nothing_noted v m own r)) p
 
 -- ---- a change of what stands beside it
 
@@ -154,12 +154,12 @@ then_ends moment {v = v} f {x = x} p is cause = then_ok (λ a. changes (f a)) p 
 
 -- a call of the keeper, and what goes on from its answer
 pub then_store_ok : {S K A B X Y : Type 0} {moment : K → Moment Store} {v : X → A} {v' : Y → B} {m : Store → Run Store A} (next : A → Beside S → Run (Beside S) B) {own now : S} {old mid new : K} {x : X} {r : Result Y Refusal}
-    → Runs moment v m old (Ok x) mid → Runs (moment_beside moment) v' (next (v x)) (own, mid) r (now, new) → Runs (moment_beside moment) v' (on_store unnoted m >>= next) (own, old) r (now, new)
+    → Runs moment v m old (Ok x) mid → Runs (moment_beside moment) v' (next (v x)) (own, mid) r (now, new) → Runs (moment_beside moment) v' (on_store no_note m >>= next) (own, old) r (now, new)
 then_store_ok next p q = then_ok next (on_keeper p) q
 
 -- a call of the keeper that was refused
 pub then_store_err : {S K A B X Y : Type 0} {moment : K → Moment Store} {v : X → A} {v' : Y → B} {m : Store → Run Store A} (next : A → Beside S → Run (Beside S) B) {own : S} {old new : K} {e : Refusal}
-    → Runs moment v m old (Err e) new → Runs (moment_beside moment) v' (on_store unnoted m >>= next) (own, old) (Err e) (own, new)
+    → Runs moment v m old (Err e) new → Runs (moment_beside moment) v' (on_store no_note m >>= next) (own, old) (Err e) (own, new)
 then_store_err next p = then_err next (on_keeper p)
 
 -- ---- programs that do the same here

@@ -4,7 +4,7 @@ use Rattle.std.proofs.Common.{add-one, drop-cons}
 use Rattle.std.proofs.lemmas.List.{drop_all}
 use Rattle.base_core.specs.declared.refusal.Refusal.{Refusal}
 use Rattle.base_core.specs.declared.refusal.Refusal.TheVariants.{Memory}
-use Rattle.programs.specs.Programs.{Event, Log, Run, after_event, after_events, ends_early, is_of_tables, joined, followed, ◌>>=◌, give, refuse, guarded, mended, each}
+use Rattle.programs.specs.Programs.{Event, Log, Run, after_event, after_events, ends_early, is_of_tables, with_events_before, continue_from, ◌>>=◌, give, refuse, with_undo, undo_on_refusal, each}
 use Rattle.programs.specs.Moment.{Told, Moment, IsRun, IsCutOff, Keeps, Outcome, AsTold, counters, Runs, Ran, AsReached, Reaches, Reached}
 use Rattle.programs.proofs.Counts.{keeps_answer, keeps_err, keeps_lost, keeps_memory, keeps_ok, keeps_ran_out, keeps_ran_out_refused, keeps_refusal, keeps_then, keeps_undone}
 
@@ -19,7 +19,7 @@ after_append log (x ∷ xs) ys = after_append (after_event log x) xs ys
 -- ---- what is told
 
 joined_run : {W A : Type 0} {before mid : Log} {result : Result A Refusal} {now : Told W} (events : List Event) (run : Run W A)
-    → mid ≡ after_events before events → IsRun run mid result now → IsRun (joined events run) before result now
+    → mid ≡ after_events before events → IsRun run mid result now → IsRun (with_events_before events run) before result now
 joined_run {before = before} events run here p = record {
   answer = p.answer;
   world = p.world;
@@ -27,7 +27,7 @@ joined_run {before = before} events run here p = record {
 }
 
 joined_cut : {W A : Type 0} {before mid : Log} {now : Told W} (events : List Event) (run : Run W A)
-    → mid ≡ after_events before events → IsCutOff run mid now → IsCutOff (joined events run) before now
+    → mid ≡ after_events before events → IsCutOff run mid now → IsCutOff (with_events_before events run) before now
 joined_cut {before = before} events run here p = record {
   prefix = events ++ p.prefix;
   rest = p.rest;
@@ -37,26 +37,26 @@ joined_cut {before = before} events run here p = record {
 
 joined_stops : {W A : Type 0} (before mid : Log) (now : Told W) (events : List Event) (run : Run W A) (e : Refusal) (b : Bool)
     → mid ≡ after_events before events → MatchBool b (IsCutOff run mid now) (IsRun run mid (Err e) now)
-    → MatchBool b (IsCutOff (joined events run) before now) (IsRun (joined events run) before (Err e) now)
+    → MatchBool b (IsCutOff (with_events_before events run) before now) (IsRun (with_events_before events run) before (Err e) now)
 joined_stops before mid now events run e true here p = joined_cut events run here p
 joined_stops before mid now events run e false here p = joined_run events run here p
 
 pub joined_outcome : {W A X : Type 0} (before mid : Log) (now : Told W) (v : X → A) (events : List Event) (run : Run W A) (r : Result X Refusal)
-    → mid ≡ after_events before events → Outcome v run mid r now → Outcome v (joined events run) before r now
+    → mid ≡ after_events before events → Outcome v run mid r now → Outcome v (with_events_before events run) before r now
 joined_outcome before mid now v events run (Ok x) here p = joined_run events run here p
 joined_outcome before mid now v events run (Err e) here p = joined_stops before mid now events run e (ends_early e) here p
 
 -- the run of a program that goes on from an answer
 bind_ok : {W A B : Type 0} (m : W → Run W A) (next : A → W → Run W B) (w u : W) (a : A) → (m w).answer ≡ Ok a → u ≡ (m w).after
-    → joined (m w).events (next a u) ≡ (m >>= next) w
+    → with_events_before (m w).events (next a u) ≡ (m >>= next) w
 unfolding ◌>>=◌
 bind_ok m next w u a answer after =
-    ap (λ v. joined (m w).events (next a v)) after ∙ sym (ap (λ r. followed (m w).events (m w).after r next) answer)
+    ap (λ v. with_events_before (m w).events (next a v)) after ∙ sym (ap (λ r. continue_from (m w).events (m w).after r next) answer)
 
 bind_err : {W A B : Type 0} (m : W → Run W A) (next : A → W → Run W B) (w : W) (e : Refusal) → (m w).answer ≡ Err e
     → record { events = (m w).events; answer = Err e; after = (m w).after } ≡ (m >>= next) w
 unfolding ◌>>=◌
-bind_err m next w e answer = sym (ap (λ r. followed (m w).events (m w).after r next) answer)
+bind_err m next w e answer = sym (ap (λ r. continue_from (m w).events (m w).after r next) answer)
 
 told_then_ok : {W A B X Y : Type 0} (v : X → A) (v' : Y → B) (m : W → Run W A) (next : A → W → Run W B) (old mid new : Option (Told W)) (x : X) (r : Result Y Refusal)
     → AsTold v m old (Ok x) mid → AsTold v' (next (v x)) mid r new → AsTold v' (m >>= next) old r new
@@ -75,7 +75,7 @@ err_run before now m next w e p =
 
 -- a program that goes on has at least the events of its first part
 followed_events : {W A B : Type 0} (events : List Event) (w : W) (r : Result A Refusal) (next : A → W → Run W B)
-    → (rest : List Event) × (events ++ rest ≡ (followed events w r next).events)
+    → (rest : List Event) × (events ++ rest ≡ (continue_from events w r next).events)
 followed_events events w (Ok a) next = ((next a w).events, refl)
 followed_events events w (Err e) next = ([], append-nil events)
 
@@ -203,45 +203,45 @@ passed_on {tell = tell} {v = v} {m = m} {old = old} {new = new} {e = e} {r = r} 
 -- ---- undoing
 
 mended_ok : {W A : Type 0} (m : W → Run W A) (undo : W → Run W (Unit {0})) (w : W) (a : A) → (m w).answer ≡ Ok a
-    → record { events = (m w).events; answer = Ok a; after = (m w).after } ≡ guarded m undo w
-unfolding guarded
-mended_ok m undo w a is = sym (ap (λ r. mended (m w).events (m w).after r undo) is)
+    → record { events = (m w).events; answer = Ok a; after = (m w).after } ≡ with_undo m undo w
+unfolding with_undo
+mended_ok m undo w a is = sym (ap (λ r. undo_on_refusal (m w).events (m w).after r undo) is)
 
 mended_err : {W A : Type 0} (m : W → Run W A) (undo : W → Run W (Unit {0})) (w u : W) (e : Refusal) → (m w).answer ≡ Err e → u ≡ (m w).after
-    → joined (m w).events ((undo >>= λ _. refuse {W = W} {A = A} e) u) ≡ guarded m undo w
-unfolding guarded
+    → with_events_before (m w).events ((undo >>= λ _. refuse {W = W} {A = A} e) u) ≡ with_undo m undo w
+unfolding with_undo
 mended_err {W = W} {A = A} m undo w u e is after =
-    ap (λ x. joined (m w).events ((undo >>= λ _. refuse {W = W} {A = A} e) x)) after ∙ sym (ap (λ r. mended (m w).events (m w).after r undo) is)
+    ap (λ x. with_events_before (m w).events ((undo >>= λ _. refuse {W = W} {A = A} e) x)) after ∙ sym (ap (λ r. undo_on_refusal (m w).events (m w).after r undo) is)
 
 mended_events : {W A : Type 0} (events : List Event) (w : W) (r : Result A Refusal) (undo : W → Run W (Unit {0}))
-    → (rest : List Event) × (events ++ rest ≡ (mended events w r undo).events)
+    → (rest : List Event) × (events ++ rest ≡ (undo_on_refusal events w r undo).events)
 mended_events events w (Ok a) undo = ([], append-nil events)
 mended_events {W = W} {A = A} events w (Err e) undo = (((undo >>= λ _. refuse {W = W} {A = A} e) w).events, refl)
 
 guarded_events : {W A : Type 0} (m : W → Run W A) (undo : W → Run W (Unit {0})) (w : W)
-    → (rest : List Event) × ((m w).events ++ rest ≡ (guarded m undo w).events)
-unfolding guarded
+    → (rest : List Event) × ((m w).events ++ rest ≡ (with_undo m undo w).events)
+unfolding with_undo
 guarded_events m undo w = mended_events (m w).events (m w).after (m w).answer undo
 
 told_guard_ok : {W A X : Type 0} (v : X → A) (m : W → Run W A) (undo : W → Run W (Unit {0})) (old new : Option (Told W)) (x : X)
-    → AsTold v m old (Ok x) new → AsTold v (guarded m undo) old (Ok x) new
+    → AsTold v m old (Ok x) new → AsTold v (with_undo m undo) old (Ok x) new
 told_guard_ok v m undo None new x p = tt
 told_guard_ok v m undo (Some t) None x p = absurd p
 told_guard_ok v m undo (Some t) (Some n) x p =
     subst (λ run. IsRun run t.log (Ok (v x)) n) (mended_ok m undo t.world (v x) p.answer) (record { answer = refl; world = p.world; log = p.log })
 
 told_guard_early : {W A X Y : Type 0} (v : X → A) (v' : Y → A) (m : W → Run W A) (undo : W → Run W (Unit {0})) (old new : Option (Told W)) (e : Refusal) → ends_early e ≡ true
-    → AsTold v m old (Err e) new → AsTold v' (guarded m undo) old (Err e) new
+    → AsTold v m old (Err e) new → AsTold v' (with_undo m undo) old (Err e) new
 told_guard_early v v' m undo None new e early p = tt
 told_guard_early v v' m undo (Some t) None e early p = absurd p
 told_guard_early v v' m undo (Some t) (Some n) e early p =
     let cut : IsCutOff (m t.world) t.log n = subst (λ b. MatchBool b (IsCutOff (m t.world) t.log n) (IsRun (m t.world) t.log (Err e) n)) early p in
     let more = guarded_events m undo t.world in
-    subst (λ b. MatchBool b (IsCutOff (guarded m undo t.world) t.log n) (IsRun (guarded m undo t.world) t.log (Err e) n)) (sym early)
-    (longer_cut t.log n (m t.world) (guarded m undo t.world) more.0 more.1 cut)
+    subst (λ b. MatchBool b (IsCutOff (with_undo m undo t.world) t.log n) (IsRun (with_undo m undo t.world) t.log (Err e) n)) (sym early)
+    (longer_cut t.log n (m t.world) (with_undo m undo t.world) more.0 more.1 cut)
 
 told_guard_refused : {W A X Y Z : Type 0} (v : X → A) (v' : Y → A) (u : Z → Unit {0}) (m : W → Run W A) (undo : W → Run W (Unit {0})) (old mid new : Option (Told W)) (e : Refusal) (r : Result Y Refusal)
-    → ends_early e ≡ false → AsTold v m old (Err e) mid → AsTold v' (undo >>= λ _. refuse e) mid r new → AsTold v' (guarded m undo) old r new
+    → ends_early e ≡ false → AsTold v m old (Err e) mid → AsTold v' (undo >>= λ _. refuse e) mid r new → AsTold v' (with_undo m undo) old r new
 told_guard_refused v v' u m undo None mid new e r own p q = tt
 told_guard_refused v v' u m undo (Some t) None new e r own p q = absurd p
 told_guard_refused v v' u m undo (Some t) (Some k) None e r own p q = absurd q
@@ -252,7 +252,7 @@ told_guard_refused v v' u m undo (Some t) (Some k) (Some n) e r own p q =
 
 -- the guarded call answered
 pub guard_ok : {W A X S : Type 0} {tell : S → Moment W} {v : X → A} {m : W → Run W A} (undo : W → Run W (Unit {0})) {old new : S} {x : X}
-    → Runs tell v m old (Ok x) new → Runs tell v (guarded m undo) old (Ok x) new
+    → Runs tell v m old (Ok x) new → Runs tell v (with_undo m undo) old (Ok x) new
 guard_ok {tell = tell} {v = v} {m = m} undo {old = old} {new = new} {x = x} (Ran p) = Ran (record {
   told = told_guard_ok v m undo (tell old).told (tell new).told x p.told;
   keeps = p.keeps;
@@ -260,7 +260,7 @@ guard_ok {tell = tell} {v = v} {m = m} undo {old = old} {new = new} {x = x} (Ran
 
 -- the guarded call was ended early: nothing is undone
 pub guard_early : {W A X Y S : Type 0} {tell : S → Moment W} {v : X → A} {v' : Y → A} {m : W → Run W A} (undo : W → Run W (Unit {0})) {old new : S} {e : Refusal}
-    → ends_early e ≡ true → Runs tell v m old (Err e) new → Runs tell v' (guarded m undo) old (Err e) new
+    → ends_early e ≡ true → Runs tell v m old (Err e) new → Runs tell v' (with_undo m undo) old (Err e) new
 guard_early {tell = tell} {v = v} {v' = v'} {m = m} undo {old = old} {new = new} {e = e} early (Ran p) = Ran (record {
   told = told_guard_early v v' m undo (tell old).told (tell new).told e early p.told;
   keeps = keeps_err p.keeps;
@@ -268,7 +268,7 @@ guard_early {tell = tell} {v = v} {v' = v'} {m = m} undo {old = old} {new = new}
 
 -- the guarded call was refused, and what it did was undone
 pub guard_refused : {W A X Y Z S : Type 0} {tell : S → Moment W} {v : X → A} {v' : Y → A} {u : Z → Unit {0}} {m : W → Run W A} {undo : W → Run W (Unit {0})} {old mid new : S} {e : Refusal} {z : Z}
-    → ends_early e ≡ false → Runs tell v m old (Err e) mid → Runs tell u undo mid (Ok z) new → Runs tell v' (guarded m undo) old (Err e) new
+    → ends_early e ≡ false → Runs tell v m old (Err e) mid → Runs tell u undo mid (Ok z) new → Runs tell v' (with_undo m undo) old (Err e) new
 guard_refused {tell = tell} {v = v} {v' = v'} {u = u} {m = m} {undo = undo} {old = old} {mid = mid} {new = new} {e = e} {z = z} own (Ran p) (Ran q) = Ran (record {
   told = told_guard_refused v v' u m undo (tell old).told (tell mid).told (tell new).told e (Err e) own p.told
       (told_then_ok u v' undo (λ _. refuse e) (tell mid).told (tell new).told (tell new).told z (Err e) q.told (told_refused v' (tell new).told e own));
@@ -277,7 +277,7 @@ guard_refused {tell = tell} {v = v} {v' = v'} {u = u} {m = m} {undo = undo} {old
 
 -- the guarded call was refused, and so was the undoing
 pub guard_lost : {W A X Y Z S : Type 0} {tell : S → Moment W} {v : X → A} {v' : Y → A} {u : Z → Unit {0}} {m : W → Run W A} {undo : W → Run W (Unit {0})} {old mid new : S} {e d : Refusal}
-    → ends_early e ≡ false → Runs tell v m old (Err e) mid → Runs tell u undo mid (Err d) new → Runs tell v' (guarded m undo) old (Err d) new
+    → ends_early e ≡ false → Runs tell v m old (Err e) mid → Runs tell u undo mid (Err d) new → Runs tell v' (with_undo m undo) old (Err d) new
 guard_lost {tell = tell} {v = v} {v' = v'} {u = u} {m = m} {undo = undo} {old = old} {mid = mid} {new = new} {e = e} {d = d} own (Ran p) (Ran q) = Ran (record {
   told = told_guard_refused v v' u m undo (tell old).told (tell mid).told (tell new).told e (Err d) own p.told
       (told_then_err u v' undo (λ _. refuse e) (tell mid).told (tell new).told d q.told);
@@ -306,10 +306,10 @@ told_more v whole m next (Some t) (Some k) None x p q = absurd q
 told_more v whole m next (Some t) (Some k) (Some n) x p q = (
   p.0 ++ (m k.world).events,
   q.log ∙ ap (λ l. after_events l (m k.world).events) p.1 ∙ sym (after_append t.log p.0 (m k.world).events),
-  p.2 ∙ ap (joined p.0) (sym (bind_ok m next k.world n.world (v x) q.answer q.world)) ∙ joined_twice p.0 (m k.world).events (next (v x) n.world),
+  p.2 ∙ ap (with_events_before p.0) (sym (bind_ok m next k.world n.world (v x) q.answer q.world)) ∙ joined_twice p.0 (m k.world).events (next (v x) n.world),
 )
   where
-    joined_twice : {W A : Type 0} (xs ys : List Event) (run : Run W A) → joined xs (joined ys run) ≡ joined (xs ++ ys) run
+    joined_twice : {W A : Type 0} (xs ys : List Event) (run : Run W A) → with_events_before xs (with_events_before ys run) ≡ with_events_before (xs ++ ys) run
     joined_twice xs ys run = ap (λ es. record { events = es; answer = run.answer; after = run.after }) (sym (append_assoc xs ys run.events))
 
 told_end : {W A X : Type 0} (v : X → A) (whole rest : W → Run W A) (old mid new : Option (Told W)) (r : Result X Refusal)

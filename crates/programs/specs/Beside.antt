@@ -20,8 +20,8 @@ unfoldable pub on_store : {S A : Type 0} → (List Event → S → S) → (Store
 on_store note m w = beside_run (note (m w.store).events w.own) (m w.store)
 
 -- the note that keeps nothing
-abbrev pub unnoted : {S : Type 0} → List Event → S → S
-unnoted events own = own
+abbrev pub no_note : {S : Type 0} → List Event → S → S
+no_note events own = own
 
 abbrev pub IsNotedAs : {S A X : Type 0} → (List Event → S → S) → (X → A) → (Store → Run Store A) → S → Result X Refusal → S → Type 0
 IsNotedAs note view m own (Ok x) now = (w : Store) → (m w).answer ≡ Ok (view x) → now ≡ note (m w).events own

@@ -4,7 +4,7 @@ use Rattle.base_core.specs.Counts.{Rose}
 use Rattle.base_core.specs.declared.refusal.Refusal.{Refusal}
 use Rattle.programs.specs.declared.sent.Sent.{Sent}
 use Rattle.programs.specs.declared.target.Target.{Target}
-use Rattle.programs.specs.Programs.{Event, Log, Run, after_events, ends_early, is_fault, is_of_tables, joined}
+use Rattle.programs.specs.Programs.{Event, Log, Run, after_events, ends_early, is_fault, is_of_tables, with_events_before}
 
 -- ---- moments
 
@@ -126,7 +126,7 @@ parts (Ran p) = p
 abbrev pub AsReached : {W A : Type 0} → (W → Run W A) → Option (Told W) → (W → Run W A) → Option (Told W) → Type 0
 AsReached whole None rest now = Unit {0}
 AsReached whole (Some told) rest None = ⊥
-AsReached whole (Some told) rest (Some now) = (events : List Event) × (now.log ≡ after_events told.log events) × (whole told.world ≡ joined events (rest now.world))
+AsReached whole (Some told) rest (Some now) = (events : List Event) × (now.log ≡ after_events told.log events) × (whole told.world ≡ with_events_before events (rest now.world))
 
 -- From old on, the program whole has come to mid, where the program rest is left of it. Nothing was refused on the way.
 pub record Way {W A S : Type 0} (tell : S → Moment W) (whole : W → Run W A) (old : S) (rest : W → Run W A) (mid : S) : Type 0 where

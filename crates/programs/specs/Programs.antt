@@ -62,18 +62,18 @@ abbrev pub quiet : {W A : Type 0} → Result A Refusal → W → Run W A
 quiet answer w = record { events = []; answer = answer; after = w }
 
 -- events, and then a run
-abbrev pub joined : {W A : Type 0} → List Event → Run W A → Run W A
-joined events run = record { events = events ++ run.events; answer = run.answer; after = run.after }
+abbrev pub with_events_before : {W A : Type 0} → List Event → Run W A → Run W A
+with_events_before events run = record { events = events ++ run.events; answer = run.answer; after = run.after }
 
 -- events, and then the run that goes on from an answer; a refusal ends it
-abbrev pub followed : {W A B : Type 0} → List Event → W → Result A Refusal → (A → W → Run W B) → Run W B
-followed events w (Ok a) next = joined events (next a w)
-followed events w (Err e) next = record { events = events; answer = Err e; after = w }
+abbrev pub continue_from : {W A B : Type 0} → List Event → W → Result A Refusal → (A → W → Run W B) → Run W B
+continue_from events w (Ok a) next = with_events_before events (next a w)
+continue_from events w (Err e) next = record { events = events; answer = Err e; after = w }
 
 infixl 10 ◌>>=◌
 -- a program, and then the one that goes on from its answer
 unfoldable pub ◌>>=◌ : {W A B : Type 0} → (W → Run W A) → (A → W → Run W B) → W → Run W B
-(m >>= next) w = followed (m w).events (m w).after (m w).answer next
+(m >>= next) w = continue_from (m w).events (m w).after (m w).answer next
 
 unfoldable pub give : {W A : Type 0} → A → W → Run W A
 give a w = quiet (Ok a) w
@@ -86,30 +86,30 @@ unfoldable pub change : {W : Type 0} → (W → W) → W → Run W (Unit {0})
 change f w = quiet (Ok tt) (f w)
 
 -- after a refusal, undo, and then the refusal
-abbrev pub mended : {W A : Type 0} → List Event → W → Result A Refusal → (W → Run W (Unit {0})) → Run W A
-mended events w (Ok a) undo = record { events = events; answer = Ok a; after = w }
-mended events w (Err e) undo = joined events ((undo >>= λ _. refuse e) w)
+abbrev pub undo_on_refusal : {W A : Type 0} → List Event → W → Result A Refusal → (W → Run W (Unit {0})) → Run W A
+undo_on_refusal events w (Ok a) undo = record { events = events; answer = Ok a; after = w }
+undo_on_refusal events w (Err e) undo = with_events_before events ((undo >>= λ _. refuse e) w)
 
 -- a program, and where it refuses, undo, and then the refusal
-unfoldable pub guarded : {W A : Type 0} → (W → Run W A) → (W → Run W (Unit {0})) → W → Run W A
-guarded m undo w = mended (m w).events (m w).after (m w).answer undo
+unfoldable pub with_undo : {W A : Type 0} → (W → Run W A) → (W → Run W (Unit {0})) → W → Run W A
+with_undo m undo w = undo_on_refusal (m w).events (m w).after (m w).answer undo
 
 -- what came of a program: its answer, or after a refusal what is done about it
-abbrev pub recovered : {W A : Type 0} → List Event → W → Result A Refusal → (Refusal → W → Run W A) → Run W A
-recovered events w (Ok a) instead = record { events = events; answer = Ok a; after = w }
-recovered events w (Err e) instead = joined events (instead e w)
+abbrev pub recover_from : {W A : Type 0} → List Event → W → Result A Refusal → (Refusal → W → Run W A) → Run W A
+recover_from events w (Ok a) instead = record { events = events; answer = Ok a; after = w }
+recover_from events w (Err e) instead = with_events_before events (instead e w)
 
 -- a program, and where it refuses, what is done about the refusal
-unfoldable pub caught : {W A : Type 0} → (Refusal → W → Run W A) → (W → Run W A) → W → Run W A
-caught instead m w = recovered (m w).events (m w).after (m w).answer instead
+unfoldable pub handle_refusal : {W A : Type 0} → (Refusal → W → Run W A) → (W → Run W A) → W → Run W A
+handle_refusal instead m w = recover_from (m w).events (m w).after (m w).answer instead
 
 abbrev pub rescue_of : {A : Type 0} → (Refusal → A) → Result A Refusal → Result A Refusal
 rescue_of text (Ok a) = Ok a
 rescue_of text (Err e) = Ok (text e)
 
 -- a program, and where it refuses, what text makes of the refusal
-unfoldable pub rescued : {W A : Type 0} → (Refusal → A) → (W → Run W A) → W → Run W A
-rescued text m w = record { events = (m w).events; answer = rescue_of text (m w).answer; after = (m w).after }
+unfoldable pub rescue : {W A : Type 0} → (Refusal → A) → (W → Run W A) → W → Run W A
+rescue text m w = record { events = (m w).events; answer = rescue_of text (m w).answer; after = (m w).after }
 
 -- one step for each item, in order; what a step answers is given to the next one
 unfoldable pub each : {W A S : Type 0} → (A → S → W → Run W S) → S → List A → W → Run W S
@@ -119,8 +119,8 @@ each step s (x ∷ xs) = step x s >>= λ t. each step t xs
 -- ---- programs that send nothing
 
 -- a question, which changes nothing
-unfoldable pub asked : {W A : Type 0} → (W → Result A Refusal) → W → Run W A
-asked question w = quiet (question w) w
+unfoldable pub ask : {W A : Type 0} → (W → Result A Refusal) → W → Run W A
+ask question w = quiet (question w) w
 
 abbrev pub become : {W : Type 0} → W → Result W Refusal → Run W (Unit {0})
 become w (Ok now) = quiet (Ok tt) now

@@ -6,12 +6,12 @@ use Rattle.base_core.specs.declared.ids.TableId.{TableId}
 use Rattle.schema_core.specs.Tables.{Tables, table_cmp, with_rows}
 
 -- the tables with one more, which has no rows
-abbrev pub created : Tables → TableId → Tables
-created tables table = with_rows tables table []
+abbrev pub with_empty_table : Tables → TableId → Tables
+with_empty_table tables table = with_rows tables table []
 
 -- the tables without one
-abbrev pub dropped : Tables → TableId → Tables
-dropped tables table = remove_entry (is_at (table_cmp table)) tables
+abbrev pub without_table : Tables → TableId → Tables
+without_table tables table = remove_entry (is_at (table_cmp table)) tables
 
 -- the tables now, and the tables at the start of each scope, the innermost first; the outermost scope is the transaction
 pub record Store : Type 0 where

@@ -7,7 +7,7 @@ use Rattle.programs.specs.Store.{Store}
 use Rattle.programs.specs.Programs.{◌>>=◌}
 use Rattle.programs.specs.Moment.{Moment, Runs}
 use Rattle.keeper_core.specs.Calls as call
-use Rattle.programs.specs.Beside.{changes, moment_beside, on_store, unnoted}
+use Rattle.programs.specs.Beside.{changes, moment_beside, on_store, no_note}
 use Rattle.programs.proofs.Sequence.{done, then_ok}
 use Rattle.programs.proofs.Lifting.{chosen}
 use Rattle.savepoints.specs.declared.scope.Scope.{Scope}
@@ -18,7 +18,7 @@ use Rattle.programs.proofs.Lifting.{then_ends}
 
 -- a transaction began
 pub enters : {K : Type 0} (moment : K → Moment Store) {own now : SessionState} {old new : K} {r : Result (Unit {0}) Refusal} → own.failed ≡ false → own.scopes ≡ []
-    → Runs (moment_beside moment) (λ u. u) (on_store unnoted call.begin) (own, old) (Ok tt) (own, new) → OnOk r (now ≡ session_begun own) → IfErr r (λ e. e ≡ Memory) → Runs (moment_beside moment) (λ u. u) enter (own, old) r (now, new)
+    → Runs (moment_beside moment) (λ u. u) (on_store no_note call.begin) (own, old) (Ok tt) (own, new) → OnOk r (now ≡ session_begun own) → IfErr r (λ e. e ≡ Memory) → Runs (moment_beside moment) (λ u. u) enter (own, old) r (now, new)
 unfolding enter
 enters moment {own = own} {now = now} {old = old} {new = new} {r = r} well outside p is cause =
     let F : Bool → Bool → Type 0 = λ failed open_. Runs (moment_beside moment) (λ u. u) (entering failed open_) (own, old) r (now, new) in
@@ -35,7 +35,7 @@ stays_in moment {own = own} {keeper = keeper} well inside =
 
 -- a failed flush was rolled back
 pub gives_up : {K : Type 0} (moment : K → Moment Store) {own now : SessionState} {old new : K} {r : Result (Unit {0}) Refusal}
-    → Runs (moment_beside moment) (λ u. u) (on_store unnoted call.rollback) (own, old) (Ok tt) (own, new) → OnOk r (now ≡ session_failed own) → IfErr r (λ e. e ≡ Memory) → Runs (moment_beside moment) (λ u. u) give_up (own, old) r (now, new)
+    → Runs (moment_beside moment) (λ u. u) (on_store no_note call.rollback) (own, old) (Ok tt) (own, new) → OnOk r (now ≡ session_failed own) → IfErr r (λ e. e ≡ Memory) → Runs (moment_beside moment) (λ u. u) give_up (own, old) r (now, new)
 unfolding give_up
 gives_up moment p is cause = then_ends moment (λ _. session_failed) p is cause
 
@@ -52,12 +52,12 @@ flushes moment {own = own} {mid = mid} {now = now} {old = old} {new = new} {writ
 -- what was pending was written and the transaction committed
 pub commits : {K : Type 0} (moment : K → Moment Store) {own entered written now : SessionState} {old one two new : K} {r : Result (Unit {0}) Refusal}
     → Runs (moment_beside moment) (λ u. u) enter (own, old) (Ok tt) (entered, one) → Runs (moment_beside moment) (λ u. u) flush (entered, one) (Ok tt) (written, two)
-    → Runs (moment_beside moment) (λ u. u) (on_store unnoted call.commit) (written, two) (Ok tt) (written, new) → OnOk r (now ≡ session_committed written) → IfErr r (λ e. e ≡ Memory)
+    → Runs (moment_beside moment) (λ u. u) (on_store no_note call.commit) (written, two) (Ok tt) (written, new) → OnOk r (now ≡ session_committed written) → IfErr r (λ e. e ≡ Memory)
     → Runs (moment_beside moment) (λ u. u) commit (own, old) r (now, new)
 unfolding commit
 commits moment p q c is cause =
-    then_ok (λ _. flush >>= λ _. (on_store unnoted call.commit >>= λ _. changes session_committed)) p
-    (then_ok (λ _. on_store unnoted call.commit >>= λ _. changes session_committed) q (then_ends moment (λ _. session_committed) c is cause))
+    then_ok (λ _. flush >>= λ _. (on_store no_note call.commit >>= λ _. changes session_committed)) p
+    (then_ok (λ _. on_store no_note call.commit >>= λ _. changes session_committed) q (then_ends moment (λ _. session_committed) c is cause))
 
 -- the session was session_closed
 pub closes : {K : Type 0} (moment : K → Moment Store) {own now : SessionState} {old new : K} {r : Result (Unit {0}) Refusal}

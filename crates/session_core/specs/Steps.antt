@@ -8,8 +8,8 @@ use Rattle.base_core.specs.declared.value.Value.{Value}
 use Rattle.base_core.specs.declared.refusal.RequestKind.TheVariants as requests
 use Rattle.base_core.specs.declared.refusal.Refusal.TheVariants.{InvalidRequestError, NotBuilt, PendingRollbackError}
 use Rattle.programs.specs.Store.{Store}
-use Rattle.programs.specs.Programs.{Run, ◌>>=◌, change, each, give, guarded, refuse}
-use Rattle.programs.specs.Beside.{Beside, by_own, changes, on_own, on_store, unnoted}
+use Rattle.programs.specs.Programs.{Run, ◌>>=◌, change, each, give, with_undo, refuse}
+use Rattle.programs.specs.Beside.{Beside, by_own, changes, on_own, on_store, no_note}
 use Rattle.keeper_core.specs.Calls as call
 use Rattle.object_arena.specs.declared.object.State.{State}
 use Rattle.object_arena.specs.declared.object.State.TheVariants.{Transient, Pending, Deleted, Detached}
@@ -61,7 +61,7 @@ session_closed session = record session { graph = each_object object_left sessio
 abbrev pub entering : Bool → Bool → World → Run World (Unit {0})
 entering true begun_before = refuse PendingRollbackError
 entering false true = give tt
-entering false false = on_store unnoted call.begin >>= λ _. changes session_begun
+entering false false = on_store no_note call.begin >>= λ _. changes session_begun
 
 -- refused while a failed flush waits for its rollback; else a transaction begins where none is in progress
 unfoldable pub enter : World → Run World (Unit {0})
@@ -80,11 +80,11 @@ insert_all session objects = each (insert_one session) [] objects
 
 -- the transaction is rolled back, and its pending objects are transient again
 unfoldable pub give_up : World → Run World (Unit {0})
-give_up = on_store unnoted call.rollback >>= λ _. changes session_failed
+give_up = on_store no_note call.rollback >>= λ _. changes session_failed
 
 -- the rows are written, and where one is refused all of them are given up
 unfoldable pub write_pending : List ObjId → World → Run World (List Written)
-write_pending objects = guarded (by_own (λ session. on_store unnoted (insert_all session objects))) give_up
+write_pending objects = with_undo (by_own (λ session. on_store no_note (insert_all session objects))) give_up
 
 -- the rows of the pending objects are written in the order of adding, and the objects are persistent then
 unfoldable pub flush : World → Run World (Unit {0})
@@ -116,10 +116,10 @@ add object = enter >>= λ _. on_own (take_in object)
 
 -- what is pending is written, and the transaction committed
 unfoldable pub commit : World → Run World (Unit {0})
-commit = enter >>= λ _. (flush >>= λ _. (on_store unnoted call.commit >>= λ _. changes session_committed))
+commit = enter >>= λ _. (flush >>= λ _. (on_store no_note call.commit >>= λ _. changes session_committed))
 
 abbrev pub leaving : Bool → World → Run World (Unit {0})
-leaving true = on_store unnoted call.rollback
+leaving true = on_store no_note call.rollback
 leaving false = give tt
 
 -- the transaction ends without its rows, and all objects leave the session

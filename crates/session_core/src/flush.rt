@@ -7,7 +7,7 @@ ghost use Rattle.base_core.specs.declared.value.Value.{Value};
 ghost use Rattle.class_mapping.specs.Mapped.{root_spec, root_table};
 ghost use Rattle.object_arena.specs.Graph.{IsObject, object_at, row_of};
 ghost use Rattle.programs.specs.Programs.{ends_early};
-ghost use Rattle.programs.specs.Beside.{moment_beside, on_store, unnoted, unnoted, by_own};
+ghost use Rattle.programs.specs.Beside.{moment_beside, on_store, no_note, by_own};
 ghost use Rattle.programs.specs.Moment.{Runs};
 ghost use Rattle.session_core.specs.SessionState.{IsInStep, IsKept, StaysInStep, SameObjects};
 ghost use Rattle.keeper_core.specs.Calls as call;
@@ -141,7 +141,7 @@ impl Session {
         requires in_step { IsInStep self.now (K.moment keeper.old) }
         requires inside { length self.now.scopes ≡ 1 }
         ensures step { Runs (moment_beside K.moment)
-            (λ u. u) (on_store unnoted call.rollback) (self.now, keeper.old) result
+            (λ u. u) (on_store no_note call.rollback) (self.now, keeper.old) result
             (self.now, keeper.new) }
         ensures ended { (K.moment keeper.new).depth ≡ 0 }
         ensures attached { (K.moment keeper.new).attached ≡ true }
@@ -175,7 +175,7 @@ impl Session {
         requires objects { All (IsObject self.now.graph) objects.now }
         ensures step { Runs (moment_beside K.moment)
             (λ written. written)
-            (by_own (λ session. on_store unnoted (steps.insert_all session objects.now)))
+            (by_own (λ session. on_store no_note (steps.insert_all session objects.now)))
             (self.now, keeper.old) result (self.now, keeper.new) }
         ensures in_step { StaysInStep result self.now (K.moment keeper.new) }
         ensures keys { IfOk result (All (spec.IsUnderKey self.now.mapping self.now.graph)) }

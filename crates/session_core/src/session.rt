@@ -5,7 +5,7 @@ ghost use Rattle.class_mapping.specs.Mapped.{IsClass};
 ghost use Rattle.class_mapping.specs.PlainClass.{ArePlain};
 ghost use Rattle.object_arena.specs.Graph.{IsObject, object_at};
 ghost use Rattle.programs.specs.Programs.{ends_early};
-ghost use Rattle.programs.specs.Beside.{moment_beside, on_store, unnoted, unnoted};
+ghost use Rattle.programs.specs.Beside.{moment_beside, on_store, no_note};
 ghost use Rattle.keeper_core.specs.Calls as call;
 ghost use Rattle.programs.specs.Moment.{Runs};
 ghost use Rattle.session_core.specs.SessionState.{IsInStep, IsKept, IsOfClass, ObjectsStay, SameObjects, depth_of, in_transaction, new_session};
@@ -217,7 +217,7 @@ impl Session {
         requires in_step { IsInStep self.now (K.moment keeper.old) }
         requires outside { self.now.scopes ≡ [] }
         ensures step { Runs (moment_beside K.moment)
-            (λ u. u) (on_store unnoted call.begin) (self.now, keeper.old) result
+            (λ u. u) (on_store no_note call.begin) (self.now, keeper.old) result
             (self.now, keeper.new) }
         ensures depth { OnOk result ((K.moment keeper.new).depth ≡ 1) }
         ensures attached { (K.moment keeper.new).attached ≡ true }
@@ -232,7 +232,7 @@ impl Session {
         requires in_step { IsInStep self.now (K.moment keeper.old) }
         requires inside { length self.now.scopes ≡ 1 }
         ensures step { Runs (moment_beside K.moment)
-            (λ u. u) (on_store unnoted call.commit) (self.now, keeper.old) result
+            (λ u. u) (on_store no_note call.commit) (self.now, keeper.old) result
             (self.now, keeper.new) }
         ensures ended { (K.moment keeper.new).depth ≡ 0 }
         ensures attached { (K.moment keeper.new).attached ≡ true }

@@ -17,7 +17,7 @@ use Rattle.shell_parts.specs.Blocks.{IsOfDeclaring, block_of, declare, is_built_
 use Rattle.shell_steps.specs.declared.stage.Stage.{Stage}
 use Rattle.shell_steps.specs.declared.stage.Stage.TheVariants.{Declaring}
 use Rattle.programs.specs.Alone.{alone, IsOwn, Turns, Turned}
-use Rattle.programs.specs.Programs.{asked}
+use Rattle.programs.specs.Programs.{ask}
 use Rattle.shell_steps.specs.Calls.{IsStageTurn}
 use Rattle.shell_steps.specs.ShellState.{IsKept, IsPlainStage, ShellState, no_rules}
 use Rattle.session_core.proofs.SessionLemmas.{stay_same}
@@ -26,7 +26,7 @@ use Rattle.shell_steps.specs.Step.{declared_stage, declared_stage_at, opened_sta
 use Rattle.programs.proofs.AloneLemmas.{asked_ok, asked_err, alone_lost, turns_ok, turns_err, turns_lost}
 
 -- a line was read
-pub reads : {S A X : Type 0} {v : X → A} (question : S → Result A Refusal) {s : S} {r : Result X Refusal} → Gives v r (question s) → IfErr r IsOfReading → Runs alone v (asked question) s r s
+pub reads : {S A X : Type 0} {v : X → A} (question : S → Result A Refusal) {s : S} {r : Result X Refusal} → Gives v r (question s) → IfErr r IsOfReading → Runs alone v (ask question) s r s
 reads question {r = Ok x} p cause = asked_ok question p
 reads question {r = Err Memory} p cause = alone_lost
 reads question {r = Err (ScriptError line column)} p cause = asked_err question refl refl p
@@ -38,11 +38,11 @@ block_refused (ClassHead name base table discriminator identity owned) first e i
 block_refused head first e is = cc
 
 -- a head was tried
-pub opens : (head : Command) {own : ShellState} {r : Result Block Refusal} → r ≡ block_of head own.line → Runs alone (λ (block : Block). block) (asked (block_opened head)) own r own
+pub opens : (head : Command) {own : ShellState} {r : Result Block Refusal} → r ≡ block_of head own.line → Runs alone (λ (block : Block). block) (ask (block_opened head)) own r own
 opens head {r = Ok x} p = asked_ok (block_opened head) (sym p)
 opens head {own = own} {r = Err e} p =
     let is = block_refused head own.line e (sym p) in
-    subst (λ (d : Refusal). Runs alone (λ (block : Block). block) (asked (block_opened head)) own (Err d) own) (sym is) (asked_err (block_opened head) refl refl (sym p ∙ ap Err is))
+    subst (λ (d : Refusal). Runs alone (λ (block : Block). block) (ask (block_opened head)) own (Err d) own) (sym is) (asked_err (block_opened head) refl refl (sym p ∙ ap Err is))
 
 -- the mapping took the declaration of a block, or refused it
 declares_at : (block : Block) (mapping now : Mapped) (r : Result (Unit {0}) Refusal)

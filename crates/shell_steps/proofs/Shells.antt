@@ -6,9 +6,9 @@ use Rattle.base_core.specs.declared.refusal.Refusal.TheVariants.{Memory, Invalid
 use Rattle.base_core.specs.declared.value.Value.{Value}
 use Rattle.base_core.specs.declared.refusal.RequestKind.TheVariants.{InTransaction, NotConfigured}
 use Rattle.programs.specs.Store.{Store}
-use Rattle.programs.specs.Programs.{Run, ◌>>=◌, change, ends_early, give, quiet, refuse, asked}
+use Rattle.programs.specs.Programs.{Run, ◌>>=◌, change, ends_early, give, quiet, refuse, ask}
 use Rattle.programs.specs.Moment.{Told, Moment, IsRun, IsCutOff, Outcome, AsTold, Runs, Ran}
-use Rattle.programs.specs.Beside.{Beside, by_own, on_own, on_store, unnoted, told_beside, moment_beside, moment_answering}
+use Rattle.programs.specs.Beside.{Beside, by_own, on_own, on_store, no_note, told_beside, moment_beside, moment_answering}
 use Rattle.programs.proofs.Sequence.{then_ok, then_err, refused, done as given, no_memory, ran_out, guard_ok, guard_early, guard_refused}
 use Rattle.programs.proofs.Lifting.{on_keeper, same_beside, then_store_err, then_store_ok}
 use Rattle.class_mapping.specs.Mapped.{Mapped}
@@ -80,7 +80,7 @@ pub tables_open : {K A X : Type 0} {moment : K → Moment Store} {v : X → A} (
     → own.stage ≡ Configured state → Runs moment v (m state) old r new → Runs (moment_beside moment) v (on_tables m) (own, old) r (own, new)
 unfolding on_tables on_store
 tables_open {moment = moment} m {own = own} {state = state} opened p =
-    same_beside moment (on_store unnoted (m state)) (on_tables m) (λ store. sym (ap (λ stage. tables_at stage m (record { own = own; store = store })) opened)) (on_keeper p)
+    same_beside moment (on_store no_note (m state)) (on_tables m) (λ store. sym (ap (λ stage. tables_at stage m (record { own = own; store = store })) opened)) (on_keeper p)
 
 pub tables_none : {K A X : Type 0} (moment : K → Moment Store) {v : X → A} (m : SessionState → Store → Run Store A) {own : ShellState} {mapping : Mapped} {keeper : K}
     → own.stage ≡ Declaring mapping → Runs (moment_beside moment) v (on_tables m) (own, keeper) (Err (InvalidRequestError NotConfigured)) (own, keeper)
@@ -179,7 +179,7 @@ line_counted moment bytes is p = then_own_ok moment (λ _. do_line bytes) {x = t
 -- a refusal was told
 pub told_text : {X : Type 0} {v : X → List ℕ} (number : ℕ) (e : Refusal) {own now : ShellState} {x : X} → now ≡ with_refused own → v x ≡ error_text number e now → Runs alone v (tell number e) own (Ok x) now
 unfolding tell
-told_text {v = v} number e is text = then_ok (λ _. asked (λ shell. Ok (error_text number e shell))) {x = tt} (change_ok {X = Unit {0}} with_refused is) (asked_ok {v = v} (λ shell. Ok (error_text number e shell)) (ap Ok (sym text)))
+told_text {v = v} number e is text = then_ok (λ _. ask (λ shell. Ok (error_text number e shell))) {x = tt} (change_ok {X = Unit {0}} with_refused is) (asked_ok {v = v} (λ shell. Ok (error_text number e shell)) (ap Ok (sym text)))
 
 -- no block was opened at the end
 pub ended_none : {X : Type 0} {v : X → List ℕ} {own : ShellState} {x : X} → own.block ≡ None → [] ≡ v x → Runs alone v end_of_script own (Ok x) own
@@ -274,7 +274,7 @@ skips_none {own = own} none is = is ∙ ap (λ (b : Option Block). with_block b 
 
 -- a line could not be read, and the block's lines are skipped from there on
 pub unread : (bytes : List ℕ) {own now : ShellState} {e : Refusal}
-    → ends_early e ≡ false → Runs alone (λ (command : Command). command) (asked (said_command bytes)) own (Err e) own → now ≡ skip_block own → IsShellCallAlone (read bytes) own (Err e) now
+    → ends_early e ≡ false → Runs alone (λ (command : Command). command) (ask (said_command bytes)) own (Err e) own → now ≡ skip_block own → IsShellCallAlone (read bytes) own (Err e) now
 unfolding read
 unread bytes early p is = record {
   step = guard_refused early p (changes_to skip_block is);

@@ -12,7 +12,7 @@ use Rattle.base_core.specs.declared.refusal.Refusal.TheVariants.{InvalidRequestE
 use Rattle.schema_core.specs.Catalog.{same_name}
 use Rattle.class_types.specs.declared.mapped.Attribute.{Attribute}
 use Rattle.class_mapping.specs.Mapped.{attributes_of, find_class}
-use Rattle.programs.specs.Programs.{Run, each, asked}
+use Rattle.programs.specs.Programs.{Run, each, ask}
 use Rattle.session_core.specs.SessionState.{SessionState}
 use Rattle.shell_parts.specs.declared.names.Bound.{Bound}
 use Rattle.shell_parts.specs.declared.names.Bound.TheVariants.{Object}
@@ -79,7 +79,7 @@ with_given attributes given cells = cells_with given.0 given.1 cells (find_attri
 
 -- one value more, for an attribute of the class
 unfoldable pub give_value : ClassId → List ℕ × Value → Cells → ShellState → Run ShellState Cells
-give_value class given cells = asked (λ shell. with_given (attributes_of (mapping_of shell.stage) class) given cells)
+give_value class given cells = ask (λ shell. with_given (attributes_of (mapping_of shell.stage) class) given cells)
 
 -- the values for attributes of a class, each attribute once
 unfoldable pub cells_named : ClassId → List (List ℕ × Value) → ShellState → Run ShellState Cells

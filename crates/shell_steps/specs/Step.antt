@@ -24,7 +24,7 @@ use Rattle.shell_parts.specs.Blocks.{block_of, declare, forms_of, is_built_block
 use Rattle.shell_parts.specs.Replies.{error_line, table_text}
 use Rattle.shell_parts.specs.TableNames.{table_names}
 use Rattle.programs.specs.Store.{Store}
-use Rattle.programs.specs.Programs.{Run, ◌>>=◌, change, each, give, guarded, quiet, refuse, asked, becomes, caught}
+use Rattle.programs.specs.Programs.{Run, ◌>>=◌, change, each, give, with_undo, quiet, refuse, ask, becomes, handle_refusal}
 use Rattle.programs.specs.Beside.{Beside, beside_run, by_own, on_own}
 use Rattle.keeper_core.specs.Calls as call
 use Rattle.session_core.specs.SessionState.{SessionState, in_transaction, new_session}
@@ -166,10 +166,10 @@ with_bound name class object shell = record shell { names = bind shell.names nam
 -- an object of the class is made with these values, and bound to the name
 unfoldable pub make : List ℕ → List ℕ → List (List ℕ × Value) → ShellState → Run ShellState (List ℕ)
 make name class given =
-    asked (class_named class) >>= λ class. (cells_named class given >>= λ cells. (in_session_alone (object_made class cells) >>= λ object. (change (with_bound name class object) >>= λ _. give [])))
+    ask (class_named class) >>= λ class. (cells_named class given >>= λ cells. (in_session_alone (object_made class cells) >>= λ object. (change (with_bound name class object) >>= λ _. give [])))
 
 unfoldable pub add : List ℕ → World → Run World (List ℕ)
-add name = on_own (asked (object_named name)) >>= λ object. (in_session (session.add object) >>= λ _. give [])
+add name = on_own (ask (object_named name)) >>= λ object. (in_session (session.add object) >>= λ _. give [])
 
 unfoldable pub commit : World → Run World (List ℕ)
 commit = in_session session.commit >>= λ _. give []
@@ -184,7 +184,7 @@ block_opened head shell = block_of head shell.line
 
 -- a head opens a block, and every other line is not built
 unfoldable pub open_block : Command → ShellState → Run ShellState (List ℕ)
-open_block head = asked (block_opened head) >>= λ block. (change (with_block (Some block)) >>= λ _. give [])
+open_block head = ask (block_opened head) >>= λ block. (change (with_block (Some block)) >>= λ _. give [])
 
 -- the line opens a block
 abbrev pub is_head : Command → Bool
@@ -262,7 +262,7 @@ said_command bytes shell = said_by bytes shell.line (place_of shell.block)
 
 -- what a line says; in a block the lines behind one that can not be read are skipped
 unfoldable pub read : List ℕ → ShellState → Run ShellState Command
-read bytes = guarded (asked (said_command bytes)) (change skip_block)
+read bytes = with_undo (ask (said_command bytes)) (change skip_block)
 
 unfoldable pub read_and_do : List ℕ → World → Run World (List ℕ)
 read_and_do bytes = on_own (read bytes) >>= do_command
@@ -305,14 +305,14 @@ error_text number e shell = error_line (table_names (mapping_of shell.stage).sch
 
 -- the refusal of the line of this number is told
 unfoldable pub tell : ℕ → Refusal → ShellState → Run ShellState (List ℕ)
-tell number e = change with_refused >>= λ _. asked (λ shell. Ok (error_text number e shell))
+tell number e = change with_refused >>= λ _. ask (λ shell. Ok (error_text number e shell))
 
 abbrev pub tell_here : Refusal → ShellState → Run ShellState (List ℕ)
 tell_here e shell = tell shell.line e shell
 
 -- the reply to a line: what it answers, or why it is refused
 unfoldable pub reply_to : List ℕ → World → Run World (List ℕ)
-reply_to bytes = caught (λ e. on_own (tell_here e)) (line_step bytes)
+reply_to bytes = handle_refusal (λ e. on_own (tell_here e)) (line_step bytes)
 
 abbrev pub end_of_script_in : Option Block → ShellState → Run ShellState (List ℕ)
 end_of_script_in None = give []

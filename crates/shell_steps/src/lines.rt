@@ -3,7 +3,7 @@
 ghost use Rattle.std.specs.Prelude.{◌≡◌, true, false, IfErr, IfOk};
 ghost use Rattle.programs.specs.Moment.{Runs};
 ghost use Rattle.shell_parts.specs.Lines.{is_built as is_built_line};
-ghost use Rattle.programs.specs.Programs.{change, asked};
+ghost use Rattle.programs.specs.Programs.{change, ask};
 ghost use Rattle.programs.specs.Alone.{alone};
 ghost use Rattle.shell_steps.specs.Calls.{IsShellCall, IsShellCallAlone, IsStageTurn, IsTurn};
 ghost use Rattle.shell_steps.specs.ShellState.{IsReady};
@@ -107,7 +107,7 @@ impl Shell {
     #[tactic(auto, using(crate::proofs::Declaring::reads))]
     fn say(&self, line: &[u8]) -> Result<Command, Refusal>
         ensures { Runs alone (λ command. command)
-            (asked (step.said_command line.now)) self.now result self.now }
+            (ask (step.said_command line.now)) self.now result self.now }
     {
         read(self.alloc, line, self.line, place_of(&self.block))
     }
@@ -203,7 +203,7 @@ impl Shell {
     /// The block that a head opens.
     fn opened(&self, head: Command) -> Result<Block, Refusal>
         ensures { Runs alone (λ block. block)
-            (asked (step.block_opened head)) self.now result self.now }
+            (ask (step.block_opened head)) self.now result self.now }
     {
         Block::of_head(self.alloc, head, self.line)
     }

@@ -7,7 +7,7 @@ ghost use Rattle.programs.specs.Moment.{Runs};
 ghost use Rattle.schema_core.specs.Catalog.{same_name};
 ghost use Rattle.class_mapping.specs.Mapped.{IsClass, find_class};
 ghost use Rattle.programs.specs.Alone.{Tells, alone};
-ghost use Rattle.programs.specs.Programs.{asked};
+ghost use Rattle.programs.specs.Programs.{ask};
 ghost use Rattle.shell_steps.specs.Naming as naming;
 ghost use Rattle.shell_steps.specs.ShellState.{HasClass, HasObject};
 
@@ -112,7 +112,7 @@ impl Shell {
     #[tactic(auto, using(crate::proofs::Named::naming))]
     pub(crate) fn object_named(&self, name: &Name) -> Result<ObjId, Refusal>
         ensures step { Runs alone
-            (λ object. object) (asked (naming.object_named name.now)) self.now result self.now }
+            (λ object. object) (ask (naming.object_named name.now)) self.now result self.now }
         ensures found { IfOk result (HasObject self.now.stage) }
     {
         let Stage::Configured(_) = &self.stage else {
@@ -125,7 +125,7 @@ impl Shell {
     #[tactic(auto, using(crate::proofs::Named::naming))]
     pub(crate) fn class_named(&self, name: &Name) -> Result<ClassId, Refusal>
         ensures step { Runs alone
-            (λ class. class) (asked (naming.class_named name.now)) self.now result self.now }
+            (λ class. class) (ask (naming.class_named name.now)) self.now result self.now }
         ensures found { IfOk result (HasClass self.now.stage) }
     {
         let Stage::Configured(session) = &self.stage else {

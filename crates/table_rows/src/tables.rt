@@ -2,7 +2,7 @@
 
 ghost use Rattle.std.specs.Prelude.{◌≡◌, [], true, is_some, IfOk, OnOk, OnErr};
 ghost use Rattle.std.specs.Option.{option_copied};
-ghost use Rattle.programs.specs.Store.{created, dropped};
+ghost use Rattle.programs.specs.Store.{with_empty_table, without_table};
 ghost use Rattle.schema_core.specs.Tables.{rows_in, row_under, with_row, with_rows, without_row};
 ghost use Rattle.sql_semantics.specs.Created.{bare};
 ghost use Rattle.table_rows.specs.Rows.{AreSorted, rows_at, restored};
@@ -68,7 +68,7 @@ impl TableMap {
 
     /// Makes a table that has no rows. At an error nothing changes.
     pub fn create(&mut self, alloc: Global, table: TableId) -> Result<(), AllocError>
-        ensures ok { OnOk result (self.new ≡ created self.old table) }
+        ensures ok { OnOk result (self.new ≡ with_empty_table self.old table) }
         ensures err { OnErr result (self.new ≡ self.old) }
     {
         self.tables.insert(table, TableRows::new(alloc))?;
@@ -86,7 +86,7 @@ impl TableMap {
 
     /// Drops a table.
     pub fn drop_table(&mut self, table: TableId)
-        ensures { self.new ≡ dropped self.old table }
+        ensures { self.new ≡ without_table self.old table }
     {
         self.tables.remove(&table);
     }

@@ -11,7 +11,7 @@ ghost use Rattle.sql_semantics.specs.Created.{bare};
 ghost use Rattle.sql_semantics.specs.Shapes.{AreGiven, AreLegalRows, AreOfItems, AreRows, AreWide};
 ghost use Rattle.programs.specs.declared.sent.Sent.TheVariants as sent;
 ghost use Rattle.programs.specs.Programs.{as_refusal};
-ghost use Rattle.programs.specs.Store.{created, dropped};
+ghost use Rattle.programs.specs.Store.{with_empty_table, without_table};
 ghost use Rattle.keeper_core.specs.Calls as call;
 ghost use Rattle.keeper_core.specs.Calls.{query_refusal, write_refusal};
 ghost use Rattle.keeper_core.specs.Keeping.{RefusesBulk, RefusesRow, RefusesSelect};
@@ -74,7 +74,7 @@ impl TableStore {
     pub fn create(&mut self, alloc: Global, table: TableId) -> Result<(), AllocError>
         ensures ok { OnOk result
             (self.new ≡ record {
-              tables = created self.old.tables table;
+              tables = with_empty_table self.old.tables table;
               scopes = self.old.scopes;
             }) }
         ensures err { OnErr result (self.new ≡ self.old) }
@@ -85,7 +85,7 @@ impl TableStore {
     /// Drops a table.
     pub fn drop_table(&mut self, table: TableId)
         ensures { self.new ≡ record {
-          tables = dropped self.old.tables table;
+          tables = without_table self.old.tables table;
           scopes = self.old.scopes;
         } }
     {
