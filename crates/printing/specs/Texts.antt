@@ -43,8 +43,8 @@ abbrev pub doubled_byte : ℕ → List ℕ
 doubled_byte byte = cond (byte == 39) (39 ∷ 39 ∷ []) (byte ∷ [])
 
 -- the text with each of its quotes doubled
-abbrev pub doubled : List ℕ → List ℕ
-doubled text = flat_map doubled_byte text
+abbrev pub with_quotes_doubled : List ℕ → List ℕ
+with_quotes_doubled text = flat_map doubled_byte text
 
 -- two hexadecimal digits in lower case
 abbrev pub hex_byte : ℕ → List ℕ
@@ -55,8 +55,8 @@ bool_text true = codes "true"
 bool_text false = codes "false"
 
 -- a text in quotes
-abbrev pub quoted : List ℕ → List ℕ
-quoted text = 39 ∷ doubled text ++ 39 ∷ []
+abbrev pub text_in_quotes : List ℕ → List ℕ
+text_in_quotes text = 39 ∷ with_quotes_doubled text ++ 39 ∷ []
 
 abbrev pub bytes_text : List ℕ → List ℕ
 bytes_text bytes = codes "x'" ++ flat_map hex_byte bytes ++ 39 ∷ []
@@ -65,7 +65,7 @@ abbrev pub value_text : Value → List ℕ
 value_text Null = codes "null"
 value_text (BoolValue b) = bool_text b
 value_text (Int n) = signed_decimal n
-value_text (Text t) = quoted t
+value_text (Text t) = text_in_quotes t
 value_text (Bytes bytes) = bytes_text bytes
 
 -- the word that is written of NULL or of a boolean; nothing of other values
@@ -77,28 +77,28 @@ word_of _ = []
 -- ---- lists
 
 -- each text with the separator before it
-abbrev pub led : {A : Type 0} → List ℕ → (A → List ℕ) → List A → List ℕ
-led separator text items = flat_map (λ item. separator ++ text item) items
+abbrev pub with_leading_separators : {A : Type 0} → List ℕ → (A → List ℕ) → List A → List ℕ
+with_leading_separators separator text items = flat_map (λ item. separator ++ text item) items
 
 -- the texts with the separator between each two
-abbrev pub joined : {A : Type 0} → List ℕ → (A → List ℕ) → List A → List ℕ
-joined separator text [] = []
-joined separator text (item ∷ items) = text item ++ led separator text items
+abbrev pub with_separators : {A : Type 0} → List ℕ → (A → List ℕ) → List A → List ℕ
+with_separators separator text [] = []
+with_separators separator text (item ∷ items) = text item ++ with_leading_separators separator text items
 
 -- the values of a row in parentheses
 abbrev pub row_text : List Value → List ℕ
-row_text row = 40 ∷ joined (codes ", ") value_text row ++ 41 ∷ []
+row_text row = 40 ∷ with_separators (codes ", ") value_text row ++ 41 ∷ []
 
 -- a name, `@`, and a number
-abbrev pub numbered : List ℕ → ObjId → List ℕ
-numbered name object = name ++ 64 ∷ decimal object.0
+abbrev pub name_with_number : List ℕ → ObjId → List ℕ
+name_with_number name object = name ++ 64 ∷ decimal object.0
 
 abbrev pub object_text : Names → ObjId → List ℕ
-object_text names object = numbered (names.class_of object) object
+object_text names object = name_with_number (names.class_of object) object
 
 -- a list of objects in brackets
 abbrev pub objects_text : Names → List ObjId → List ℕ
-objects_text names objects = 91 ∷ joined (codes ", ") (object_text names) objects ++ 93 ∷ []
+objects_text names objects = 91 ∷ with_separators (codes ", ") (object_text names) objects ++ 93 ∷ []
 
 -- ---- refusals
 
@@ -174,61 +174,61 @@ integrity_text integrity.Foreign = codes "Foreign"
 
 -- a row of a cycle: its table and its object's number
 abbrev pub row_name_text : Names → RowName → List ℕ
-row_name_text names row = numbered (names.table row.table) row.object
+row_name_text names row = name_with_number (names.table row.table) row.object
 
 -- what stands in parentheses behind the refusal's name
-abbrev pub told : List ℕ → List ℕ → List ℕ
-told name inside = name ++ 40 ∷ inside ++ 41 ∷ []
+abbrev pub with_details : List ℕ → List ℕ → List ℕ
+with_details name inside = name ++ 40 ∷ inside ++ 41 ∷ []
 
 -- a value of one kind was wanted, and one of another was found
 abbrev pub mismatch_text : Kind → Kind → List ℕ
-mismatch_text wanted found = told (codes "TypeMismatch") (kind_text wanted ++ codes ", " ++ kind_text found)
+mismatch_text wanted found = with_details (codes "TypeMismatch") (kind_text wanted ++ codes ", " ++ kind_text found)
 
 -- a result is outside 64 bits
 abbrev pub outside_text : ArithOp → ℤ → ℤ → List ℕ
-outside_text op a b = told (codes "DataError") (signed_decimal a ++ 32 ∷ op_text op ++ 32 ∷ signed_decimal b)
+outside_text op a b = with_details (codes "DataError") (signed_decimal a ++ 32 ∷ op_text op ++ 32 ∷ signed_decimal b)
 
 -- the generated keys of a table are spent
 abbrev pub spent_text : Names → TableId → List ℕ
-spent_text names table = told (codes "DataError") (codes "keys of " ++ names.table table)
+spent_text names table = with_details (codes "DataError") (codes "keys of " ++ names.table table)
 
 abbrev pub compile_text : Names → TableId → ColumnNo → List ℕ
-compile_text names table column = told (codes "CompileError") (names.table table ++ 46 ∷ names.column table column)
+compile_text names table column = with_details (codes "CompileError") (names.table table ++ 46 ∷ names.column table column)
 
 -- a validator refused a value of an attribute
 abbrev pub validation_text : Names → ClassId → AttrNo → List ℕ → List ℕ
-validation_text names class attribute hook = told (codes "ValidationError") (names.class class ++ 46 ∷ names.attribute class attribute ++ codes ", " ++ hook)
+validation_text names class attribute hook = with_details (codes "ValidationError") (names.class class ++ 46 ∷ names.attribute class attribute ++ codes ", " ++ hook)
 
 abbrev pub invalid_text : RequestKind → List ℕ
-invalid_text kind = told (codes "InvalidRequestError") (request_text kind)
+invalid_text kind = with_details (codes "InvalidRequestError") (request_text kind)
 
 abbrev pub circular_text : Names → List RowName → List ℕ
-circular_text names rows = told (codes "CircularDependencyError") (joined (codes " -> ") (row_name_text names) rows)
+circular_text names rows = with_details (codes "CircularDependencyError") (with_separators (codes " -> ") (row_name_text names) rows)
 
 -- a constraint of a table is broken
 abbrev pub violation_text : Names → IntegrityKind → TableId → List ℕ
-violation_text names kind table = told (codes "IntegrityError") (integrity_text kind ++ codes ", " ++ names.table table)
+violation_text names kind table = with_details (codes "IntegrityError") (integrity_text kind ++ codes ", " ++ names.table table)
 
 -- the text of a refusal, with the names of what it has by number
 abbrev pub refusal_text : Names → Refusal → List ℕ
 refusal_text names refusal.Memory = codes "Memory"
-refusal_text names (refusal.ArgumentError kind) = told (codes "ArgumentError") (argument_text kind)
+refusal_text names (refusal.ArgumentError kind) = with_details (codes "ArgumentError") (argument_text kind)
 refusal_text names (refusal.TypeMismatch wanted found) = mismatch_text wanted found
 refusal_text names (refusal.DataError op a b) = outside_text op a b
 refusal_text names (refusal.KeysSpent table) = spent_text names table
 refusal_text names (refusal.CompileError table column) = compile_text names table column
 refusal_text names (refusal.ValidationError class attribute hook) = validation_text names class attribute hook
 refusal_text names (refusal.InvalidRequestError kind) = invalid_text kind
-refusal_text names (refusal.LimitReached kind) = told (codes "LimitReached") (limit_text kind)
-refusal_text names (refusal.ObjectDeletedError object) = told (codes "ObjectDeletedError") (object_text names object)
-refusal_text names (refusal.DetachedInstanceError object) = told (codes "DetachedInstanceError") (object_text names object)
+refusal_text names (refusal.LimitReached kind) = with_details (codes "LimitReached") (limit_text kind)
+refusal_text names (refusal.ObjectDeletedError object) = with_details (codes "ObjectDeletedError") (object_text names object)
+refusal_text names (refusal.DetachedInstanceError object) = with_details (codes "DetachedInstanceError") (object_text names object)
 refusal_text names (refusal.CircularDependencyError rows) = circular_text names rows
 refusal_text names refusal.ResourceClosedError = codes "ResourceClosedError"
 refusal_text names (refusal.IntegrityError kind table) = violation_text names kind table
-refusal_text names (refusal.StaleDataError table) = told (codes "StaleDataError") (names.table table)
+refusal_text names (refusal.StaleDataError table) = with_details (codes "StaleDataError") (names.table table)
 refusal_text names refusal.PendingRollbackError = codes "PendingRollbackError"
-refusal_text names (refusal.ScriptError line column) = told (codes "ScriptError") (decimal line ++ codes ", " ++ decimal column)
-refusal_text names (refusal.OperationalError table) = told (codes "OperationalError") (names.table table)
+refusal_text names (refusal.ScriptError line column) = with_details (codes "ScriptError") (decimal line ++ codes ", " ++ decimal column)
+refusal_text names (refusal.OperationalError table) = with_details (codes "OperationalError") (names.table table)
 refusal_text names refusal.KeeperFault = codes "KeeperFault"
 refusal_text names refusal.NotBuilt = codes "NotBuilt"
 

@@ -2,7 +2,7 @@
 
 ghost use Rattle.std.specs.Prelude.{Some, codes};
 ghost use Rattle.std.specs.Fmt.{DisplaysOnOk};
-ghost use Rattle.printing.specs.Texts.{led, joined, object_text, objects_text, row_name_text};
+ghost use Rattle.printing.specs.Texts.{with_leading_separators, with_separators, object_text, objects_text, row_name_text};
 
 use crate::Naming;
 use base_core::{ListOf, ObjId, RowName};
@@ -32,7 +32,7 @@ fn write_led<W: fmt::Write, N: Naming>(
     objects: &[ObjId],
 ) -> fmt::Result
     ensures { DisplaysOnOk W.write_str_gives f.old result
-        (Some (led (codes ", ") (object_text (N.names names.now)) objects.now)) f.new }
+        (Some (with_leading_separators (codes ", ") (object_text (N.names names.now)) objects.now)) f.new }
 {
     for object in objects {
         let shown = ObjectText {
@@ -51,7 +51,7 @@ fn write_objects<W: fmt::Write, N: Naming>(
     objects: &[ObjId],
 ) -> fmt::Result
     ensures { DisplaysOnOk W.write_str_gives f.old result
-        (Some (joined (codes ", ") (object_text (N.names names.now)) objects.now)) f.new }
+        (Some (with_separators (codes ", ") (object_text (N.names names.now)) objects.now)) f.new }
 {
     match objects.split_first() {
         Some((first, rest)) => {
@@ -107,7 +107,7 @@ fn write_led_rows<W: fmt::Write, N: Naming>(
     rows: &[RowName],
 ) -> fmt::Result
     ensures { DisplaysOnOk W.write_str_gives f.old result
-        (Some (led (codes " -> ") (row_name_text (N.names names.now)) rows.now)) f.new }
+        (Some (with_leading_separators (codes " -> ") (row_name_text (N.names names.now)) rows.now)) f.new }
 {
     for row in rows {
         let shown = RowNameText { names, row: *row };
@@ -123,7 +123,7 @@ pub fn write_cycle<W: fmt::Write, N: Naming>(
     rows: &[RowName],
 ) -> fmt::Result
     ensures { DisplaysOnOk W.write_str_gives f.old result
-        (Some (joined (codes " -> ") (row_name_text (N.names names.now)) rows.now)) f.new }
+        (Some (with_separators (codes " -> ") (row_name_text (N.names names.now)) rows.now)) f.new }
 {
     match rows.split_first() {
         Some((first, rest)) => {

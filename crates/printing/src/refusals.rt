@@ -2,7 +2,7 @@
 
 ghost use Rattle.std.specs.Prelude.{Some};
 ghost use Rattle.std.specs.Fmt.{DisplaysOnOk};
-ghost use Rattle.printing.specs.Texts.{circular_text, compile_text, invalid_text, mismatch_text, object_text, outside_text, refusal_text, request_text, skipped_text, spent_text, told, validation_text, violation_text, warning_text};
+ghost use Rattle.printing.specs.Texts.{circular_text, compile_text, invalid_text, mismatch_text, object_text, outside_text, refusal_text, request_text, skipped_text, spent_text, with_details, validation_text, violation_text, warning_text};
 
 use crate::objects::write_cycle;
 use crate::words::{
@@ -25,7 +25,7 @@ fn write_request<W: fmt::Write>(f: &mut fmt::Formatter<W>, kind: &RequestKind) -
 
 /// Writes a refusal's name, and a text in parentheses behind it.
 fn write_told<W: fmt::Write>(f: &mut fmt::Formatter<W>, name: &str, inside: &str) -> fmt::Result
-    ensures { DisplaysOnOk W.write_str_gives f.old result (Some (told name.now inside.now)) f.new }
+    ensures { DisplaysOnOk W.write_str_gives f.old result (Some (with_details name.now inside.now)) f.new }
 {
     write!(f, "{name}({inside})")
 }
@@ -78,7 +78,7 @@ fn write_table<W: fmt::Write, N: Naming>(
     table: TableId,
 ) -> fmt::Result
     ensures { DisplaysOnOk W.write_str_gives f.old result
-        (Some (told name.now ((N.names names.now).table table))) f.new }
+        (Some (with_details name.now ((N.names names.now).table table))) f.new }
 {
     write_told(f, name, names.table_name(table))
 }
@@ -132,7 +132,7 @@ fn write_object<W: fmt::Write, N: Naming>(
     object: ObjId,
 ) -> fmt::Result
     ensures { DisplaysOnOk W.write_str_gives f.old result
-        (Some (told name.now (object_text (N.names names.now) object))) f.new }
+        (Some (with_details name.now (object_text (N.names names.now) object))) f.new }
 {
     let object = ObjectText { names, object };
     write!(f, "{name}({object})")

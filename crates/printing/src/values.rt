@@ -3,7 +3,7 @@
 ghost use Rattle.std.specs.Prelude.{◌≡◌, Some, codes};
 ghost use Rattle.std.specs.Fmt.{DisplaysOnOk};
 ghost use Rattle.std.specs.List.{flat_map};
-ghost use Rattle.printing.specs.Texts.{bytes_text, doubled, hex_byte, joined, led, quoted, row_text, value_text, word_of};
+ghost use Rattle.printing.specs.Texts.{bytes_text, with_quotes_doubled, hex_byte, with_separators, with_leading_separators, text_in_quotes, row_text, value_text, word_of};
 
 use base_core::{RowValues, Value};
 use std::fmt;
@@ -14,7 +14,7 @@ pub struct ValueText<'a>(pub &'a Value);
 
 /// Writes the text with each of its quotes doubled.
 fn write_doubled<W: fmt::Write>(f: &mut fmt::Formatter<W>, text: &str) -> fmt::Result
-    ensures { DisplaysOnOk W.write_str_gives f.old result (Some (doubled text.now)) f.new }
+    ensures { DisplaysOnOk W.write_str_gives f.old result (Some (with_quotes_doubled text.now)) f.new }
 {
     let mut rest = text;
     while let Some((before, after)) = rest.split_once('\'') {
@@ -40,7 +40,7 @@ fn write_hex<W: fmt::Write>(f: &mut fmt::Formatter<W>, bytes: &[u8]) -> fmt::Res
 
 /// Writes a text in quotes.
 fn write_quoted<W: fmt::Write>(f: &mut fmt::Formatter<W>, text: &str) -> fmt::Result
-    ensures { DisplaysOnOk W.write_str_gives f.old result (Some (quoted text.now)) f.new }
+    ensures { DisplaysOnOk W.write_str_gives f.old result (Some (text_in_quotes text.now)) f.new }
 {
     f.write_str("'")?;
     write_doubled(f, text)?;
@@ -84,7 +84,7 @@ impl<'a> fmt::Display for ValueText<'a> {
 /// Writes each value with a comma before it.
 fn write_led<W: fmt::Write>(f: &mut fmt::Formatter<W>, values: &[Value]) -> fmt::Result
     ensures { DisplaysOnOk W.write_str_gives f.old result
-        (Some (led (codes ", ") value_text values.now)) f.new }
+        (Some (with_leading_separators (codes ", ") value_text values.now)) f.new }
 {
     for value in values {
         let shown = ValueText(value);
@@ -96,7 +96,7 @@ fn write_led<W: fmt::Write>(f: &mut fmt::Formatter<W>, values: &[Value]) -> fmt:
 /// Writes the values with a comma between each two.
 fn write_values<W: fmt::Write>(f: &mut fmt::Formatter<W>, values: &[Value]) -> fmt::Result
     ensures { DisplaysOnOk W.write_str_gives f.old result
-        (Some (joined (codes ", ") value_text values.now)) f.new }
+        (Some (with_separators (codes ", ") value_text values.now)) f.new }
 {
     match values.split_first() {
         Some((first, rest)) => {

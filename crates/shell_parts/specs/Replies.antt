@@ -4,13 +4,13 @@ use Rattle.std.specs.List.{flat_map}
 use Rattle.std.specs.Fmt.{decimal}
 use Rattle.base_core.specs.declared.refusal.Refusal.{Refusal}
 use Rattle.base_core.specs.declared.value.Value.{Value}
-use Rattle.printing.specs.Texts.{Names, joined, refusal_text, row_text}
+use Rattle.printing.specs.Texts.{Names, with_separators, refusal_text, row_text}
 use Rattle.schema_core.specs.declared.table.ColumnSpec.{ColumnSpec}
 use Rattle.schema_core.specs.declared.table.TableSpec.{TableSpec}
 
 -- the names of a table's columns, between commas
 abbrev pub columns_text : List ColumnSpec → List ℕ
-columns_text columns = joined (codes ", ") (λ column. column.name) columns
+columns_text columns = with_separators (codes ", ") (λ column. column.name) columns
 
 -- the line `table NAME (COLUMN, COLUMN)`
 abbrev pub table_line : TableSpec → List ℕ

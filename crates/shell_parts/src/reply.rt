@@ -2,7 +2,7 @@
 
 ghost use Rattle.std.specs.Prelude.{◌≡◌, [], ◌++◌, IfErr, OnOk, codes};
 ghost use Rattle.std.specs.List.{flat_map};
-ghost use Rattle.printing.specs.Texts.{led};
+ghost use Rattle.printing.specs.Texts.{with_leading_separators};
 ghost use Rattle.shell_parts.specs.Replies.{columns_text, error_line, row_line, table_line, table_text};
 ghost use Rattle.shell_parts.specs.TableNames.{table_names};
 
@@ -93,7 +93,7 @@ impl Reply {
     /// The names of columns, each behind a comma.
     fn put_led(&mut self, columns: &[ColumnSpec]) -> Result<(), Refusal>
         ensures ok { OnOk result
-            (self.new ≡ self.old ++ led (codes ", ") (λ column. column.name) columns.now) }
+            (self.new ≡ self.old ++ with_leading_separators (codes ", ") (λ column. column.name) columns.now) }
         ensures cause { IfErr result (λ e. e ≡ Refusal.Memory) }
     {
         for column in columns {
