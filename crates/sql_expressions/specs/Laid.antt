@@ -19,7 +19,7 @@ use Rattle.sql_text.specs.declared.names.Quoting.{Quoting}
 use Rattle.sql_text.specs.declared.names.Quoting.TheVariants.{Sqlite, Postgresql, Mysql}
 use Rattle.sql_text.specs.Columns.{column_name}
 use Rattle.sql_text.specs.Words.{null_word, like_word, ilike_word, in_word, empty_word, between_word, distinct_word, sqlite_distinct_word}
-use Rattle.sql_text.specs.Written.{Piece, words, name, value, joined}
+use Rattle.sql_text.specs.Written.{Piece, words, name, value, with_separators}
 
 -- ---- names
 
@@ -159,7 +159,7 @@ unfoldable pub part : ℕ → List Origin → Laid → List Piece
 part least scope a = under least a scope param
 
 abbrev pub parts : ℕ → List ℕ → List Laid → List Origin → List Piece
-parts least word operands scope = joined word (part least scope) operands
+parts least word operands scope = with_separators word (part least scope) operands
 
 -- a value of a list
 unfoldable pub listed : List ℕ → Value → List Piece
@@ -191,7 +191,7 @@ no_list negated a scope = words (codes "(") ∷ under 5 a scope param ++ words (
 
 abbrev pub full_list : Bool → Laid → List Value → List Origin → List Piece
 full_list negated a values scope =
-    under 5 a scope param ++ words (in_word negated) ∷ joined (codes ", ") (listed (beside scope a)) values ++ words (codes ")") ∷ []
+    under 5 a scope param ++ words (in_word negated) ∷ with_separators (codes ", ") (listed (beside scope a)) values ++ words (codes ")") ∷ []
 
 abbrev pub in_pieces : Bool → Laid → List Value → List Origin → List Piece
 in_pieces negated a [] scope = no_list negated a scope

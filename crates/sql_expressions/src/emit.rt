@@ -3,7 +3,7 @@
 ghost use Rattle.std.specs.Prelude.{◌≡◌, ◌∷◌, [], ◌++◌, IfOk, OnErr, map, slice_get, codes};
 ghost use Rattle.sql_expressions.specs.Laid as spec;
 ghost use Rattle.sql_expressions.specs.Laid.{laid};
-ghost use Rattle.sql_text.specs.Written.{Wrote, joined, led};
+ghost use Rattle.sql_text.specs.Written.{Wrote, with_separators, with_leading_separators};
 
 use crate::sources::{column_shown, source_shown};
 use crate::words::{
@@ -87,7 +87,7 @@ pub fn source(writer: &mut Writer, schema: &Schema, origin: &Origin) -> Result<(
 /// The values of a list.
 #[tactic(auto, unfolding(crate::specs::Laid::listed, sql_text::specs::Written::put_all), using(sql_text::proofs::Steps::steps))]
 fn more_values(writer: &mut Writer, base: &str, values: &[Value]) -> Result<(), Refusal>
-    ensures { Wrote (led (codes ", ") (spec.listed base.now) values.now)
+    ensures { Wrote (with_leading_separators (codes ", ") (spec.listed base.now) values.now)
         result writer.old writer.new }
 {
     for value in values {
@@ -99,7 +99,7 @@ fn more_values(writer: &mut Writer, base: &str, values: &[Value]) -> Result<(), 
 
 #[tactic(auto, unfolding(crate::specs::Laid::listed), using(sql_text::proofs::Steps::steps))]
 fn values_of(writer: &mut Writer, base: &str, values: &[Value]) -> Result<(), Refusal>
-    ensures { Wrote (joined (codes ", ") (spec.listed base.now) values.now)
+    ensures { Wrote (with_separators (codes ", ") (spec.listed base.now) values.now)
         result writer.old writer.new }
 {
     let Some((first, others)) = values.split_first() else {
@@ -215,7 +215,7 @@ fn more_parts(
     word: &str,
     operands: &[Expr],
 ) -> Result<(), Refusal>
-    ensures { Wrote (led word.now (spec.part least scope.now) (map
+    ensures { Wrote (with_leading_separators word.now (spec.part least scope.now) (map
         (laid writer.old.quoting schema.now) operands.now)) result writer.old writer.new }
 {
     for operand in operands {

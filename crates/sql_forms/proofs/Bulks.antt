@@ -17,7 +17,7 @@ use Rattle.sql_semantics.specs.PlainStatement.{IsFittingBulk}
 use Rattle.sql_text.specs.declared.names.Quoting.{Quoting}
 use Rattle.sql_text.specs.declared.names.Quoting.TheVariants.{Sqlite, Postgresql, Mysql}
 use Rattle.sql_text.specs.Columns.{column_name}
-use Rattle.sql_text.specs.Written.{Piece, words, nothing, joined}
+use Rattle.sql_text.specs.Written.{Piece, words, nothing_written, with_separators}
 use Rattle.sql_statements.specs.Bulks as b
 use Rattle.sql_statements.specs.Bulks.{bulk_pieces}
 use Rattle.sql_statements.specs.Texts.{text_of, statement_pieces}
@@ -129,7 +129,7 @@ module _ (q : Quoting) (schema : Catalog) where
       let form : BulkForm = bulk_form q schema (bulk.Update table cells filter) in
       after_words (λ p u. ReadsBulk q p u form) w (λ p rest. after_name (λ p u. ReadsBulk q (codes "UPDATE " ++ p) u form) rest
       (λ a r is past. after_words (λ r u. ReadsBulk q (codes "UPDATE " ++ (a ++ r)) u form) past
-      (λ r setsw. split (λ r u. ReadsBulk q (codes "UPDATE " ++ (a ++ (codes " SET " ++ r))) u form) (joined (codes ", ") (b.set_pieces q schema table) cells) (b.filter_pieces q schema table filter) setsw
+      (λ r setsw. split (λ r u. ReadsBulk q (codes "UPDATE " ++ (a ++ (codes " SET " ++ r))) u form) (with_separators (codes ", ") (b.set_pieces q schema table) cells) (b.filter_pieces q schema table filter) setsw
       (λ m n u z first last.
       update_rows is (items_read q (b.set_pieces q schema table) (Set q) (λ c. (column_name schema table c.0, set_tree q schema table c.1)) (codes ", ") cells (all_sets table cells h.2) m u first)
       (clause_read q schema (alone table) (codes " WHERE ") filter (filter_stands table filter h.3) n z last)))))
@@ -141,4 +141,4 @@ module _ (q : Quoting) (schema : Catalog) where
 pub bulks_are_read : BulksAreRead
 unfolding text_of
 bulks_are_read quoting schema it h =
-    all_written (λ t v. ReadsBulk quoting t v (bulk_form quoting schema it)) (nothing quoting) (statement_pieces quoting schema (of_bulk it)) (λ t v w. bulk_read quoting schema it h t v w)
+    all_written (λ t v. ReadsBulk quoting t v (bulk_form quoting schema it)) (nothing_written quoting) (statement_pieces quoting schema (of_bulk it)) (λ t v w. bulk_read quoting schema it h t v w)

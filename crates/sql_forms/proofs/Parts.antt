@@ -11,7 +11,7 @@ use Rattle.sql_semantics.specs.Plain.{StandsIn, AreJoined, IfSet}
 use Rattle.sql_text.specs.declared.names.Quoting.{Quoting}
 use Rattle.sql_text.specs.declared.names.Quoting.TheVariants.{Sqlite, Postgresql, Mysql}
 use Rattle.sql_text.specs.Words.{join_word}
-use Rattle.sql_text.specs.Written.{Piece, words, name, led, joined}
+use Rattle.sql_text.specs.Written.{Piece, words, name, with_leading_separators, with_separators}
 use Rattle.sql_expressions.specs.Laid.{laid, part, param, source_pieces}
 use Rattle.sql_statements.specs.Selects as s
 use Rattle.sql_statements.specs.Selects.{whole}
@@ -34,22 +34,22 @@ module _ (q : Quoting) where
   AllRead pieces reads f xs = AllByRecursion (λ x. (t : List ℕ) (v : List Value) → Writes q (pieces x) t v → reads t v (f x)) xs
 
   pub items_read : {A B : Type 0} (pieces : A → List Piece) (reads : Reading B) (f : A → B) (word : List ℕ) (xs : List A) → AllRead pieces reads f xs → (t : List ℕ) (v : List Value)
-      → Writes q (joined word pieces xs) t v → Items reads word t v (map f xs)
+      → Writes q (with_separators word pieces xs) t v → Items reads word t v (map f xs)
   items_read pieces reads f word [] all t v w = at_end (λ p u. Items reads word p u []) w no_items
   items_read pieces reads f word (x ∷ []) all t v w =
       split (λ p u. Items reads word p u (f x ∷ [])) (pieces x) [] w
       (λ a b u z one rest. at_end (λ p y. Items reads word (a ++ p) (u ++ y) (f x ∷ [])) rest
       (subst (λ p. Items reads word p (u ++ []) (f x ∷ [])) (sym (append-nil a)) (subst (λ y. Items reads word a y (f x ∷ [])) (sym (append-nil u)) (one_item (all.0 a u one)))))
   items_read pieces reads f word (x ∷ y ∷ ys) all t v w =
-      split (λ p u. Items reads word p u (f x ∷ f y ∷ map f ys)) (pieces x) (led word pieces (y ∷ ys)) w
+      split (λ p u. Items reads word p u (f x ∷ f y ∷ map f ys)) (pieces x) (with_leading_separators word pieces (y ∷ ys)) w
       (λ a b u z one rest. after_words (λ p m. Items reads word (a ++ p) (u ++ m) (f x ∷ f y ∷ map f ys)) rest
       (λ p others. more_items (all.0 a u one) (items_read pieces reads f word (y ∷ ys) all.1 p z others)))
 
-  led_map : {A B : Type 0} (pieces : B → List Piece) (f : A → B) (word : List ℕ) (xs : List A) → led word pieces (map f xs) ≡ led word (λ x. pieces (f x)) xs
+  led_map : {A B : Type 0} (pieces : B → List Piece) (f : A → B) (word : List ℕ) (xs : List A) → with_leading_separators word pieces (map f xs) ≡ with_leading_separators word (λ x. pieces (f x)) xs
   led_map pieces f word [] = refl
   led_map pieces f word (x ∷ xs) = ap (λ (ps : List Piece). (words word ∷ pieces (f x)) ++ ps) (led_map pieces f word xs)
 
-  joined_map : {A B : Type 0} (pieces : B → List Piece) (f : A → B) (word : List ℕ) (xs : List A) → joined word pieces (map f xs) ≡ joined word (λ x. pieces (f x)) xs
+  joined_map : {A B : Type 0} (pieces : B → List Piece) (f : A → B) (word : List ℕ) (xs : List A) → with_separators word pieces (map f xs) ≡ with_separators word (λ x. pieces (f x)) xs
   joined_map pieces f word [] = refl
   joined_map pieces f word (x ∷ xs) = ap (λ (ps : List Piece). pieces (f x) ++ ps) (led_map pieces f word xs)
 

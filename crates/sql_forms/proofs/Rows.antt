@@ -16,7 +16,7 @@ use Rattle.expr_types.specs.declared.select.Statement.TheVariants.{Row as of_row
 use Rattle.sql_text.specs.declared.names.Quoting.{Quoting}
 use Rattle.sql_text.specs.declared.names.Quoting.TheVariants.{Sqlite, Postgresql, Mysql}
 use Rattle.sql_text.specs.Columns.{column_name}
-use Rattle.sql_text.specs.Written.{Piece, words, name as name_piece, value, nothing, led, joined}
+use Rattle.sql_text.specs.Written.{Piece, words, name as name_piece, value, nothing_written, with_leading_separators, with_separators}
 use Rattle.sql_statements.specs.Bulks as b
 use Rattle.sql_statements.specs.Rows as r
 use Rattle.sql_statements.specs.Rows.{row_pieces, is_left_out, leaves_key}
@@ -34,9 +34,9 @@ use Rattle.sql_forms.proofs.Bulks.{no_values, default_is}
 
 abbrev headed : {A : Type 0} → List ℕ → List ℕ → (A → List Piece) → List A → List Piece
 headed first word pieces [] = []
-headed first word pieces (x ∷ xs) = words first ∷ pieces x ++ led word pieces xs
+headed first word pieces (x ∷ xs) = words first ∷ pieces x ++ with_leading_separators word pieces xs
 
-headed_led : {A : Type 0} (word : List ℕ) (pieces : A → List Piece) (xs : List A) → headed word word pieces xs ≡ led word pieces xs
+headed_led : {A : Type 0} (word : List ℕ) (pieces : A → List Piece) (xs : List A) → headed word word pieces xs ≡ with_leading_separators word pieces xs
 headed_led word pieces [] = refl
 headed_led word pieces (x ∷ xs) = refl
 
@@ -109,7 +109,7 @@ some_cells drawn (c ∷ cs) (v ∷ cells) h p = by (drawn && c.key) h (λ g. som
 module _ (q : Quoting) where
   -- ---- rows
 
-  marks_read : (G : OfText) (x : List ℕ × Value) (xs : List (List ℕ × Value)) (t : List ℕ) (v : List Value) → Writes q (value x.0 x.1 ∷ led (codes ", ") cell_value xs) t v
+  marks_read : (G : OfText) (x : List ℕ × Value) (xs : List (List ℕ × Value)) (t : List ℕ) (v : List Value) → Writes q (value x.0 x.1 ∷ with_leading_separators (codes ", ") cell_value xs) t v
       → ((m : List ℕ) → AreMarks q m (map (λ c. c.1) (x ∷ xs)) → G m (map (λ c. c.1) (x ∷ xs))) → G t v
   marks_read G x [] t v w go =
       after_value G w (λ m p u is rest. at_end (λ p y. G (m ++ p) (x.1 ∷ y)) rest (subst (λ p. G p (x.1 ∷ [])) (sym (append-nil m)) (go m (one_mark is))))
@@ -143,7 +143,7 @@ module _ (q : Quoting) where
   map_same [] = refl
   map_same (n ∷ ns) = ap (λ (xs : List (List ℕ)). n ∷ xs) (map_same ns)
 
-  named_read : (G : OfText) (ns : List (List ℕ)) (t : List ℕ) (v : List Value) → Writes q (joined (codes ", ") name_pieces ns) t v → (Items (Name q) (codes ", ") t [] ns → G t []) → G t v
+  named_read : (G : OfText) (ns : List (List ℕ)) (t : List ℕ) (v : List Value) → Writes q (with_separators (codes ", ") name_pieces ns) t v → (Items (Name q) (codes ", ") t [] ns → G t []) → G t v
   named_read G ns t v w go =
       let items = subst (λ xs. Items (Name q) (codes ", ") t v xs) (map_same ns) (items_read q name_pieces (Name q) (λ n. n) (codes ", ") ns (all_named ns) t v w) in
       subst (λ u. G t u) (sym (no_values items)) (go (subst (λ u. Items (Name q) (codes ", ") t u ns) (no_values items) items))
@@ -246,7 +246,7 @@ module _ (q : Quoting) where
       (λ a p is rest. split (λ p u. ReadsRow q (codes "INSERT INTO " ++ (a ++ p)) u form) (r.lists_pieces drawn spec.columns rows) (r.returning_pieces q drawn spec) rest
       (λ e d x dv lists last.
       let tells : Tells q (told q drawn spec) d dv = told_read q drawn spec d dv last in
-      split (λ e x. ReadsRow q (codes "INSERT INTO " ++ (a ++ (e ++ d))) (x ++ dv) form) (r.names_pieces drawn (codes " (") spec.columns) (words (codes ") VALUES ") ∷ joined (codes ", ") (r.row_list drawn spec.columns) rows) lists
+      split (λ e x. ReadsRow q (codes "INSERT INTO " ++ (a ++ (e ++ d))) (x ++ dv) form) (r.names_pieces drawn (codes " (") spec.columns) (words (codes ") VALUES ") ∷ with_separators (codes ", ") (r.row_list drawn spec.columns) rows) lists
       (λ m c u z namesw rowsw. after_words (λ m u. ReadsRow q (codes "INSERT INTO " ++ (a ++ ((m ++ c) ++ d))) ((u ++ z) ++ dv) form)
       (subst (λ ps. Writes q ps m u) (names_are drawn (codes " (") spec.columns ∙ ap (headed (codes " (") (codes ", ") name_pieces) some.is) namesw)
       (λ m listw. named_read q (λ m u. ReadsRow q (codes "INSERT INTO " ++ (a ++ (((codes " (" ++ m) ++ c) ++ d))) ((u ++ z) ++ dv) form) (some.first ∷ some.others) m u listw
@@ -280,7 +280,7 @@ module _ (q : Quoting) where
       let form : RowForm = row_form q schema (row_.Update table key cells) in
       after_words (λ p u. ReadsRow q p u form) w (λ p rest. after_name (λ p u. ReadsRow q (codes "UPDATE " ++ p) u form) rest
       (λ a p is past. after_words (λ p u. ReadsRow q (codes "UPDATE " ++ (a ++ p)) u form) past
-      (λ p setsw. split (λ p u. ReadsRow q (codes "UPDATE " ++ (a ++ (codes " SET " ++ p))) u form) (joined (codes ", ") (r.cell_pieces schema table) cells) (r.by_key (spec_of schema table) key) setsw
+      (λ p setsw. split (λ p u. ReadsRow q (codes "UPDATE " ++ (a ++ (codes " SET " ++ p))) u form) (with_separators (codes ", ") (r.cell_pieces schema table) cells) (r.by_key (spec_of schema table) key) setsw
       (λ m n u z first last.
       change_row is (items_read q (r.cell_pieces schema table) (Cell q) (λ c. (column_name schema table c.0, c.1)) (codes ", ") cells (all_cells q schema table cells) m u first)
       (by_key_read q (spec_of schema table) key n z last)))))
@@ -292,4 +292,4 @@ module _ (q : Quoting) where
 pub rows_are_read : RowsAreRead
 unfolding text_of
 rows_are_read quoting schema it h =
-    all_written (λ t v. ReadsRow quoting t v (row_form quoting schema it)) (nothing quoting) (statement_pieces quoting schema (of_row it)) (λ t v w. row_text_read quoting schema it h t v w)
+    all_written (λ t v. ReadsRow quoting t v (row_form quoting schema it)) (nothing_written quoting) (statement_pieces quoting schema (of_row it)) (λ t v w. row_text_read quoting schema it h t v w)

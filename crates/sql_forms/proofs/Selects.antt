@@ -10,7 +10,7 @@ use Rattle.expr_types.specs.declared.select.Statement.TheVariants.{Select as of_
 use Rattle.sql_semantics.specs.Plain.{StandsIn, IsCondition, IsFilter, IsPlainSelect, IfSet, sources_of}
 use Rattle.sql_text.specs.declared.names.Quoting.{Quoting}
 use Rattle.sql_text.specs.Words.{select_word}
-use Rattle.sql_text.specs.Written.{Piece, words, nothing}
+use Rattle.sql_text.specs.Written.{Piece, words, nothing_written}
 use Rattle.sql_expressions.specs.Laid.{source_pieces}
 use Rattle.sql_statements.specs.Selects as s
 use Rattle.sql_statements.specs.Selects.{select_pieces}
@@ -130,4 +130,4 @@ module _ (q : Quoting) (schema : Catalog) where
 pub selects_are_read : SelectsAreRead
 unfolding text_of
 selects_are_read quoting schema it h =
-    all_written (λ t v. ReadsSelect quoting t v (select_form quoting schema it)) (nothing quoting) (statement_pieces quoting schema (of_select it)) (λ t v w. select_read quoting schema it h t v w)
+    all_written (λ t v. ReadsSelect quoting t v (select_form quoting schema it)) (nothing_written quoting) (statement_pieces quoting schema (of_select it)) (λ t v w. select_read quoting schema it h t v w)

@@ -5,7 +5,7 @@ use Rattle.std.proofs.lemmas.Bool.{eq-eqb, eqb-true, not-false, not-true, and_pa
 use Rattle.base_core.specs.declared.value.Value.{Value}
 use Rattle.sql_text.specs.declared.names.Quoting.{Quoting}
 use Rattle.sql_text.specs.declared.names.Quoting.TheVariants.{Sqlite, Postgresql, Mysql}
-use Rattle.sql_text.specs.Names.{needs_quotes, begins_plain, is_plain_byte, is_lower, is_digit, quote_of, quoted, doubled, with_percents, is_reserved}
+use Rattle.sql_text.specs.Names.{needs_quotes, begins_plain, is_plain_byte, is_lower, is_digit, quote_of, quoted_name, with_byte_doubled, with_percents, is_reserved}
 use Rattle.sql_grammar.specs.Reads.{IsName, bare, in_quotes, IsMark, question, labelled, format, is_label_byte, AreMarks, one_mark, more_marks}
 use Rattle.sql_grammar.proofs.Reader.{after, quoted_in, with_byte, halved, without_percents, plain_in, plain_by, unquoted, name_in, mark_in, behind_label, marks_in, marks_by, more_values, behind, ends_name}
 
@@ -15,11 +15,11 @@ same_byte : (c : ℕ) → (c == c) ≡ true
 same_byte c = eq-eqb c c refl
 
 -- one byte doubled, by whether it is the one
-doubled_one : (mark c : ℕ) (text : List ℕ) → (c == mark) ≡ true → doubled mark (c ∷ text) ≡ mark ∷ mark ∷ doubled mark text
-doubled_one mark c text is = ap (λ b. cond b (mark ∷ mark ∷ []) (c ∷ []) ++ doubled mark text) is
+doubled_one : (mark c : ℕ) (text : List ℕ) → (c == mark) ≡ true → with_byte_doubled mark (c ∷ text) ≡ mark ∷ mark ∷ with_byte_doubled mark text
+doubled_one mark c text is = ap (λ b. cond b (mark ∷ mark ∷ []) (c ∷ []) ++ with_byte_doubled mark text) is
 
-doubled_other : (mark c : ℕ) (text : List ℕ) → (c == mark) ≡ false → doubled mark (c ∷ text) ≡ c ∷ doubled mark text
-doubled_other mark c text is = ap (λ b. cond b (mark ∷ mark ∷ []) (c ∷ []) ++ doubled mark text) is
+doubled_other : (mark c : ℕ) (text : List ℕ) → (c == mark) ≡ false → with_byte_doubled mark (c ∷ text) ≡ c ∷ with_byte_doubled mark text
+doubled_other mark c text is = ap (λ b. cond b (mark ∷ mark ∷ []) (c ∷ []) ++ with_byte_doubled mark text) is
 
 halved_two : (mark : ℕ) (text : List ℕ) → halved mark (mark ∷ mark ∷ text) ≡ mark ∷ halved mark text
 halved_two mark text = ap (λ b. cond b (mark ∷ halved mark text) (mark ∷ halved mark (mark ∷ text))) (same_byte mark)
@@ -28,12 +28,12 @@ halved_other : (mark c : ℕ) (text : List ℕ) → (c == mark) ≡ false → ha
 halved_other mark c [] is = refl
 halved_other mark c (d ∷ text) is = ap (λ b. cond b (mark ∷ halved mark text) (c ∷ halved mark (d ∷ text))) is
 
-halved_by : (mark c : ℕ) (text : List ℕ) → halved mark (doubled mark text) ≡ text → (b : Bool) → (c == mark) ≡ b → halved mark (doubled mark (c ∷ text)) ≡ c ∷ text
+halved_by : (mark c : ℕ) (text : List ℕ) → halved mark (with_byte_doubled mark text) ≡ text → (b : Bool) → (c == mark) ≡ b → halved mark (with_byte_doubled mark (c ∷ text)) ≡ c ∷ text
 halved_by mark c text rec true is =
-    ap (halved mark) (doubled_one mark c text is) ∙ (halved_two mark (doubled mark text) ∙ (ap (λ (x : ℕ). x ∷ halved mark (doubled mark text)) (sym (eqb-true c mark is)) ∙ ap (λ (xs : List ℕ). c ∷ xs) rec))
-halved_by mark c text rec false is = ap (halved mark) (doubled_other mark c text is) ∙ (halved_other mark c (doubled mark text) is ∙ ap (λ (xs : List ℕ). c ∷ xs) rec)
+    ap (halved mark) (doubled_one mark c text is) ∙ (halved_two mark (with_byte_doubled mark text) ∙ (ap (λ (x : ℕ). x ∷ halved mark (with_byte_doubled mark text)) (sym (eqb-true c mark is)) ∙ ap (λ (xs : List ℕ). c ∷ xs) rec))
+halved_by mark c text rec false is = ap (halved mark) (doubled_other mark c text is) ∙ (halved_other mark c (with_byte_doubled mark text) is ∙ ap (λ (xs : List ℕ). c ∷ xs) rec)
 
-pub halved_doubled : (mark : ℕ) (text : List ℕ) → halved mark (doubled mark text) ≡ text
+pub halved_doubled : (mark : ℕ) (text : List ℕ) → halved mark (with_byte_doubled mark text) ≡ text
 halved_doubled mark [] = refl
 halved_doubled mark (c ∷ text) = halved_by mark c text (halved_doubled mark text) (c == mark) refl
 
@@ -56,15 +56,15 @@ quoted_end mark [] ends = ap (λ b. cond b (Some ([], [])) None) (same_byte mark
 quoted_end mark (d ∷ rest) ends =
     rw (same_byte mark, ends) refl
 
-quoted_by : (mark c : ℕ) (text rest : List ℕ) → quoted_in mark (doubled mark text ++ mark ∷ rest) ≡ Some (text, rest) → (b : Bool) → (c == mark) ≡ b
-    → quoted_in mark (doubled mark (c ∷ text) ++ mark ∷ rest) ≡ Some (c ∷ text, rest)
+quoted_by : (mark c : ℕ) (text rest : List ℕ) → quoted_in mark (with_byte_doubled mark text ++ mark ∷ rest) ≡ Some (text, rest) → (b : Bool) → (c == mark) ≡ b
+    → quoted_in mark (with_byte_doubled mark (c ∷ text) ++ mark ∷ rest) ≡ Some (c ∷ text, rest)
 quoted_by mark c text rest rec true is =
-    ap (λ (xs : List ℕ). quoted_in mark (xs ++ mark ∷ rest)) (doubled_one mark c text is) ∙ (quoted_two mark (doubled mark text ++ mark ∷ rest)
+    ap (λ (xs : List ℕ). quoted_in mark (xs ++ mark ∷ rest)) (doubled_one mark c text is) ∙ (quoted_two mark (with_byte_doubled mark text ++ mark ∷ rest)
     ∙ (ap (with_byte mark) rec ∙ ap (λ (x : ℕ). Some (x ∷ text, rest)) (sym (eqb-true c mark is))))
 quoted_by mark c text rest rec false is =
-    ap (λ (xs : List ℕ). quoted_in mark (xs ++ mark ∷ rest)) (doubled_other mark c text is) ∙ (quoted_other mark c (doubled mark text ++ mark ∷ rest) is ∙ ap (with_byte c) rec)
+    ap (λ (xs : List ℕ). quoted_in mark (xs ++ mark ∷ rest)) (doubled_other mark c text is) ∙ (quoted_other mark c (with_byte_doubled mark text ++ mark ∷ rest) is ∙ ap (with_byte c) rec)
 
-pub quoted_doubled : (mark : ℕ) (text rest : List ℕ) → EndsQuote mark rest → quoted_in mark (doubled mark text ++ mark ∷ rest) ≡ Some (text, rest)
+pub quoted_doubled : (mark : ℕ) (text rest : List ℕ) → EndsQuote mark rest → quoted_in mark (with_byte_doubled mark text ++ mark ∷ rest) ≡ Some (text, rest)
 quoted_doubled mark [] rest ends = quoted_end mark rest ends
 quoted_doubled mark (c ∷ text) rest ends = quoted_by mark c text rest (quoted_doubled mark text rest ends) (c == mark) refl
 
@@ -170,7 +170,7 @@ quote_not_plain Mysql = refl
 pub name_begins : {q : Quoting} {a name : List ℕ} → IsName q a name → Begins starts_name a
 name_begins (bare {name = name} e) = (bare_name name e).begins
 name_begins {q} (in_quotes {name = name}) =
-    record { first = quote_of q; following = doubled (quote_of q) (with_percents q name) ++ quote_of q ∷ []; joined = refl; fits = quote_starts q }
+    record { first = quote_of q; following = with_byte_doubled (quote_of q) (with_percents q name) ++ quote_of q ∷ []; joined = refl; fits = quote_starts q }
 
 bare_read : (q : Quoting) (name rest : List ℕ) → IsBare name → ends_name rest ≡ true → name_in q (name ++ rest) ≡ Some (name, rest)
 unfolding name_in
@@ -183,11 +183,11 @@ bare_read q (c ∷ cs) rest is ends =
     ap (λ b. cond b (unquoted q (quoted_in (quote_of q) (cs ++ rest))) (Some (plain_in (c ∷ cs ++ rest)))) (unlike is_plain_byte c (quote_of q) (not-false (is_plain_byte c) plain.0) (quote_not_plain q))
     ∙ ap Some (plain_read (c ∷ cs) rest is.plain ends)
 
-quoted_read : (q : Quoting) (name rest : List ℕ) → ends_name rest ≡ true → name_in q (quoted q name ++ rest) ≡ Some (name, rest)
+quoted_read : (q : Quoting) (name rest : List ℕ) → ends_name rest ≡ true → name_in q (quoted_name q name ++ rest) ≡ Some (name, rest)
 unfolding name_in
 quoted_read q name rest ends =
-    ap (λ b. cond b (unquoted q (quoted_in (quote_of q) ((doubled (quote_of q) (with_percents q name) ++ quote_of q ∷ []) ++ rest))) (Some (plain_in (quoted q name ++ rest)))) (same_byte (quote_of q))
-    ∙ (ap (λ (text : List ℕ). unquoted q (quoted_in (quote_of q) text)) (append_assoc (doubled (quote_of q) (with_percents q name)) (quote_of q ∷ []) rest)
+    ap (λ b. cond b (unquoted q (quoted_in (quote_of q) ((with_byte_doubled (quote_of q) (with_percents q name) ++ quote_of q ∷ []) ++ rest))) (Some (plain_in (quoted_name q name ++ rest)))) (same_byte (quote_of q))
+    ∙ (ap (λ (text : List ℕ). unquoted q (quoted_in (quote_of q) text)) (append_assoc (with_byte_doubled (quote_of q) (with_percents q name)) (quote_of q ∷ []) rest)
     ∙ (ap (unquoted q) (quoted_doubled (quote_of q) (with_percents q name) rest (ends_quote q rest ends)) ∙ ap (λ (n : List ℕ). Some (n, rest)) (percents_read q name)))
 
 -- a name is read to its end

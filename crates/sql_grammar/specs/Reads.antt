@@ -5,7 +5,7 @@ use Rattle.std.specs.List.{list_all}
 use Rattle.base_core.specs.declared.value.Value.{Value}
 use Rattle.sql_text.specs.declared.names.Quoting.{Quoting}
 use Rattle.sql_text.specs.declared.names.Quoting.TheVariants.{Sqlite, Postgresql, Mysql}
-use Rattle.sql_text.specs.Names.{needs_quotes, quoted, is_lower, is_upper, is_digit}
+use Rattle.sql_text.specs.Names.{needs_quotes, quoted_name, is_lower, is_upper, is_digit}
 use Rattle.sql_text.specs.Words.{null_word, in_word, empty_word, between_word}
 use Rattle.sql_grammar.specs.Trees.{Test, Sign, Function, Source, Sql, column, mark, test, null_test, in_list, between, all_of, any_of, opposite, sum, product, negative, call, count_all, exists, Sqls, none, more}
 use Rattle.sql_grammar.specs.Words.{test_word, sign_word, function_word}
@@ -15,7 +15,7 @@ use Rattle.sql_grammar.specs.Words.{test_word, sign_word, function_word}
 -- a name stands bare where it needs no quotes, or in quotes with each quote in it doubled, and each `%` where the dialect doubles it
 pub data IsName (quoting : Quoting) : List ℕ → List ℕ → Type 0 where
   bare : {name : List ℕ} → needs_quotes name ≡ false → IsName quoting name name
-  in_quotes : {name : List ℕ} → IsName quoting (quoted quoting name) name
+  in_quotes : {name : List ℕ} → IsName quoting (quoted_name quoting name) name
 
 abbrev pub is_label_byte : ℕ → Bool
 is_label_byte byte = is_lower byte || is_upper byte || is_digit byte || byte == 95

@@ -31,7 +31,7 @@ use Rattle.sql_semantics.specs.Plain.{StandsIn, adds_name, are_distinct, fits, f
 use Rattle.sql_semantics.proofs.Equations.{fits_step, fits_rolled}
 use Rattle.sql_text.specs.declared.names.Quoting.{Quoting}
 use Rattle.sql_text.specs.declared.names.Quoting.TheVariants.{Sqlite, Postgresql, Mysql}
-use Rattle.sql_text.specs.Columns.{named as named_as}
+use Rattle.sql_text.specs.Columns.{name_or_empty as named_as}
 use Rattle.sql_expressions.specs.Laid.{column_shown, source_shown}
 use Rattle.sql_grammar.specs.Trees.{Test, Equal, NotEqual, Less, LessEqual, Greater, GreaterEqual, Like, Ilike, Distinct, Sign, Plus, Minus, Beside, Function, Count, Sum, Min, Max, Lower, Upper, Length, Coalesce, Concat, Source, Sql, column, mark, test, null_test, in_list, between, all_of, any_of, opposite, sum, product, negative, call, count_all, exists, Sqls, none, more}
 use Rattle.sql_trees.specs.Tree.{tree, tree_at, trees, compare_test, function_as, arith_tree, concat_tree, ilike_tree, distinct_tree, exists_tree, source_tree}

@@ -14,7 +14,7 @@ use Rattle.sql_text.specs.declared.names.Quoting.TheVariants.{Sqlite, Postgresql
 use Rattle.sql_expressions.specs.Laid.{laid}
 use Rattle.sql_text.specs.Columns.{column_name}
 use Rattle.sql_statements.specs.Selects.{clause_pieces}
-use Rattle.sql_text.specs.Written.{Piece, words, name, value, joined}
+use Rattle.sql_text.specs.Written.{Piece, words, name, value, with_separators}
 
 abbrev pub table_piece : Catalog → TableId → Piece
 table_piece schema table = name (spec_of schema table).name
@@ -29,7 +29,7 @@ default_word Postgresql = codes " DEFAULT VALUES"
 default_word Mysql = codes " () VALUES ()"
 
 abbrev pub columns_pieces : Catalog → TableId → List ColumnNo → List Piece
-columns_pieces schema table columns = joined (codes ", ") (λ column. column_piece schema table column ∷ []) columns
+columns_pieces schema table columns = with_separators (codes ", ") (λ column. column_piece schema table column ∷ []) columns
 
 -- a value for a column, under the column's name
 abbrev pub cell_piece : Catalog → TableId → ColumnNo → Value → Piece
@@ -72,7 +72,7 @@ delete_pieces quoting schema table filter = words (codes "DELETE FROM ") ∷ tab
 
 abbrev pub update_pieces : Quoting → Catalog → TableId → List (ColumnNo × Option Expr) → Option Expr → List Piece
 update_pieces quoting schema table cells filter =
-    words (codes "UPDATE ") ∷ table_piece schema table ∷ words (codes " SET ") ∷ joined (codes ", ") (set_pieces quoting schema table) cells
+    words (codes "UPDATE ") ∷ table_piece schema table ∷ words (codes " SET ") ∷ with_separators (codes ", ") (set_pieces quoting schema table) cells
     ++ filter_pieces quoting schema table filter
 
 unfoldable pub bulk_pieces : Quoting → Catalog → Bulk → List Piece

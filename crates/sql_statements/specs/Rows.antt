@@ -13,7 +13,7 @@ use Rattle.schema_core.specs.Catalog.{Catalog, spec_of}
 use Rattle.sql_text.specs.declared.names.Quoting.{Quoting}
 use Rattle.sql_text.specs.declared.names.Quoting.TheVariants.{Sqlite, Postgresql, Mysql}
 use Rattle.sql_statements.specs.Bulks.{cell_piece, column_piece, default_word, table_piece}
-use Rattle.sql_text.specs.Written.{Piece, words, name, value, joined}
+use Rattle.sql_text.specs.Written.{Piece, words, name, value, with_separators}
 
 -- ---- INSERT
 
@@ -45,7 +45,7 @@ row_list drawn columns row = row_cells drawn (codes "(") columns row ++ words (c
 -- the columns and the rows
 abbrev pub lists_pieces : Bool → List ColumnSpec → List (List Value) → List Piece
 lists_pieces drawn columns rows =
-    names_pieces drawn (codes " (") columns ++ (words (codes ") VALUES ") ∷ joined (codes ", ") (row_list drawn columns) rows)
+    names_pieces drawn (codes " (") columns ++ (words (codes ") VALUES ") ∷ with_separators (codes ", ") (row_list drawn columns) rows)
 
 -- the columns and the rows, or rather that there are no columns
 abbrev pub rows_pieces : Quoting → Bool → List ColumnSpec → List (List Value) → List Piece
@@ -90,5 +90,5 @@ cell_pieces schema table cell = column_piece schema table cell.0 ∷ words (code
 unfoldable pub row_pieces : Quoting → Catalog → RowStmt → List Piece
 row_pieces quoting schema (row.Insert table rows) = insert_rows quoting (spec_of schema table) (leaves_key (spec_of schema table) rows) rows
 row_pieces quoting schema (row.Update table key cells) =
-    words (codes "UPDATE ") ∷ table_piece schema table ∷ words (codes " SET ") ∷ joined (codes ", ") (cell_pieces schema table) cells ++ by_key (spec_of schema table) key
+    words (codes "UPDATE ") ∷ table_piece schema table ∷ words (codes " SET ") ∷ with_separators (codes ", ") (cell_pieces schema table) cells ++ by_key (spec_of schema table) key
 row_pieces quoting schema (row.Delete table key) = words (codes "DELETE FROM ") ∷ table_piece schema table ∷ by_key (spec_of schema table) key

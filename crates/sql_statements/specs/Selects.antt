@@ -11,7 +11,7 @@ use Rattle.sql_text.specs.declared.names.Quoting.{Quoting}
 use Rattle.sql_text.specs.declared.names.Quoting.TheVariants.{Sqlite, Postgresql, Mysql}
 use Rattle.sql_text.specs.Words.{select_word, join_word}
 use Rattle.sql_expressions.specs.Laid.{laid, param, parts, source_pieces}
-use Rattle.sql_text.specs.Written.{Piece, words, name, value, joined}
+use Rattle.sql_text.specs.Written.{Piece, words, name, value, with_separators}
 
 -- an expression by itself
 abbrev pub whole : Quoting → Catalog → List Origin → Expr → List Piece
@@ -53,7 +53,7 @@ abbrev pub key_pieces : Quoting → Catalog → List Origin → Expr × Bool →
 key_pieces quoting schema scope key = whole quoting schema scope key.0 ++ desc_pieces key.1
 
 abbrev pub order_by_pieces : Quoting → Catalog → List Origin → List (Expr × Bool) → List Piece
-order_by_pieces quoting schema scope keys = words (codes " ORDER BY ") ∷ joined (codes ", ") (key_pieces quoting schema scope) keys
+order_by_pieces quoting schema scope keys = words (codes " ORDER BY ") ∷ with_separators (codes ", ") (key_pieces quoting schema scope) keys
 
 abbrev pub order_pieces : Quoting → Catalog → List Origin → List (Expr × Bool) → List Piece
 order_pieces quoting schema scope [] = []
@@ -89,7 +89,7 @@ cut_pieces quoting (Some l) (Some o) = both_pieces quoting l o
 
 -- what stands before FROM
 abbrev pub head_pieces : Quoting → Catalog → Select → List Piece
-head_pieces quoting schema s = words (select_word s.distinct) ∷ joined (codes ", ") (item_pieces quoting schema (sources_of s)) s.items
+head_pieces quoting schema s = words (select_word s.distinct) ∷ with_separators (codes ", ") (item_pieces quoting schema (sources_of s)) s.items
 
 -- the sources
 abbrev pub from_pieces : Quoting → Catalog → Select → List Piece

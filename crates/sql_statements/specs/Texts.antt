@@ -8,7 +8,7 @@ use Rattle.sql_text.specs.declared.writer.Compiled.{Compiled}
 use Rattle.sql_statements.specs.Bulks.{bulk_pieces}
 use Rattle.sql_statements.specs.Rows.{row_pieces}
 use Rattle.sql_statements.specs.Selects.{select_pieces, IsCut}
-use Rattle.sql_text.specs.Written.{Piece, compiled, nothing, put_all}
+use Rattle.sql_text.specs.Written.{Piece, compiled_statement, nothing_written, put_all}
 
 -- the pieces of a statement's text
 abbrev pub statement_pieces : Quoting → Catalog → Statement → List Piece
@@ -18,7 +18,7 @@ statement_pieces quoting schema (Row row) = row_pieces quoting schema row
 
 -- a statement's text with the names of its marks and their values
 unfoldable pub text_of : Quoting → Catalog → Statement → Compiled
-text_of quoting schema statement = compiled (put_all (nothing quoting) (statement_pieces quoting schema statement))
+text_of quoting schema statement = compiled_statement (put_all (nothing_written quoting) (statement_pieces quoting schema statement))
 
 -- the numbers of a select's cut are below 2 ^ 63, as those of every plain select are
 abbrev pub HasCuts : Statement → Type 0

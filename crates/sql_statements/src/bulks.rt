@@ -3,7 +3,7 @@
 ghost use Rattle.std.specs.Prelude.{◌≡◌, ◌∷◌, [], IfOk, codes};
 ghost use Rattle.sql_semantics.specs.Plain.{alone};
 ghost use Rattle.sql_statements.specs.Bulks as spec;
-ghost use Rattle.sql_text.specs.Written.{Wrote, led, joined};
+ghost use Rattle.sql_text.specs.Written.{Wrote, with_leading_separators, with_separators};
 
 use crate::selects::clause;
 use base_core::{ColumnNo, Refusal, TableId, Value};
@@ -39,7 +39,7 @@ fn more_columns(
     table: TableId,
     columns: &[ColumnNo],
 ) -> Result<(), Refusal>
-    ensures { Wrote (led (codes ", ") (λ column. spec.column_piece schema.now table column ∷ [])
+    ensures { Wrote (with_leading_separators (codes ", ") (λ column. spec.column_piece schema.now table column ∷ [])
         columns.now) result writer.old writer.new }
 {
     for column in columns {
@@ -158,7 +158,7 @@ fn more_sets(
     table: TableId,
     sets: &[(ColumnNo, Option<Expr>)],
 ) -> Result<(), Refusal>
-    ensures { Wrote (led (codes ", ")
+    ensures { Wrote (with_leading_separators (codes ", ")
         (spec.set_pieces writer.old.quoting schema.now table) sets.now)
         result writer.old writer.new }
 {
@@ -176,7 +176,7 @@ fn sets_of(
     table: TableId,
     sets: &[(ColumnNo, Option<Expr>)],
 ) -> Result<(), Refusal>
-    ensures { Wrote (joined (codes ", ")
+    ensures { Wrote (with_separators (codes ", ")
         (spec.set_pieces writer.old.quoting schema.now table) sets.now)
         result writer.old writer.new }
 {

@@ -5,7 +5,7 @@ ghost use Rattle.std.specs.List.{list_all};
 ghost use Rattle.schema_core.specs.Catalog.{spec_of};
 ghost use Rattle.schema_core.specs.Tables.{has_null, is_null, key_cells};
 ghost use Rattle.sql_statements.specs.Rows as spec;
-ghost use Rattle.sql_text.specs.Written.{Wrote, led, joined};
+ghost use Rattle.sql_text.specs.Written.{Wrote, with_leading_separators, with_separators};
 
 use crate::bulks::default_word;
 use base_core::{ColumnNo, Refusal, RowValues, TableId, Value};
@@ -130,7 +130,7 @@ fn more_rows(
     columns: &[ColumnSpec],
     rows: &[RowValues],
 ) -> Result<(), Refusal>
-    ensures { Wrote (led (codes ", ") (spec.row_list drawn columns.now) rows.now)
+    ensures { Wrote (with_leading_separators (codes ", ") (spec.row_list drawn columns.now) rows.now)
         result writer.old writer.new }
 {
     for row in rows {
@@ -147,7 +147,7 @@ fn rows_of(
     columns: &[ColumnSpec],
     rows: &[RowValues],
 ) -> Result<(), Refusal>
-    ensures { Wrote (joined (codes ", ") (spec.row_list drawn columns.now) rows.now)
+    ensures { Wrote (with_separators (codes ", ") (spec.row_list drawn columns.now) rows.now)
         result writer.old writer.new }
 {
     let Some((first, others)) = rows.split_first() else {
@@ -318,7 +318,7 @@ fn more_cells(
     table: TableId,
     cells: &[(ColumnNo, Value)],
 ) -> Result<(), Refusal>
-    ensures { Wrote (led (codes ", ") (spec.cell_pieces schema.now table) cells.now)
+    ensures { Wrote (with_leading_separators (codes ", ") (spec.cell_pieces schema.now table) cells.now)
         result writer.old writer.new }
 {
     for next in cells {
@@ -335,7 +335,7 @@ fn cells_of(
     table: TableId,
     cells: &[(ColumnNo, Value)],
 ) -> Result<(), Refusal>
-    ensures { Wrote (joined (codes ", ") (spec.cell_pieces schema.now table) cells.now)
+    ensures { Wrote (with_separators (codes ", ") (spec.cell_pieces schema.now table) cells.now)
         result writer.old writer.new }
 {
     let Some((first, others)) = cells.split_first() else {

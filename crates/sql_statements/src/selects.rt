@@ -4,7 +4,7 @@ ghost use Rattle.std.specs.Prelude.{◌≡◌, ◌<◌, ◌^◌, ◌∷◌, [], 
 ghost use Rattle.sql_semantics.specs.Plain.{sources_of};
 ghost use Rattle.sql_statements.specs.Selects as spec;
 ghost use Rattle.sql_text.specs.Words.{select_word, join_word};
-ghost use Rattle.sql_text.specs.Written.{Wrote, led, joined};
+ghost use Rattle.sql_text.specs.Written.{Wrote, with_leading_separators, with_separators};
 
 use base_core::{Copied, Name, Refusal, Value};
 use expr_types::{Expr, Joined, Origin, Select};
@@ -41,7 +41,7 @@ fn more_items(
     scope: &[Origin],
     items: &[(Expr, Option<Name>)],
 ) -> Result<(), Refusal>
-    ensures { Wrote (led (codes ", ") (spec.item_pieces writer.old.quoting schema.now
+    ensures { Wrote (with_leading_separators (codes ", ") (spec.item_pieces writer.old.quoting schema.now
         scope.now) items.now) result writer.old writer.new }
 {
     for next in items {
@@ -58,7 +58,7 @@ fn items_of(
     scope: &[Origin],
     items: &[(Expr, Option<Name>)],
 ) -> Result<(), Refusal>
-    ensures { Wrote (joined (codes ", ") (spec.item_pieces writer.old.quoting schema.now scope.now)
+    ensures { Wrote (with_separators (codes ", ") (spec.item_pieces writer.old.quoting schema.now scope.now)
         items.now) result writer.old writer.new }
 {
     let Some((first, others)) = items.split_first() else {
@@ -248,7 +248,7 @@ fn more_keys(
     scope: &[Origin],
     keys: &[(Expr, bool)],
 ) -> Result<(), Refusal>
-    ensures { Wrote (led (codes ", ") (spec.key_pieces writer.old.quoting schema.now
+    ensures { Wrote (with_leading_separators (codes ", ") (spec.key_pieces writer.old.quoting schema.now
         scope.now) keys.now) result writer.old writer.new }
 {
     for next in keys {
@@ -265,7 +265,7 @@ fn keys_of(
     scope: &[Origin],
     keys: &[(Expr, bool)],
 ) -> Result<(), Refusal>
-    ensures { Wrote (joined (codes ", ") (spec.key_pieces writer.old.quoting schema.now scope.now)
+    ensures { Wrote (with_separators (codes ", ") (spec.key_pieces writer.old.quoting schema.now scope.now)
         keys.now) result writer.old writer.new }
 {
     let Some((first, others)) = keys.split_first() else {

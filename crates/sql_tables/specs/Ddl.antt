@@ -13,7 +13,7 @@ use Rattle.schema_core.specs.declared.table.TableSpec.{TableSpec}
 use Rattle.schema_core.specs.Catalog.{Catalog, spec_of, target_of, foreign_of, is_required, has_generated_key}
 use Rattle.sql_text.specs.declared.names.Quoting.{Quoting}
 use Rattle.sql_text.specs.declared.names.Quoting.TheVariants.{Sqlite, Postgresql, Mysql}
-use Rattle.sql_text.specs.Written.{Piece, words, name, joined, nothing, put_all}
+use Rattle.sql_text.specs.Written.{Piece, words, name, with_separators, nothing_written, put_all}
 
 -- ---- columns
 
@@ -58,7 +58,7 @@ column_pieces quoting generated column = name column.name ∷ words (codes " ") 
 -- ---- constraints
 
 abbrev pub names_pieces : List (List ℕ) → List Piece
-names_pieces names = joined (codes ", ") (λ shown. name shown ∷ []) names
+names_pieces names = with_separators (codes ", ") (λ shown. name shown ∷ []) names
 
 -- the names of the key's columns, a comma before all but the first
 abbrev pub key_names : List ℕ → List ColumnSpec → List Piece
@@ -102,12 +102,12 @@ constraint_pieces schema spec later =
 
 abbrev pub create_pieces : Quoting → Catalog → TableSpec → List ℕ → List Piece
 create_pieces quoting schema spec later =
-    words (codes "CREATE TABLE ") ∷ name spec.name ∷ words (codes " (") ∷ joined (codes ", ") (column_pieces quoting (has_generated_key spec)) spec.columns
+    words (codes "CREATE TABLE ") ∷ name spec.name ∷ words (codes " (") ∷ with_separators (codes ", ") (column_pieces quoting (has_generated_key spec)) spec.columns
     ++ constraint_pieces schema spec later ++ words (codes ")") ∷ []
 
 -- a text without values
 abbrev pub text_alone : Quoting → List Piece → List ℕ
-text_alone quoting pieces = (put_all (nothing quoting) pieces).text
+text_alone quoting pieces = (put_all (nothing_written quoting) pieces).text
 
 abbrev pub create_text : Quoting → Catalog → TableSpec → List ℕ → List ℕ
 create_text quoting schema spec later = text_alone quoting (create_pieces quoting schema spec later)

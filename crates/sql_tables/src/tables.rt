@@ -6,7 +6,7 @@ ghost use Rattle.base_core.specs.Answers.{Gives};
 ghost use Rattle.base_core.specs.declared.refusal.Refusal.TheVariants.{Memory};
 ghost use Rattle.schema_core.specs.Catalog.{IsTable, spec_of};
 ghost use Rattle.sql_tables.specs.Ddl as spec;
-ghost use Rattle.sql_text.specs.Written.{Wrote, led, joined, words, name};
+ghost use Rattle.sql_text.specs.Written.{Wrote, with_leading_separators, with_separators, words, name};
 
 use base_core::{ColumnNo, ListOf, Name, Refusal, TableId, Text};
 use schema_core::{
@@ -87,7 +87,7 @@ fn column(writer: &mut Writer, generated: bool, column: &ColumnSpec) -> Result<(
 
 #[tactic(auto, unfolding(sql_text::specs::Written::put_all), using(sql_text::proofs::Steps::steps))]
 fn more_columns(writer: &mut Writer, generated: bool, columns: &[ColumnSpec]) -> Result<(), Refusal>
-    ensures { Wrote (led (codes ", ") (spec.column_pieces writer.old.quoting generated) columns.now)
+    ensures { Wrote (with_leading_separators (codes ", ") (spec.column_pieces writer.old.quoting generated) columns.now)
         result writer.old writer.new }
 {
     for next in columns {
@@ -99,7 +99,7 @@ fn more_columns(writer: &mut Writer, generated: bool, columns: &[ColumnSpec]) ->
 
 #[tactic(auto, using(sql_text::proofs::Steps::steps))]
 fn columns(writer: &mut Writer, generated: bool, columns: &[ColumnSpec]) -> Result<(), Refusal>
-    ensures { Wrote (joined (codes ", ")
+    ensures { Wrote (with_separators (codes ", ")
         (spec.column_pieces writer.old.quoting generated) columns.now)
         result writer.old writer.new }
 {
@@ -112,7 +112,7 @@ fn columns(writer: &mut Writer, generated: bool, columns: &[ColumnSpec]) -> Resu
 
 #[tactic(auto, unfolding(sql_text::specs::Written::put_all), using(sql_text::proofs::Steps::steps))]
 fn more_names(writer: &mut Writer, names: &[Name]) -> Result<(), Refusal>
-    ensures { Wrote (led (codes ", ") (λ shown. name shown ∷ []) names.now)
+    ensures { Wrote (with_leading_separators (codes ", ") (λ shown. name shown ∷ []) names.now)
         result writer.old writer.new }
 {
     for name in names {

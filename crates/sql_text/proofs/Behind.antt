@@ -2,7 +2,7 @@
 use Rattle.std.proofs.Common.{◌≡◌, ℕ, List, [], ◌∷◌, ◌++◌, Result, Ok, Err, sym, ap, ◌∙◌}
 use Rattle.base_core.specs.declared.refusal.Refusal.{Refusal}
 use Rattle.sql_text.specs.declared.names.Quoting.{Quoting}
-use Rattle.sql_text.specs.Written.{Piece, Written, Wrote, nothing, put_all}
+use Rattle.sql_text.specs.Written.{Piece, Written, Wrote, nothing_written, put_all}
 use Rattle.sql_text.proofs.Steps.{put_append}
 
 pub written_behind : (before after : List Piece) (old mid new : Written) → mid ≡ put_all old before → new ≡ put_all mid after → new ≡ put_all old (before ++ after)
@@ -18,6 +18,6 @@ more_next part rest all old new done all-is so-far new-is =
     ap (λ (w : Written). put_all w rest) new-is ∙ (sym (put_append old part rest) ∙ (sym (ap (put_all old) all-is) ∙ so-far))
 
 -- the text of what was written from nothing on
-pub text_is : (quoting : Quoting) (pieces : List Piece) (empty whole : Written) (text : List ℕ) → empty ≡ nothing quoting → whole ≡ put_all empty pieces → text ≡ whole.text → (put_all (nothing quoting) pieces).text ≡ text
+pub text_is : (quoting : Quoting) (pieces : List Piece) (empty whole : Written) (text : List ℕ) → empty ≡ nothing_written quoting → whole ≡ put_all empty pieces → text ≡ whole.text → (put_all (nothing_written quoting) pieces).text ≡ text
 text_is quoting pieces empty whole text empty-is whole-is text-is =
     ap (λ (w : Written). (put_all w pieces).text) (sym empty-is) ∙ (ap (λ (w : Written). w.text) (sym whole-is) ∙ sym text-is)

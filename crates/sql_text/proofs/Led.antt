@@ -2,7 +2,7 @@
 use Rattle.std.proofs.Common.{◌≡◌, ℕ, ◌+◌, ◌<◌, List, [], ◌∷◌, length, get_or, drop, sym, ap, ◌∙◌}
 use Rattle.std.proofs.lemmas.List.{drop_more}
 use Rattle.sql_text.specs.declared.names.Quoting.{Quoting}
-use Rattle.sql_text.specs.Written.{Piece, words, Written, put_all, led}
+use Rattle.sql_text.specs.Written.{Piece, words, Written, put_all, with_leading_separators}
 use Rattle.sql_text.proofs.Steps.{led_step, same_quoting}
 
 -- the items from a place on begin with the one at that place
@@ -11,9 +11,9 @@ dropped {A} xs i x less is = drop_more xs i x less ∙ ap (λ (y : A). y ∷ dro
 
 -- one more item, whose pieces depend on the dialect
 pub led_next : {A : Type 0} (pieces : Quoting → A → List Piece) (word : List ℕ) (start old mid new : Written) (x : A) (rest xs all : List A) → xs ≡ x ∷ rest
-    → (old.quoting ≡ start.quoting) × (put_all old (led word (pieces start.quoting) xs) ≡ put_all start (led word (pieces start.quoting) all))
+    → (old.quoting ≡ start.quoting) × (put_all old (with_leading_separators word (pieces start.quoting) xs) ≡ put_all start (with_leading_separators word (pieces start.quoting) all))
     → mid ≡ put_all old (words word ∷ []) → new ≡ put_all mid (pieces mid.quoting x)
-    → (new.quoting ≡ start.quoting) × (put_all new (led word (pieces start.quoting) rest) ≡ put_all start (led word (pieces start.quoting) all))
+    → (new.quoting ≡ start.quoting) × (put_all new (with_leading_separators word (pieces start.quoting) rest) ≡ put_all start (with_leading_separators word (pieces start.quoting) all))
 led_next pieces word start old mid new x rest xs all xs-is so-far mid-is new-is =
     let there : mid.quoting ≡ start.quoting = ap (λ (w : Written). w.quoting) mid-is ∙ (same_quoting old (words word ∷ []) ∙ so-far.0) in
     let after : new.quoting ≡ start.quoting = ap (λ (w : Written). w.quoting) new-is ∙ (same_quoting mid (pieces mid.quoting x) ∙ there) in

@@ -10,9 +10,9 @@ abbrev pub column_of : Catalog → TableId → ColumnNo → Option ColumnSpec
 column_of schema table column = slice_get (spec_of schema table).columns column.0
 
 -- the name of a column, none where there is no column
-abbrev pub named : Option ColumnSpec → List ℕ
-named None = []
-named (Some column) = column.name
+abbrev pub name_or_empty : Option ColumnSpec → List ℕ
+name_or_empty None = []
+name_or_empty (Some column) = column.name
 
 abbrev pub column_name : Catalog → TableId → ColumnNo → List ℕ
-column_name schema table column = named (column_of schema table column)
+column_name schema table column = name_or_empty (column_of schema table column)

@@ -6,8 +6,8 @@ use Rattle.sql_text.specs.declared.names.Quoting.{Quoting}
 use Rattle.sql_text.specs.declared.names.Quoting.TheVariants.{Sqlite, Postgresql, Mysql}
 
 -- the words that are quoted where they are names
-unfoldable pub reserved : List (List ℕ)
-reserved =
+unfoldable pub words_to_quote : List (List ℕ)
+words_to_quote =
     codes "all" ∷ codes "and" ∷ codes "as" ∷ codes "asc" ∷ codes "between" ∷ codes "by" ∷ codes "case" ∷ codes "check"
     ∷ codes "collate" ∷ codes "column" ∷ codes "constraint" ∷ codes "create" ∷ codes "cross" ∷ codes "default" ∷ codes "delete"
     ∷ codes "desc" ∷ codes "distinct" ∷ codes "drop" ∷ codes "else" ∷ codes "end" ∷ codes "except" ∷ codes "exists"
@@ -19,7 +19,7 @@ reserved =
     ∷ codes "using" ∷ codes "values" ∷ codes "when" ∷ codes "where" ∷ codes "with" ∷ []
 
 unfoldable pub is_reserved : List ℕ → Bool
-is_reserved name = list_any (λ word. bytes_eq word name) reserved
+is_reserved name = list_any (λ word. bytes_eq word name) words_to_quote
 
 abbrev pub is_between : ℕ → ℕ → ℕ → Bool
 is_between low high byte = not (nat_lt byte low) && not (nat_lt high byte)
@@ -55,21 +55,21 @@ abbrev pub doubled_byte : ℕ → ℕ → List ℕ
 doubled_byte mark byte = if byte == mark then mark ∷ mark ∷ [] else byte ∷ []
 
 -- the text with each of these bytes doubled
-abbrev pub doubled : ℕ → List ℕ → List ℕ
-doubled mark text = flat_map (doubled_byte mark) text
+abbrev pub with_byte_doubled : ℕ → List ℕ → List ℕ
+with_byte_doubled mark text = flat_map (doubled_byte mark) text
 
 -- the text with `%` doubled, where the dialect's marks begin with it
 abbrev pub with_percents : Quoting → List ℕ → List ℕ
 with_percents Sqlite text = text
-with_percents Postgresql text = doubled 37 text
-with_percents Mysql text = doubled 37 text
+with_percents Postgresql text = with_byte_doubled 37 text
+with_percents Mysql text = with_byte_doubled 37 text
 
-abbrev pub quoted : Quoting → List ℕ → List ℕ
-quoted quoting name = quote_of quoting ∷ doubled (quote_of quoting) (with_percents quoting name) ++ quote_of quoting ∷ []
+abbrev pub quoted_name : Quoting → List ℕ → List ℕ
+quoted_name quoting name = quote_of quoting ∷ with_byte_doubled (quote_of quoting) (with_percents quoting name) ++ quote_of quoting ∷ []
 
 -- a name as it stands in a text
 unfoldable pub name_text : Quoting → List ℕ → List ℕ
-name_text quoting name = if needs_quotes name then quoted quoting name else name
+name_text quoting name = if needs_quotes name then quoted_name quoting name else name
 
 -- letters, digits and `_` stand in a base name, and `_` stands for every other byte
 abbrev pub cleaned_byte : ℕ → ℕ

@@ -25,20 +25,20 @@ pub record Written : Type 0 where
   pub names : List (List ℕ)
   pub values : List Value
 
-abbrev pub nothing : Quoting → Written
-nothing quoting = record { quoting = quoting; text = []; bases = []; names = []; values = [] }
+abbrev pub nothing_written : Quoting → Written
+nothing_written quoting = record { quoting = quoting; text = []; bases = []; names = []; values = [] }
 
 -- how often a base name was used
 abbrev pub uses_of : List (List ℕ) → List ℕ → ℕ
 uses_of bases base = count_by (λ other. bytes_eq other base) bases
 
 -- a mark's name: its base name and its number
-abbrev pub numbered : List ℕ → ℕ → List ℕ
-numbered base number = base ++ (codes "_" ++ decimal number)
+abbrev pub mark_name : List ℕ → ℕ → List ℕ
+mark_name base number = base ++ (codes "_" ++ decimal number)
 
 -- the next mark under a base name counts its uses from 1
 abbrev pub next_name : List (List ℕ) → List ℕ → List ℕ
-next_name bases base = numbered base (uses_of bases base + 1)
+next_name bases base = mark_name base (uses_of bases base + 1)
 
 -- a mark of a name as it stands in a text
 abbrev pub mark_text : Quoting → List ℕ → List ℕ
@@ -58,19 +58,19 @@ abbrev pub put_value : Written → List ℕ → Value → Written
 put_value w base v = with_mark w base (next_name w.bases base) v
 
 -- with one more piece at the end
-unfoldable pub put : Written → Piece → Written
-put w (words text) = with_text w text
-put w (name text) = with_text w (name_text w.quoting text)
-put w (value base v) = put_value w (map cleaned_byte base) v
+unfoldable pub put_piece : Written → Piece → Written
+put_piece w (words text) = with_text w text
+put_piece w (name text) = with_text w (name_text w.quoting text)
+put_piece w (value base v) = put_value w (map cleaned_byte base) v
 
 -- with these pieces at the end
 unfoldable pub put_all : Written → List Piece → Written
 put_all w [] = w
-put_all w (piece ∷ pieces) = put_all (put w piece) pieces
+put_all w (piece ∷ pieces) = put_all (put_piece w piece) pieces
 
 -- the statement with its marks and parameters
-abbrev pub compiled : Written → Compiled
-compiled w = record { text = w.text; names = w.names; values = w.values }
+abbrev pub compiled_statement : Written → Compiled
+compiled_statement w = record { text = w.text; names = w.names; values = w.values }
 
 -- a call wrote these pieces at the end; its only refusal is that memory ran out
 abbrev pub Wrote : {X : Type 0} → List Piece → Result X Refusal → Written → Written → Type 0
@@ -78,11 +78,11 @@ Wrote pieces (Ok x) old new = new ≡ put_all old pieces
 Wrote pieces (Err e) old new = e ≡ Memory
 
 -- each item's pieces with a separator before them
-abbrev pub led : {A : Type 0} → List ℕ → (A → List Piece) → List A → List Piece
-led separator pieces [] = []
-led separator pieces (item ∷ items) = words separator ∷ pieces item ++ led separator pieces items
+abbrev pub with_leading_separators : {A : Type 0} → List ℕ → (A → List Piece) → List A → List Piece
+with_leading_separators separator pieces [] = []
+with_leading_separators separator pieces (item ∷ items) = words separator ∷ pieces item ++ with_leading_separators separator pieces items
 
 -- the items' pieces with a separator between each two
-abbrev pub joined : {A : Type 0} → List ℕ → (A → List Piece) → List A → List Piece
-joined separator pieces [] = []
-joined separator pieces (item ∷ items) = pieces item ++ led separator pieces items
+abbrev pub with_separators : {A : Type 0} → List ℕ → (A → List Piece) → List A → List Piece
+with_separators separator pieces [] = []
+with_separators separator pieces (item ∷ items) = pieces item ++ with_leading_separators separator pieces items

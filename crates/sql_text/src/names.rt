@@ -136,7 +136,7 @@ fn quote_of(quoting: Quoting) -> char
 /// The text with each of these bytes doubled.
 fn doubled(alloc: Global, mark: char, text: &str) -> Result<String, AllocError>
     requires { mark < 128 }
-    ensures { IfOk result (λ shown. string_bytes shown ≡ spec.doubled mark text.now) }
+    ensures { IfOk result (λ shown. string_bytes shown ≡ spec.with_byte_doubled mark text.now) }
 {
     let mut shown = String::new(alloc);
     let mut rest = text;
@@ -162,7 +162,7 @@ fn with_percents(alloc: Global, quoting: Quoting, text: &str) -> Result<String, 
 
 /// The name in quotes.
 pub(crate) fn quoted(alloc: Global, quoting: Quoting, name: &str) -> Result<String, AllocError>
-    ensures { IfOk result (λ shown. string_bytes shown ≡ spec.quoted quoting name.now) }
+    ensures { IfOk result (λ shown. string_bytes shown ≡ spec.quoted_name quoting name.now) }
 {
     let quote = quote_of(quoting);
     let inner = doubled(alloc, quote, with_percents(alloc, quoting, name)?.as_str())?;

@@ -3,7 +3,7 @@
 ghost use Rattle.std.specs.Prelude.{◌≡◌, ◌∷◌, [], IfOk, IfErr, OnOk, OnErr, string_bytes};
 ghost use Rattle.base_core.specs.declared.refusal.Refusal.TheVariants.{Memory};
 ghost use Rattle.sql_text.specs.Written as spec;
-ghost use Rattle.sql_text.specs.Written.{Wrote, nothing, numbered};
+ghost use Rattle.sql_text.specs.Written.{Wrote, nothing_written, mark_name};
 
 use crate::Quoting;
 use crate::bases::Bases;
@@ -41,8 +41,8 @@ impl Model for Writer {
 }
 
 /// A mark's name.
-fn numbered(alloc: Global, base: &str, number: u64) -> Result<Name, AllocError>
-    ensures { IfOk result (λ shown. shown ≡ numbered base.now number) }
+fn mark_name(alloc: Global, base: &str, number: u64) -> Result<Name, AllocError>
+    ensures { IfOk result (λ shown. shown ≡ mark_name base.now number) }
 {
     Ok(Name::new(format!(in alloc; "{base}_{number}")?))
 }
@@ -72,7 +72,7 @@ fn copies<T: Copied + Drop>(alloc: Global, items: &[T]) -> Result<Vec<T>, AllocE
 impl Writer {
     /// Nothing is written yet.
     pub fn new(alloc: Global, quoting: Quoting) -> Writer
-        ensures { result ≡ nothing quoting }
+        ensures { result ≡ nothing_written quoting }
     {
         Writer {
             alloc,
@@ -97,7 +97,7 @@ impl Writer {
     }
 
     /// The words are appended as they are. The only refusal is that memory ran out, and it leaves all as it was.
-    #[tactic(auto, unfolding(crate::specs::Written::put, crate::specs::Written::put_all))]
+    #[tactic(auto, unfolding(crate::specs::Written::put_piece, crate::specs::Written::put_all))]
     pub fn put_words(&mut self, words: &str) -> Result<(), Refusal>
         ensures wrote { Wrote (spec.words words.now ∷ []) result self.old self.new }
         ensures kept { OnErr result (self.new ≡ self.old) }
@@ -116,7 +116,7 @@ impl Writer {
     }
 
     /// The same of a name that is shown.
-    #[tactic(auto, unfolding(crate::specs::Written::put, crate::specs::Written::put_all, crate::specs::Names::name_text))]
+    #[tactic(auto, unfolding(crate::specs::Written::put_piece, crate::specs::Written::put_all, crate::specs::Names::name_text))]
     pub fn put_shown(&mut self, name: &str) -> Result<(), Refusal>
         ensures wrote { Wrote (spec.name name.now ∷ []) result self.old self.new }
         ensures kept { OnErr result (self.new ≡ self.old) }
@@ -140,7 +140,7 @@ impl Writer {
     }
 
     /// The same under a base name that is shown.
-    #[tactic(auto, unfolding(crate::specs::Written::put, crate::specs::Written::put_all))]
+    #[tactic(auto, unfolding(crate::specs::Written::put_piece, crate::specs::Written::put_all))]
     pub fn put_mark(&mut self, base: &str, value: &Value) -> Result<(), Refusal>
         ensures wrote { Wrote (spec.value base.now value.now ∷ []) result self.old self.new }
         ensures kept { OnErr result (self.new ≡ self.old) }
@@ -156,7 +156,7 @@ impl Writer {
         ensures kept { OnErr result (self.new ≡ self.old) }
     {
         let number = self.bases.next(base.as_str())?;
-        let name = numbered(self.alloc, base.as_str(), number)?;
+        let name = mark_name(self.alloc, base.as_str(), number)?;
         let shown = mark_text(self.alloc, self.quoting, name.get())?;
         self.names.reserve(1)?;
         self.values.reserve(1)?;
@@ -191,7 +191,7 @@ impl Writer {
 
     /// What was appended.
     pub fn finish(self) -> Compiled
-        ensures { result ≡ spec.compiled self }
+        ensures { result ≡ spec.compiled_statement self }
     {
         let Writer {
             alloc: _,

@@ -7,7 +7,7 @@ use Rattle.schema_core.specs.Catalog.{Catalog, spec_of}
 use Rattle.expr_types.specs.declared.expr.Origin.{Origin}
 use Rattle.sql_text.specs.declared.names.Quoting.{Quoting}
 use Rattle.sql_text.specs.Words.{like_word, empty_word}
-use Rattle.sql_text.specs.Written.{words, name, joined}
+use Rattle.sql_text.specs.Written.{words, name, with_separators}
 use Rattle.sql_expressions.specs.Laid as l
 use Rattle.sql_expressions.specs.Laid.{Laid, under, enclosed, two, part, parts, listed, beside, source_pieces, alias_pieces}
 use Rattle.sql_grammar.specs.Trees.{Sql, none, more, Like, Lower, call, in_list}
@@ -45,7 +45,7 @@ module _ (q : Quoting) where
 
   -- ---- marks
 
-  pub marks_written : (G : OfText) (base : List ℕ) (x : Value) (xs : List Value) (t : List ℕ) (v : List Value) → Writes q (joined (codes ", ") (listed base) (x ∷ xs)) t v
+  pub marks_written : (G : OfText) (base : List ℕ) (x : Value) (xs : List Value) (t : List ℕ) (v : List Value) → Writes q (with_separators (codes ", ") (listed base) (x ∷ xs)) t v
       → ((m : List ℕ) → AreMarks q m (x ∷ xs) → G m (x ∷ xs)) → G t v
   unfolding listed
   marks_written G base x [] t v w go =

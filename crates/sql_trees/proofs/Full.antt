@@ -17,7 +17,7 @@ use Rattle.expr_types.proofs.Operands.{operands_map}
 use Rattle.sql_semantics.specs.Kinds.{Scope}
 use Rattle.sql_semantics.specs.Plain.{StandsIn, fits, fits_level, has_full_lists, several, takes}
 use Rattle.sql_semantics.proofs.Equations.{enter, fits_rolled, full_rolled as lists_are_rolled}
-use Rattle.sql_text.specs.Written.{nothing}
+use Rattle.sql_text.specs.Written.{nothing_written}
 use Rattle.sql_expressions.specs.Laid.{laid}
 use Rattle.sql_grammar.specs.Trees.{Sql}
 use Rattle.sql_grammar.specs.Reads.{Reads, Either}
@@ -84,7 +84,7 @@ stands_full schema sources e s = has_all schema e (map (λ origin. origin.table)
 
 pub expressions_are_read : ExpressionsAreRead
 expressions_are_read quoting schema sources base e s =
-    all_written (λ t v. Reads quoting Either t v (tree quoting schema e sources)) (nothing quoting) ((laid quoting schema e).pieces sources base)
+    all_written (λ t v. Reads quoting Either t v (tree quoting schema e sources)) (nothing_written quoting) ((laid quoting schema e).pieces sources base)
     (λ t v w. to_either (laid quoting schema e).level (full_read quoting schema e (stands_full schema sources e s) sources base t v w))
 
 pub texts_tell_trees : TextsTellTrees

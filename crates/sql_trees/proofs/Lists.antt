@@ -7,7 +7,7 @@ use Rattle.expr_types.specs.declared.expr.Func.{Func}
 use Rattle.expr_types.specs.declared.expr.Func.TheVariants as func
 use Rattle.sql_text.specs.declared.names.Quoting.{Quoting}
 use Rattle.sql_text.specs.Words.{in_word, between_word}
-use Rattle.sql_text.specs.Written.{words, led, joined}
+use Rattle.sql_text.specs.Written.{words, with_leading_separators, with_separators}
 use Rattle.sql_expressions.specs.Laid as l
 use Rattle.sql_expressions.specs.Laid.{Laid, under, enclosed, part, parts, listed, beside, beside_two, source_pieces}
 use Rattle.sql_grammar.specs.Trees.{Sql, Sqls, none, more, call, opposite, exists, in_list, between}
@@ -45,7 +45,7 @@ module _ (q : Quoting) where
       (subst (λ y. Parts q level word a y (more (x.tree scope) none)) (sym (append-nil u))
       (g.one_part (to a u (x.tree scope) (under_read q least x.laid x.tree x.ready h scope l.param a u one))))))
   parts_read level least h to word scope x (y ∷ ys) t v w =
-      split (λ p u. Parts q level word p u (more (x.tree scope) (trees_of scope (y ∷ ys)))) (under least x.laid scope l.param) (led word (part least scope) (laids (y ∷ ys))) w
+      split (λ p u. Parts q level word p u (more (x.tree scope) (trees_of scope (y ∷ ys)))) (under least x.laid scope l.param) (with_leading_separators word (part least scope) (laids (y ∷ ys))) w
       (λ a b u z one rest. after_words (λ p m. Parts q level word (a ++ p) (u ++ m) (more (x.tree scope) (trees_of scope (y ∷ ys)))) rest
       (λ p others. g.more_parts (to a u (x.tree scope) (under_read q least x.laid x.tree x.ready h scope l.param a u one)) (parts_read level least h to word scope y ys p z others)))
 
@@ -55,7 +55,7 @@ module _ (q : Quoting) where
       → ((a b : List ℕ) (u z : List Value) → Reads q level a u (x.tree scope) → Parts q level word b z (trees_of scope (y ∷ ys)) → G (a ++ (word ++ b)) (u ++ z)) → G t v
   unfolding part
   first_read G level least h to word scope x y ys t v w go =
-      split G (under least x.laid scope l.param) (led word (part least scope) (laids (y ∷ ys))) w
+      split G (under least x.laid scope l.param) (with_leading_separators word (part least scope) (laids (y ∷ ys))) w
       (λ a b u z one rest. after_words (λ p m. G (a ++ p) (u ++ m)) rest
       (λ p others. go a p u z (to a u (x.tree scope) (under_read q least x.laid x.tree x.ready h scope l.param a u one)) (parts_read level least h to word scope y ys p z others)))
 
@@ -84,8 +84,8 @@ module _ (q : Quoting) where
   pub list_read : (n : Bool) (a : Laid) (s : List Origin → Sql) → Ready q a s → (x : Value) (xs : List Value) (scope : List Origin) (t : List ℕ) (v : List Value)
       → Writes q (l.full_list n a (x ∷ xs) scope) t v → Reads q Tested t v (in_list n (s scope) (x ∷ xs))
   list_read n a s ra x xs scope t v w =
-      before_words (λ p y. Reads q Tested p y (in_list n (s scope) (x ∷ xs))) (under 5 a scope l.param ++ words (in_word n) ∷ joined (codes ", ") (listed (beside scope a)) (x ∷ xs)) (codes ")") w
-      (λ p y rest. split (λ p y. Reads q Tested (p ++ codes ")") y (in_list n (s scope) (x ∷ xs))) (under 5 a scope l.param) (words (in_word n) ∷ joined (codes ", ") (listed (beside scope a)) (x ∷ xs)) rest
+      before_words (λ p y. Reads q Tested p y (in_list n (s scope) (x ∷ xs))) (under 5 a scope l.param ++ words (in_word n) ∷ with_separators (codes ", ") (listed (beside scope a)) (x ∷ xs)) (codes ")") w
+      (λ p y rest. split (λ p y. Reads q Tested (p ++ codes ")") y (in_list n (s scope) (x ∷ xs))) (under 5 a scope l.param) (words (in_word n) ∷ with_separators (codes ", ") (listed (beside scope a)) (x ∷ xs)) rest
       (λ c d u z one past. after_words (λ p y. Reads q Tested ((c ++ p) ++ codes ")") (u ++ y) (in_list n (s scope) (x ∷ xs))) past
       (λ p others. marks_written q (λ p y. Reads q Tested ((c ++ (in_word n ++ p)) ++ codes ")") (u ++ y) (in_list n (s scope) (x ∷ xs))) (beside scope a) x xs p z others
       (λ m are. subst (λ p. Reads q Tested p (u ++ x ∷ xs) (in_list n (s scope) (x ∷ xs))) (sym (list_text n c m))

@@ -9,8 +9,8 @@ use Rattle.std.proofs.lemmas.Nat.{mod_below}
 use Rattle.base_core.specs.declared.value.Value.{Value}
 use Rattle.sql_text.specs.declared.names.Quoting.{Quoting}
 use Rattle.sql_text.specs.declared.names.Quoting.TheVariants.{Sqlite, Postgresql, Mysql}
-use Rattle.sql_text.specs.Names.{needs_quotes, quoted, name_text, is_lower, is_upper, is_digit, cleaned_byte}
-use Rattle.sql_text.specs.Written.{Piece, words, name, value, Written, put, put_all, mark_text, next_name, uses_of, numbered}
+use Rattle.sql_text.specs.Names.{needs_quotes, quoted_name, name_text, is_lower, is_upper, is_digit, cleaned_byte}
+use Rattle.sql_text.specs.Written.{Piece, words, name, value, Written, put_piece, put_all, mark_text, next_name, uses_of, mark_name}
 use Rattle.sql_grammar.specs.Reads.{IsName, bare, in_quotes, IsMark, question, labelled, format, is_label_byte}
 
 -- the pieces, written in order
@@ -69,7 +69,7 @@ module _ {q : Quoting} where
 
 -- ---- what is written is written in order
 
-written_name_by : (q : Quoting) (n : List ℕ) (b : Bool) → needs_quotes n ≡ b → IsName q (cond b (quoted q n) n) n
+written_name_by : (q : Quoting) (n : List ℕ) (b : Bool) → needs_quotes n ≡ b → IsName q (cond b (quoted_name q n) n) n
 written_name_by q n true is = in_quotes
 written_name_by q n false is = bare is
 
@@ -124,28 +124,28 @@ label_base : (base : List ℕ) → list_all is_label_byte (map cleaned_byte base
 label_base [] = refl
 label_base (c ∷ cs) = and_both (is_label_byte (cleaned_byte c)) (list_all is_label_byte (map cleaned_byte cs)) (cleaned_by (is_label_byte c) c refl) (label_base cs)
 
-label_of : (base : List ℕ) (n : ℕ) → list_all is_label_byte (numbered (map cleaned_byte base) n) ≡ true
+label_of : (base : List ℕ) (n : ℕ) → list_all is_label_byte (mark_name (map cleaned_byte base) n) ≡ true
 label_of base n =
     list_all-append is_label_byte (map cleaned_byte base) (codes "_" ++ decimal n)
     ∙ and_both (list_all is_label_byte (map cleaned_byte base)) (list_all is_label_byte (codes "_" ++ decimal n)) (label_base base) (label_decimal n)
 
-written_mark : (q : Quoting) (base : List ℕ) (n : ℕ) → IsMark q (mark_text q (numbered (map cleaned_byte base) n))
+written_mark : (q : Quoting) (base : List ℕ) (n : ℕ) → IsMark q (mark_text q (mark_name (map cleaned_byte base) n))
 written_mark Sqlite base n = question
-written_mark Postgresql base n = labelled (numbered (map cleaned_byte base) n) (label_of base n)
+written_mark Postgresql base n = labelled (mark_name (map cleaned_byte base) n) (label_of base n)
 written_mark Mysql base n = format
 
 -- pieces behind what was written
 pub all_written : (G : OfText) (w : Written) (ps : List Piece) → ((t : List ℕ) (v : List Value) → Writes w.quoting ps t v → G (w.text ++ t) (w.values ++ v))
     → G (put_all w ps).text (put_all w ps).values
-unfolding put_all put
+unfolding put_all put_piece
 all_written G w [] go = subst (λ t. G t w.values) (append-nil w.text) (subst (λ v. G (w.text ++ []) v) (append-nil w.values) (go [] [] ended))
 all_written G w (words word ∷ ps) go =
-    all_written G (put w (words word)) ps (λ t v is. subst (λ s. G s (w.values ++ v)) (sym (append_assoc w.text word t)) (go (word ++ t) v (of_words is)))
+    all_written G (put_piece w (words word)) ps (λ t v is. subst (λ s. G s (w.values ++ v)) (sym (append_assoc w.text word t)) (go (word ++ t) v (of_words is)))
 all_written G w (name n ∷ ps) go =
-    all_written G (put w (name n)) ps
+    all_written G (put_piece w (name n)) ps
     (λ t v is. subst (λ s. G s (w.values ++ v)) (sym (append_assoc w.text (name_text w.quoting n) t)) (go (name_text w.quoting n ++ t) v (of_name (written_name w.quoting n) is)))
 all_written G w (value base x ∷ ps) go =
-    all_written G (put w (value base x)) ps
+    all_written G (put_piece w (value base x)) ps
     (λ t v is.
     let m = mark_text w.quoting (next_name w.bases (map cleaned_byte base)) in
     subst (λ s. G s ((w.values ++ x ∷ []) ++ v)) (sym (append_assoc w.text m t))

@@ -5,14 +5,14 @@ use Rattle.expr_types.specs.declared.expr.Expr.{Expr}
 use Rattle.expr_types.specs.declared.expr.Origin.{Origin}
 use Rattle.sql_semantics.specs.Plain.{StandsIn}
 use Rattle.sql_text.specs.declared.names.Quoting.{Quoting}
-use Rattle.sql_text.specs.Written.{Written, nothing, put_all}
+use Rattle.sql_text.specs.Written.{Written, nothing_written, put_all}
 use Rattle.sql_expressions.specs.Laid.{laid}
 use Rattle.sql_grammar.specs.Reads.{Reads, Either}
 use Rattle.sql_trees.specs.Tree.{tree}
 
 -- an expression by itself, with this base name for a literal that stands alone
 abbrev pub written_alone : Quoting → Catalog → List Origin → List ℕ → Expr → Written
-written_alone quoting schema sources base e = put_all (nothing quoting) ((laid quoting schema e).pieces sources base)
+written_alone quoting schema sources base e = put_all (nothing_written quoting) ((laid quoting schema e).pieces sources base)
 
 -- The text and the values of an expression that stands under some sources are read as its tree.
 abbrev pub ExpressionsAreRead : Type 0

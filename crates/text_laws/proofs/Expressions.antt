@@ -15,7 +15,7 @@ use Rattle.sql_semantics.specs.Plain.{name_or}
 use Rattle.sql_text.specs.declared.names.Quoting.{Quoting}
 use Rattle.sql_text.specs.declared.names.Quoting.TheVariants.{Sqlite, Postgresql, Mysql}
 use Rattle.sql_text.specs.Words.{null_word, like_word, ilike_word, in_word, between_word, distinct_word, sqlite_distinct_word}
-use Rattle.sql_text.specs.Written.{Piece, words, value, led, joined}
+use Rattle.sql_text.specs.Written.{Piece, words, value, with_leading_separators, with_separators}
 use Rattle.sql_expressions.specs.Laid as l
 use Rattle.sql_expressions.specs.Laid.{Laid, laid, laid_level, under, enclosed, two, part, parts, listed, beside, beside_two, before, source_pieces}
 use Rattle.text_laws.specs.Values.{without, without_level, no_values}
@@ -68,11 +68,11 @@ module _ (q : Quoting) (schema : Catalog) where
   abbrev without_all : List Known → List Laid
   without_all ks = map (laid q schema) (map without (map (λ k. k.0) ks))
 
-  led_alike : (least : ℕ) (word : List ℕ) (scope : List Origin) (ks : List Known) → Alike (led word (part least scope) (laid_all ks)) (led word (part least scope) (without_all ks))
+  led_alike : (least : ℕ) (word : List ℕ) (scope : List Origin) (ks : List Known) → Alike (with_leading_separators word (part least scope) (laid_all ks)) (with_leading_separators word (part least scope) (without_all ks))
   unfolding part
   led_alike least word scope [] = refl
   led_alike least word scope (k ∷ ks) =
-      both (words word ∷ under least (laid q schema k.0) scope l.param) (words word ∷ under least (laid q schema (without k.0)) scope l.param) (led word (part least scope) (laid_all ks)) (led word (part least scope) (without_all ks))
+      both (words word ∷ under least (laid q schema k.0) scope l.param) (words word ∷ under least (laid q schema (without k.0)) scope l.param) (with_leading_separators word (part least scope) (laid_all ks)) (with_leading_separators word (part least scope) (without_all ks))
       (behind (words word) (under least (laid q schema k.0) scope l.param) (under least (laid q schema (without k.0)) scope l.param) (under_alike least k.1 scope l.param l.param refl))
       (led_alike least word scope ks)
 
@@ -80,17 +80,17 @@ module _ (q : Quoting) (schema : Catalog) where
   unfolding part
   parts_alike least word scope [] = refl
   parts_alike least word scope (k ∷ ks) =
-      both (under least (laid q schema k.0) scope l.param) (under least (laid q schema (without k.0)) scope l.param) (led word (part least scope) (laid_all ks)) (led word (part least scope) (without_all ks))
+      both (under least (laid q schema k.0) scope l.param) (under least (laid q schema (without k.0)) scope l.param) (with_leading_separators word (part least scope) (laid_all ks)) (with_leading_separators word (part least scope) (without_all ks))
       (under_alike least k.1 scope l.param l.param refl) (led_alike least word scope ks)
 
 -- ---- lists of values
 
-led_values : (base : List ℕ) (vs : List Value) → Alike (led (codes ", ") (listed base) vs) (led (codes ", ") (listed base) (no_values vs))
+led_values : (base : List ℕ) (vs : List Value) → Alike (with_leading_separators (codes ", ") (listed base) vs) (with_leading_separators (codes ", ") (listed base) (no_values vs))
 unfolding listed
 led_values base [] = refl
 led_values base (v ∷ vs) = ap (λ (ps : List Piece). words (codes ", ") ∷ value base cell.Null ∷ ps) (led_values base vs)
 
-list_alike : (base : List ℕ) (vs : List Value) → Alike (joined (codes ", ") (listed base) vs) (joined (codes ", ") (listed base) (no_values vs))
+list_alike : (base : List ℕ) (vs : List Value) → Alike (with_separators (codes ", ") (listed base) vs) (with_separators (codes ", ") (listed base) (no_values vs))
 unfolding listed
 list_alike base [] = refl
 list_alike base (v ∷ vs) = ap (λ (ps : List Piece). value base cell.Null ∷ ps) (led_values base vs)
@@ -100,9 +100,9 @@ in_alike n {a} {b} s [] scope =
     behind (words (codes "(")) (under 5 a scope l.param ++ words (l.no_in_word n) ∷ []) (under 5 b scope l.param ++ words (l.no_in_word n) ∷ [])
     (both (under 5 a scope l.param) (under 5 b scope l.param) (words (l.no_in_word n) ∷ []) (words (l.no_in_word n) ∷ []) (under_alike 5 s scope l.param l.param refl) refl)
 in_alike n {a} {b} s (v ∷ vs) scope =
-    let one = joined (codes ", ") (listed (beside scope a)) (v ∷ vs) in
-    let other = joined (codes ", ") (listed (beside scope b)) (no_values (v ∷ vs)) in
-    let same : Alike one other = list_alike (beside scope a) (v ∷ vs) ∙ ap (λ (base : List ℕ). map bare (joined (codes ", ") (listed base) (no_values (v ∷ vs)))) (beside_is s scope) in
+    let one = with_separators (codes ", ") (listed (beside scope a)) (v ∷ vs) in
+    let other = with_separators (codes ", ") (listed (beside scope b)) (no_values (v ∷ vs)) in
+    let same : Alike one other = list_alike (beside scope a) (v ∷ vs) ∙ ap (λ (base : List ℕ). map bare (with_separators (codes ", ") (listed base) (no_values (v ∷ vs)))) (beside_is s scope) in
     both (under 5 a scope l.param ++ words (in_word n) ∷ one) (under 5 b scope l.param ++ words (in_word n) ∷ other) (words (codes ")") ∷ []) (words (codes ")") ∷ [])
     (both (under 5 a scope l.param) (under 5 b scope l.param) (words (in_word n) ∷ one) (words (in_word n) ∷ other) (under_alike 5 s scope l.param l.param refl) (behind (words (in_word n)) one other same))
     refl

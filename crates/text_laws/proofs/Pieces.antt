@@ -3,7 +3,7 @@ use Rattle.std.proofs.Common.{◌≡◌, ℕ, List, [], ◌∷◌, ◌++◌, map
 use Rattle.std.proofs.lemmas.List.{map-append}
 use Rattle.base_core.specs.declared.value.Value.TheVariants as cell
 use Rattle.sql_text.specs.declared.names.Quoting.{Quoting}
-use Rattle.sql_text.specs.Written.{Piece, words, name, value, Written, nothing, put, put_all, led, joined}
+use Rattle.sql_text.specs.Written.{Piece, words, name, value, Written, nothing_written, put_piece, put_all, with_leading_separators, with_separators}
 
 -- ---- texts
 
@@ -17,14 +17,14 @@ bare (value base v) = value base cell.Null
 abbrev pub shown : Written → Written
 shown w = record { quoting = w.quoting; text = w.text; bases = w.bases; names = w.names; values = [] }
 
-one_shown : (w : Written) (p : Piece) → shown (put w p) ≡ shown (put (shown w) (bare p))
-unfolding put
+one_shown : (w : Written) (p : Piece) → shown (put_piece w p) ≡ shown (put_piece (shown w) (bare p))
+unfolding put_piece
 one_shown w (words text) = refl
 one_shown w (name text) = refl
 one_shown w (value base v) = refl
 
-same_put : (w : Written) (p : Piece) → shown (put w p) ≡ shown (put (shown w) p)
-unfolding put
+same_put : (w : Written) (p : Piece) → shown (put_piece w p) ≡ shown (put_piece (shown w) p)
+unfolding put_piece
 same_put w (words text) = refl
 same_put w (name text) = refl
 same_put w (value base v) = refl
@@ -32,12 +32,12 @@ same_put w (value base v) = refl
 from_shown : (w : Written) (ps : List Piece) → shown (put_all w ps) ≡ shown (put_all (shown w) ps)
 unfolding put_all
 from_shown w [] = refl
-from_shown w (p ∷ ps) = from_shown (put w p) ps ∙ (ap (λ (u : Written). shown (put_all u ps)) (same_put w p) ∙ sym (from_shown (put (shown w) p) ps))
+from_shown w (p ∷ ps) = from_shown (put_piece w p) ps ∙ (ap (λ (u : Written). shown (put_all u ps)) (same_put w p) ∙ sym (from_shown (put_piece (shown w) p) ps))
 
 shown_bare : (w : Written) (ps : List Piece) → shown (put_all w ps) ≡ shown (put_all (shown w) (map bare ps))
 unfolding put_all
 shown_bare w [] = refl
-shown_bare w (p ∷ ps) = shown_bare (put w p) ps ∙ (ap (λ (u : Written). shown (put_all u (map bare ps))) (one_shown w p) ∙ sym (from_shown (put (shown w) (bare p)) (map bare ps)))
+shown_bare w (p ∷ ps) = shown_bare (put_piece w p) ps ∙ (ap (λ (u : Written). shown (put_all u (map bare ps))) (one_shown w p) ∙ sym (from_shown (put_piece (shown w) (bare p)) (map bare ps)))
 
 -- ---- lists of pieces
 
@@ -46,9 +46,9 @@ abbrev pub Alike : List Piece → List Piece → Type 0
 Alike ps qs = map bare ps ≡ map bare qs
 
 -- pieces that differ only in values have one text
-pub one_text : (quoting : Quoting) (ps qs : List Piece) → Alike ps qs → (put_all (nothing quoting) ps).text ≡ (put_all (nothing quoting) qs).text
+pub one_text : (quoting : Quoting) (ps qs : List Piece) → Alike ps qs → (put_all (nothing_written quoting) ps).text ≡ (put_all (nothing_written quoting) qs).text
 one_text quoting ps qs alike =
-    ap (λ (w : Written). w.text) (shown_bare (nothing quoting) ps ∙ (ap (λ (rs : List Piece). shown (put_all (nothing quoting) rs)) alike ∙ sym (shown_bare (nothing quoting) qs)))
+    ap (λ (w : Written). w.text) (shown_bare (nothing_written quoting) ps ∙ (ap (λ (rs : List Piece). shown (put_all (nothing_written quoting) rs)) alike ∙ sym (shown_bare (nothing_written quoting) qs)))
 
 pub both : (ps qs rs ss : List Piece) → Alike ps qs → Alike rs ss → Alike (ps ++ rs) (qs ++ ss)
 both ps qs rs ss a b = map-append bare ps rs ∙ (ap (λ (xs : List Piece). xs ++ map bare rs) a ∙ (ap (λ (xs : List Piece). map bare qs ++ xs) b ∙ sym (map-append bare qs ss)))
@@ -66,12 +66,12 @@ module _ {A : Type 0} (pieces : A → List Piece) (change : A → A) where
   all_alike each [] = tt
   all_alike each (x ∷ xs) = (each x, all_alike each xs)
 
-  led_alike : (separator : List ℕ) (xs : List A) → AllAlike pieces change xs → Alike (led separator pieces xs) (led separator pieces (map change xs))
+  led_alike : (separator : List ℕ) (xs : List A) → AllAlike pieces change xs → Alike (with_leading_separators separator pieces xs) (with_leading_separators separator pieces (map change xs))
   led_alike separator [] alike = refl
   led_alike separator (x ∷ xs) alike =
-      behind (words separator) (pieces x ++ led separator pieces xs) (pieces (change x) ++ led separator pieces (map change xs))
-      (both (pieces x) (pieces (change x)) (led separator pieces xs) (led separator pieces (map change xs)) alike.0 (led_alike separator xs alike.1))
+      behind (words separator) (pieces x ++ with_leading_separators separator pieces xs) (pieces (change x) ++ with_leading_separators separator pieces (map change xs))
+      (both (pieces x) (pieces (change x)) (with_leading_separators separator pieces xs) (with_leading_separators separator pieces (map change xs)) alike.0 (led_alike separator xs alike.1))
 
-  pub joined_alike : (separator : List ℕ) (xs : List A) → AllAlike pieces change xs → Alike (joined separator pieces xs) (joined separator pieces (map change xs))
+  pub joined_alike : (separator : List ℕ) (xs : List A) → AllAlike pieces change xs → Alike (with_separators separator pieces xs) (with_separators separator pieces (map change xs))
   joined_alike separator [] alike = refl
-  joined_alike separator (x ∷ xs) alike = both (pieces x) (pieces (change x)) (led separator pieces xs) (led separator pieces (map change xs)) alike.0 (led_alike separator xs alike.1)
+  joined_alike separator (x ∷ xs) alike = both (pieces x) (pieces (change x)) (with_leading_separators separator pieces xs) (with_leading_separators separator pieces (map change xs)) alike.0 (led_alike separator xs alike.1)

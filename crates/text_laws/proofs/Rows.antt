@@ -15,7 +15,7 @@ use Rattle.schema_core.specs.Tables.{has_null, key_cells}
 use Rattle.expr_types.specs.declared.select.Statement.{Statement}
 use Rattle.expr_types.specs.declared.select.Statement.TheVariants as statement
 use Rattle.sql_text.specs.declared.names.Quoting.{Quoting}
-use Rattle.sql_text.specs.Written.{Piece, words, name, value, joined}
+use Rattle.sql_text.specs.Written.{Piece, words, name, value, with_separators}
 use Rattle.sql_statements.specs.Bulks as b
 use Rattle.sql_statements.specs.Rows as r
 use Rattle.sql_statements.specs.Rows.{row_pieces, is_left_out, leaves_key}
@@ -96,7 +96,7 @@ list_alike spec drawn columns cells = by (wants_key spec cells)
 
 rows_alike : (q : Quoting) (spec : TableSpec) (drawn : Bool) (columns : List ColumnSpec) (rows : List (List Value)) → Alike (r.rows_pieces q drawn columns rows) (r.rows_pieces q drawn columns (map (without_row spec) rows))
 rows_alike q spec drawn columns rows =
-    let lists = λ (xs : List (List Value)). joined (codes ", ") (r.row_list drawn columns) xs in
+    let lists = λ (xs : List (List Value)). with_separators (codes ", ") (r.row_list drawn columns) xs in
     either_way (list_all (is_left_out drawn) columns) (words (b.default_word q) ∷ []) (words (b.default_word q) ∷ []) (r.lists_pieces drawn columns rows) (r.lists_pieces drawn columns (map (without_row spec) rows)) refl
     (both (r.names_pieces drawn (codes " (") columns) (r.names_pieces drawn (codes " (") columns) (words (codes ") VALUES ") ∷ lists rows) (words (codes ") VALUES ") ∷ lists (map (without_row spec) rows)) refl
     (behind (words (codes ") VALUES ")) (lists rows) (lists (map (without_row spec) rows))
@@ -126,9 +126,9 @@ row_alike q schema (row.Insert table rows) =
 row_alike q schema (row.Update table key cells) =
     let change : ColumnNo × Value → ColumnNo × Value = λ c. (c.0, cell.Null) in
     let start : List Piece = words (codes "UPDATE ") ∷ b.table_piece schema table ∷ words (codes " SET ") ∷ [] in
-    both (start ++ joined (codes ", ") (r.cell_pieces schema table) cells) (start ++ joined (codes ", ") (r.cell_pieces schema table) (map change cells)) (r.by_key (spec_of schema table) key)
+    both (start ++ with_separators (codes ", ") (r.cell_pieces schema table) cells) (start ++ with_separators (codes ", ") (r.cell_pieces schema table) (map change cells)) (r.by_key (spec_of schema table) key)
     (r.by_key (spec_of schema table) (no_values key))
-    (both start start (joined (codes ", ") (r.cell_pieces schema table) cells) (joined (codes ", ") (r.cell_pieces schema table) (map change cells)) refl
+    (both start start (with_separators (codes ", ") (r.cell_pieces schema table) cells) (with_separators (codes ", ") (r.cell_pieces schema table) (map change cells)) refl
     (joined_alike (r.cell_pieces schema table) change (codes ", ") cells (all_alike (r.cell_pieces schema table) change (λ c. refl) cells)))
     (keys_alike (spec_of schema table).name (codes " WHERE ") (spec_of schema table).columns key)
 row_alike q schema (row.Delete table key) =

@@ -20,7 +20,7 @@ use Rattle.sql_text.specs.declared.names.Quoting.{Quoting}
 use Rattle.sql_text.specs.declared.names.Quoting.TheVariants.{Sqlite, Postgresql, Mysql}
 use Rattle.sql_text.specs.Columns.{column_name}
 use Rattle.sql_text.specs.Words.{select_word, join_word}
-use Rattle.sql_text.specs.Written.{Piece, words, value, led, joined}
+use Rattle.sql_text.specs.Written.{Piece, words, value, with_leading_separators, with_separators}
 use Rattle.sql_expressions.specs.Laid.{Laid, laid, laid_level, under, part, parts, param, source_pieces}
 use Rattle.sql_statements.specs.Bulks as b
 use Rattle.sql_statements.specs.Bulks.{bulk_pieces}
@@ -58,12 +58,12 @@ module _ (q : Quoting) (schema : Catalog) where
       (s.joins_pieces q schema (before ++ join.origin ∷ []) joins) (s.joins_pieces q schema (before ++ join.origin ∷ []) (map without_join joins)) (join_alike (before ++ join.origin ∷ []) join)
       (joins_alike (before ++ join.origin ∷ []) joins)
 
-  groups_led : (scope : List Origin) (es : List Expr) → Alike (led (codes ", ") (part 1 scope) (map (laid q schema) es)) (led (codes ", ") (part 1 scope) (map (laid q schema) (map without es)))
+  groups_led : (scope : List Origin) (es : List Expr) → Alike (with_leading_separators (codes ", ") (part 1 scope) (map (laid q schema) es)) (with_leading_separators (codes ", ") (part 1 scope) (map (laid q schema) (map without es)))
   unfolding part
   groups_led scope [] = refl
   groups_led scope (e ∷ es) =
-      both (words (codes ", ") ∷ under 1 (laid q schema e) scope param) (words (codes ", ") ∷ under 1 (laid q schema (without e)) scope param) (led (codes ", ") (part 1 scope) (map (laid q schema) es))
-      (led (codes ", ") (part 1 scope) (map (laid q schema) (map without es)))
+      both (words (codes ", ") ∷ under 1 (laid q schema e) scope param) (words (codes ", ") ∷ under 1 (laid q schema (without e)) scope param) (with_leading_separators (codes ", ") (part 1 scope) (map (laid q schema) es))
+      (with_leading_separators (codes ", ") (part 1 scope) (map (laid q schema) (map without es)))
       (behind (words (codes ", ")) (under 1 (laid q schema e) scope param) (under 1 (laid q schema (without e)) scope param) (under_alike 1 (same q schema e) scope param param refl)) (groups_led scope es)
 
   groups_alike : (scope : List Origin) (es : List Expr) → Alike (s.groups_pieces q schema scope es) (s.groups_pieces q schema scope (map without es))
@@ -71,14 +71,14 @@ module _ (q : Quoting) (schema : Catalog) where
   groups_alike scope [] = refl
   groups_alike scope (e ∷ es) =
       behind (words (codes " GROUP BY ")) (parts 1 (codes ", ") (map (laid q schema) (e ∷ es)) scope) (parts 1 (codes ", ") (map (laid q schema) (map without (e ∷ es))) scope)
-      (both (under 1 (laid q schema e) scope param) (under 1 (laid q schema (without e)) scope param) (led (codes ", ") (part 1 scope) (map (laid q schema) es))
-      (led (codes ", ") (part 1 scope) (map (laid q schema) (map without es))) (under_alike 1 (same q schema e) scope param param refl) (groups_led scope es))
+      (both (under 1 (laid q schema e) scope param) (under 1 (laid q schema (without e)) scope param) (with_leading_separators (codes ", ") (part 1 scope) (map (laid q schema) es))
+      (with_leading_separators (codes ", ") (part 1 scope) (map (laid q schema) (map without es))) (under_alike 1 (same q schema e) scope param param refl) (groups_led scope es))
 
   order_alike : (scope : List Origin) (keys : List (Expr × Bool)) → Alike (s.order_pieces q schema scope keys) (s.order_pieces q schema scope (map (λ key. (without key.0, key.1)) keys))
   order_alike scope [] = refl
   order_alike scope (key ∷ keys) =
       let change : Expr × Bool → Expr × Bool = λ k. (without k.0, k.1) in
-      behind (words (codes " ORDER BY ")) (joined (codes ", ") (s.key_pieces q schema scope) (key ∷ keys)) (joined (codes ", ") (s.key_pieces q schema scope) (map change (key ∷ keys)))
+      behind (words (codes " ORDER BY ")) (with_separators (codes ", ") (s.key_pieces q schema scope) (key ∷ keys)) (with_separators (codes ", ") (s.key_pieces q schema scope) (map change (key ∷ keys)))
       (joined_alike (s.key_pieces q schema scope) change (codes ", ") (key ∷ keys) (all_alike (s.key_pieces q schema scope) change (key_alike scope) (key ∷ keys)))
 
 -- the same sources
@@ -103,11 +103,11 @@ cut_alike q None (Some offset) = offset_cut q offset
 cut_alike q (Some limit) (Some offset) = both_cut q limit offset
 
 module _ (q : Quoting) (schema : Catalog) where
-  head_alike : (it : Select) (scope : List Origin) → Alike (words (select_word it.distinct) ∷ joined (codes ", ") (s.item_pieces q schema scope) it.items)
-      (words (select_word it.distinct) ∷ joined (codes ", ") (s.item_pieces q schema scope) (map (λ item. (without item.0, item.1)) it.items))
+  head_alike : (it : Select) (scope : List Origin) → Alike (words (select_word it.distinct) ∷ with_separators (codes ", ") (s.item_pieces q schema scope) it.items)
+      (words (select_word it.distinct) ∷ with_separators (codes ", ") (s.item_pieces q schema scope) (map (λ item. (without item.0, item.1)) it.items))
   head_alike it scope =
       let change : Expr × Option (List ℕ) → Expr × Option (List ℕ) = λ item. (without item.0, item.1) in
-      behind (words (select_word it.distinct)) (joined (codes ", ") (s.item_pieces q schema scope) it.items) (joined (codes ", ") (s.item_pieces q schema scope) (map change it.items))
+      behind (words (select_word it.distinct)) (with_separators (codes ", ") (s.item_pieces q schema scope) it.items) (with_separators (codes ", ") (s.item_pieces q schema scope) (map change it.items))
       (joined_alike (s.item_pieces q schema scope) change (codes ", ") it.items (all_alike (s.item_pieces q schema scope) change (item_alike q schema scope) it.items))
 
   from_alike : (it : Select) → Alike (s.from_pieces q schema it) (s.from_pieces q schema (without_select it))
@@ -132,14 +132,14 @@ module _ (q : Quoting) (schema : Catalog) where
       (cut_alike q it.limit it.offset)
 
   select_at : List Origin → Select → List Piece
-  select_at scope it = (words (select_word it.distinct) ∷ joined (codes ", ") (s.item_pieces q schema scope) it.items) ++ s.from_pieces q schema it ++ s.tail_pieces q schema scope it
+  select_at scope it = (words (select_word it.distinct) ∷ with_separators (codes ", ") (s.item_pieces q schema scope) it.items) ++ s.from_pieces q schema it ++ s.tail_pieces q schema scope it
 
   pub select_alike : (it : Select) → Alike (select_pieces q schema it) (select_pieces q schema (without_select it))
   unfolding select_pieces select_at
   select_alike it =
-      both (s.head_pieces q schema it ++ s.from_pieces q schema it) ((words (select_word it.distinct) ∷ joined (codes ", ") (s.item_pieces q schema (sources_of it)) (map (λ item. (without item.0, item.1)) it.items)) ++ s.from_pieces q schema (without_select it))
+      both (s.head_pieces q schema it ++ s.from_pieces q schema it) ((words (select_word it.distinct) ∷ with_separators (codes ", ") (s.item_pieces q schema (sources_of it)) (map (λ item. (without item.0, item.1)) it.items)) ++ s.from_pieces q schema (without_select it))
       (s.tail_pieces q schema (sources_of it) it) (s.tail_pieces q schema (sources_of it) (without_select it))
-      (both (s.head_pieces q schema it) (words (select_word it.distinct) ∷ joined (codes ", ") (s.item_pieces q schema (sources_of it)) (map (λ item. (without item.0, item.1)) it.items))
+      (both (s.head_pieces q schema it) (words (select_word it.distinct) ∷ with_separators (codes ", ") (s.item_pieces q schema (sources_of it)) (map (λ item. (without item.0, item.1)) it.items))
       (s.from_pieces q schema it) (s.from_pieces q schema (without_select it)) (head_alike it (sources_of it)) (from_alike it))
       (tail_alike it (sources_of it))
       ∙ ap (λ (scope : List Origin). map bare (select_at scope (without_select it))) (ap (λ (os : List Origin). it.first ∷ os) (sym (origins_are it.joins)))
@@ -181,9 +181,9 @@ module _ (q : Quoting) (schema : Catalog) where
   bulk_alike (bulk.Update table cells filter) =
       let change : ColumnNo × Option Expr → ColumnNo × Option Expr = λ c. (c.0, without_set c.1) in
       let start : List Piece = words (codes "UPDATE ") ∷ b.table_piece schema table ∷ words (codes " SET ") ∷ [] in
-      both (start ++ joined (codes ", ") (b.set_pieces q schema table) cells) (start ++ joined (codes ", ") (b.set_pieces q schema table) (map change cells))
+      both (start ++ with_separators (codes ", ") (b.set_pieces q schema table) cells) (start ++ with_separators (codes ", ") (b.set_pieces q schema table) (map change cells))
       (b.filter_pieces q schema table filter) (b.filter_pieces q schema table (option_map without filter))
-      (both start start (joined (codes ", ") (b.set_pieces q schema table) cells) (joined (codes ", ") (b.set_pieces q schema table) (map change cells)) refl
+      (both start start (with_separators (codes ", ") (b.set_pieces q schema table) cells) (with_separators (codes ", ") (b.set_pieces q schema table) (map change cells)) refl
       (joined_alike (b.set_pieces q schema table) change (codes ", ") cells (all_alike (b.set_pieces q schema table) change (set_alike table) cells)))
       (clause_alike q schema (alone table) (codes " WHERE ") filter)
   bulk_alike (bulk.Delete table filter) =
