@@ -9,7 +9,7 @@ use Rattle.std.specs.Prelude.{Option}
 use Rattle.object_arena.specs.declared.object.State.{State}
 use Rattle.object_arena.specs.declared.object.State.TheVariants.{Transient, Pending, Persistent, Deleted, Detached}
 use Rattle.object_arena.specs.declared.object.Object.{Object}
-use Rattle.object_arena.specs.Graph.{Graph, no_object, object_at, place_of, put_back_object, settled, with_object}
+use Rattle.object_arena.specs.Graph.{Graph, no_object, object_at, place_of, put_back_object, settled_object, with_object}
 use Rattle.object_arena.specs.Every.{classes_of}
 
 -- another record of the same class
@@ -18,7 +18,7 @@ unfolding classes_of
 classes_set graph new_graph object new class is =
     rw is (ap (λ (classes : List ClassId). (classes, graph.roots)) (map-set_same (λ (o : Object). o.class) graph.objects (place_of object) new no_object class))
 
-pub settled_class : (state : State) (object : Object) → (settled state object).class ≡ object.class
+pub settled_class : (state : State) (object : Object) → (settled_object state object).class ≡ object.class
 settled_class Transient object = refl
 settled_class Pending object = refl
 settled_class Persistent object = refl

@@ -24,8 +24,8 @@ use Rattle.object_arena.specs.declared.object.Cell.{Cell}
 use Rattle.object_arena.specs.declared.object.Link.{Link}
 use Rattle.object_arena.specs.declared.object.Link.TheVariants.{Unset, Unloaded}
 use Rattle.object_arena.specs.declared.object.Object.{Object}
-use Rattle.object_arena.specs.Graph.{Graph, IsCell, IsLink, IsObject, cell_in, cell_put, either_fault, empty_graph, expired, expired_cell, fresh_object, kept_identity, key_fault, kind_fault, no_object, null_cell, object_at, place_of, put_back_object, root_at, no_class_id, settled, settled_cell, settled_link, settled_value, value_fault, with_cell, with_fresh, with_link, with_marks, with_object, with_state, with_value}
-use Rattle.object_arena.specs.Identity.{registered}
+use Rattle.object_arena.specs.Graph.{Graph, IsCell, IsLink, IsObject, cell_in, cell_put, either_fault, empty_graph, expired_object, expired_cell, fresh_object, kept_identity, key_fault, kind_fault, no_object, null_cell, object_at, place_of, put_back_object, root_at, no_class_id, settled_object, settled_cell, settled_link, settled_value, value_fault, with_cell, with_fresh, with_link, with_marks, with_object, with_state, with_value}
+use Rattle.object_arena.specs.Identity.{with_identity}
 use Rattle.object_arena.specs.Fit.{IsFit, ObjectFits, cell_fits, identity_fits, is_of_kind, key_fits, link_fits, links_fit, no_relation, relation_of, value_fits}
 use Rattle.object_arena.proofs.ClassLemmas.{settled_class}
 use Rattle.object_arena.proofs.LinkLemmas.{links_expired, links_fresh, links_grown, links_same, links_settled}
@@ -182,7 +182,7 @@ fit_state mapped graph new_graph object state within is fit =
     refl refl)
 
 -- a registration under a key that fits
-pub fit_registered : (mapped : Mapped) (graph new_graph : Graph) (object : ObjId) (key : List Value) → IsObject graph object → new_graph ≡ registered graph object key → IsFit mapped graph → key_fits mapped (object_at graph object).class key ≡ true → IsFit mapped new_graph
+pub fit_registered : (mapped : Mapped) (graph new_graph : Graph) (object : ObjId) (key : List Value) → IsObject graph object → new_graph ≡ with_identity graph object key → IsFit mapped graph → key_fits mapped (object_at graph object).class key ≡ true → IsFit mapped new_graph
 fit_registered mapped graph new_graph object key within is fit good =
     let old : Object = object_at graph object in
     let fits : ObjectFits mapped old = fit_at mapped graph object fit within in
@@ -192,12 +192,12 @@ fit_registered mapped graph new_graph object key within is fit good =
     refl refl)
 
 -- an expired object
-pub fit_expired : (mapped : Mapped) (graph new_graph : Graph) (object : ObjId) → IsObject graph object → new_graph ≡ with_object graph object (expired (object_at graph object)) → IsFit mapped graph → IsFit mapped new_graph
+pub fit_expired : (mapped : Mapped) (graph new_graph : Graph) (object : ObjId) → IsObject graph object → new_graph ≡ with_object graph object (expired_object (object_at graph object)) → IsFit mapped graph → IsFit mapped new_graph
 fit_expired mapped graph new_graph object within is fit =
     let old : Object = object_at graph object in
     let fits : ObjectFits mapped old = fit_at mapped graph object fit within in
     rw is
-    (fit_put mapped graph object (expired old) fit
+    (fit_put mapped graph object (expired_object old) fit
     (record {
       class = fits.class;
       cells = pointwise_map cell_fits (λ cell. expired_cell) (attributes_of mapped old.class) old.cells (λ attribute cell h. refl) fits.cells;
@@ -214,7 +214,7 @@ settled_fits attribute cell h = by_value cell.value h
     by_value None h = refl
     by_value (Some value) h = h
 
-settled_object_fits : (mapped : Mapped) (state : State) (object : Object) → ObjectFits mapped object → ObjectFits mapped (settled state object)
+settled_object_fits : (mapped : Mapped) (state : State) (object : Object) → ObjectFits mapped object → ObjectFits mapped (settled_object state object)
 settled_object_fits mapped Transient object fits = record {
   class = fits.class;
   cells = pointwise_map cell_fits settled_cell (attributes_of mapped object.class) object.cells settled_fits fits.cells;
@@ -226,7 +226,7 @@ settled_object_fits mapped Persistent object fits = fits
 settled_object_fits mapped Deleted object fits = fits
 settled_object_fits mapped Detached object fits = fits
 
-settled_links_fit : (mapped : Mapped) (roots : List ClassId) (state : State) (object : Object) → links_fit mapped roots object ≡ true → links_fit mapped roots (settled state object) ≡ true
+settled_links_fit : (mapped : Mapped) (roots : List ClassId) (state : State) (object : Object) → links_fit mapped roots object ≡ true → links_fit mapped roots (settled_object state object) ≡ true
 settled_links_fit mapped roots Transient object fits = links_settled mapped roots object fits
 settled_links_fit mapped roots Pending object fits = fits
 settled_links_fit mapped roots Persistent object fits = fits

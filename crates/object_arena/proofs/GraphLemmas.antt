@@ -20,8 +20,8 @@ use Rattle.schema_core.specs.Tables.{same_values}
 use Rattle.object_arena.specs.declared.object.State.{State}
 use Rattle.object_arena.specs.declared.object.State.TheVariants.{Transient, Pending, Persistent, Deleted, Detached}
 use Rattle.object_arena.specs.declared.object.Object.{Object}
-use Rattle.object_arena.specs.Graph.{has_identity, is_persistent, kept_identity, place_of, put_back_object, no_class_id, no_object, object_limit, settled}
-use Rattle.object_arena.specs.Identity.{IsFree, IsGraph, IsOne, has_key, holds, holds_at, is_identified, is_other, is_taken, numbered}
+use Rattle.object_arena.specs.Graph.{has_identity, is_persistent, kept_identity, place_of, put_back_object, no_class_id, no_object, object_limit, settled_object}
+use Rattle.object_arena.specs.Identity.{IsFree, IsGraph, IsOne, has_key, holds, holds_at, is_identified, is_other, is_taken, id_of_place}
 
 pub at_same : (objects : List Object) (roots : List ClassId) (root : ClassId) (key : List Value) (p : ℕ) (new : Object) → p < length objects → holds_at (slice_set objects p new) roots root key p ≡ holds root key (new, get_or roots p no_class_id)
 at_same objects roots root key p new less = ap (λ (o : Object). holds root key (o, get_or roots p no_class_id)) (get_or-set_same objects p new no_object less)
@@ -113,7 +113,7 @@ held_inside objects roots root key j held =
 held_in_zip : (objects : List Object) (roots : List ClassId) (root : ClassId) (key : List Value) (j : ℕ) → length roots ≡ length objects → j < length objects → holds root key (get_or (zip objects roots) j (no_object, no_class_id)) ≡ holds_at objects roots root key j
 held_in_zip objects roots root key j rooted less = ap (holds root key) (get_or-zip objects roots j (no_object, no_class_id) less (omega (arith, rooted)))
 
-only_found : (objects : List Object) (roots : List ClassId) (object : ObjId) (root : ClassId) (key : List Value) (found : Option ℕ) → IsGraph objects roots → position (holds root key) (zip objects roots) ≡ found → is_other object (option_map numbered found) ≡ false → (j : ℕ) → holds_at objects roots root key j ≡ true → j ≡ place_of object
+only_found : (objects : List Object) (roots : List ClassId) (object : ObjId) (root : ClassId) (key : List Value) (found : Option ℕ) → IsGraph objects roots → position (holds root key) (zip objects roots) ≡ found → is_other object (option_map id_of_place found) ≡ false → (j : ℕ) → holds_at objects roots root key j ≡ true → j ≡ place_of object
 only_found objects roots object root key None graph here free j held =
     let less : j < length objects = held_inside objects roots root key j held in
     let none : holds root key (get_or (zip objects roots) j (no_object, no_class_id)) ≡ false = none_passes (holds root key) (zip objects roots) j (no_object, no_class_id) here (rw length-zip (omega (arith, graph.rooted))) in
@@ -163,14 +163,14 @@ graph_stated objects roots p old new state graph less read left had is =
     (identified_left state new old.identity new_state (ap (λ (o : Object). o.identity) is) (λ h. rw was (had h)))
     (rw new_state left)
 
-pub settled_state : (state : State) (object : Object) → (settled state object).state ≡ object.state
+pub settled_state : (state : State) (object : Object) → (settled_object state object).state ≡ object.state
 settled_state Transient object = refl
 settled_state Pending object = refl
 settled_state Persistent object = refl
 settled_state Deleted object = refl
 settled_state Detached object = refl
 
-pub settled_identity : (state : State) (object : Object) → (settled state object).identity ≡ object.identity
+pub settled_identity : (state : State) (object : Object) → (settled_object state object).identity ≡ object.identity
 settled_identity Transient object = refl
 settled_identity Pending object = refl
 settled_identity Persistent object = refl

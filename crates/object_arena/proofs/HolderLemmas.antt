@@ -12,7 +12,7 @@ use Rattle.base_core.specs.declared.ids.ObjId.{ObjId}
 use Rattle.base_core.specs.declared.value.Value.{Value}
 use Rattle.object_arena.specs.declared.object.Object.{Object}
 use Rattle.object_arena.specs.Graph.{is_persistent, no_class_id, no_object, place_of}
-use Rattle.object_arena.specs.Identity.{IsGraph, has_key, holds, holds_at, numbered}
+use Rattle.object_arena.specs.Identity.{IsGraph, has_key, holds, holds_at, id_of_place}
 
 -- the place that was found holds
 pub place_holds : (objects : List Object) (roots : List ClassId) (root : ClassId) (key : List Value) (place : ℕ) → length roots ≡ length objects → position (holds root key) (zip objects roots) ≡ Some place → (place < length objects) × (holds_at objects roots root key place ≡ true)
@@ -51,18 +51,18 @@ none_other objects roots root key p j new graph held left less found =
     (cases_eq j p)
 
 found_none : (objects : List Object) (roots : List ClassId) (root : ClassId) (key : List Value) (p : ℕ) (new : Object) (found : Option ℕ) → IsGraph objects roots → holds_at objects roots root key p ≡ true → is_persistent new.state ≡ false → p < length objects
-    → position (holds root key) (zip (slice_set objects p new) roots) ≡ found → option_map numbered found ≡ None
+    → position (holds root key) (zip (slice_set objects p new) roots) ≡ found → option_map id_of_place found ≡ None
 found_none objects roots root key p new None graph held left less at = refl
 found_none objects roots root key p new (Some j) graph held left less at =
     let rooted : length roots ≡ length (slice_set objects p new) = graph.rooted ∙ sym (length-set objects p new) in
     absurd (none_other objects roots root key p j new graph held left less (place_holds (slice_set objects p new) roots root key j rooted at).1)
 
-found_at : (objects : List Object) (roots : List ClassId) (root : ClassId) (key : List Value) (holder : ObjId) (found : Option ℕ) → IsGraph objects roots → position (holds root key) (zip objects roots) ≡ found → option_map numbered found ≡ Some holder → holds_at objects roots root key (place_of holder) ≡ true
+found_at : (objects : List Object) (roots : List ClassId) (root : ClassId) (key : List Value) (holder : ObjId) (found : Option ℕ) → IsGraph objects roots → position (holds root key) (zip objects roots) ≡ found → option_map id_of_place found ≡ Some holder → holds_at objects roots root key (place_of holder) ≡ true
 found_at objects roots root key holder None graph at is = absurd cc
 found_at objects roots root key holder (Some place) graph at is = let number : holder.0 ≡ place + 1 = cc in found_holds objects roots root key place holder graph at number
 
 -- an identity is free once its holder is persistent no more
-pub holder_left : (objects : List Object) (roots : List ClassId) (holder : ObjId) (new : Object) (root : ClassId) (key : List Value) → IsGraph objects roots → place_of holder < length objects → is_persistent new.state ≡ false → option_map numbered (position (holds root key) (zip objects roots)) ≡ Some holder → option_map numbered (position (holds root key) (zip (slice_set objects (place_of holder) new) roots)) ≡ None
+pub holder_left : (objects : List Object) (roots : List ClassId) (holder : ObjId) (new : Object) (root : ClassId) (key : List Value) → IsGraph objects roots → place_of holder < length objects → is_persistent new.state ≡ false → option_map id_of_place (position (holds root key) (zip objects roots)) ≡ Some holder → option_map id_of_place (position (holds root key) (zip (slice_set objects (place_of holder) new) roots)) ≡ None
 holder_left objects roots holder new root key graph less left is =
     found_none objects roots root key (place_of holder) new (position (holds root key) (zip (slice_set objects (place_of holder) new) roots)) graph
     (found_at objects roots root key holder (position (holds root key) (zip objects roots)) graph refl is) left less refl

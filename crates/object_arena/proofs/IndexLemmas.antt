@@ -18,7 +18,7 @@ use Rattle.object_arena.specs.declared.object.State.{State}
 use Rattle.object_arena.specs.declared.object.State.TheVariants.{Transient, Pending, Persistent, Deleted, Detached}
 use Rattle.object_arena.specs.declared.object.Object.{Object}
 use Rattle.object_arena.specs.Graph.{Graph, IsObject, has_identity, is_persistent, kept_identity, place_of, put_back_object, no_class_id, no_object, object_at, object_limit, root_at}
-use Rattle.object_arena.specs.Identity.{IsFree, IsGraph, has_key, holds, holds_at, is_identified, is_taken, numbered}
+use Rattle.object_arena.specs.Identity.{IsFree, IsGraph, has_key, holds, holds_at, is_identified, is_taken, id_of_place}
 use Rattle.object_arena.specs.Index.{IsComplete, IsIndexed, IsMoved, is_holder, number_of}
 use Rattle.object_arena.proofs.GraphLemmas.{Owns, at_other, at_same, graph_back, graph_kept, graph_pushed, graph_registered, graph_stated, held_inside, held_position, owns_back, owns_free, settled_identity, settled_state, transient_past}
 use Rattle.object_arena.proofs.HolderLemmas.{place_holds}
@@ -181,13 +181,13 @@ holder_is graph root key object holder =
     let within : object.0 ≤ length graph.objects = grind (arith, nat_tests) in
     ((above, within), parts.1)
 
-pub found_holder : (objects : List Object) (roots : List ClassId) (root : ClassId) (key : List Value) (object : ObjId) (found : Option ℕ) → IsGraph objects roots → position (holds root key) (zip objects roots) ≡ found → is_holder (record { objects = objects; roots = roots }) root key object ≡ true → Some object ≡ option_map numbered found
+pub found_holder : (objects : List Object) (roots : List ClassId) (root : ClassId) (key : List Value) (object : ObjId) (found : Option ℕ) → IsGraph objects roots → position (holds root key) (zip objects roots) ≡ found → is_holder (record { objects = objects; roots = roots }) root key object ≡ true → Some object ≡ option_map id_of_place found
 found_holder objects roots root key object found graph at holder = by_found found at
   where
     parts : (nat_lt 0 object.0 && nat_le object.0 (length objects) ≡ true) × (holds_at objects roots root key (place_of object) ≡ true)
     parts = and_parts (nat_lt 0 object.0 && nat_le object.0 (length objects)) (holds_at objects roots root key (place_of object)) holder
 
-    by_found : (found : Option ℕ) → position (holds root key) (zip objects roots) ≡ found → Some object ≡ option_map numbered found
+    by_found : (found : Option ℕ) → position (holds root key) (zip objects roots) ≡ found → Some object ≡ option_map id_of_place found
     by_found None at = absurd (held_position objects roots root key (place_of object) graph.rooted parts.1 at)
     by_found (Some p) at =
         let above : nat_lt 0 object.0 ≡ true = (and_parts (nat_lt 0 object.0) (nat_le object.0 (length objects)) parts.0).0 in
@@ -199,7 +199,7 @@ found_holder objects roots root key object found graph at holder = by_found foun
 
 -- nobody holds, where nothing is under the identity
 pub found_none : (objects : List Object) (roots : List ClassId) (maps : List Keyed) (whole : Bool) (root : ClassId) (key : List Value) (found : Option ℕ) → whole ≡ true → IsIndexed objects roots maps whole → entry_of maps root key ≡ None
-    → position (holds root key) (zip objects roots) ≡ found → None ≡ option_map numbered found
+    → position (holds root key) (zip objects roots) ≡ found → None ≡ option_map id_of_place found
 found_none objects roots maps whole root key None is_whole indexed is at = refl
 found_none objects roots maps whole root key (Some p) is_whole indexed is at =
     let held = place_holds objects roots root key p indexed.graph.rooted at in
@@ -208,7 +208,7 @@ found_none objects roots maps whole root key (Some p) is_whole indexed is at =
 
 -- nobody holds, where the object under the identity does not
 pub found_out : (objects : List Object) (roots : List ClassId) (maps : List Keyed) (whole : Bool) (root : ClassId) (key : List Value) (object : ObjId) (found : Option ℕ) → whole ≡ true → IsIndexed objects roots maps whole → entry_of maps root key ≡ Some object
-    → is_holder (record { objects = objects; roots = roots }) root key object ≡ false → position (holds root key) (zip objects roots) ≡ found → None ≡ option_map numbered found
+    → is_holder (record { objects = objects; roots = roots }) root key object ≡ false → position (holds root key) (zip objects roots) ≡ found → None ≡ option_map id_of_place found
 found_out objects roots maps whole root key object None is_whole indexed is left at = refl
 found_out objects roots maps whole root key object (Some p) is_whole indexed is left at =
     let held = place_holds objects roots root key p indexed.graph.rooted at in

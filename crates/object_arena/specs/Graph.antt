@@ -80,9 +80,9 @@ abbrev pub cell_at : Graph → ObjId → AttrNo → Cell
 cell_at graph object attr = cell_in (object_at graph object) attr
 
 -- what a read of a cell shows: its value, unless it is expired
-abbrev pub shown : CellRead → Option Value
-shown (Held value) = Some value.now
-shown Expired = None
+abbrev pub value_read : CellRead → Option Value
+value_read (Held value) = Some value.now
+value_read Expired = None
 
 -- the object with another cell
 abbrev pub cell_put : Object → AttrNo → Cell → Object
@@ -158,8 +158,8 @@ set_cell graph mapped object attr value =
     changed_unless (either_fault (value_fault mapped (object_at graph object) attr value) (key_fault mapped (object_at graph object) attr)) (with_value graph object attr value)
 
 -- the object without its cells' values and bases and its links, and no orphan
-abbrev pub expired : Object → Object
-expired object = record object { orphan = false; cells = map (λ cell. expired_cell) object.cells; links = map (λ link. Unloaded [] []) object.links }
+abbrev pub expired_object : Object → Object
+expired_object object = record object { orphan = false; cells = map (λ cell. expired_cell) object.cells; links = map (λ link. Unloaded [] []) object.links }
 
 -- exactly persistent, deleted and detached objects have an identity
 abbrev pub has_identity : State → Bool
@@ -205,13 +205,13 @@ settled_link (One (Some end) changed) = One (Some end) true
 settled_link (Many members base) = Many members []
 
 -- a transient object has no expired cell and no unloaded link
-abbrev pub settled : State → Object → Object
-settled Transient object = record object { cells = map settled_cell object.cells; links = map settled_link object.links }
-settled state object = object
+abbrev pub settled_object : State → Object → Object
+settled_object Transient object = record object { cells = map settled_cell object.cells; links = map settled_link object.links }
+settled_object state object = object
 
 -- the object in a state that it had, without a delete mark
 abbrev pub put_back_object : Object → State → Option (List Value) → Object
-put_back_object object state identity = settled state (record object { state = state; identity = identity; marked = false })
+put_back_object object state identity = settled_object state (record object { state = state; identity = identity; marked = false })
 
 -- the row of an object: the value of each cell, and NULL where it is not known
 abbrev pub row_of : Object → List Value

@@ -25,12 +25,12 @@ holds root key rooted = is_persistent rooted.0.state && (rooted.1.0 == root.0 &&
 abbrev pub holds_at : List Object → List ClassId → ClassId → List Value → ℕ → Bool
 holds_at objects roots root key place = holds root key (slice_index_or objects place no_object, slice_index_or roots place no_class_id)
 
-abbrev pub numbered : ℕ → ObjId
-numbered place = record { 0 = place + 1 }
+abbrev pub id_of_place : ℕ → ObjId
+id_of_place place = record { 0 = place + 1 }
 
 -- the persistent object of an identity
 abbrev pub find_identity : Graph → ClassId → List Value → Option ObjId
-find_identity graph root key = option_map numbered (position (holds root key) (zip graph.objects graph.roots))
+find_identity graph root key = option_map id_of_place (position (holds root key) (zip graph.objects graph.roots))
 
 -- no two persistent objects have one root and one key
 abbrev pub IsOne : List Object → List ClassId → Type 0
@@ -61,9 +61,9 @@ IsFree graph object None = Unit {0}
 IsFree graph object (Some key) = is_taken graph object key ≡ false
 
 -- the graph in which the object is persistent under the key
-abbrev pub registered : Graph → ObjId → List Value → Graph
-registered graph object key = with_object graph object (record (object_at graph object) { state = Persistent; identity = Some key })
+abbrev pub with_identity : Graph → ObjId → List Value → Graph
+with_identity graph object key = with_object graph object (record (object_at graph object) { state = Persistent; identity = Some key })
 
 -- the answer to a registration: the graph then, unless another persistent object has the identity
 unfoldable pub register : Graph → ObjId → List Value → Result (Unit {0} × Graph) Refusal
-register graph object key = if is_taken graph object key then Err (InvalidRequestError IdentityConflict) else Ok (tt, registered graph object key)
+register graph object key = if is_taken graph object key then Err (InvalidRequestError IdentityConflict) else Ok (tt, with_identity graph object key)

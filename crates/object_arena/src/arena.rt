@@ -10,9 +10,9 @@ ghost use Rattle.schema_core.specs.WellFormed.{is_key, is_row};
 ghost use Rattle.class_mapping.specs.Mapped.{IsAttribute, IsClass, Mapped, attribute_of, attributes_of, is_key_attribute, root_of, root_spec};
 ghost use Rattle.class_mapping.specs.PlainClass.{IsPlainClass};
 ghost use Rattle.object_arena.specs.declared.object.State.TheVariants.{Persistent};
-ghost use Rattle.object_arena.specs.Graph.{IsCell, IsLink, IsObject, cell_at, either_fault, empty_graph, expired, fresh_object, has_identity, is_persistent, key_fault, kind_fault, make, object_at, object_limit, put_back_object, root_at, row_of, set_cell, shown, value_fault, with_cell, with_fresh, with_link, with_marks, with_object, with_state, with_value};
+ghost use Rattle.object_arena.specs.Graph.{IsCell, IsLink, IsObject, cell_at, either_fault, empty_graph, expired_object, fresh_object, has_identity, is_persistent, key_fault, kind_fault, make, object_at, object_limit, put_back_object, root_at, row_of, set_cell, value_read, value_fault, with_cell, with_fresh, with_link, with_marks, with_object, with_state, with_value};
 ghost use Rattle.object_arena.specs.Every.{classes_of};
-ghost use Rattle.object_arena.specs.Identity.{IsFree, IsGraph, IsOne, find_identity, has_key, holds, is_identified, is_other, is_taken, register, registered};
+ghost use Rattle.object_arena.specs.Identity.{IsFree, IsGraph, IsOne, find_identity, has_key, holds, is_identified, is_other, is_taken, register, with_identity};
 ghost use Rattle.object_arena.specs.Index.{is_holder};
 ghost use Rattle.object_arena.specs.Fit.{IsFit, Keeps, KeepsWith, ObjectFits, cell_fits, identity_fits, key_fits, link_fits, links_fit, relation_of};
 
@@ -119,7 +119,7 @@ impl Arena {
     pub fn get_cell(&self, object: ObjId, attr: AttrNo) -> CellRead<'_>
         requires object { IsObject self.now object }
         requires attr { IsCell self.now object attr }
-        ensures { shown result ≡ (cell_at self.now object attr).value }
+        ensures { value_read result ≡ (cell_at self.now object attr).value }
     {
         read_of(
             self.objects[object.0 as usize - 1]
@@ -286,7 +286,7 @@ impl Arena {
     pub fn register(&mut self, object: ObjId, key: Key) -> Result<(), Refusal>
         requires { IsObject self.old object }
         ensures step { Takes (λ _. tt) (register self.old object key) self.old result self.new }
-        ensures registered { OnOk result (self.new ≡ registered self.old object key) }
+        ensures registered { OnOk result (self.new ≡ with_identity self.old object key) }
         ensures taken { OnErr result (is_taken self.old object key ≡ true) }
         ensures keeps { KeepsWith
             (λ mapped. key_fits mapped (object_at self.old object).class key ≡ true)
@@ -303,7 +303,7 @@ impl Arena {
     fn settle_identity(&mut self, object: ObjId, key: Key)
         requires object { IsObject self.old object }
         requires free { is_taken self.old object key ≡ false }
-        ensures { self.new ≡ registered self.old object key }
+        ensures { self.new ≡ with_identity self.old object key }
     {
         let place = object.0 as usize - 1;
         self.index.enter(self.roots[place], &key, object);
@@ -317,7 +317,7 @@ impl Arena {
         requires object { IsObject self.old object }
         requires persistent { (object_at self.old object).state ≡ Persistent }
         ensures expired { self.new
-            ≡ with_object self.old object (expired (object_at self.old object)) }
+            ≡ with_object self.old object (expired_object (object_at self.old object)) }
         ensures keeps { Keeps self.old self.new }
     {
         self.write_expired(object);
@@ -326,7 +326,7 @@ impl Arena {
     /// Drops what is known of an object.
     fn write_expired(&mut self, object: ObjId)
         requires { IsObject self.old object }
-        ensures { self.new ≡ with_object self.old object (expired (object_at self.old object)) }
+        ensures { self.new ≡ with_object self.old object (expired_object (object_at self.old object)) }
     {
         parts::expire(self.alloc, &mut self.objects[object.0 as usize - 1]);
     }
@@ -510,7 +510,7 @@ impl Arena {
 
 /// What is read of a cell.
 fn read_of(cell: &Cell) -> CellRead<'_>
-    ensures { shown result ≡ cell.now.value }
+    ensures { value_read result ≡ cell.now.value }
 {
     match &cell.value {
         Some(value) => CellRead::Held(value),

@@ -4,7 +4,7 @@ ghost use Rattle.std.specs.Prelude.{◌≡◌, ◌<◌, [], IfOk, IfErr, length,
 ghost use Rattle.base_core.specs.declared.refusal.Refusal.TheVariants.{Memory};
 ghost use Rattle.class_mapping.specs.Mapped.{IsClass};
 ghost use Rattle.object_arena.specs.declared.object.Link.TheVariants.{Unset, Unloaded};
-ghost use Rattle.object_arena.specs.Graph.{cell_in, cell_put, expired, expired_cell, fresh_object, kept_identity, null_cell, put_back_object, settled, settled_adds, settled_cell, settled_link};
+ghost use Rattle.object_arena.specs.Graph.{cell_in, cell_put, expired_object, expired_cell, fresh_object, kept_identity, null_cell, put_back_object, settled_object, settled_adds, settled_cell, settled_link};
 
 use crate::{Cell, Link, Object, State};
 use base_core::{AttrNo, ClassId, Key, ListOf, ObjList, Refusal, Value};
@@ -89,7 +89,7 @@ fn unload_links(alloc: Global, links: &mut ListOf<Link>)
 
 /// The object loses its cells' values and bases and its links, and is no orphan.
 pub fn expire(alloc: Global, object: &mut Object)
-    ensures { object.new ≡ expired object.old }
+    ensures { object.new ≡ expired_object object.old }
 {
     expire_cells(&mut object.cells);
     unload_links(alloc, &mut object.links);

@@ -15,7 +15,7 @@ use Rattle.object_arena.specs.declared.object.Object.{Object}
 use Rattle.object_arena.specs.declared.object.State.{State}
 use Rattle.object_arena.specs.declared.object.State.TheVariants.{Transient, Pending, Persistent, Deleted, Detached}
 use Rattle.object_arena.specs.Graph.{Graph, has_identity, is_persistent, no_class_id, no_object, object_at, put_back_object, with_object}
-use Rattle.object_arena.specs.Identity.{IsGraph, has_key, holds, holds_at, is_other, numbered}
+use Rattle.object_arena.specs.Identity.{IsGraph, has_key, holds, holds_at, is_other, id_of_place}
 use Rattle.object_arena.specs.Every.{each_object, each_placed}
 use Rattle.object_arena.proofs.GraphLemmas.{held_position, key_along}
 use Rattle.object_arena.proofs.HolderLemmas.{place_holds}
@@ -23,8 +23,8 @@ use Rattle.object_arena.proofs.TurnLemmas.{graph_before, placed_all, placed_done
 use Rattle.savepoints.specs.declared.scope.Standing.{Standing}
 use Rattle.savepoints.specs.declared.scope.Scope.{Scope}
 use Rattle.savepoints.specs.declared.traces.Trace.{Trace}
-use Rattle.savepoints.specs.Scopes.{all_wanted, any_below, back_to, contested, is_lost, loaded_standing, made_since, put_back_all, put_back_to, since, standing_at, standing_of, stood_again, trace_in, wanted}
-use Rattle.savepoints.specs.Restoring.{IsFree, freed, is_held, set_free, with_back}
+use Rattle.savepoints.specs.Scopes.{all_wanted, any_below, back_to, contested_state, is_lost, loaded_standing, made_since, put_back_all, put_back_to, since, standing_at, standing_of, stood_again, trace_in, wanted_standing}
+use Rattle.savepoints.specs.Restoring.{IsFree, freed_object, is_held, set_free, with_back}
 
 -- ---- where an object stands
 
@@ -50,9 +50,9 @@ pub each_long : (change : ℕ → Object → Object) (graph : Graph) → length 
 each_long change graph = length-map (enumerate_from 0 graph.objects) (λ placed. change placed.0 placed.1) ∙ length-enumerate_from 0 graph.objects
 
 -- an object is to stand where a scope with the same standing of it says
-pub wanted_same : (old now : Scope) (traces : List Trace) (i p : ℕ) (object : Object) → p ≡ i → standing_at now i ≡ standing_at old i → length now.standings ≡ length old.standings → wanted now traces p object ≡ wanted old traces i object
+pub wanted_same : (old now : Scope) (traces : List Trace) (i p : ℕ) (object : Object) → p ≡ i → standing_at now i ≡ standing_at old i → length now.standings ≡ length old.standings → wanted_standing now traces p object ≡ wanted_standing old traces i object
 wanted_same old now traces i p object place same long =
-    ap (λ (k : ℕ). wanted now traces k object) place
+    ap (λ (k : ℕ). wanted_standing now traces k object) place
     ∙ ap (λ (n : ℕ). if nat_lt i n then standing_at now i else since (trace_in traces i).loaded object.identity) long
     ∙ ap (λ (s : Standing). if nat_lt i (length old.standings) then s else since (trace_in traces i).loaded object.identity) same
 
@@ -99,27 +99,27 @@ each_then : {X Y : Type 0} (change : ℕ → X → Y) (second : ℕ → X → Y)
 each_then change second first n [] same = refl
 each_then change second first n (x ∷ xs) same = rw same (ap (λ ys. second n x ∷ ys) (each_then change second first (n + 1) xs same))
 
-freed_identity : (identity : Option (List Value)) (object : Object) → object.identity ≡ identity → (freed identity object).identity ≡ object.identity
+freed_identity : (identity : Option (List Value)) (object : Object) → object.identity ≡ identity → (freed_object identity object).identity ≡ object.identity
 freed_identity None object is = sym is
 freed_identity (Some key) object is = sym is
 
-freed_back : (identity : Option (List Value)) (object : Object) (standing : Standing) (lost : Bool) → back_to standing lost (freed identity object) ≡ back_to standing lost object
+freed_back : (identity : Option (List Value)) (object : Object) (standing : Standing) (lost : Bool) → back_to standing lost (freed_object identity object) ≡ back_to standing lost object
 freed_back None object standing lost = refl
 freed_back (Some key) object standing lost = refl
 
-freed_to : (identity : Option (List Value)) (object : Object) (standing : Standing) → put_back_to standing (freed identity object) ≡ put_back_to standing object
+freed_to : (identity : Option (List Value)) (object : Object) (standing : Standing) → put_back_to standing (freed_object identity object) ≡ put_back_to standing object
 freed_to None object standing = refl
 freed_to (Some key) object standing = refl
 
-freed_wanted : (scope : Scope) (traces : List Trace) (place : ℕ) (object : Object) → wanted scope traces place (set_free object) ≡ wanted scope traces place object
+freed_wanted : (scope : Scope) (traces : List Trace) (place : ℕ) (object : Object) → wanted_standing scope traces place (set_free object) ≡ wanted_standing scope traces place object
 freed_wanted scope traces place object =
     ap (λ (identity : Option (List Value)). if nat_lt place (length scope.standings) then standing_at scope place else since (trace_in traces place).loaded identity) (freed_identity object.identity object refl)
 
 wanted_free : (scope : Scope) (traces : List Trace) (graph : Graph) → all_wanted scope traces (each_object set_free graph) ≡ all_wanted scope traces graph
 wanted_free scope traces graph =
     ap (λ (objects : List Object). record { objects = objects; roots = graph.roots })
-    (each_then (λ place object. put_back_to (wanted scope traces place object) object) (λ place object. put_back_to (wanted scope traces place object) object) set_free 0 graph.objects
-    (λ place object. ap (λ (s : Standing). put_back_to s (set_free object)) (freed_wanted scope traces place object) ∙ freed_to object.identity object (wanted scope traces place object)))
+    (each_then (λ place object. put_back_to (wanted_standing scope traces place object) object) (λ place object. put_back_to (wanted_standing scope traces place object) object) set_free 0 graph.objects
+    (λ place object. ap (λ (s : Standing). put_back_to s (set_free object)) (freed_wanted scope traces place object) ∙ freed_to object.identity object (wanted_standing scope traces place object)))
 
 -- objects that were set free go back as they would have
 pub free_back : (scope : Scope) (traces : List Trace) (graph : Graph) → put_back_all scope traces (each_object set_free graph) ≡ put_back_all scope traces graph
@@ -128,11 +128,11 @@ free_back scope traces graph =
     ap (λ (objects : List Object). record { objects = objects; roots = graph.roots })
     (each_then (stood_again scope traces (each_object set_free graph)) (stood_again scope traces graph) set_free 0 graph.objects
     (λ place object.
-    ap (λ (g : Graph). back_to (wanted scope traces place (set_free object)) (is_lost g place (wanted scope traces place (set_free object)).identity) (set_free object)) (wanted_free scope traces graph)
+    ap (λ (g : Graph). back_to (wanted_standing scope traces place (set_free object)) (is_lost g place (wanted_standing scope traces place (set_free object)).identity) (set_free object)) (wanted_free scope traces graph)
     ∙ ap (λ (s : Standing). back_to s (is_lost (all_wanted scope traces graph) place s.identity) (set_free object)) (freed_wanted scope traces place object)
-    ∙ freed_back object.identity object (wanted scope traces place object) (is_lost (all_wanted scope traces graph) place (wanted scope traces place object).identity)))
+    ∙ freed_back object.identity object (wanted_standing scope traces place object) (is_lost (all_wanted scope traces graph) place (wanted_standing scope traces place object).identity)))
 
-freed_left : (identity : Option (List Value)) (object : Object) → IsFree (freed identity object)
+freed_left : (identity : Option (List Value)) (object : Object) → IsFree (freed_object identity object)
 freed_left None object = refl
 freed_left (Some key) object = refl
 
@@ -141,11 +141,11 @@ pub free_left : (graph : Graph) → All IsFree (each_object set_free graph).obje
 free_left graph = All-map IsFree set_free graph.objects (λ k d less. freed_left (get_or graph.objects k d).identity (get_or graph.objects k d))
 
 -- the two ways of setting free
-pub freed_some : (object : Object) (identity : Option (List Value)) → object.identity ≡ identity → is_some identity ≡ true → put_back_object object Detached object.identity ≡ freed identity object
+pub freed_some : (object : Object) (identity : Option (List Value)) → object.identity ≡ identity → is_some identity ≡ true → put_back_object object Detached object.identity ≡ freed_object identity object
 freed_some object None is h = absurd cc
 freed_some object (Some key) is h = ap (λ (i : Option (List Value)). put_back_object object Detached i) is
 
-pub freed_none : (object : Object) (identity : Option (List Value)) → object.identity ≡ identity → is_some identity ≡ false → put_back_object object Pending object.identity ≡ freed identity object
+pub freed_none : (object : Object) (identity : Option (List Value)) → object.identity ≡ identity → is_some identity ≡ false → put_back_object object Pending object.identity ≡ freed_object identity object
 freed_none object None is h = ap (λ (i : Option (List Value)). put_back_object object Pending i) is
 freed_none object (Some key) is h = absurd cc
 
@@ -159,7 +159,7 @@ module _ (scope : Scope) (traces : List Trace) (graph : Graph) where
   there = all_wanted scope traces graph
 
   abbrev pub want : ℕ → Standing
-  want i = wanted scope traces i (get_or graph.objects i no_object)
+  want i = wanted_standing scope traces i (get_or graph.objects i no_object)
 
   abbrev pub own : ℕ → ClassId
   own i = get_or graph.roots i no_class_id
@@ -173,13 +173,13 @@ module _ (scope : Scope) (traces : List Trace) (graph : Graph) where
 
   wanted_is : (root : ClassId) (key : List Value) (j : ℕ) → j < length graph.objects → holds_at there.objects graph.roots root key j ≡ stands_under root key (own j) (want j)
   wanted_is root key j less =
-      ap (λ (o : Object). holds root key (o, own j)) (each_at (λ place object. put_back_to (wanted scope traces place object) object) graph j no_object no_object less)
+      ap (λ (o : Object). holds root key (o, own j)) (each_at (λ place object. put_back_to (wanted_standing scope traces place object) object) graph j no_object no_object less)
       ∙ ap (stands_under root key (own j)) (stands_back (get_or graph.objects j no_object) (want j).state (want j).identity)
 
-  ends_is : (root : ClassId) (key : List Value) (j : ℕ) → holds root key (change j (get_or graph.objects j no_object), own j) ≡ stands_under root key (own j) (record { state = contested (lost j) (want j).state; identity = (want j).identity })
-  ends_is root key j = ap (stands_under root key (own j)) (stands_back (get_or graph.objects j no_object) (contested (lost j) (want j).state) (want j).identity)
+  ends_is : (root : ClassId) (key : List Value) (j : ℕ) → holds root key (change j (get_or graph.objects j no_object), own j) ≡ stands_under root key (own j) (record { state = contested_state (lost j) (want j).state; identity = (want j).identity })
+  ends_is root key j = ap (stands_under root key (own j)) (stands_back (get_or graph.objects j no_object) (contested_state (lost j) (want j).state) (want j).identity)
 
-  uncontested : (b : Bool) (state : State) → is_persistent (contested b state) ≡ true → is_persistent state ≡ true
+  uncontested : (b : Bool) (state : State) → is_persistent (contested_state b state) ≡ true → is_persistent state ≡ true
   uncontested true Transient h = h
   uncontested true Pending h = h
   uncontested true Persistent h = refl
@@ -190,13 +190,13 @@ module _ (scope : Scope) (traces : List Trace) (graph : Graph) where
   -- who is persistent in the end was to be
   ends_wanted : (root : ClassId) (key : List Value) (j : ℕ) → j < length graph.objects → ends_under root key j → holds_at there.objects graph.roots root key j ≡ true
   ends_wanted root key j less held =
-      let parts = and_parts (is_persistent (contested (lost j) (want j).state)) ((own j).0 == root.0 && has_key key (want j).identity) (sym (ends_is root key j) ∙ held) in
+      let parts = and_parts (is_persistent (contested_state (lost j) (want j).state)) ((own j).0 == root.0 && has_key key (want j).identity) (sym (ends_is root key j) ∙ held) in
       wanted_is root key j less
       ∙ and_from (is_persistent (want j).state) ((own j).0 == root.0 && has_key key (want j).identity) (uncontested (lost j) (want j).state parts.0) parts.1
 
   kept_under : (root : ClassId) (key : List Value) (j : ℕ) → lost j ≡ false → stands_under root key (own j) (want j) ≡ true → ends_under root key j
   kept_under root key j free held =
-      ends_is root key j ∙ ap (λ (b : Bool). stands_under root key (own j) (record { state = contested b (want j).state; identity = (want j).identity })) free ∙ held
+      ends_is root key j ∙ ap (λ (b : Bool). stands_under root key (own j) (record { state = contested_state b (want j).state; identity = (want j).identity })) free ∙ held
 
   -- one before that is to be persistent under the identity that another would have
   lost_before : (root : ClassId) (key : List Value) (j : ℕ) (identity : Option (List Value)) → (own j).0 ≡ root.0 → has_key key identity ≡ true → is_lost there j identity ≡ true → (m : ℕ) × (m < j) × (holds_at there.objects graph.roots root key m ≡ true)
@@ -255,12 +255,12 @@ module _ (scope : Scope) (traces : List Trace) (graph : Graph) where
       let place : 0 + j ≡ j = omega arith in
       subst Held (sym (placed_done change 0 graph.objects i j no_object no_object before less ∙ ap (λ (p : ℕ). change p (get_or graph.objects j no_object)) place)) held
 
-  other_found : (i p : ℕ) → p < i → is_other (numbered i) (Some (numbered p)) ≡ true
+  other_found : (i p : ℕ) → p < i → is_other (id_of_place i) (Some (id_of_place p)) ≡ true
   other_found i p less = grind (arith, nat_tests)
 
   -- another object is persistent under the identity exactly where one before was to be
   taken_then : (i : ℕ) (key : List Value) (found : Option ℕ) → i < length graph.objects → length graph.roots ≡ length graph.objects → All IsFree graph.objects → position (holds (own i) key) (zip (objs i) graph.roots) ≡ found
-      → is_other (numbered i) (option_map numbered found) ≡ is_lost there i (Some key)
+      → is_other (id_of_place i) (option_map id_of_place found) ≡ is_lost there i (Some key)
   taken_then i key None less rooted left at =
       ⊎_elim
       (λ (some : is_lost there i (Some key) ≡ true).
@@ -280,7 +280,7 @@ module _ (scope : Scope) (traces : List Trace) (graph : Graph) where
   held_then i n now None number so_far less rooted left = refl
   held_then i n now (Some key) number so_far less rooted left =
       let place : n - 1 ≡ i = omega arith in
-      let Taken : Graph → ℕ → ℕ → Bool = λ g p k. let o : ObjId = record { 0 = k } in is_other o (option_map numbered (position (holds (get_or g.roots p no_class_id) key) (zip g.objects g.roots))) in
+      let Taken : Graph → ℕ → ℕ → Bool = λ g p k. let o : ObjId = record { 0 = k } in is_other o (option_map id_of_place (position (holds (get_or g.roots p no_class_id) key) (zip g.objects g.roots))) in
       ap (λ (g : Graph). Taken g (n - 1) n) so_far
       ∙ ap (λ (p : ℕ). Taken (graph_before change graph i) p n) place
       ∙ ap (λ (k : ℕ). Taken (graph_before change graph i) i k) number
@@ -292,18 +292,18 @@ module _ (scope : Scope) (traces : List Trace) (graph : Graph) where
 
   -- one object more
   pub back_more : (now new : Graph) (i n : ℕ) (standing : Standing) → i < length graph.objects → length graph.roots ≡ length graph.objects → All IsFree graph.objects → now ≡ graph_before change graph i → n ≡ i + 1
-      → (let object : ObjId = record { 0 = n } in standing ≡ wanted scope traces i (object_at now object)) → (let object : ObjId = record { 0 = n } in new ≡ with_back now object standing) → new ≡ graph_before change graph (i + 1)
+      → (let object : ObjId = record { 0 = n } in standing ≡ wanted_standing scope traces i (object_at now object)) → (let object : ObjId = record { 0 = n } in new ≡ with_back now object standing) → new ≡ graph_before change graph (i + 1)
   back_more now new i n standing less rooted left so_far number is write =
       let object : ObjId = record { 0 = n } in
       let place : n - 1 ≡ i = omega arith in
       let here : object_at now object ≡ get_or graph.objects i no_object =
       ap (λ (g : Graph). get_or g.objects (n - 1) no_object) so_far ∙ ap (λ (p : ℕ). get_or (objs i) p no_object) place ∙ placed_left change 0 graph.objects i i no_object (omega arith) in
-      let stands : standing ≡ wanted scope traces i (object_at now object) = is in
+      let stands : standing ≡ wanted_standing scope traces i (object_at now object) = is in
       placed_more change graph now new i n less so_far number
       (write
       ∙ ap (λ (s : Standing). with_object now object (back_to s (is_held now object s.identity) (object_at now object))) stands
-      ∙ ap (λ (b : Bool). with_object now object (back_to (wanted scope traces i (object_at now object)) b (object_at now object)))
-      (held_then i n now (wanted scope traces i (object_at now object)).identity number so_far less rooted left))
+      ∙ ap (λ (b : Bool). with_object now object (back_to (wanted_standing scope traces i (object_at now object)) b (object_at now object)))
+      (held_then i n now (wanted_standing scope traces i (object_at now object)).identity number so_far less rooted left))
 
   -- all of them
   pub back_all : (now : Graph) (i : ℕ) → length graph.objects ≤ i → now ≡ graph_before change graph i → now ≡ put_back_all scope traces graph

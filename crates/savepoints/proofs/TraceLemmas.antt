@@ -7,7 +7,7 @@ use Rattle.base_core.specs.declared.ids.ObjId.{ObjId}
 use Rattle.object_arena.specs.Graph.{Graph, object_at, place_of}
 use Rattle.savepoints.specs.declared.scope.Scope.{Scope}
 use Rattle.savepoints.specs.declared.traces.Trace.{Trace}
-use Rattle.savepoints.specs.Scopes.{Framed, no_trace, outward, padded, touch, touch_in, touched_trace}
+use Rattle.savepoints.specs.Scopes.{Framed, no_trace, outward, padded_traces, touch, touch_in, touched_trace}
 
 replicate_more : (n : ℕ) → replicate n no_trace ++ no_trace ∷ [] ≡ replicate (n + 1) no_trace
 replicate_more zero = refl
@@ -46,7 +46,7 @@ pub ruleset outwards = (outward_more, outward_none, outward_all)
 -- ---- touching
 
 -- the trace was put in where a scope is in progress
-pub touch_is : (frames : Framed) (graph : Graph) (object : ObjId) (items : List Trace) (trace : Trace) → 0 < length frames.scopes → items ≡ padded frames.traces (place_of object) → trace ≡ touched_trace frames (place_of object) (object_at graph object)
+pub touch_is : (frames : Framed) (graph : Graph) (object : ObjId) (items : List Trace) (trace : Trace) → 0 < length frames.scopes → items ≡ padded_traces frames.traces (place_of object) → trace ≡ touched_trace frames (place_of object) (object_at graph object)
     → record frames { traces = slice_set items (place_of object) trace } ≡ touch graph object frames
 unfolding touch
 touch_is frames graph object items trace some is_items is_trace = by_scopes frames.scopes some
@@ -55,4 +55,4 @@ touch_is frames graph object items trace some is_items is_trace = by_scopes fram
     by_scopes [] less = absurd (omega (arith, less))
     by_scopes (scope ∷ scopes) less =
         ap (λ (xs : List Trace). record frames { traces = slice_set xs (place_of object) trace }) is_items
-        ∙ ap (λ (t : Trace). record frames { traces = slice_set (padded frames.traces (place_of object)) (place_of object) t }) is_trace
+        ∙ ap (λ (t : Trace). record frames { traces = slice_set (padded_traces frames.traces (place_of object)) (place_of object) t }) is_trace

@@ -9,13 +9,13 @@ use Rattle.object_arena.specs.Identity.{is_taken}
 use Rattle.savepoints.specs.declared.scope.Standing.{Standing}
 use Rattle.savepoints.specs.Scopes.{back_to}
 
-abbrev pub freed : Option (List Value) → Object → Object
-freed None object = put_back_object object Pending None
-freed (Some key) object = put_back_object object Detached (Some key)
+abbrev pub freed_object : Option (List Value) → Object → Object
+freed_object None object = put_back_object object Pending None
+freed_object (Some key) object = put_back_object object Detached (Some key)
 
 -- the object is not persistent, and keeps its identity
 abbrev pub set_free : Object → Object
-set_free object = freed object.identity object
+set_free object = freed_object object.identity object
 
 abbrev pub IsFree : Object → Type 0
 IsFree object = is_persistent object.state ≡ false

@@ -11,7 +11,7 @@ use Rattle.class_mapping.specs.Mapped.{Mapped}
 use Rattle.object_arena.specs.declared.object.Object.{Object}
 use Rattle.object_arena.specs.declared.object.State.{State}
 use Rattle.object_arena.specs.declared.object.State.TheVariants.{Transient, Pending, Persistent, Deleted, Detached}
-use Rattle.object_arena.specs.Graph.{Graph, expired, has_identity, is_persistent, no_class_id, no_object, object_at, place_of, put_back_object}
+use Rattle.object_arena.specs.Graph.{Graph, expired_object, has_identity, is_persistent, no_class_id, no_object, object_at, place_of, put_back_object}
 use Rattle.object_arena.specs.Identity.{holds_at}
 use Rattle.object_arena.specs.Fit.{identity_fits}
 use Rattle.object_arena.specs.Every.{each_object, each_placed}
@@ -98,11 +98,11 @@ abbrev pub touched_trace : Framed → ℕ → Object → Trace
 touched_trace frames place object = record { depth = length frames.scopes; loaded = is_load frames place object }
 
 -- the traces up to a place
-abbrev pub padded : List Trace → ℕ → List Trace
-padded traces place = traces ++ replicate (place + 1 - length traces) no_trace
+abbrev pub padded_traces : List Trace → ℕ → List Trace
+padded_traces traces place = traces ++ replicate (place + 1 - length traces) no_trace
 
 abbrev pub with_trace : List Trace → ℕ → Trace → List Trace
-with_trace traces place trace = slice_set (padded traces place) place trace
+with_trace traces place trace = slice_set (padded_traces traces place) place trace
 
 abbrev pub touch_in : List Scope → Graph → ObjId → Framed → Framed
 touch_in [] graph object frames = frames
@@ -124,8 +124,8 @@ abbrev pub left_at : ℕ → Framed → Framed
 left_at depth frames = record { scopes = drop (length frames.scopes - depth) frames.scopes; traces = map (outward depth) frames.traces }
 
 -- the innermost scope ends, and what was done inside stays
-unfoldable pub released : Framed → Framed
-released frames = left_at (length frames.scopes - 1) frames
+unfoldable pub scope_released : Framed → Framed
+scope_released frames = left_at (length frames.scopes - 1) frames
 
 -- the scope at a depth ends with those inside it
 unfoldable pub around : ℕ → Framed → Framed
@@ -146,13 +146,13 @@ since true identity = loaded_standing identity
 since false identity = made_since
 
 -- where an object is to stand again
-abbrev pub wanted : Scope → List Trace → ℕ → Object → Standing
-wanted scope traces place object =
+abbrev pub wanted_standing : Scope → List Trace → ℕ → Object → Standing
+wanted_standing scope traces place object =
     if nat_lt place (length scope.standings) then standing_at scope place else since (trace_in traces place).loaded object.identity
 
 -- the objects as they are to stand again
 abbrev pub all_wanted : Scope → List Trace → Graph → Graph
-all_wanted scope traces graph = each_placed (λ place object. put_back_to (wanted scope traces place object) object) graph
+all_wanted scope traces graph = each_placed (λ place object. put_back_to (wanted_standing scope traces place object) object) graph
 
 -- some number below one passes
 abbrev pub any_below : (ℕ → Bool) → ℕ → Bool
@@ -166,24 +166,24 @@ is_lost graph place (Some key) = any_below (holds_at graph.objects graph.roots (
 
 -- Of several that would be persistent under one identity, the least number keeps it; the others are detached. An object
 -- that stood under it at the scope's start has a lesser number than all that were loaded since.
-abbrev pub contested : Bool → State → State
-contested true Persistent = Detached
-contested lost state = state
+abbrev pub contested_state : Bool → State → State
+contested_state true Persistent = Detached
+contested_state lost state = state
 
 abbrev pub back_to : Standing → Bool → Object → Object
-back_to standing lost object = put_back_object object (contested lost standing.state) standing.identity
+back_to standing lost object = put_back_object object (contested_state lost standing.state) standing.identity
 
 -- an object stands again where it stood
 abbrev pub stood_again : Scope → List Trace → Graph → ℕ → Object → Object
 stood_again scope traces graph place object =
-    back_to (wanted scope traces place object) (is_lost (all_wanted scope traces graph) place (wanted scope traces place object).identity) object
+    back_to (wanted_standing scope traces place object) (is_lost (all_wanted scope traces graph) place (wanted_standing scope traces place object).identity) object
 
 -- the graph in which each object stands again where it stood at the scope's start
 unfoldable pub put_back_all : Scope → List Trace → Graph → Graph
 put_back_all scope traces graph = each_placed (stood_again scope traces graph) graph
 
 abbrev pub expired_in : State → Object → Object
-expired_in Persistent object = expired object
+expired_in Persistent object = expired_object object
 expired_in state object = object
 
 abbrev pub expired_where : Bool → Object → Object
@@ -195,8 +195,8 @@ abbrev pub read_again : ℕ → List Trace → ℕ → Object → Object
 read_again depth traces place object = expired_where (depth == 1 || nat_le depth (trace_in traces place).depth) object
 
 -- the graph after a rollback to the start of the scope at a depth
-unfoldable pub restored : ℕ → Framed → Graph → Graph
-restored depth frames graph = each_placed (read_again depth frames.traces) (put_back_all (scope_at depth frames.scopes) frames.traces graph)
+unfoldable pub restored_graph : ℕ → Framed → Graph → Graph
+restored_graph depth frames graph = each_placed (read_again depth frames.traces) (put_back_all (scope_at depth frames.scopes) frames.traces graph)
 
 -- ---- keys
 

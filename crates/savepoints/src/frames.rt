@@ -126,7 +126,7 @@ impl Frames {
     #[tactic(auto, unfolding(crate::specs::Scopes::released))]
     pub fn release(&mut self)
         requires { 0 < length self.old.scopes }
-        ensures released { self.new ≡ spec.released self.old }
+        ensures released { self.new ≡ spec.scope_released self.old }
         ensures scopes { self.new.scopes ≡ drop 1 self.old.scopes }
     {
         self.scopes.remove(0);
@@ -150,7 +150,7 @@ impl Frames {
     #[tactic(auto, unfolding(crate::specs::Scopes::restored, crate::specs::Scopes::around))]
     pub fn restore(&mut self, arena: &mut Arena, depth: u32)
         requires depth { (1 ≤ depth) × (depth ≤ length self.old.scopes) }
-        ensures restored { arena.new ≡ spec.restored depth self.old arena.old }
+        ensures restored { arena.new ≡ spec.restored_graph depth self.old arena.old }
         ensures scopes { self.new ≡ spec.around depth self.old }
         ensures keeps { KeepsWith
             (λ mapped. spec.HasKeys mapped arena.old (spec.scope_at depth self.old.scopes))

@@ -67,7 +67,7 @@ fn put_one_back(arena: &mut Arena, scope: &mut Scope, traces: &[Trace], object: 
     requires object { IsObject arena.old object }
     requires sound { All spec.IsStanding scope.old.standings }
     ensures back { arena.new ≡ way.with_back arena.old object
-        (spec.wanted scope.old traces.now (object.0 - 1) (object_at arena.old object)) }
+        (spec.wanted_standing scope.old traces.now (object.0 - 1) (object_at arena.old object)) }
     ensures sound { All spec.IsStanding scope.new.standings }
     ensures others { (other : ℕ) → other ≢ object.0 - 1
         → spec.standing_at scope.new other ≡ spec.standing_at scope.old other }
@@ -128,7 +128,7 @@ fn is_taken(arena: &Arena, object: ObjId, identity: &Option<Key>) -> bool
 
 /// The state of an object, where another one may be persistent under its identity.
 fn contested(taken: bool, state: State) -> State
-    ensures { result ≡ spec.contested taken state }
+    ensures { result ≡ spec.contested_state taken state }
 {
     match state {
         State::Persistent if taken => State::Detached,

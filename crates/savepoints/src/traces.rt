@@ -36,7 +36,7 @@ pub(crate) fn trace_of(traces: &[Trace], place: usize) -> Trace
 
 /// There are traces up to a place. The only refusal is out of memory, and it changes nothing.
 pub(crate) fn pad(traces: &mut Vec<Trace>, place: u32) -> Result<(), Refusal>
-    ensures ok { OnOk result (traces.new.items ≡ spec.padded traces.old.items place) }
+    ensures ok { OnOk result (traces.new.items ≡ spec.padded_traces traces.old.items place) }
     ensures err { OnErr result (traces.new.items ≡ traces.old.items) }
     ensures cause { IfErr result (λ e. e ≡ Memory) }
 {
@@ -51,7 +51,7 @@ pub(crate) fn pad(traces: &mut Vec<Trace>, place: u32) -> Result<(), Refusal>
 #[tactic(auto, using(crate::proofs::TraceLemmas::grows))]
 /// There are traces up to a place. The only refusal is out of memory.
 fn grow(traces: &mut Vec<Trace>, place: u32) -> Result<(), Refusal>
-    ensures ok { OnOk result (traces.new.items ≡ spec.padded traces.old.items place) }
+    ensures ok { OnOk result (traces.new.items ≡ spec.padded_traces traces.old.items place) }
     ensures kept { take (length traces.old.items) traces.new.items ≡ traces.old.items }
     ensures cause { IfErr result (λ e. e ≡ Memory) }
 {

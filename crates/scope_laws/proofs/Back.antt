@@ -15,7 +15,7 @@ use Rattle.object_arena.proofs.GraphLemmas.{same_equiv}
 use Rattle.savepoints.specs.declared.scope.Standing.{Standing}
 use Rattle.savepoints.specs.declared.scope.Scope.{Scope}
 use Rattle.savepoints.specs.declared.traces.Trace.{Trace}
-use Rattle.savepoints.specs.Scopes.{Framed, all_wanted, begun_at, contested, expired_in, expired_where, is_lost, made_since, put_back_all, put_back_to, read_again, restored, scope_at, since, standing_at, standing_of, stood_again, trace_in, wanted}
+use Rattle.savepoints.specs.Scopes.{Framed, all_wanted, begun_at, contested_state, expired_in, expired_where, is_lost, made_since, put_back_all, put_back_to, read_again, restored_graph, scope_at, since, standing_at, standing_of, stood_again, trace_in, wanted_standing}
 use Rattle.savepoints.proofs.BackLemmas.{below_some, each_at, each_long, first_ends, stands_back, stands_under}
 use Rattle.scope_laws.specs.Inside.{Act, IsLater, IsScope, LesserHolds, MadeSinceGoesBack, Objects, RestoreGivesTheStart, gone_back, inside, left_under, next_depth, object_in, root_in, stands, under}
 use Rattle.scope_laws.proofs.Inside.{later_then_start, scope_then}
@@ -34,21 +34,21 @@ read_stands false object = refl
 
 -- where an object stands that is to stand so, unless its identity is lost
 abbrev ends : Scope → List Trace → Graph → ℕ → Standing → Standing
-ends scope traces graph place standing = record { state = contested (is_lost (all_wanted scope traces graph) place standing.identity) standing.state; identity = standing.identity }
+ends scope traces graph place standing = record { state = contested_state (is_lost (all_wanted scope traces graph) place standing.identity) standing.state; identity = standing.identity }
 
-back_at : (scope : Scope) (traces : List Trace) (graph : Graph) (place : ℕ) → place < length graph.objects → standing_of (object_in (put_back_all scope traces graph) place) ≡ ends scope traces graph place (wanted scope traces place (object_in graph place))
+back_at : (scope : Scope) (traces : List Trace) (graph : Graph) (place : ℕ) → place < length graph.objects → standing_of (object_in (put_back_all scope traces graph) place) ≡ ends scope traces graph place (wanted_standing scope traces place (object_in graph place))
 unfolding put_back_all
 back_at scope traces graph place less =
-    let want : Standing = wanted scope traces place (object_in graph place) in
+    let want : Standing = wanted_standing scope traces place (object_in graph place) in
     ap standing_of (each_at (stood_again scope traces graph) graph place no_object no_object less)
-    ∙ stands_back (object_in graph place) (contested (is_lost (all_wanted scope traces graph) place want.identity) want.state) want.identity
+    ∙ stands_back (object_in graph place) (contested_state (is_lost (all_wanted scope traces graph) place want.identity) want.state) want.identity
 
 back_long : (scope : Scope) (traces : List Trace) (graph : Graph) → length (put_back_all scope traces graph).objects ≡ length graph.objects
 unfolding put_back_all
 back_long scope traces graph = each_long (stood_again scope traces graph) graph
 
-read_at : (depth : ℕ) (frames : Framed) (graph : Graph) (place : ℕ) → place < length graph.objects → standing_of (object_in (restored depth frames graph) place) ≡ standing_of (object_in (put_back_all (scope_at depth frames.scopes) frames.traces graph) place)
-unfolding restored
+read_at : (depth : ℕ) (frames : Framed) (graph : Graph) (place : ℕ) → place < length graph.objects → standing_of (object_in (restored_graph depth frames graph) place) ≡ standing_of (object_in (put_back_all (scope_at depth frames.scopes) frames.traces graph) place)
+unfolding restored_graph
 read_at depth frames graph place less =
     let back : Graph = put_back_all (scope_at depth frames.scopes) frames.traces graph in
     ap standing_of (each_at (read_again depth frames.traces) back place no_object no_object (omega (arith, less, back_long (scope_at depth frames.scopes) frames.traces graph)))
@@ -56,14 +56,14 @@ read_at depth frames graph place less =
 
 -- ---- who was there at the start
 
-wanted_start : (start : Graph) (traces : List Trace) (place : ℕ) (object : Object) → place < length start.objects → wanted (begun_at start) traces place object ≡ stands start place
+wanted_start : (start : Graph) (traces : List Trace) (place : ℕ) (object : Object) → place < length start.objects → wanted_standing (begun_at start) traces place object ≡ stands start place
 wanted_start start traces place object less =
     let count : length (map standing_of start.objects) ≡ length start.objects = length-map start.objects standing_of in
     let there : nat_lt place (length (map standing_of start.objects)) ≡ true = grind (arith, nat_tests) in
     ap (λ (b : Bool). if b then standing_at (begun_at start) place else since (trace_in traces place).loaded object.identity) there
     ∙ get_or-map standing_of start.objects place no_object made_since less
 
-wanted_since : (start : Graph) (traces : List Trace) (place : ℕ) (object : Object) → length start.objects ≤ place → wanted (begun_at start) traces place object ≡ since (trace_in traces place).loaded object.identity
+wanted_since : (start : Graph) (traces : List Trace) (place : ℕ) (object : Object) → length start.objects ≤ place → wanted_standing (begun_at start) traces place object ≡ since (trace_in traces place).loaded object.identity
 wanted_since start traces place object past =
     let count : length (map standing_of start.objects) ≡ length start.objects = length-map start.objects standing_of in
     let not_there : nat_lt place (length (map standing_of start.objects)) ≡ false = grind (arith, nat_tests) in
@@ -74,9 +74,9 @@ holds_start : (start graph : Graph) (traces : List Trace) (root : ClassId) (key 
     → holds_at (all_wanted (begun_at start) traces graph).objects graph.roots root key place ≡ holds_at start.objects start.roots root key place
 holds_start start graph traces root key place later less =
     let object : Object = object_in graph place in
-    let want : Standing = wanted (begun_at start) traces place object in
+    let want : Standing = wanted_standing (begun_at start) traces place object in
     let inside_it : place < length graph.objects = omega (arith, less, later.count) in
-    ap (λ (o : Object). stands_under root key (root_in graph place) (standing_of o)) (each_at (λ p o. put_back_to (wanted (begun_at start) traces p o) o) graph place no_object no_object inside_it)
+    ap (λ (o : Object). stands_under root key (root_in graph place) (standing_of o)) (each_at (λ p o. put_back_to (wanted_standing (begun_at start) traces p o) o) graph place no_object no_object inside_it)
     ∙ ap (stands_under root key (root_in graph place)) (stands_back object want.state want.identity)
     ∙ ap (stands_under root key (root_in graph place)) (wanted_start start traces place object less)
     ∙ ap (λ (r : ClassId). stands_under root key r (stands start place)) (later.roots place less)
@@ -105,7 +105,7 @@ not_lost start graph traces place (Some key) whole later less persistent is =
     (λ (kept : is_lost there place (Some key) ≡ false). kept)
     (cases_Bool (is_lost there place (Some key)))
 
-uncontested : (lost : Bool) (state : State) → (is_persistent state ≡ true → lost ≡ false) → contested lost state ≡ state
+uncontested : (lost : Bool) (state : State) → (is_persistent state ≡ true → lost ≡ false) → contested_state lost state ≡ state
 uncontested false state kept = refl
 uncontested true Transient kept = refl
 uncontested true Pending kept = refl
@@ -121,7 +121,7 @@ ends_start start graph traces place whole later less =
 
 -- where an object stands after all
 stands_then : (s : Objects) (acts : List Act) (place : ℕ) → IsScope acts s → place < length (inside acts s).graph.objects
-    → stands (gone_back acts s).graph place ≡ ends (begun_at s.graph) (inside acts s).frames.traces (inside acts s).graph place (wanted (begun_at s.graph) (inside acts s).frames.traces place (object_in (inside acts s).graph place))
+    → stands (gone_back acts s).graph place ≡ ends (begun_at s.graph) (inside acts s).frames.traces (inside acts s).graph place (wanted_standing (begun_at s.graph) (inside acts s).frames.traces place (object_in (inside acts s).graph place))
 stands_then s acts place is less =
     let now : Objects = inside acts s in
     read_at (next_depth s) now.frames now.graph place less
@@ -142,7 +142,7 @@ gives_the_start s acts is place less =
 holds_then : (s : Objects) (acts : List Act) (root : ClassId) (key : List Value) (place : ℕ) → IsScope acts s → place < length (inside acts s).graph.objects
     → stands_under root key (root_in (inside acts s).graph place) (standing_of (stood_again (begun_at s.graph) (inside acts s).frames.traces (inside acts s).graph place (object_in (inside acts s).graph place))) ≡ true
     → holds_at (gone_back acts s).graph.objects (gone_back acts s).graph.roots root key place ≡ true
-unfolding restored put_back_all
+unfolding restored_graph put_back_all
 holds_then s acts root key place is less held =
     let now : Objects = inside acts s in
     ap (stands_under root key (root_in now.graph place))
@@ -153,7 +153,7 @@ holds_then s acts root key place is less held =
 
 lesser_holds : (s : Objects) (acts : List Act) (place : ℕ) (key : List Value) → IsScope acts s → place < length (inside acts s).graph.objects → is_lost (all_wanted (begun_at s.graph) (inside acts s).frames.traces (inside acts s).graph) place (Some key) ≡ true
     → LesserHolds (gone_back acts s).graph place key
-unfolding restored put_back_all
+unfolding restored_graph put_back_all
 lesser_holds s acts place key is less lost =
     let now : Objects = inside acts s in
     let root : ClassId = root_in now.graph place in
@@ -184,11 +184,11 @@ goes_back s acts is place past less =
           ⊎_elim
           (λ (lost : is_lost (all_wanted (begun_at s.graph) traces now.graph) place (Some key) ≡ true).
           let left : stands (gone_back acts s).graph place ≡ left_under key =
-          wants ∙ ap (λ (b : Bool). let it : Standing = record { state = contested b Persistent; identity = Some key } in it) lost in
+          wants ∙ ap (λ (b : Bool). let it : Standing = record { state = contested_state b Persistent; identity = Some key } in it) lost in
           inr (left, lesser_holds s acts place key is less lost))
           (λ (kept : is_lost (all_wanted (begun_at s.graph) traces now.graph) place (Some key) ≡ false).
           let there : stands (gone_back acts s).graph place ≡ under key =
-          wants ∙ ap (λ (b : Bool). let it : Standing = record { state = contested b Persistent; identity = Some key } in it) kept in
+          wants ∙ ap (λ (b : Bool). let it : Standing = record { state = contested_state b Persistent; identity = Some key } in it) kept in
           inl there)
           (cases_Bool (is_lost (all_wanted (begun_at s.graph) traces now.graph) place (Some key)));
     }

@@ -8,7 +8,7 @@ use Rattle.base_core.specs.declared.refusal.LimitKind.TheVariants.{Savepoints}
 use Rattle.base_core.specs.declared.refusal.Refusal.TheVariants.{LimitReached}
 use Rattle.object_arena.specs.Graph.{Graph}
 use Rattle.savepoints.specs.declared.scope.Scope.{Scope}
-use Rattle.savepoints.specs.Scopes.{Framed, around, begun_at, no_scope, push, put_back_all, read_again, released, restored, scope_at, scope_limit, stood_again, touch}
+use Rattle.savepoints.specs.Scopes.{Framed, around, begun_at, no_scope, push, put_back_all, read_again, scope_released, restored_graph, scope_at, scope_limit, stood_again, touch}
 use Rattle.savepoints.proofs.BackLemmas.{each_long}
 use Rattle.scope_laws.specs.Inside.{Act, AreInside, Change, IsInside, IsLater, IsScope, Objects, Push, Release, Restore, ScopesOutsideStay, Touch, after_act, after_acts, after_push, inside, next_depth}
 use Rattle.scope_laws.proofs.Traces.{touch_long}
@@ -32,14 +32,14 @@ later_then one two three first second = record {
   roots = λ place less. second.roots place (omega (arith, less, first.count)) ∙ first.roots place less;
 }
 
-pub restored_long : (depth : ℕ) (frames : Framed) (graph : Graph) → length (restored depth frames graph).objects ≡ length graph.objects
-unfolding restored put_back_all
+pub restored_long : (depth : ℕ) (frames : Framed) (graph : Graph) → length (restored_graph depth frames graph).objects ≡ length graph.objects
+unfolding restored_graph put_back_all
 restored_long depth frames graph =
     each_long (read_again depth frames.traces) (put_back_all (scope_at depth frames.scopes) frames.traces graph)
     ∙ each_long (stood_again (scope_at depth frames.scopes) frames.traces graph) graph
 
-restored_later : (depth : ℕ) (frames : Framed) (graph : Graph) → IsLater graph (restored depth frames graph)
-unfolding restored put_back_all
+restored_later : (depth : ℕ) (frames : Framed) (graph : Graph) → IsLater graph (restored_graph depth frames graph)
+unfolding restored_graph put_back_all
 restored_later depth frames graph = record { count = omega (arith, restored_long depth frames graph); roots = λ place less. refl }
 
 push_stays : (room : Bool) (outer : List Scope) (graph : Graph) (frames : Framed) → EndsWith outer frames.scopes
@@ -48,7 +48,7 @@ push_stays true outer graph frames e = (begun_at graph ∷ e.0, ap (λ (scopes :
 push_stays false outer graph frames e = e
 
 act_stays : (depth : ℕ) (outer : List Scope) (act : Act) (s : Objects) → length outer ≡ depth → IsInside depth act s → EndsWith outer s.frames.scopes → EndsWith outer (after_act act s).frames.scopes
-unfolding touch push released around
+unfolding touch push scope_released around
 act_stays depth outer (Change graph) s size within e = e
 act_stays depth outer (Touch object) s size within e = (e.0, touch_long s.frames.scopes s.graph object s.frames ∙ e.1)
 act_stays depth outer Push s size within e = push_stays (nat_lt (length s.frames.scopes) scope_limit) outer s.graph s.frames e

@@ -11,7 +11,7 @@ use Rattle.base_core.specs.declared.refusal.Refusal.TheVariants.{LimitReached}
 use Rattle.object_arena.specs.Graph.{Graph, object_at, place_of}
 use Rattle.savepoints.specs.declared.scope.Scope.{Scope}
 use Rattle.savepoints.specs.declared.traces.Trace.{Trace}
-use Rattle.savepoints.specs.Scopes.{Framed, around, begun_at, is_touched, left_at, no_trace, outward, padded, push, released, scope_limit, touch, touch_in, touched_trace, trace_in, with_trace}
+use Rattle.savepoints.specs.Scopes.{Framed, around, begun_at, is_touched, left_at, no_trace, outward, padded_traces, push, scope_released, scope_limit, touch, touch_in, touched_trace, trace_in, with_trace}
 use Rattle.scope_laws.specs.Inside.{Change, LoadsGrow, Objects, OnlyTouchesTouch, Push, Release, Restore, Touch, TouchTouches, TouchesGrow, after_act, after_push}
 
 -- ---- one trace is put in
@@ -30,11 +30,11 @@ padded_same (trace ∷ traces) n (suc j) = padded_same traces n j
 
 put_here : (traces : List Trace) (place : ℕ) (trace : Trace) → trace_in (with_trace traces place trace) place ≡ trace
 put_here traces place trace =
-    get_or-set_same (padded traces place) place trace no_trace
+    get_or-set_same (padded_traces traces place) place trace no_trace
     (omega (arith, length-append traces (replicate (place + 1 - length traces) no_trace), length-replicate (place + 1 - length traces) no_trace))
 
 put_there : (traces : List Trace) (place other : ℕ) (trace : Trace) → other ≢ place → trace_in (with_trace traces place trace) other ≡ trace_in traces other
-put_there traces place other trace apart = get_or-set_other (padded traces place) place other trace no_trace apart ∙ padded_same traces (place + 1 - length traces) other
+put_there traces place other trace apart = get_or-set_other (padded_traces traces place) place other trace no_trace apart ∙ padded_same traces (place + 1 - length traces) other
 
 -- ---- all pass outwards
 
@@ -154,7 +154,7 @@ unfolding touch
 touch_touches s object depth during = touch_here s.frames.scopes s.graph object s.frames depth (omega (arith, during.0, during.1)) during.1
 
 pub touches_grow : TouchesGrow
-unfolding touch released around
+unfolding touch scope_released around
 touches_grow s (Change graph) depth place during is = is
 touches_grow s (Touch object) depth place during is =
     touch_grows s.frames.scopes s.graph object s.frames depth place (subst (λ (scopes : List Scope). depth ≤ length scopes) (touch_long s.frames.scopes s.graph object s.frames) during.1) is
@@ -163,7 +163,7 @@ touches_grow s Release depth place during is = left_touched (length s.frames.sco
 touches_grow s (Restore inner) depth place during is = left_touched (inner - 1) s.frames depth place during.0 during.1 ∙ is
 
 pub loads_grow : LoadsGrow
-unfolding touch released around
+unfolding touch scope_released around
 loads_grow s (Change graph) place during is = is
 loads_grow s (Touch object) place during is = touch_loads s.frames.scopes s.graph object s.frames place is
 loads_grow s Push place during is = ap (λ (traces : List Trace). (trace_in traces place).loaded) (pushed_traces s) ∙ is
@@ -171,7 +171,7 @@ loads_grow s Release place during is = left_loaded (length s.frames.scopes - 1) 
 loads_grow s (Restore inner) place during is = left_loaded (inner - 1) s.frames place (omega (arith, during.1, left_few (inner - 1) s.frames)) ∙ is
 
 pub only_touches : OnlyTouchesTouch
-unfolding touch released around
+unfolding touch scope_released around
 only_touches s (Change graph) place none = (λ depth during is. is, λ is. is)
 only_touches s (Touch object) place apart =
     let same = touched_there s.frames.scopes s.graph object s.frames place apart in

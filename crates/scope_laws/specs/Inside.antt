@@ -33,8 +33,8 @@ abbrev pub after_act : Act → Objects → Objects
 after_act (Change graph) s = record { graph = graph; frames = s.frames }
 after_act (Touch object) s = record { graph = s.graph; frames = scope.touch s.graph object s.frames }
 after_act Push s = record { graph = s.graph; frames = after_push (scope.push s.graph s.frames) s.frames }
-after_act Release s = record { graph = s.graph; frames = scope.released s.frames }
-after_act (Restore depth) s = record { graph = scope.restored depth s.frames s.graph; frames = scope.around depth s.frames }
+after_act Release s = record { graph = s.graph; frames = scope.scope_released s.frames }
+after_act (Restore depth) s = record { graph = scope.restored_graph depth s.frames s.graph; frames = scope.around depth s.frames }
 
 -- what is done in order
 abbrev pub after_acts : List Act → Objects → Objects

@@ -13,7 +13,7 @@ use Rattle.programs.proofs.Lifting.{chosen}
 use Rattle.savepoints.specs.declared.scope.Scope.{Scope}
 use Rattle.session_core.specs.SessionState.{SessionState, has_scope, in_transaction}
 use Rattle.session_core.specs.Flush.{Written, pending_in_order}
-use Rattle.session_core.specs.Steps.{session_begun, close, session_closed, commit, session_committed, enter, entering, session_failed, flush, session_flushed, give_up, leaving, write_pending}
+use Rattle.session_core.specs.Steps.{session_begun, close, session_closed, commit, session_committed, enter, refuse_or_begin, session_failed, flush, session_flushed, give_up, rollback_when_begun, write_pending}
 use Rattle.programs.proofs.Lifting.{then_ends}
 
 -- a transaction began
@@ -21,16 +21,16 @@ pub enters : {K : Type 0} (moment : K → Moment Store) {own now : SessionState}
     → Runs (moment_beside moment) (λ u. u) (on_store no_note call.begin) (own, old) (Ok tt) (own, new) → OnOk r (now ≡ session_begun own) → IfErr r (λ e. e ≡ Memory) → Runs (moment_beside moment) (λ u. u) enter (own, old) r (now, new)
 unfolding enter
 enters moment {own = own} {now = now} {old = old} {new = new} {r = r} well outside p is cause =
-    let F : Bool → Bool → Type 0 = λ failed open_. Runs (moment_beside moment) (λ u. u) (entering failed open_) (own, old) r (now, new) in
-    chosen moment (λ session. entering session.failed (in_transaction session))
+    let F : Bool → Bool → Type 0 = λ failed open_. Runs (moment_beside moment) (λ u. u) (refuse_or_begin failed open_) (own, old) r (now, new) in
+    chosen moment (λ session. refuse_or_begin session.failed (in_transaction session))
     (subst (λ (b : Bool). F b (in_transaction own)) (sym well) (subst (λ (scopes : List Scope). F false (has_scope scopes)) (sym outside) (then_ends moment (λ _. session_begun) p is cause)))
 
 -- a transaction was in progress
 pub stays_in : {K : Type 0} (moment : K → Moment Store) {own : SessionState} {keeper : K} → own.failed ≡ false → in_transaction own ≡ true → Runs (moment_beside moment) (λ u. u) enter (own, keeper) (Ok tt) (own, keeper)
 unfolding enter
 stays_in moment {own = own} {keeper = keeper} well inside =
-    let F : Bool → Bool → Type 0 = λ failed open_. Runs (moment_beside moment) (λ u. u) (entering failed open_) (own, keeper) (Ok tt) (own, keeper) in
-    chosen moment (λ session. entering session.failed (in_transaction session))
+    let F : Bool → Bool → Type 0 = λ failed open_. Runs (moment_beside moment) (λ u. u) (refuse_or_begin failed open_) (own, keeper) (Ok tt) (own, keeper) in
+    chosen moment (λ session. refuse_or_begin session.failed (in_transaction session))
     (subst (λ (b : Bool). F b (in_transaction own)) (sym well) (subst (λ (b : Bool). F false b) (sym inside) (done refl)))
 
 -- a failed flush was rolled back
@@ -61,6 +61,6 @@ commits moment p q c is cause =
 
 -- the session was session_closed
 pub closes : {K : Type 0} (moment : K → Moment Store) {own now : SessionState} {old new : K} {r : Result (Unit {0}) Refusal}
-    → Runs (moment_beside moment) (λ u. u) (leaving (in_transaction own)) (own, old) (Ok tt) (own, new) → OnOk r (now ≡ session_closed own) → IfErr r (λ e. e ≡ Memory) → Runs (moment_beside moment) (λ u. u) close (own, old) r (now, new)
+    → Runs (moment_beside moment) (λ u. u) (rollback_when_begun (in_transaction own)) (own, old) (Ok tt) (own, new) → OnOk r (now ≡ session_closed own) → IfErr r (λ e. e ≡ Memory) → Runs (moment_beside moment) (λ u. u) close (own, old) r (now, new)
 unfolding close
-closes moment p is cause = chosen moment (λ session. leaving (in_transaction session) >>= λ _. changes session_closed) (then_ends moment (λ _. session_closed) p is cause)
+closes moment p is cause = chosen moment (λ session. rollback_when_begun (in_transaction session) >>= λ _. changes session_closed) (then_ends moment (λ _. session_closed) p is cause)

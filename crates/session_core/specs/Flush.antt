@@ -15,8 +15,8 @@ use Rattle.object_arena.specs.declared.object.Object.{Object}
 use Rattle.object_arena.specs.declared.object.State.{State}
 use Rattle.object_arena.specs.declared.object.State.TheVariants.{Transient, Pending, Persistent, Deleted, Detached}
 use Rattle.schema_core.specs.Tables.{value_or_null}
-use Rattle.object_arena.specs.Graph.{Graph, IsObject, expired, kept_identity, object_at, root_at, row_of, with_object, with_state}
-use Rattle.object_arena.specs.Identity.{find_identity, registered}
+use Rattle.object_arena.specs.Graph.{Graph, IsObject, expired_object, kept_identity, object_at, root_at, row_of, with_object, with_state}
+use Rattle.object_arena.specs.Identity.{find_identity, with_identity}
 use Rattle.object_arena.specs.Fit.{key_fits}
 
 -- ---- what is written
@@ -86,7 +86,7 @@ written_object keys key object = record object { cells = map (λ placed. held_ce
 
 -- the graph in which the object is persistent under its key, no other object is, and its cells hold what was written
 abbrev pub under_key : Graph → Written → Graph
-under_key graph written = registered (holder_freed graph (find_identity graph (root_at graph written.0) written.1)) written.0 written.1
+under_key graph written = with_identity (holder_freed graph (find_identity graph (root_at graph written.0) written.1)) written.0 written.1
 
 abbrev pub with_written : Mapped → Graph → Written → Graph
 with_written mapped graph written =
@@ -101,7 +101,7 @@ abbrev pub object_unmarked : Object → Object
 object_unmarked object = record object { marked = false }
 
 abbrev pub object_committed_in : State → Object → Object
-object_committed_in Persistent object = expired object
+object_committed_in Persistent object = expired_object object
 object_committed_in Deleted object = record object { state = Detached }
 object_committed_in state object = object
 

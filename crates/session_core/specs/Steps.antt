@@ -15,7 +15,7 @@ use Rattle.object_arena.specs.declared.object.State.{State}
 use Rattle.object_arena.specs.declared.object.State.TheVariants.{Transient, Pending, Deleted, Detached}
 use Rattle.object_arena.specs.Graph.{object_at, with_marks, with_state}
 use Rattle.object_arena.specs.Every.{each_object}
-use Rattle.savepoints.specs.Scopes.{around, begun_at, restored}
+use Rattle.savepoints.specs.Scopes.{around, begun_at, restored_graph}
 use Rattle.session_core.specs.SessionState.{SessionState, frames_of, in_transaction}
 use Rattle.session_core.specs.Flush.{Written, graph_settled, insert_of, key_alone, object_committed, object_left, pending_in_order}
 use Rattle.session_core.specs.Making.{object_made}
@@ -42,7 +42,7 @@ session_flushed written session = record session { graph = fold (graph_settled s
 -- rollback is awaited
 abbrev pub session_failed : SessionState → SessionState
 session_failed session = record session {
-  graph = restored (length session.scopes) (frames_of session) session.graph;
+  graph = restored_graph (length session.scopes) (frames_of session) session.graph;
   scopes = (around (length session.scopes) (frames_of session)).scopes;
   traces = (around (length session.scopes) (frames_of session)).traces;
   failed = true;
@@ -58,14 +58,14 @@ session_closed session = record session { graph = each_object object_left sessio
 
 -- ---- the transaction
 
-abbrev pub entering : Bool → Bool → World → Run World (Unit {0})
-entering true begun_before = refuse PendingRollbackError
-entering false true = give tt
-entering false false = on_store no_note call.begin >>= λ _. changes session_begun
+abbrev pub refuse_or_begin : Bool → Bool → World → Run World (Unit {0})
+refuse_or_begin true begun_before = refuse PendingRollbackError
+refuse_or_begin false true = give tt
+refuse_or_begin false false = on_store no_note call.begin >>= λ _. changes session_begun
 
 -- refused while a failed flush waits for its rollback; else a transaction begins where none is in progress
 unfoldable pub enter : World → Run World (Unit {0})
-enter = by_own (λ session. entering session.failed (in_transaction session))
+enter = by_own (λ session. refuse_or_begin session.failed (in_transaction session))
 
 -- ---- the flush
 
@@ -118,10 +118,10 @@ add object = enter >>= λ _. on_own (take_in object)
 unfoldable pub commit : World → Run World (Unit {0})
 commit = enter >>= λ _. (flush >>= λ _. (on_store no_note call.commit >>= λ _. changes session_committed))
 
-abbrev pub leaving : Bool → World → Run World (Unit {0})
-leaving true = on_store no_note call.rollback
-leaving false = give tt
+abbrev pub rollback_when_begun : Bool → World → Run World (Unit {0})
+rollback_when_begun true = on_store no_note call.rollback
+rollback_when_begun false = give tt
 
 -- the transaction ends without its rows, and all objects leave the session
 unfoldable pub close : World → Run World (Unit {0})
-close = by_own (λ session. leaving (in_transaction session) >>= λ _. changes session_closed)
+close = by_own (λ session. rollback_when_begun (in_transaction session) >>= λ _. changes session_closed)

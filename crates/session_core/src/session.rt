@@ -246,7 +246,7 @@ impl Session {
     fn leave<K: Keeper>(&self, keeper: &mut K) -> Result<(), Refusal>
         requires in_step { IsInStep self.now (K.moment keeper.old) }
         ensures step { Runs (moment_beside K.moment)
-            (λ u. u) (steps.leaving (in_transaction self.now)) (self.now, keeper.old) result
+            (λ u. u) (steps.rollback_when_begun (in_transaction self.now)) (self.now, keeper.old) result
             (self.now, keeper.new) }
         ensures ended { (K.moment keeper.new).depth ≡ 0 }
         ensures attached { (K.moment keeper.new).attached ≡ true }

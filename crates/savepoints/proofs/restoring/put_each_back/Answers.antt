@@ -2,7 +2,7 @@ use Rattle.std.proofs.Common.{◌≡◌, ◌≢◌, ℕ, ◌<◌, ◌≤◌, ◌
 use Rattle.base_core.specs.declared.ids.ObjId.{ObjId}
 use Rattle.object_arena.specs.Graph.{object_at}
 use Rattle.object_arena.proofs.ClassLemmas.{classes_long}
-use Rattle.savepoints.specs.Scopes.{wanted}
+use Rattle.savepoints.specs.Scopes.{wanted_standing}
 use Rattle.savepoints.proofs.BackLemmas.{back_all, back_more, wanted_same}
 use Rattle.savepoints.proofs.KeyLemmas.{key_then}
 use Rattle.savepoints.proofs.restoring.put_each_back.Goals as goal
@@ -14,9 +14,9 @@ loop-number-preserved c =
     let place : number + 1 - 1 ≡ number = omega arith in
     let less : number < length c.args.arena.now.objects = subst (λ (n : ℕ). number < n) c.count-number-end.ensures.count c.loop-number-test.true in
     let inv = c.loop-number.invariant in
-    let is : wanted c.loop-number.scope c.args.traces.now (number + 1 - 1) (object_at c.loop-number.arena object) ≡ wanted c.args.scope c.args.traces.now number (object_at c.loop-number.arena object) =
+    let is : wanted_standing c.loop-number.scope c.args.traces.now (number + 1 - 1) (object_at c.loop-number.arena object) ≡ wanted_standing c.args.scope c.args.traces.now number (object_at c.loop-number.arena object) =
     wanted_same c.args.scope c.loop-number.scope c.args.traces.now number (number + 1 - 1) (object_at c.loop-number.arena object) place (inv.2 number (omega arith)) inv.3 in (
-      back_more c.args.scope c.args.traces.now c.args.arena.now c.loop-number.arena c.put_one_back.new.arena number (number + 1) (wanted c.loop-number.scope c.args.traces.now (number + 1 - 1) (object_at c.loop-number.arena object))
+      back_more c.args.scope c.args.traces.now c.args.arena.now c.loop-number.arena c.put_one_back.new.arena number (number + 1) (wanted_standing c.loop-number.scope c.args.traces.now (number + 1 - 1) (object_at c.loop-number.arena object))
           less c.count-number-end.ensures.graph.rooted c.requires.free inv.0 refl is c.put_one_back.ensures.back,
       classes_long c.loop-number.arena c.put_one_back.new.arena c.put_one_back.ensures.keeps.classes ∙ inv.1,
       λ other past.
