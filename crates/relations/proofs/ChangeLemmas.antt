@@ -27,7 +27,7 @@ use Rattle.object_arena.proofs.ClassLemmas.{classes_long}
 use Rattle.object_arena.proofs.FitLemmas.{fit_links, fit_root}
 use Rattle.relations.specs.Fits.{ChangeFits, IsEndOf, IsManyAt, IsOneAt, PutFits}
 use Rattle.relations.specs.Keys.{IsEnd}
-use Rattle.relations.specs.Mirror.{end_fault, has_orphans, is_gone, is_of, join_change, joined_to, joining, leading, leads_elsewhere, leaving, left_behind, link_at, loaded_to, loading, orphan_by, put_of, refused_or, remove_change, set_change}
+use Rattle.relations.specs.Mirror.{end_fault, has_orphans, is_gone, is_of, join_change, joined_to, put_with_member, put_to_end, leads_elsewhere, put_without_member, left_behind, link_at, loaded_to, put_as_loaded, orphan_by, put_of, refused_or, remove_change, set_change}
 use Rattle.relations.specs.Parents.{IsMade, is_known_as}
 use Rattle.relations.specs.Places.{IsPutIn}
 use Rattle.relations.specs.Sides.{joined_by, left_by}
@@ -96,7 +96,7 @@ link_was mapped graph object place relation link fit within at found =
     ∙ link_found mapped graph.roots (object_at graph object) place.0 link (fit_links mapped graph object fit within) found
 
 leaving_fits : (mapped : Mapped) (graph : Graph) (owner : ObjId) (place : RelNo) (member : ObjId) (relation : Relation) → IsFit mapped graph → IsObject graph owner → IsManyAt graph mapped owner place relation → is_of_root graph.roots (root_of mapped relation.target) member ≡ true
-    → PutFits mapped graph (leaving graph owner place member)
+    → PutFits mapped graph (put_without_member graph owner place member)
 leaving_fits mapped graph owner place member relation fit within is of = by_link (link_at graph owner place) refl
   where
     by_link : (found : Option Link) → link_at graph owner place ≡ found → PutFits mapped graph (option_map (λ link. put_of owner place (left_by link member)) found)
@@ -106,7 +106,7 @@ leaving_fits mapped graph owner place member relation fit within is of = by_link
         (left_fits graph.roots (root_of mapped relation.target) relation.many link member is.many of (link_was mapped graph owner place relation link fit within is.at at))
 
 joining_fits : (mapped : Mapped) (graph : Graph) (owner : ObjId) (place : RelNo) (member : ObjId) (relation : Relation) → IsFit mapped graph → IsObject graph owner → IsManyAt graph mapped owner place relation → is_of_root graph.roots (root_of mapped relation.target) member ≡ true
-    → PutFits mapped graph (joining graph owner place member)
+    → PutFits mapped graph (put_with_member graph owner place member)
 joining_fits mapped graph owner place member relation fit within is of = by_link (link_at graph owner place) refl
   where
     by_link : (found : Option Link) → link_at graph owner place ≡ found → PutFits mapped graph (option_map (λ link. put_of owner place (joined_by link member)) found)
@@ -118,7 +118,7 @@ joining_fits mapped graph owner place member relation fit within is of = by_link
 one_fits : (roots : List ClassId) (root : ClassId) (many : Bool) (end : Option ObjId) (changed : Bool) → many ≡ false → end_fits roots root end ≡ true → held_fit roots root many (One end changed) ≡ true
 one_fits roots root many end changed one h = and_from (not many) (end_fits roots root end) (ap not one) h
 
-leading_fits : (mapped : Mapped) (graph : Graph) (child : ObjId) (place : RelNo) (end : Option ObjId) (relation : Relation) → IsOneAt graph mapped child place relation → end_fits graph.roots (root_of mapped relation.target) end ≡ true → PutFits mapped graph (leading graph child place end)
+leading_fits : (mapped : Mapped) (graph : Graph) (child : ObjId) (place : RelNo) (end : Option ObjId) (relation : Relation) → IsOneAt graph mapped child place relation → end_fits graph.roots (root_of mapped relation.target) end ≡ true → PutFits mapped graph (put_to_end graph child place end)
 leading_fits mapped graph child place end relation is h = by_link (link_at graph child place)
   where
     by_link : (found : Option Link) → PutFits mapped graph (option_map (λ link. put_of child place (One end true)) found)
@@ -132,7 +132,7 @@ loaded_fits roots root many end (One same changed) one h was = was
 loaded_fits roots root many end (Many members base) one h was = one_fits roots root many end false one h
 
 loading_fits : (mapped : Mapped) (graph : Graph) (child : ObjId) (place : RelNo) (end : Option ObjId) (relation : Relation) → IsFit mapped graph → IsObject graph child → IsOneAt graph mapped child place relation → end_fits graph.roots (root_of mapped relation.target) end ≡ true
-    → PutFits mapped graph (loading graph child place end)
+    → PutFits mapped graph (put_as_loaded graph child place end)
 loading_fits mapped graph child place end relation fit within is h = by_link (link_at graph child place) refl
   where
     by_link : (found : Option Link) → link_at graph child place ≡ found → PutFits mapped graph (option_map (λ link. put_of child place (loaded_to end link)) found)
@@ -172,7 +172,7 @@ left_behind_fits mapped graph child place relation NotKnown pairs fit within is 
 left_behind_fits mapped graph child place relation (Known None) pairs fit within is made = tt
 left_behind_fits mapped graph child place relation (Known (Some old)) pairs fit within is made = by_class (is_of graph mapped relation.target old) refl
   where
-    by_class : (under : Bool) → is_of graph mapped relation.target old ≡ under → PutFits mapped graph (if under then leaving graph old relation.partner child else None)
+    by_class : (under : Bool) → is_of graph mapped relation.target old ≡ under → PutFits mapped graph (if under then put_without_member graph old relation.partner child else None)
     by_class false is_under = tt
     by_class true is_under =
         let found = partner_of_one mapped (object_at graph child).class (object_at graph old).class place.0 relation pairs is.at is.one is_under in
@@ -194,10 +194,10 @@ set_fits mapped graph child place relation old parent pairs fit within is made e
     ends : end_fits graph.roots (root_of mapped relation.target) parent ≡ true
     ends = end_under mapped graph relation.target parent pairs fit end of
 
-    by_known : (known : Bool) → ChangeFits mapped graph (if known then record { left = None; joined = None; own = loading graph child place parent; orphan = None } else record {
+    by_known : (known : Bool) → ChangeFits mapped graph (if known then record { left = None; joined = None; own = put_as_loaded graph child place parent; orphan = None } else record {
       left = left_behind graph mapped child relation old;
       joined = joined_to graph child relation parent;
-      own = leading graph child place parent;
+      own = put_to_end graph child place parent;
       orphan = orphan_by (has_orphans (partner_of mapped relation)) parent;
     })
     by_known true = record { left = tt; joined = tt; own = loading_fits mapped graph child place parent relation fit within is ends }
@@ -280,10 +280,10 @@ join_fits mapped graph owner place relation member pairs fit within there is und
     }
 
 remove_one_fits : (mapped : Mapped) (graph : Graph) (owner : ObjId) (place : RelNo) (relation : Relation) (member : ObjId) → HasPairs mapped → IsFit mapped graph → IsObject graph owner → IsObject graph member → IsManyAt graph mapped owner place relation → is_of graph mapped relation.target member ≡ true → is_some relation.far ≡ false
-    → PutFits mapped graph (leading graph member relation.partner None)
+    → PutFits mapped graph (put_to_end graph member relation.partner None)
 remove_one_fits mapped graph owner place relation member pairs fit within there is under far = by_partner (partner_of mapped relation) refl (pairs.back (object_at graph owner).class place.0 relation is.at)
   where
-    by_partner : (found : Option Relation) → partner_of mapped relation ≡ found → IsBack mapped (object_at graph owner).class relation found → PutFits mapped graph (leading graph member relation.partner None)
+    by_partner : (found : Option Relation) → partner_of mapped relation ≡ found → IsBack mapped (object_at graph owner).class relation found → PutFits mapped graph (put_to_end graph member relation.partner None)
     by_partner None at back = absurd back
     by_partner (Some partner) at back =
         let known = partner_of_many mapped (object_at graph owner).class (object_at graph member).class place.0 relation partner pairs is.at is.many under at in
@@ -293,24 +293,24 @@ pub remove_fits : (mapped : Mapped) (graph : Graph) (owner : ObjId) (place : Rel
     → ChangeFits mapped graph (remove_change graph owner place relation member)
 remove_fits mapped graph owner place relation member pairs fit within there is under = by_far (is_some relation.far) refl
   where
-    left : PutFits mapped graph (leaving graph owner place member)
+    left : PutFits mapped graph (put_without_member graph owner place member)
     left = leaving_fits mapped graph owner place member relation fit within is (under_root mapped graph relation.target member pairs fit there under)
 
-    elsewhere_or : (elsewhere : Bool) → is_some relation.far ≡ false → ChangeFits mapped graph (if elsewhere then record { left = leaving graph owner place member; joined = None; own = None; orphan = None } else record {
-      left = leaving graph owner place member;
+    elsewhere_or : (elsewhere : Bool) → is_some relation.far ≡ false → ChangeFits mapped graph (if elsewhere then record { left = put_without_member graph owner place member; joined = None; own = None; orphan = None } else record {
+      left = put_without_member graph owner place member;
       joined = None;
-      own = leading graph member relation.partner None;
+      own = put_to_end graph member relation.partner None;
       orphan = orphan_by relation.cascade.delete_orphan None;
     })
     elsewhere_or true far = record { left = left; joined = tt; own = tt }
     elsewhere_or false far = record { left = left; joined = tt; own = remove_one_fits mapped graph owner place relation member pairs fit within there is under far }
 
-    by_far : (far : Bool) → is_some relation.far ≡ far → ChangeFits mapped graph (if far then record { left = leaving graph owner place member; joined = None; own = leaving graph member relation.partner owner; orphan = None }
-        else if leads_elsewhere (link_at graph member relation.partner) owner then record { left = leaving graph owner place member; joined = None; own = None; orphan = None }
+    by_far : (far : Bool) → is_some relation.far ≡ far → ChangeFits mapped graph (if far then record { left = put_without_member graph owner place member; joined = None; own = put_without_member graph member relation.partner owner; orphan = None }
+        else if leads_elsewhere (link_at graph member relation.partner) owner then record { left = put_without_member graph owner place member; joined = None; own = None; orphan = None }
         else record {
-          left = leaving graph owner place member;
+          left = put_without_member graph owner place member;
           joined = None;
-          own = leading graph member relation.partner None;
+          own = put_to_end graph member relation.partner None;
           orphan = orphan_by relation.cascade.delete_orphan None;
         })
     by_far true far =

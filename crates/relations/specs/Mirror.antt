@@ -34,16 +34,16 @@ abbrev pub put_of : ObjId → RelNo → Link → LinkPut
 put_of object place link = record { object = object; relation = place; link = link }
 
 -- the collection of an owner without a member that leaves it
-abbrev pub leaving : Graph → ObjId → RelNo → ObjId → Option LinkPut
-leaving graph owner place member = option_map (λ link. put_of owner place (left_by link member)) (link_at graph owner place)
+abbrev pub put_without_member : Graph → ObjId → RelNo → ObjId → Option LinkPut
+put_without_member graph owner place member = option_map (λ link. put_of owner place (left_by link member)) (link_at graph owner place)
 
 -- the collection of an owner with a member that joins it
-abbrev pub joining : Graph → ObjId → RelNo → ObjId → Option LinkPut
-joining graph owner place member = option_map (λ link. put_of owner place (joined_by link member)) (link_at graph owner place)
+abbrev pub put_with_member : Graph → ObjId → RelNo → ObjId → Option LinkPut
+put_with_member graph owner place member = option_map (λ link. put_of owner place (joined_by link member)) (link_at graph owner place)
 
 -- a link that leads to an end, and has been changed
-abbrev pub leading : Graph → ObjId → RelNo → Option ObjId → Option LinkPut
-leading graph child place end = option_map (λ link. put_of child place (One end true)) (link_at graph child place)
+abbrev pub put_to_end : Graph → ObjId → RelNo → Option ObjId → Option LinkPut
+put_to_end graph child place end = option_map (λ link. put_of child place (One end true)) (link_at graph child place)
 
 -- a link that led to the end already is loaded
 abbrev pub loaded_to : Option ObjId → Link → Link
@@ -52,8 +52,8 @@ loaded_to end Unset = One end false
 loaded_to end (Unloaded added removed) = One end false
 loaded_to end (Many members base) = One end false
 
-abbrev pub loading : Graph → ObjId → RelNo → Option ObjId → Option LinkPut
-loading graph child place end = option_map (λ link. put_of child place (loaded_to end link)) (link_at graph child place)
+abbrev pub put_as_loaded : Graph → ObjId → RelNo → Option ObjId → Option LinkPut
+put_as_loaded graph child place end = option_map (λ link. put_of child place (loaded_to end link)) (link_at graph child place)
 
 abbrev pub with_put : Graph → Option LinkPut → Graph
 with_put graph None = graph
@@ -65,8 +65,8 @@ with_orphan graph object None = graph
 with_orphan graph object (Some orphan) = with_marks graph object (object_at graph object).added (object_at graph object).marked orphan
 
 -- the graph with these links, and all others as they were
-unfoldable pub changed : Graph → ObjId → Change → Graph
-changed graph child change = with_put (with_put (with_put (with_orphan graph child change.orphan) change.left) change.joined) change.own
+unfoldable pub with_change : Graph → ObjId → Change → Graph
+with_change graph child change = with_put (with_put (with_put (with_orphan graph child change.orphan) change.left) change.joined) change.own
 
 -- ---- who takes part
 
@@ -102,14 +102,14 @@ refused_or None otherwise = otherwise
 
 -- the collection that the child leaves: that of the old parent, where this is known and is of the target
 abbrev pub left_behind : Graph → Mapped → ObjId → Relation → OldParent → Option LinkPut
-left_behind graph mapped child relation (Known (Some old)) = if is_of graph mapped relation.target old then leaving graph old relation.partner child else None
+left_behind graph mapped child relation (Known (Some old)) = if is_of graph mapped relation.target old then put_without_member graph old relation.partner child else None
 left_behind graph mapped child relation (Known None) = None
 left_behind graph mapped child relation NotKnown = None
 
 -- the collection that it joins: that of the new parent
 abbrev pub joined_to : Graph → ObjId → Relation → Option ObjId → Option LinkPut
 joined_to graph child relation None = None
-joined_to graph child relation (Some parent) = joining graph parent relation.partner child
+joined_to graph child relation (Some parent) = put_with_member graph parent relation.partner child
 
 abbrev pub has_orphans : Option Relation → Bool
 has_orphans None = false
@@ -123,18 +123,18 @@ orphan_by true parent = Some (is_none parent)
 -- a link that leads to the parent already is loaded; else the child leaves its old parent and joins the new one
 abbrev pub set_change : Graph → Mapped → ObjId → RelNo → Relation → OldParent → Option ObjId → Change
 set_change graph mapped child place relation old parent =
-    if is_known_as old parent then record { left = None; joined = None; own = loading graph child place parent; orphan = None }
+    if is_known_as old parent then record { left = None; joined = None; own = put_as_loaded graph child place parent; orphan = None }
     else record {
       left = left_behind graph mapped child relation old;
       joined = joined_to graph child relation parent;
-      own = leading graph child place parent;
+      own = put_to_end graph child place parent;
       orphan = orphan_by (has_orphans (partner_of mapped relation)) parent;
     }
 
 abbrev pub set_from : Graph → Mapped → ObjId → RelNo → Relation → Option ObjId → OldParent → Result (Unit {0} × Graph) Refusal
 set_from graph mapped child place relation parent old =
     if changes_key graph mapped child relation old parent then Err (InvalidRequestError KeyChange)
-    else Ok (tt, changed graph child (set_change graph mapped child place relation old parent))
+    else Ok (tt, with_change graph child (set_change graph mapped child place relation old parent))
 
 -- a link is set to a parent or to none, where both sides can take part
 unfoldable pub set_to : Graph → Mapped → ObjId → RelNo → Relation → Option ObjId → Result (Unit {0} × Graph) Refusal
@@ -164,8 +164,8 @@ has_member graph owner place member = is_among (members_in (link_at graph owner 
 abbrev pub join_change : Graph → ObjId → RelNo → Relation → ObjId → Change
 join_change graph owner place relation member = record {
   left = None;
-  joined = joining graph owner place member;
-  own = joining graph member relation.partner owner;
+  joined = put_with_member graph owner place member;
+  own = put_with_member graph member relation.partner owner;
   orphan = None;
 }
 
@@ -176,7 +176,7 @@ append_by graph mapped owner partner member (Some link) = set_to graph mapped me
 -- of one-to-many, the member's link is set to the owner
 abbrev pub append_to : Graph → Mapped → ObjId → RelNo → Relation → ObjId → Result (Unit {0} × Graph) Refusal
 append_to graph mapped owner place relation member =
-    if is_some relation.far then Ok (tt, changed graph owner (join_change graph owner place relation member))
+    if is_some relation.far then Ok (tt, with_change graph owner (join_change graph owner place relation member))
     else append_by graph mapped owner relation.partner member (partner_of mapped relation)
 
 -- a member that is there already stays where it is
@@ -198,19 +198,19 @@ leads_elsewhere link owner = false
 -- of one-to-many, the member's link leads to none, unless it leads to another object; of many-to-many, each leaves the collection of the other
 abbrev pub remove_change : Graph → ObjId → RelNo → Relation → ObjId → Change
 remove_change graph owner place relation member =
-    if is_some relation.far then record { left = leaving graph owner place member; joined = None; own = leaving graph member relation.partner owner; orphan = None }
-    else if leads_elsewhere (link_at graph member relation.partner) owner then record { left = leaving graph owner place member; joined = None; own = None; orphan = None }
+    if is_some relation.far then record { left = put_without_member graph owner place member; joined = None; own = put_without_member graph member relation.partner owner; orphan = None }
+    else if leads_elsewhere (link_at graph member relation.partner) owner then record { left = put_without_member graph owner place member; joined = None; own = None; orphan = None }
     else record {
-      left = leaving graph owner place member;
+      left = put_without_member graph owner place member;
       joined = None;
-      own = leading graph member relation.partner None;
+      own = put_to_end graph member relation.partner None;
       orphan = orphan_by relation.cascade.delete_orphan None;
     }
 
 -- a member that is there is taken out
 abbrev pub remove_member : Graph → ObjId → RelNo → Relation → ObjId → Result (Unit {0} × Graph) Refusal
 remove_member graph owner place relation member =
-    if has_member graph owner place member then Ok (tt, changed graph member (remove_change graph owner place relation member))
+    if has_member graph owner place member then Ok (tt, with_change graph member (remove_change graph owner place relation member))
     else Err (InvalidRequestError NotAMember)
 
 -- the answer to a removal from a collection

@@ -45,7 +45,7 @@ pub(crate) fn leaving(
     member: ObjId,
 ) -> Result<Option<LinkPut>, Refusal>
     requires { IsObject arena.now owner }
-    ensures put { IfOk result (λ put. put ≡ spec.leaving arena.now owner place member) }
+    ensures put { IfOk result (λ put. put ≡ spec.put_without_member arena.now owner place member) }
     ensures placed { IfOk result (IsPutIn arena.now) }
     ensures cause { IfErr result (λ e. e ≡ Memory) }
 {
@@ -67,7 +67,7 @@ pub(crate) fn joining(
     member: ObjId,
 ) -> Result<Option<LinkPut>, Refusal>
     requires { IsObject arena.now owner }
-    ensures put { IfOk result (λ put. put ≡ spec.joining arena.now owner place member) }
+    ensures put { IfOk result (λ put. put ≡ spec.put_with_member arena.now owner place member) }
     ensures placed { IfOk result (IsPutIn arena.now) }
     ensures cause { IfErr result (λ e. e ≡ Memory) }
 {
@@ -88,7 +88,7 @@ pub(crate) fn leading(
     end: Option<ObjId>,
 ) -> Option<LinkPut>
     requires { IsObject arena.now child }
-    ensures put { result ≡ spec.leading arena.now child place end }
+    ensures put { result ≡ spec.put_to_end arena.now child place end }
     ensures placed { IsPutIn arena.now result }
 {
     match arena.object(child).links.get(place.0 as usize) {
@@ -105,7 +105,7 @@ pub(crate) fn loading(
     end: Option<ObjId>,
 ) -> Option<LinkPut>
     requires { IsObject arena.now child }
-    ensures put { result ≡ spec.loading arena.now child place end }
+    ensures put { result ≡ spec.put_as_loaded arena.now child place end }
     ensures placed { IsPutIn arena.now result }
 {
     match arena.object(child).links.get(place.0 as usize) {
@@ -144,7 +144,7 @@ fn put_of(object: ObjId, relation: RelNo, link: Link) -> Option<LinkPut>
 pub(crate) fn apply(arena: &mut Arena, child: ObjId, change: Change)
     requires child { IsObject arena.old child }
     requires placed { IsPlaced arena.old change }
-    ensures changed { arena.new ≡ spec.changed arena.old child change }
+    ensures changed { arena.new ≡ spec.with_change arena.old child change }
     ensures keeps { (mapped : Mapped) → ChangeFits mapped arena.old change
         → IsFit mapped arena.old → IsFit mapped arena.new }
     ensures classes { classes_of arena.new ≡ classes_of arena.old }
