@@ -16,8 +16,8 @@ use Rattle.class_mapping.specs.Mapped.{Mapped}
 use Rattle.object_arena.specs.Graph.{Graph, IsObject}
 use Rattle.object_arena.specs.Fit.{IsFit}
 use Rattle.cascades.specs.declared.closures.Flag.{Flag}
-use Rattle.cascades.specs.Closures.{IsClosed, IsClosure, is_among, linked}
-use Rattle.cascades.specs.Walks.{Comes, has, numbered}
+use Rattle.cascades.specs.Closures.{IsClosed, IsClosure, is_among, linked_objects}
+use Rattle.cascades.specs.Walks.{Comes, has, id_of_number}
 use Rattle.cascades.proofs.EndLemmas.{is_is_made, is_made, linked_made, made_is}
 use Rattle.cascades.proofs.WalkLemmas.{among_left, among_one, among_split, clash, or_cases}
 
@@ -28,7 +28,7 @@ at_each inside [] object all among = absurd cc
 at_each inside (other ∷ objects) object all among =
     let parts = and_parts (inside other) (list_all inside objects) all in
     ⊎_elim
-    (λ (same : (object.0 == other.0) ≡ true). subst (λ (n : ℕ). inside (numbered n) ≡ true) (sym (eqb-true object.0 other.0 same)) parts.0)
+    (λ (same : (object.0 == other.0) ≡ true). subst (λ (n : ℕ). inside (id_of_number n) ≡ true) (sym (eqb-true object.0 other.0 same)) parts.0)
     (λ (later : is_among objects object ≡ true). at_each inside objects object parts.1 later)
     (or_cases (object.0 == other.0) (is_among objects object) among)
 
@@ -52,8 +52,8 @@ from_each inside (other ∷ objects) each =
 pub record IsWalk (flag : Flag) (mapped : Mapped) (graph : Graph) (object : ObjId) (skip : ObjId → Bool) (reached : List ℕ) (waiting : List ObjId) : Type 0 where
   pub began : has reached object.0 ≡ true
   pub held : (x : ObjId) → is_among waiting x ≡ true → has reached x.0 ≡ true
-  pub done : (x y : ObjId) → has reached x.0 ≡ true → is_among waiting x ≡ false → skip x ≡ false → is_among (linked flag mapped graph x) y ≡ true → has reached y.0 ≡ true
-  pub least : (inside : ObjId → Bool) → inside object ≡ true → IsClosed flag mapped graph inside → (number : ℕ) → has reached number ≡ true → inside (numbered number) ≡ true
+  pub done : (x y : ObjId) → has reached x.0 ≡ true → is_among waiting x ≡ false → skip x ≡ false → is_among (linked_objects flag mapped graph x) y ≡ true → has reached y.0 ≡ true
+  pub least : (inside : ObjId → Bool) → inside object ≡ true → IsClosed flag mapped graph inside → (number : ℕ) → has reached number ≡ true → inside (id_of_number number) ≡ true
 
 abbrev pub none : ObjId → Bool
 none x = false
@@ -67,7 +67,7 @@ walk_began flag mapped graph object keys waiting comes = record {
   began = comes.all object (ap (λ (b : Bool). b || false) (eq-eqb object.0 object.0 refl));
   held = λ x among. comes.held x among refl;
   done = λ x y there idle skip linked_to. clash (is_among waiting x) (comes.waits x.0 there refl) idle;
-  least = λ inside begins closed number there. subst (λ (n : ℕ). inside (numbered n) ≡ true) (sym (among_one (numbered number) object (comes.only number there refl))) begins;
+  least = λ inside begins closed number there. subst (λ (n : ℕ). inside (id_of_number n) ≡ true) (sym (among_one (id_of_number number) object (comes.only number there refl))) begins;
 }
 
 -- an object is taken out to be followed
@@ -104,7 +104,7 @@ taken_reached flag mapped graph object keys waiting rest next is walk =
         more false b h = h
 
 -- its links were followed
-pub walk_more : (flag : Flag) (mapped : Mapped) (graph : Graph) (object : ObjId) (old new : List ℕ) (rest waiting : List ObjId) (next : ObjId) → has old next.0 ≡ true → IsWalk flag mapped graph object (is_it next) old rest → Comes old new rest waiting (linked flag mapped graph next) → IsWalk flag mapped graph object none new waiting
+pub walk_more : (flag : Flag) (mapped : Mapped) (graph : Graph) (object : ObjId) (old new : List ℕ) (rest waiting : List ObjId) (next : ObjId) → has old next.0 ≡ true → IsWalk flag mapped graph object (is_it next) old rest → Comes old new rest waiting (linked_objects flag mapped graph next) → IsWalk flag mapped graph object none new waiting
 walk_more flag mapped graph object old new rest waiting next reached walk comes = record {
   began = comes.kept object.0 walk.began;
   held = λ x among.
@@ -115,7 +115,7 @@ walk_more flag mapped graph object old new rest waiting next reached walk comes 
   done = λ x y there idle skip linked_to.
       ⊎_elim
       (λ (same : (x.0 == next.0) ≡ true).
-      comes.all y (subst (λ (n : ℕ). is_among (linked flag mapped graph (numbered n)) y ≡ true) (eqb-true x.0 next.0 same) linked_to))
+      comes.all y (subst (λ (n : ℕ). is_among (linked_objects flag mapped graph (id_of_number n)) y ≡ true) (eqb-true x.0 next.0 same) linked_to))
       (λ (other : (x.0 == next.0) ≡ false).
       ⊎_elim
       (λ (before : has old x.0 ≡ true). comes.kept y.0 (walk.done x y before (still_out x idle) other linked_to))
@@ -125,7 +125,7 @@ walk_more flag mapped graph object old new rest waiting next reached walk comes 
   least = λ inside begins closed number there.
       ⊎_elim
       (λ (before : has old number ≡ true). walk.least inside begins closed number before)
-      (λ (now : has old number ≡ false). at_each inside (linked flag mapped graph next) (numbered number) (closed next (walk.least inside begins closed next.0 reached)) (comes.only number there now))
+      (λ (now : has old number ≡ false). at_each inside (linked_objects flag mapped graph next) (id_of_number number) (closed next (walk.least inside begins closed next.0 reached)) (comes.only number there now))
       (cases_Bool (has old number));
 }
   where
@@ -141,9 +141,9 @@ walk_more flag mapped graph object old new rest waiting next reached walk comes 
 made_closed : (flag : Flag) (mapped : Mapped) (graph : Graph) → IsFit mapped graph → IsClosed flag mapped graph (is_made graph)
 made_closed flag mapped graph fit x made = linked_made flag mapped graph x fit (made_is graph x made)
 
-pub reached_made : (flag : Flag) (mapped : Mapped) (graph : Graph) (object : ObjId) (skip : ObjId → Bool) (keys : List ℕ) (waiting : List ObjId) (number : ℕ) → IsFit mapped graph → IsObject graph object → IsWalk flag mapped graph object skip keys waiting → has keys number ≡ true → IsObject graph (numbered number)
+pub reached_made : (flag : Flag) (mapped : Mapped) (graph : Graph) (object : ObjId) (skip : ObjId → Bool) (keys : List ℕ) (waiting : List ObjId) (number : ℕ) → IsFit mapped graph → IsObject graph object → IsWalk flag mapped graph object skip keys waiting → has keys number ≡ true → IsObject graph (id_of_number number)
 reached_made flag mapped graph object skip keys waiting number fit within walk there =
-    made_is graph (numbered number) (walk.least (is_made graph) (is_is_made graph object within) (made_closed flag mapped graph fit) number there)
+    made_is graph (id_of_number number) (walk.least (is_made graph) (is_is_made graph object within) (made_closed flag mapped graph fit) number there)
 
 -- each number of a list is in it
 own_key : (key : ℕ) (keys : List ℕ) → has (key ∷ keys) key ≡ true
@@ -164,11 +164,11 @@ reached_few flag mapped graph object skip keys waiting fit within ascending walk
 
 -- ---- numbers in order are objects in order
 
-below_all : (key : ℕ) (keys : List ℕ) → AllByRecursion (λ y. nat_cmp key y ≡ Less) keys → IsBelow (numbered key) (map numbered keys)
+below_all : (key : ℕ) (keys : List ℕ) → AllByRecursion (λ y. nat_cmp key y ≡ Less) keys → IsBelow (id_of_number key) (map id_of_number keys)
 below_all key [] all = tt
 below_all key (next ∷ keys) all = let less : nat_cmp key next ≡ Less = all.0 in (grind (arith, nat_tests), below_all key keys all.1)
 
-pub in_order : (keys : List ℕ) → IsStrictlySortedBy nat_cmp keys → IsAscending (map numbered keys)
+pub in_order : (keys : List ℕ) → IsStrictlySortedBy nat_cmp keys → IsAscending (map id_of_number keys)
 unfolding IsStrictlySortedBy
 in_order [] ascending = tt
 in_order (key ∷ keys) ascending = (below_all key keys ascending.0, in_order keys ascending.1)
@@ -184,19 +184,19 @@ above_before (x ∷ xs) y ys ascending = (below_one x xs y ys ascending.0, above
 
 -- ---- the end
 
-among_has : (keys : List ℕ) (object : ObjId) → is_among (map numbered keys) object ≡ has keys object.0
+among_has : (keys : List ℕ) (object : ObjId) → is_among (map id_of_number keys) object ≡ has keys object.0
 among_has [] object = refl
 among_has (key ∷ keys) object =
-    ap (λ (b : Bool). b || is_among (map numbered keys) object) (sym (unsigned_tied object.0 key)) ∙ ap (λ (b : Bool). eq_by_cmp nat_cmp object.0 key || b) (among_has keys object)
+    ap (λ (b : Bool). b || is_among (map id_of_number keys) object) (sym (unsigned_tied object.0 key)) ∙ ap (λ (b : Bool). eq_by_cmp nat_cmp object.0 key || b) (among_has keys object)
 
 -- nothing waits any more
-pub walk_ended : (flag : Flag) (mapped : Mapped) (graph : Graph) (object : ObjId) (keys : List ℕ) (waiting : List ObjId) (set : List ObjId) → IsFit mapped graph → IsObject graph object → IsAscending set → waiting ≡ [] → set ≡ map numbered keys → IsWalk flag mapped graph object none keys waiting → IsClosure flag mapped graph object set
+pub walk_ended : (flag : Flag) (mapped : Mapped) (graph : Graph) (object : ObjId) (keys : List ℕ) (waiting : List ObjId) (set : List ObjId) → IsFit mapped graph → IsObject graph object → IsAscending set → waiting ≡ [] → set ≡ map id_of_number keys → IsWalk flag mapped graph object none keys waiting → IsClosure flag mapped graph object set
 walk_ended flag mapped graph object keys waiting set fit within ascending ended is walk =
     let there : (x : ObjId) → is_among set x ≡ has keys x.0 = λ x. ap (λ (xs : List ObjId). is_among xs x) is ∙ among_has keys x in
     record {
       ascending = ascending;
       has = there object ∙ walk.began;
-      closed = λ x inside. from_each (is_among set) (linked flag mapped graph x) (λ y linked_to.
+      closed = λ x inside. from_each (is_among set) (linked_objects flag mapped graph x) (λ y linked_to.
           there y ∙ walk.done x y (sym (there x) ∙ inside) (ap (λ (ws : List ObjId). is_among ws x) ended) refl linked_to);
       least = λ inside begins closed. from_each inside set (λ x among. walk.least inside begins closed x.0 (sym (there x) ∙ among));
       objects = all_objects set (λ x among. reached_made flag mapped graph object none keys waiting x.0 fit within walk (sym (there x) ∙ among));

@@ -20,7 +20,7 @@ use Rattle.object_arena.specs.Graph.{Graph, IsObject, object_at, place_of}
 use Rattle.object_arena.specs.Fit.{IsFit, held_fit, is_empty, is_of_root, is_root, link_fits, links_fit}
 use Rattle.object_arena.proofs.FitLemmas.{fit_links}
 use Rattle.cascades.specs.declared.closures.Flag.{Flag}
-use Rattle.cascades.specs.Closures.{end_of, ends_along, ends_of, ends_with, has_flag, is_among, linked}
+use Rattle.cascades.specs.Closures.{end_of, ends_along, ends_of, ends_with, has_flag, is_among, linked_objects}
 
 -- ---- a loop over relationships and links
 
@@ -122,8 +122,8 @@ along_held flag mapped graph (relation ∷ relations) (link ∷ links) rooted h 
     (along_held flag mapped graph relations links rooted parts.1)
 
 -- an object is linked to objects alone
-pub linked_made : (flag : Flag) (mapped : Mapped) (graph : Graph) (object : ObjId) → IsFit mapped graph → IsObject graph object → list_all (is_made graph) (linked flag mapped graph object) ≡ true
-unfolding linked
+pub linked_made : (flag : Flag) (mapped : Mapped) (graph : Graph) (object : ObjId) → IsFit mapped graph → IsObject graph object → list_all (is_made graph) (linked_objects flag mapped graph object) ≡ true
+unfolding linked_objects
 linked_made flag mapped graph object fit within =
     along_held flag mapped graph (relations_of mapped (object_at graph object).class) (object_at graph object).links
     (ap (λ (roots : List ClassId). length roots) fit.roots ∙ length-map graph.objects (λ (o : Object). root_of mapped o.class)) (fit_links mapped graph object fit within)

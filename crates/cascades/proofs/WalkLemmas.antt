@@ -10,7 +10,7 @@ use Rattle.std.proofs.lemmas.List.{length-append}
 use Rattle.std.proofs.lemmas.List.Folds.{list_any-append}
 use Rattle.base_core.specs.declared.ids.ObjId.{ObjId}
 use Rattle.cascades.specs.Closures.{is_among}
-use Rattle.cascades.specs.Walks.{Comes, has, numbered}
+use Rattle.cascades.specs.Walks.{Comes, has, id_of_number}
 
 pub or_cases : (a b : Bool) → (a || b) ≡ true → (a ≡ true) ⊎ (b ≡ true)
 or_cases true b h = inl refl
@@ -83,7 +83,7 @@ same_at key number h = sym (eqb-true key number (sym (unsigned_tied key number) 
 at_same : (key number : ℕ) → number ≡ key → is_at (nat_cmp key) number ≡ true
 at_same key number same = unsigned_tied key number ∙ eq-eqb key number (sym same)
 
-one_among : (object : ObjId) (number : ℕ) → number ≡ object.0 → is_among (object ∷ []) (numbered number) ≡ true
+one_among : (object : ObjId) (number : ℕ) → number ≡ object.0 → is_among (object ∷ []) (id_of_number number) ≡ true
 one_among object number same = or_left (number == object.0) false (eq-eqb number object.0 same)
 
 -- it came there first
@@ -94,7 +94,7 @@ comes_first old new waited waiting object inserts absent longer is =
       kept = λ number h. inserts number ∙ cond_true (is_at (nat_cmp object.0) number) (has old number) h;
       all = λ other h. inserts other.0 ∙ cond_own (is_at (nat_cmp object.0) other.0) (has old other.0) (at_same object.0 other.0 (among_one other object h));
       only = λ number present absent. one_among object number (its number present absent);
-      waits = λ number present absent. among_right waited (object ∷ []) (numbered number) (one_among object number (its number present absent));
+      waits = λ number present absent. among_right waited (object ∷ []) (id_of_number number) (one_among object number (its number present absent));
       still = λ other h. among_left waited (object ∷ []) other h;
       held = λ other present absent.
           ⊎_elim
@@ -119,12 +119,12 @@ comes_more old mid new waited between waiting xs ys first second = record {
       (among_split xs ys object h);
   only = λ number present absent.
       ⊎_elim
-      (λ (there : has mid number ≡ true). among_left xs ys (numbered number) (first.only number there absent))
-      (λ (later : has mid number ≡ false). among_right xs ys (numbered number) (second.only number present later))
+      (λ (there : has mid number ≡ true). among_left xs ys (id_of_number number) (first.only number there absent))
+      (λ (later : has mid number ≡ false). among_right xs ys (id_of_number number) (second.only number present later))
       (cases_Bool (has mid number));
   waits = λ number present absent.
       ⊎_elim
-      (λ (there : has mid number ≡ true). second.still (numbered number) (first.waits number there absent))
+      (λ (there : has mid number ≡ true). second.still (id_of_number number) (first.waits number there absent))
       (λ (later : has mid number ≡ false). second.waits number present later)
       (cases_Bool (has mid number));
   still = λ object h. second.still object (first.still object h);

@@ -41,12 +41,12 @@ ends_along flag (relation ∷ relations) [] = []
 ends_along flag (relation ∷ relations) (link ∷ links) = ends_with (has_flag flag relation.cascade) link ++ ends_along flag relations links
 
 -- the objects to which an object is linked along relationships with the flag
-unfoldable pub linked : Flag → Mapped → Graph → ObjId → List ObjId
-linked flag mapped graph object = ends_along flag (relations_of mapped (object_at graph object).class) (object_at graph object).links
+unfoldable pub linked_objects : Flag → Mapped → Graph → ObjId → List ObjId
+linked_objects flag mapped graph object = ends_along flag (relations_of mapped (object_at graph object).class) (object_at graph object).links
 
 -- with each object the set has all to which it is linked
 abbrev pub IsClosed : Flag → Mapped → Graph → (ObjId → Bool) → Type 0
-IsClosed flag mapped graph inside = (object : ObjId) → inside object ≡ true → list_all inside (linked flag mapped graph object) ≡ true
+IsClosed flag mapped graph inside = (object : ObjId) → inside object ≡ true → list_all inside (linked_objects flag mapped graph object) ≡ true
 
 abbrev pub is_among : List ObjId → ObjId → Bool
 is_among objects object = list_any (λ other. object.0 == other.0) objects

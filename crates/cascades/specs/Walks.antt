@@ -6,8 +6,8 @@ use Rattle.std.specs.BTreeMap.{is_at}
 use Rattle.base_core.specs.declared.ids.ObjId.{ObjId}
 use Rattle.cascades.specs.Closures.{is_among}
 
-abbrev pub numbered : ℕ → ObjId
-numbered number = record { 0 = number }
+abbrev pub id_of_number : ℕ → ObjId
+id_of_number number = record { 0 = number }
 
 -- the walk has come to the object of the number
 abbrev pub has : List ℕ → ℕ → Bool
@@ -18,8 +18,8 @@ has reached number = list_any (is_at (nat_cmp number)) reached
 pub record Comes (old new : List ℕ) (waited waiting objects : List ObjId) : Type 0 where
   pub kept : (number : ℕ) → has old number ≡ true → has new number ≡ true
   pub all : (object : ObjId) → is_among objects object ≡ true → has new object.0 ≡ true
-  pub only : (number : ℕ) → has new number ≡ true → has old number ≡ false → is_among objects (numbered number) ≡ true
-  pub waits : (number : ℕ) → has new number ≡ true → has old number ≡ false → is_among waiting (numbered number) ≡ true
+  pub only : (number : ℕ) → has new number ≡ true → has old number ≡ false → is_among objects (id_of_number number) ≡ true
+  pub waits : (number : ℕ) → has new number ≡ true → has old number ≡ false → is_among waiting (id_of_number number) ≡ true
   pub still : (object : ObjId) → is_among waited object ≡ true → is_among waiting object ≡ true
   pub held : (object : ObjId) → is_among waiting object ≡ true → is_among waited object ≡ false → has new object.0 ≡ true
   pub count : length new + length waited ≡ length old + length waiting

@@ -121,7 +121,7 @@ fn linked(
     requires configured { mapping.now.configured ≡ true }
     requires fit { IsFit mapping.now arena.now }
     requires object { IsObject arena.now object }
-    ensures linked { IfOk result (λ ends. ends ≡ spec.linked flag mapping.now arena.now object) }
+    ensures linked { IfOk result (λ ends. ends ≡ spec.linked_objects flag mapping.now arena.now object) }
     ensures cause { IfErr result (λ e. e ≡ Memory) }
 {
     let record = arena.object(object);

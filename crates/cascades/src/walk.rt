@@ -4,7 +4,7 @@ ghost use Rattle.std.specs.Prelude.{◌≡◌, [], ◌∷◌, IfOk, IfErr, OnOk,
 ghost use Rattle.std.specs.Ordering.{nat_cmp};
 ghost use Rattle.std.specs.List.Sorted.{IsStrictlySortedBy};
 ghost use Rattle.base_core.specs.declared.refusal.Refusal.TheVariants.{Memory};
-ghost use Rattle.cascades.specs.Walks.{Comes, numbered};
+ghost use Rattle.cascades.specs.Walks.{Comes, id_of_number};
 
 use base_core::{ObjId, ObjSet, Refusal};
 use std::alloc::Global;
@@ -62,7 +62,7 @@ impl Walk {
     /// The objects that the walk has come to.
     pub(crate) fn into_set(self, alloc: Global) -> Result<ObjSet, Refusal>
         requires { IsStrictlySortedBy nat_cmp self.reached.keys }
-        ensures set { IfOk result (λ set. set ≡ map numbered self.reached.keys) }
+        ensures set { IfOk result (λ set. set ≡ map id_of_number self.reached.keys) }
         ensures cause { IfErr result (λ e. e ≡ Memory) }
     {
         let mut set = ObjSet::new(alloc);

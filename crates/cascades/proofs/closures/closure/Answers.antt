@@ -3,8 +3,8 @@ use Rattle.std.specs.Ordering.{nat_cmp}
 use Rattle.base_core.specs.declared.ids.ObjId.{ObjId}
 use Rattle.base_core.specs.declared.refusal.Refusal.{Refusal}
 use Rattle.base_core.specs.Ascending.{IsAscending}
-use Rattle.cascades.specs.Closures.{IsClosure, linked}
-use Rattle.cascades.specs.Walks.{Comes, has, numbered}
+use Rattle.cascades.specs.Closures.{IsClosure, linked_objects}
+use Rattle.cascades.specs.Walks.{Comes, has, id_of_number}
 use Rattle.std.proofs.lemmas.List.{length-append}
 use Rattle.cascades.proofs.ClosureLemmas.{IsWalk, empty_of, if_ok, in_order, is_it, none, reached_few, reached_made, taken_reached, walk_began, walk_ended, walk_more, walk_taken}
 use Rattle.cascades.proofs.closures.closure.Goals as goal
@@ -52,7 +52,7 @@ loop-next-smaller c =
 pub returns-clause-closure : goal.returns-clause-closure
 returns-clause-closure c =
     let nothing : length c.loop-next.walk.waiting.items ≡ 0 = omega (arith, c.loop-next.walk.waiting.ok, c.in_default.ensures.cases.0) in
-    if_ok (λ (set : List ObjId). set ≡ map numbered c.loop-next.walk.reached.keys) (IsClosure c.args.flag c.args.mapping.now c.args.arena.now c.args.object) c.into_set.result
+    if_ok (λ (set : List ObjId). set ≡ map id_of_number c.loop-next.walk.reached.keys) (IsClosure c.args.flag c.args.mapping.now c.args.arena.now c.args.object) c.into_set.result
     (λ set is. walk_ended c.args.flag c.args.mapping.now c.args.arena.now c.args.object c.loop-next.walk.reached.keys c.loop-next.walk.waiting.items set c.requires.fit c.requires.object
     (subst (λ (xs : List ObjId). IsAscending xs) (sym is) (in_order c.loop-next.walk.reached.keys c.loop-next.invariant.1))
     (empty_of c.loop-next.walk.waiting.items nothing) is c.loop-next.invariant.0)
