@@ -110,7 +110,7 @@ fn closure(
 }
 
 /// The objects to which an object is linked along relationships with the flag.
-#[tactic(auto, unfolding(crate::specs::Closures::linked))]
+#[tactic(auto, unfolding(crate::specs::Closures::linked_objects))]
 fn linked(
     alloc: Global,
     arena: &Arena,

@@ -24,7 +24,7 @@ fn opposite(op: CompareOp) -> CompareOp
 }
 
 /// The opposite of an expression.
-#[tactic(auto, unfolding(expr_types::specs::Normal::negated))]
+#[tactic(auto, unfolding(expr_types::specs::Normal::negation_of))]
 pub(crate) fn negated(alloc: Global, e: Expr) -> Result<Expr, AllocError>
     ensures { IfOk result (λ n. n ≡ spec.negation_of e) }
 {
@@ -115,7 +115,7 @@ fn turned(alloc: Global, items: Items<Expr>) -> Result<Items<Expr>, AllocError>
 }
 
 /// Whether the expression is a text that is lowered.
-#[tactic(auto, unfolding(expr_types::specs::Normal::lowered))]
+#[tactic(auto, unfolding(expr_types::specs::Normal::lower_argument))]
 fn is_lowered(e: &Expr) -> bool
     ensures { result ≡ is_some (spec.lower_argument e.now) }
 {
@@ -126,7 +126,7 @@ fn is_lowered(e: &Expr) -> bool
 }
 
 /// The text that the expression lowers, or the expression itself.
-#[tactic(auto, unfolding(expr_types::specs::Normal::lowered))]
+#[tactic(auto, unfolding(expr_types::specs::Normal::lower_argument))]
 fn text_in(e: Expr) -> Expr
     ensures { result ≡ unwrap_or (spec.lower_argument e) e }
 {
@@ -143,7 +143,7 @@ fn text_in(e: Expr) -> Expr
 }
 
 /// `a like b`.
-#[tactic(auto, unfolding(expr_types::specs::Normal::liked))]
+#[tactic(auto, unfolding(expr_types::specs::Normal::normal_like))]
 pub(crate) fn liked(
     alloc: Global,
     negated: bool,

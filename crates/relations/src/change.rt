@@ -140,7 +140,7 @@ fn put_of(object: ObjId, relation: RelNo, link: Link) -> Option<LinkPut>
 }
 
 /// Puts the links in. Takes no memory.
-#[tactic(auto, unfolding(crate::specs::Mirror::changed))]
+#[tactic(auto, unfolding(crate::specs::Mirror::with_change))]
 pub(crate) fn apply(arena: &mut Arena, child: ObjId, change: Change)
     requires child { IsObject arena.old child }
     requires placed { IsPlaced arena.old change }

@@ -123,7 +123,7 @@ impl Frames {
     }
 
     /// The innermost scope ends, and what was done inside stays.
-    #[tactic(auto, unfolding(crate::specs::Scopes::released))]
+    #[tactic(auto, unfolding(crate::specs::Scopes::scope_released))]
     pub fn release(&mut self)
         requires { 0 < length self.old.scopes }
         ensures released { self.new ≡ spec.scope_released self.old }
@@ -147,7 +147,7 @@ impl Frames {
     /// several that would be persistent under one identity the least number is. The persistent objects that were touched
     /// inside are expired, and after the transaction's rollback all of them. The scope and those inside it end. Takes no
     /// memory.
-    #[tactic(auto, unfolding(crate::specs::Scopes::restored, crate::specs::Scopes::around))]
+    #[tactic(auto, unfolding(crate::specs::Scopes::restored_graph, crate::specs::Scopes::around))]
     pub fn restore(&mut self, arena: &mut Arena, depth: u32)
         requires depth { (1 ≤ depth) × (depth ≤ length self.old.scopes) }
         ensures restored { arena.new ≡ spec.restored_graph depth self.old arena.old }
