@@ -35,7 +35,7 @@ past_by t ts o b is =
 
 literal_by : (mode : Mode) (t : Token) (ts rest : List Token) (o : ℕ) (a : Value) → literal_in t.kind t.content ≡ Some a
     → l.past_literal (record { ahead = t ∷ ts; operators = o }) ≡ record { ahead = rest; operators = o } → Read mode l.literal (t ∷ ts) rest 0 o a
-unfolding l.literal l.written head
+unfolding l.literal l.next_literal head
 literal_by mode t ts rest o a is past =
     let i : Input = record { ahead = t ∷ ts; operators = o } in
     record { left = o; budget = budget_none mode o; is = ap (λ found. l.literal_by found i) is ∙ ap (λ j. Ok (a, j)) past }

@@ -56,7 +56,7 @@ module _ (c : Mode) (excluded : Kind → Bool) (free : excluded k.Quoted ≡ fal
   tokens_by (t ∷ ts) o other = token_by t ts o other (is_no_name t.kind) refl t.content refl
 
   name_kept : (i : Input) → excluded (kind i) ≡ false → Kept c (form.name_but excluded) i (n.name i)
-  unfolding n.name n.called head
+  unfolding n.name n.next_name head
   name_kept i other = tokens_by i.ahead i.operators other
 
   pub name_at : (i : Input) → excluded (kind i) ≡ false → Out c (form.name_but excluded) i (n.name i)
@@ -112,7 +112,7 @@ literal_by c [] o whole = refused_here _ (record { ahead = []; operators = o }) 
 literal_by c (t ∷ ts) o whole = value_by _ t ts o whole (l.literal_in t.kind t.content) refl
 
 pub literal_read : {c : Mode} → Sound c l.literal form.literal
-unfolding l.literal l.written head
+unfolding l.literal l.next_literal head
 literal_read = record { run = λ i whole. literal_by _ i.ahead i.operators whole }
 
 -- ---- numbers without a minus

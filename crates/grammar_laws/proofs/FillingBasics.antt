@@ -19,7 +19,7 @@ use Rattle.grammar_laws.proofs.Filling.{Read, Complete, always, enough_first, en
 
 named_by : (mode : Mode) (t : Token) (rest : List Token) (o : ℕ) (found : List ℕ) → is_no_name t.kind ≡ false → t.content ≡ content.Name found → has_length found ≡ true
     → Read mode n.name (t ∷ rest) rest 0 o found
-unfolding n.name n.called head next
+unfolding n.name n.next_name head next
 named_by mode t rest o found is holds fits =
     let i : Input = record { ahead = t ∷ rest; operators = o } in
     record {

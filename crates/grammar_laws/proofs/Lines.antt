@@ -4,7 +4,7 @@ use Rattle.script_types.specs.declared.command.Command.{Command}
 use Rattle.script_lex.specs.declared.kind.Kind.{Kind}
 use Rattle.script_lex.specs.declared.kind.Kind.TheVariants as k
 use Rattle.script_lex.specs.declared.token.Token.{Token}
-use Rattle.script_lex.specs.Lex.{same_kind, is_blank, cut, tokens_from, tokens}
+use Rattle.script_lex.specs.Lex.{same_kind, is_blank, first_token, tokens_from, tokens}
 use Rattle.script_tokens.proofs.Alike.{same, alike}
 use Rattle.script_tokens.specs.declared.fault.Fault.{Fault}
 use Rattle.script_tokens.specs.declared.fault.Fault.TheVariants.{At}
@@ -70,10 +70,10 @@ bad_or_more t rest false is well = λ u. well t
 
 by_blank : (b at : ℕ) (z : List ℕ) (blank : Bool) → ((left : ℕ) → EndsWell (tokens_from left (at + 1) z))
     → EndsWell (if blank then tokens_from 0 (at + 1) z
-    else (let t = cut at (b ∷ z) in if same_kind t.0.kind k.Bad then t.0 ∷ [] else t.0 ∷ tokens_from (t.1 - 1) (at + 1) z))
+    else (let t = first_token at (b ∷ z) in if same_kind t.0.kind k.Bad then t.0 ∷ [] else t.0 ∷ tokens_from (t.1 - 1) (at + 1) z))
 by_blank b at z true rec = rec 0
 by_blank b at z false rec =
-    let t = cut at (b ∷ z) in
+    let t = first_token at (b ∷ z) in
     bad_or_more t.0 (tokens_from (t.1 - 1) (at + 1) z) (same_kind t.0.kind k.Bad) refl (rec (t.1 - 1))
 
 ends_well : (left at : ℕ) (z : List ℕ) → EndsWell (tokens_from left at z)

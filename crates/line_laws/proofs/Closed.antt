@@ -10,7 +10,7 @@ use Rattle.script_lex.specs.declared.token.Token.{Token}
 use Rattle.script_lex.specs.Shape as s
 use Rattle.script_lex.specs.Shape.{Text}
 use Rattle.script_lex.specs.Content.{content}
-use Rattle.script_lex.specs.Lex.{same_kind, is_blank, placed, cut, tokens_from, tokens}
+use Rattle.script_lex.specs.Lex.{same_kind, is_blank, token_or_bad, first_token, tokens_from, tokens}
 use Rattle.script_tokens.proofs.Alike.{same, other}
 use Rattle.script_tokens.specs.Input.{first_of}
 use Rattle.script_laws.specs.Steady.{closes, IsClosed}
@@ -52,7 +52,7 @@ no_keyword : (word : Text) → s.keyword word ≡ k.Signed → ⊥
 unfolding s.keyword unsigned same_kind
 no_keyword word = no_word (s.reserved_words ++ s.other_words) word refl
 
-closed_minus : (kd : Kind) (o : Option ℕ) (next : ℕ) → (kd ≡ k.Signed → ⊥) → IsMinus next (s.closed kd o)
+closed_minus : (kd : Kind) (o : Option ℕ) (next : ℕ) → (kd ≡ k.Signed → ⊥) → IsMinus next (s.kind_or_bad kd o)
 closed_minus kd None next differs = no_minus k.Bad 1 next (λ e. cc)
 closed_minus kd (Some end) next differs = no_minus kd end next differs
 
@@ -75,25 +75,25 @@ symbol_minus b next =
     (either (b == 124 && next == 124) next (no_minus k.Concat 2 next (λ e. cc))
     (either (b == 45) next (minus_by next (is_ascii_digit next) refl) (no_minus (s.single b) 1 next (single_minus b)))))))
 
-front_minus : (z : Text) → IsMinus (slice_index z 1) (s.front z)
-unfolding s.front
+front_minus : (z : Text) → IsMinus (slice_index z 1) (s.token_prefix z)
+unfolding s.token_prefix
 front_minus z =
     let b = slice_index z 0 in
     let next = slice_index z 1 in
     either (s.is_bytes z) next (no_minus k.BytesLiteral (s.past class.Hex z 2 + 1) next (λ e. cc))
     (either (is_ascii_digit b) next (no_minus k.Number (s.past class.Digit z 0) next (λ e. cc))
     (either (s.is_in class.Word b) next (no_minus (s.keyword (take (s.past class.Word z 0) z)) (s.past class.Word z 0) next (no_keyword (take (s.past class.Word z 0) z)))
-    (either (b == 34) next (closed_minus k.Quoted (s.closing b false 1 (drop 1 z)) next (λ e. cc))
-    (either (b == 39) next (closed_minus k.TextLiteral (s.closing b false 1 (drop 1 z)) next (λ e. cc)) (symbol_minus b next)))))
+    (either (b == 34) next (closed_minus k.Quoted (s.quote_end b false 1 (drop 1 z)) next (λ e. cc))
+    (either (b == 39) next (closed_minus k.TextLiteral (s.quote_end b false 1 (drop 1 z)) next (λ e. cc)) (symbol_minus b next)))))
 
-placed_minus : (at : ℕ) (r : Kind × ℕ) (next : ℕ) (o : Option Content) → IsMinus next r → (placed at r.0 r.1 o).0.kind ≡ k.Signed
-    → ((placed at r.0 r.1 o).1 ≡ 1) × (is_ascii_digit next ≡ true)
+placed_minus : (at : ℕ) (r : Kind × ℕ) (next : ℕ) (o : Option Content) → IsMinus next r → (token_or_bad at r.0 r.1 o).0.kind ≡ k.Signed
+    → ((token_or_bad at r.0 r.1 o).1 ≡ 1) × (is_ascii_digit next ≡ true)
 placed_minus at r next None minus e = cc
 placed_minus at r next (Some found) minus e = minus.run e
 
-cut_minus : (at : ℕ) (z : Text) → (cut at z).0.kind ≡ k.Signed → ((cut at z).1 ≡ 1) × (is_ascii_digit (slice_index z 1) ≡ true)
-unfolding cut
-cut_minus at z e = placed_minus at (s.front z) (slice_index z 1) (content (s.front z).0 (s.front z).1 z) (front_minus z) e
+cut_minus : (at : ℕ) (z : Text) → (first_token at z).0.kind ≡ k.Signed → ((first_token at z).1 ≡ 1) × (is_ascii_digit (slice_index z 1) ≡ true)
+unfolding first_token
+cut_minus at z e = placed_minus at (s.token_prefix z) (slice_index z 1) (content (s.token_prefix z).0 (s.token_prefix z).1 z) (front_minus z) e
 
 -- ---- the digits behind it
 
@@ -103,21 +103,21 @@ no_bytes d e = grind arith
 no_blank : (d : ℕ) → is_ascii_digit d ≡ true → is_blank d ≡ false
 no_blank d e = grind arith
 
-number_front : (d : ℕ) (w : Text) → is_ascii_digit d ≡ true → s.front (d ∷ w) ≡ (k.Number, s.past class.Digit (d ∷ w) 0)
-unfolding s.front
+number_front : (d : ℕ) (w : Text) → is_ascii_digit d ≡ true → s.token_prefix (d ∷ w) ≡ (k.Number, s.past class.Digit (d ∷ w) 0)
+unfolding s.token_prefix
 number_front d w e = rw (no_bytes d e, e)
 
-number_cut : (at d : ℕ) (w : Text) → is_ascii_digit d ≡ true → (cut at (d ∷ w)).0.kind ≡ k.Number
-unfolding cut content
-number_cut at d w e = ap (λ r. (placed at r.0 r.1 (content r.0 r.1 (d ∷ w))).0.kind) (number_front d w e)
+number_cut : (at d : ℕ) (w : Text) → is_ascii_digit d ≡ true → (first_token at (d ∷ w)).0.kind ≡ k.Number
+unfolding first_token content
+number_cut at d w e = ap (λ r. (token_or_bad at r.0 r.1 (content r.0 r.1 (d ∷ w))).0.kind) (number_front d w e)
 
 first_by : (t : Token) (rest : List Token) (bad : Bool) → first_of (if bad then t ∷ [] else t ∷ rest) ≡ t
 first_by t rest true = refl
 first_by t rest false = refl
 
-first_cut : (at d : ℕ) (w : Text) → is_blank d ≡ false → first_of (tokens_from 0 at (d ∷ w)) ≡ (cut at (d ∷ w)).0
+first_cut : (at d : ℕ) (w : Text) → is_blank d ≡ false → first_of (tokens_from 0 at (d ∷ w)) ≡ (first_token at (d ∷ w)).0
 first_cut at d w e =
-    let t = cut at (d ∷ w) in
+    let t = first_token at (d ∷ w) in
     ap (λ blank. first_of (if blank then tokens_from 0 (at + 1) w else (if same_kind t.0.kind k.Bad then t.0 ∷ [] else t.0 ∷ tokens_from (t.1 - 1) (at + 1) w))) e
     ∙ first_by t.0 (tokens_from (t.1 - 1) (at + 1) w) (same_kind t.0.kind k.Bad)
 
@@ -136,18 +136,18 @@ bad_or_more : (t : Token) (rest : List Token) (bad : Bool) → same_kind t.kind 
 bad_or_more t rest true is closed behind = ap closes (same is)
 bad_or_more t rest false is closed behind = closed_more t rest closed behind
 
-minus_first : (at b : ℕ) (z : Text) → (cut at (b ∷ z)).0.kind ≡ k.Signed → closes (first_of (tokens_from ((cut at (b ∷ z)).1 - 1) (at + 1) z)).kind ≡ false
+minus_first : (at b : ℕ) (z : Text) → (first_token at (b ∷ z)).0.kind ≡ k.Signed → closes (first_of (tokens_from ((first_token at (b ∷ z)).1 - 1) (at + 1) z)).kind ≡ false
 minus_first at b z e =
     let minus = cut_minus at (b ∷ z) e in
-    let none : (cut at (b ∷ z)).1 - 1 ≡ 0 = ap (λ n. n - 1) minus.0 in
+    let none : (first_token at (b ∷ z)).1 - 1 ≡ 0 = ap (λ n. n - 1) minus.0 in
     ap (λ n. closes (first_of (tokens_from n (at + 1) z)).kind) none ∙ number_first (at + 1) z minus.1
 
 by_blank : (b at : ℕ) (z : Text) (blank : Bool) → ((left : ℕ) → IsClosed (tokens_from left (at + 1) z))
     → IsClosed (if blank then tokens_from 0 (at + 1) z
-    else (let t = cut at (b ∷ z) in if same_kind t.0.kind k.Bad then t.0 ∷ [] else t.0 ∷ tokens_from (t.1 - 1) (at + 1) z))
+    else (let t = first_token at (b ∷ z) in if same_kind t.0.kind k.Bad then t.0 ∷ [] else t.0 ∷ tokens_from (t.1 - 1) (at + 1) z))
 by_blank b at z true rec = rec 0
 by_blank b at z false rec =
-    let t = cut at (b ∷ z) in
+    let t = first_token at (b ∷ z) in
     bad_or_more t.0 (tokens_from (t.1 - 1) (at + 1) z) (same_kind t.0.kind k.Bad) refl (rec (t.1 - 1)) (minus_first at b z)
 
 closed_from : (left at : ℕ) (z : Text) → IsClosed (tokens_from left at z)

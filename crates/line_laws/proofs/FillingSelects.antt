@@ -97,8 +97,8 @@ module _ (mode : Mode) (most : ℕ) (whole : Complete mode (among behind_express
   asc_opens : (ks : List Kind) → Opens (sequence (whether (word k.Asc)) (λ _. says false)) (among ks) (among (k.Asc ∷ ks))
   asc_opens ks = then_opens (among ks) (whether_opens (word_opens k.Asc (first_among k.Asc ks)) (rest_among k.Asc ks)) (λ _. made_opens false (λ y e. e))
 
-  descending : (ks : List Kind) → among (k.Asc ∷ ks) k.Desc ≡ false → among ks k.Asc ≡ false → Stands mode (among ks) s.descending form.descending (among (k.Desc ∷ k.Asc ∷ ks))
-  unfolding s.descending
+  descending : (ks : List Kind) → among (k.Asc ∷ ks) k.Desc ≡ false → among ks k.Asc ≡ false → Stands mode (among ks) s.is_descending form.descending (among (k.Desc ∷ k.Asc ∷ ks))
+  unfolding s.is_descending
   descending ks no_desc no_asc = record {
     complete = word_or k.Desc (less (made true) (λ y e. refl)) (both (eaten k.Asc (unlike (among ks) k.Asc no_asc)) (λ _. less (made false) (λ y e. refl)) (λ _. made_opens false (λ y e. e)))
         (opens_less (asc_opens ks) (not_this (among (k.Asc ∷ ks)) k.Desc no_desc));
@@ -292,8 +292,8 @@ module _ (mode : Mode) (most : ℕ) (whole : Complete mode (among behind_express
   abbrev behind_cell : List Kind
   behind_cell = k.Where ∷ ends
 
-  assigned : Complete mode (among (k.Comma ∷ behind_cell)) b.assigned ((sequence (word k.Null) (λ _. says None)) or (sequence (expression_to most) (λ e. says (Some e))))
-  unfolding b.assigned among all_in same_kind
+  assigned : Complete mode (among (k.Comma ∷ behind_cell)) b.null_or_expression ((sequence (word k.Null) (λ _. says None)) or (sequence (expression_to most) (λ e. says (Some e))))
+  unfolding b.null_or_expression among all_in same_kind
   assigned =
       word_or k.Null (less (made None) (λ y e. refl)) (mapped Some (less whole (within (k.Comma ∷ behind_cell) (among behind_expression) refl)))
       (first_opens (opens_less begins (not_this opening k.Null refl)))

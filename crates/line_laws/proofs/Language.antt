@@ -5,7 +5,7 @@ use Rattle.script_types.specs.declared.command.Command.{Command}
 use Rattle.script_types.specs.declared.command.Command.TheVariants.{Skip}
 use Rattle.script_types.specs.declared.command.Inside.{Inside}
 use Rattle.script_types.specs.declared.command.Inside.TheVariants.{Top, Table, Class}
-use Rattle.script_lex.specs.Lex.{skipped, tokens}
+use Rattle.script_lex.specs.Lex.{is_ignored, tokens}
 use Rattle.script_tokens.specs.declared.fault.Fault.{Fault}
 use Rattle.script_tokens.specs.Input.{Outcome, start_of}
 use Rattle.script_read.specs.Line.{line, line_of, answer_of, refusal_of}
@@ -59,7 +59,7 @@ unfolding is_refused
 not_both e = subst is_refused e tt
 
 -- a line that is not skipped
-answered : (bytes : List ℕ) (number : ℕ) (inside : Inside) → skipped bytes ≡ false → line bytes number inside ≡ answer_of number (line_of inside (start_of (tokens bytes)))
+answered : (bytes : List ℕ) (number : ℕ) (inside : Inside) → is_ignored bytes ≡ false → line bytes number inside ≡ answer_of number (line_of inside (start_of (tokens bytes)))
 unfolding line
 answered bytes number inside is = ap (λ b. if b then Ok Skip else answer_of number (line_of inside (start_of (tokens bytes)))) is
 
@@ -99,4 +99,4 @@ refused_by bytes number inside refusal false e = told_by bytes number inside ref
 
 pub refuses_by_column : RefusesByColumn
 unfolding line
-refuses_by_column bytes number inside refusal e = refused_by bytes number inside refusal (skipped bytes) e
+refuses_by_column bytes number inside refusal e = refused_by bytes number inside refusal (is_ignored bytes) e

@@ -4,9 +4,9 @@ use Rattle.script_lex.specs.declared.kind.Kind.{Kind}
 use Rattle.script_lex.specs.declared.kind.Kind.TheVariants as k
 use Rattle.script_lex.specs.declared.token.Content.{Content}
 use Rattle.script_lex.specs.declared.token.Token.{Token}
-use Rattle.script_lex.specs.Shape.{Text, front}
+use Rattle.script_lex.specs.Shape.{Text, token_prefix}
 use Rattle.script_lex.specs.Content.{content}
-use Rattle.script_lex.specs.Lex.{same_kind, is_blank, placed, cut, tokens_from, tokens}
+use Rattle.script_lex.specs.Lex.{same_kind, is_blank, token_or_bad, first_token, tokens_from, tokens}
 use Rattle.script_tokens.specs.Input.{first_of}
 
 -- the first of these stands at the place or behind it, and each of the others behind the one before it
@@ -18,13 +18,13 @@ sooner : (a b : ℕ) (ts : List Token) → a ≤ b → Rise b ts → Rise a ts
 sooner a b [] less rise = rise
 sooner a b (t ∷ ts) less rise = let first : a ≤ t.at = omega (arith, rise.0) in (first, rise.1)
 
-placed_at : (at : ℕ) (kind : Kind) (len : ℕ) (o : Option Content) → (placed at kind len o).0.at ≡ at
+placed_at : (at : ℕ) (kind : Kind) (len : ℕ) (o : Option Content) → (token_or_bad at kind len o).0.at ≡ at
 placed_at at kind len None = refl
 placed_at at kind len (Some found) = refl
 
-cut_at : (at : ℕ) (z : Text) → (cut at z).0.at ≡ at
-unfolding cut
-cut_at at z = placed_at at (front z).0 (front z).1 (content (front z).0 (front z).1 z)
+cut_at : (at : ℕ) (z : Text) → (first_token at z).0.at ≡ at
+unfolding first_token
+cut_at at z = placed_at at (token_prefix z).0 (token_prefix z).1 (content (token_prefix z).0 (token_prefix z).1 z)
 
 behind_first : (at : ℕ) (t : Token) (rest : List Token) (bad : Bool) → t.at ≡ at → Rise (at + 1) rest → Rise at (if bad then t ∷ [] else t ∷ rest)
 behind_first at t rest true is rise = let first : at ≤ t.at = omega arith in (first, tt)
@@ -32,10 +32,10 @@ behind_first at t rest false is rise = let first : at ≤ t.at = omega arith in 
 
 by_blank : (b at : ℕ) (z : Text) (blank : Bool) → ((left : ℕ) → Rise (at + 1) (tokens_from left (at + 1) z))
     → Rise at (if blank then tokens_from 0 (at + 1) z
-    else (let t = cut at (b ∷ z) in if same_kind t.0.kind k.Bad then t.0 ∷ [] else t.0 ∷ tokens_from (t.1 - 1) (at + 1) z))
+    else (let t = first_token at (b ∷ z) in if same_kind t.0.kind k.Bad then t.0 ∷ [] else t.0 ∷ tokens_from (t.1 - 1) (at + 1) z))
 by_blank b at z true rec = sooner at (at + 1) (tokens_from 0 (at + 1) z) (omega arith) (rec 0)
 by_blank b at z false rec =
-    let t = cut at (b ∷ z) in
+    let t = first_token at (b ∷ z) in
     behind_first at t.0 (tokens_from (t.1 - 1) (at + 1) z) (same_kind t.0.kind k.Bad) (cut_at at (b ∷ z)) (rec (t.1 - 1))
 
 rise_from : (left at : ℕ) (z : Text) → Rise at (tokens_from left at z)

@@ -35,8 +35,8 @@ module _ (c : Mode) (most : ℕ) (whole : Follows c x.whole (expression_to most)
   unfolding s.items
   items = listed k.Comma refl item
 
-  descending : Follows c s.descending form.descending
-  unfolding s.descending
+  descending : Follows c s.is_descending form.descending
+  unfolding s.is_descending
   descending = word_or k.Desc refl (made true) (link (eaten k.Asc refl) (λ _. made false))
 
   key : Follows c s.order_item (form.key most)
@@ -134,8 +134,8 @@ module _ (c : Mode) (most : ℕ) (whole : Follows c x.whole (expression_to most)
 
   -- ---- bulk statements
 
-  assigned : Follows c b.assigned ((sequence (word k.Null) (λ _. says None)) or (sequence (expression_to most) (λ e. says (Some e))))
-  unfolding b.assigned
+  assigned : Follows c b.null_or_expression ((sequence (word k.Null) (λ _. says None)) or (sequence (expression_to most) (λ e. says (Some e))))
+  unfolding b.null_or_expression
   assigned = word_or k.Null refl (made None) (mapped Some whole)
 
   cell : Follows c b.cell (statement.cell most)

@@ -23,7 +23,7 @@ two_words_same i = through (expect k.Join i) _ _ (λ _ j. refl) ∙ sym (through
 
 abbrev pub selected_of : Bool → List (Syn × Option (List ℕ)) → SynSource → List SynJoin → Option Syn → List Syn → Option Syn → List (Syn × Bool) → Option ℕ → Option ℕ → SynSelect
 selected_of distinct items first joins filter keys having ordered limit offset =
-    s.selected distinct items first joins (record { filter = filter; groups = keys; having = having }) (record { order = ordered; limit = limit; offset = offset })
+    s.select_of_parts distinct items first joins (record { filter = filter; groups = keys; having = having }) (record { order = ordered; limit = limit; offset = offset })
 
 abbrev pub select_rest : Bool → List (Syn × Option (List ℕ)) → SynSource → List SynJoin → Reader SynSelect
 select_rest distinct items first joins = do
@@ -45,7 +45,7 @@ flat_select = do
   select_rest distinct items first joins
 
 rest_same : (distinct : Bool) (items : List (Syn × Option (List ℕ))) (first : SynSource) (joins : List SynJoin) (i : Input)
-    → and_then (s.middle_part i) (λ part. s.last_part >>= (λ end. pure (s.selected distinct items first joins part end))) ≡ select_rest distinct items first joins i
+    → and_then (s.middle_part i) (λ part. s.last_part >>= (λ end. pure (s.select_of_parts distinct items first joins part end))) ≡ select_rest distinct items first joins i
 unfolding s.middle_part s.last_part
 rest_same distinct items first joins i =
     through (s.condition k.Where i) _ _ (λ filter j. through (s.groups j) _ _ (λ keys j. through (s.condition k.Having j) _ _ (λ having j.

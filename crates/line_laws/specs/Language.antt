@@ -6,7 +6,7 @@ use Rattle.script_types.specs.declared.command.Command.{Command}
 use Rattle.script_types.specs.declared.command.Inside.{Inside}
 use Rattle.script_types.specs.declared.command.Inside.TheVariants.{Top, Table, Class}
 use Rattle.script_lex.specs.declared.token.Token.{Token}
-use Rattle.script_lex.specs.Lex.{skipped, tokens}
+use Rattle.script_lex.specs.Lex.{is_ignored, tokens}
 use Rattle.script_tokens.specs.Input.{first_of}
 use Rattle.script_read.specs.Line.{line, column}
 use Rattle.script_forms.specs.Form.{Form}
@@ -54,12 +54,12 @@ pub record TellsTheColumn (inside : Inside) (line : List Token) (number : ℕ) (
 
 -- The command that is answered to a line, which is neither blank nor a comment, is what its tokens say.
 abbrev pub AnswersWhatIsSaid : Type 0
-AnswersWhatIsSaid = (bytes : List ℕ) (number : ℕ) (inside : Inside) (command : Command) → skipped bytes ≡ false → line bytes number inside ≡ Ok command
+AnswersWhatIsSaid = (bytes : List ℕ) (number : ℕ) (inside : Inside) (command : Command) → is_ignored bytes ≡ false → line bytes number inside ≡ Ok command
     → Says (line_form inside) (tokens bytes) command
 
 -- What its tokens say is answered.
 abbrev pub AnswersAllThatIsSaid : Type 0
-AnswersAllThatIsSaid = (bytes : List ℕ) (number : ℕ) (inside : Inside) (command : Command) → skipped bytes ≡ false → Says (line_form inside) (tokens bytes) command
+AnswersAllThatIsSaid = (bytes : List ℕ) (number : ℕ) (inside : Inside) (command : Command) → is_ignored bytes ≡ false → Says (line_form inside) (tokens bytes) command
     → line bytes number inside ≡ Ok command
 
 -- A refusal tells the number of the line and the column of the token at which no line of this kind goes on.

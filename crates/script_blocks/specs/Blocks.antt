@@ -4,7 +4,7 @@ use Rattle.script_types.specs.declared.command.Command.{Command}
 use Rattle.script_types.specs.declared.command.Command.TheVariants as c
 use Rattle.script_lex.specs.declared.kind.Kind.{Kind}
 use Rattle.script_lex.specs.declared.kind.Kind.TheVariants as k
-use Rattle.script_tokens.specs.Input.{Reader, ◌>>=◌, ◌>>◌, ◌<$>◌, pure, refuse, peek, take_token, eat, expect, clause, sees, separated}
+use Rattle.script_tokens.specs.Input.{Reader, ◌>>=◌, ◌>>◌, ◌<$>◌, pure, refuse, peek, take_token, eat, expect, clause, sees, comma_list}
 use Rattle.script_tokens.specs.Names.{name, names}
 use Rattle.script_tokens.specs.Literals.{int_by}
 use Rattle.schema_core.specs.declared.table.ColumnKind.{ColumnKind}

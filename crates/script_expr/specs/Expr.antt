@@ -19,7 +19,7 @@ use Rattle.script_expr.specs.declared.expression.Test.{Test}
 use Rattle.script_expr.specs.declared.expression.Test.TheVariants as test
 use Rattle.script_expr.specs.declared.expression.Joint.{Joint}
 use Rattle.script_expr.specs.declared.expression.Joint.TheVariants as joint
-use Rattle.script_tokens.specs.Input.{Reader, ◌>>=◌, ◌>>◌, ◌<$>◌, pure, refuse, peek, take_token, eat, expect, clause, sees, turns, separated, separated_from, operator, fresh}
+use Rattle.script_tokens.specs.Input.{Reader, ◌>>=◌, ◌>>◌, ◌<$>◌, pure, refuse, peek, take_token, eat, expect, clause, sees, turns, comma_list, separated_from, operator, fresh}
 use Rattle.script_tokens.specs.Names.{name}
 use Rattle.script_tokens.specs.Literals.{literal, literals, begins_literal}
 
@@ -135,7 +135,7 @@ module _ (depth : ℕ) (expr : Level → Reader Syn) where
     pure (e.Exists from inner)
 
   unfoldable pub arguments : Reader (List Syn)
-  arguments = separated (expr level.Whole)
+  arguments = comma_list (expr level.Whole)
 
   -- after the function's name
   unfoldable pub call : Func → Reader Syn

@@ -9,8 +9,8 @@ use Rattle.script_lex.specs.declared.token.Content.TheVariants.{Name, Nothing, N
 use Rattle.script_lex.specs.Lex.{same_kind}
 use Rattle.script_tokens.proofs.Alike.{same}
 use Rattle.script_tokens.specs.Input.{Input, first_of, head, next, sees, after}
-use Rattle.script_tokens.specs.Names.{is_no_name, name_in, called, named_by, name, names}
-use Rattle.script_tokens.specs.Literals.{literal_in, written, past_literal, literal_by, literal, whole_number, int_by, int, value, literals, values}
+use Rattle.script_tokens.specs.Names.{is_no_name, name_in, next_name, named_by, name, names}
+use Rattle.script_tokens.specs.Literals.{literal_in, next_literal, past_literal, literal_by, literal, whole_number, int_by, int, value, literals, values}
 use Rattle.script_laws.specs.Steady.{closes, Settled, Taken, IsSteady}
 use Rattle.script_laws.proofs.Steps.{both, made, at_head, on_token, drop_drop, refused, gone_past, chosen, eaten, expected, leaves_one, leaves_two, false_true}
 use Rattle.script_laws.proofs.Marked.{IsBare, listed, some_none}
@@ -33,14 +33,14 @@ name_goes k.Bad e = absurd (false_true e)
 name_goes _ e = refl
 
 pub name_steady : IsSteady name
-unfolding name called head
+unfolding name next_name head
 name_steady =
     on_token (λ t. named_by (name_in (not (is_no_name t.kind)) t.content))
     (λ t i is. named_at i (name_in (not (is_no_name t.kind)) t.content)
     (λ found e. ap (λ u. closes u.kind) is ∙ name_goes t.kind (is_named (not (is_no_name t.kind)) t.content found e)))
 
 pub name_bare : IsBare name
-unfolding name called head is_no_name
+unfolding name next_name head is_no_name
 name_bare = λ o. refl
 
 pub names_steady : IsSteady names
@@ -73,13 +73,13 @@ literal_goes k.Bad Nothing found e = absurd (some_none (sym e))
 literal_goes _ content found e = refl
 
 pub literal_steady : IsSteady literal
-unfolding literal written head
+unfolding literal next_literal head
 literal_steady =
     on_token (λ t. literal_by (literal_in t.kind t.content))
     (λ t i is. literal_at i (literal_in t.kind t.content) (λ found e. ap (λ u. closes u.kind) is ∙ literal_goes t.kind t.content found e))
 
 pub literal_bare : IsBare literal
-unfolding literal written head
+unfolding literal next_literal head
 literal_bare = λ o. refl
 
 pub int_at : (i : Input) (o : Option ℕ) → ((n : ℕ) → o ≡ Some n → closes (first_of i.ahead).kind ≡ false) → Settled (int_by o) i
@@ -102,7 +102,7 @@ unfolding value
 value_steady = both (eaten k.Null refl) (λ is_null. chosen is_null (made v.Null) literal_steady)
 
 pub value_bare : IsBare value
-unfolding value sees after head same_kind literal written
+unfolding value sees after head same_kind literal next_literal
 value_bare = λ o. refl
 
 pub literals_steady : IsSteady literals

@@ -31,8 +31,8 @@ items_steady : IsSteady s.items
 unfolding s.items
 items_steady = listed k.Comma comma_marks item_steady item_bare []
 
-descending_steady : IsSteady s.descending
-unfolding s.descending
+descending_steady : IsSteady s.is_descending
+unfolding s.is_descending
 descending_steady = both (eaten k.Desc refl) (λ found. chosen found (made true) (both (eaten k.Asc refl) (λ _. made false)))
 
 order_item_steady : IsSteady s.order_item
@@ -41,7 +41,7 @@ order_item_steady = both whole_steady (λ value. both descending_steady (λ down
 
 order_item_bare : IsBare s.order_item
 unfolding s.order_item
-order_item_bare = bare_first whole (λ value. s.descending >>= (λ down. pure (value, down))) whole_bare
+order_item_bare = bare_first whole (λ value. s.is_descending >>= (λ down. pure (value, down))) whole_bare
 
 order_items_steady : IsSteady s.order_items
 unfolding s.order_items
@@ -119,7 +119,7 @@ pub select_steady : IsSteady s.select
 unfolding s.select
 select_steady =
     both (eaten k.Distinct refl) (λ distinct. both items_steady (λ shown. both (expected k.From refl) (λ _. both source_steady (λ first. both joins_steady (λ others.
-    both middle_part_steady (λ part. both last_part_steady (λ end. made (s.selected distinct shown first others part end))))))))
+    both middle_part_steady (λ part. both last_part_steady (λ end. made (s.select_of_parts distinct shown first others part end))))))))
 
 -- ---- queries for objects
 
@@ -186,8 +186,8 @@ query_steady =
 
 -- ---- bulk statements
 
-assigned_steady : IsSteady b.assigned
-unfolding b.assigned
+assigned_steady : IsSteady b.null_or_expression
+unfolding b.null_or_expression
 assigned_steady = both (eaten k.Null refl) (λ is_null. chosen is_null (made None) (mapped Some whole_steady))
 
 cell_steady : IsSteady b.cell
@@ -196,7 +196,7 @@ cell_steady = both name_steady (λ column. both (expected k.Assign refl) (λ _. 
 
 cell_bare : IsBare b.cell
 unfolding b.cell
-cell_bare = bare_first name (λ column. expect k.Assign >>= (λ _. b.assigned >>= (λ value. pure (column, value)))) name_bare
+cell_bare = bare_first name (λ column. expect k.Assign >>= (λ _. b.null_or_expression >>= (λ value. pure (column, value)))) name_bare
 
 cells_steady : IsSteady b.cells
 unfolding b.cells

@@ -16,18 +16,18 @@ undouble quote is_second [] = []
 undouble quote true (b ∷ z) = undouble quote false z
 undouble quote false (b ∷ z) = b ∷ undouble quote (b == quote) z
 
--- without this many bytes in front, and one behind
+-- without a prefix of this many bytes, and without the last byte
 abbrev pub inside : ℕ → Text → Text
-inside front t = take (length t - front - 1) (drop front t)
+inside prefix t = take (length t - prefix - 1) (drop prefix t)
 
 abbrev pub hex_digit : ℕ → ℕ
 hex_digit b = if nat_le 48 b && nat_le b 57 then b - 48 else (if nat_le 65 b && nat_le b 70 then b - 65 + 10 else (if nat_le 97 b && nat_le b 102 then b - 97 + 10 else 0))
 
 -- a byte for each two digits
-abbrev pub decoded : Text → Text
-decoded [] = []
-decoded (high ∷ []) = []
-decoded (high ∷ low ∷ z) = (16 * hex_digit high + hex_digit low) ∷ decoded z
+abbrev pub bytes_of_hex : Text → Text
+bytes_of_hex [] = []
+bytes_of_hex (high ∷ []) = []
+bytes_of_hex (high ∷ low ∷ z) = (16 * hex_digit high + hex_digit low) ∷ bytes_of_hex z
 
 -- the number that is written by digits after those of a number
 abbrev pub digits_value : ℕ → Text → ℕ
@@ -45,11 +45,11 @@ signed_digits z = take (past class.Digit (drop 1 z) 0) (drop 1 z)
 unfoldable pub if_utf8 : Text → Option Text
 if_utf8 bytes = if is_utf8 bytes then Some bytes else None
 
--- What a token of this kind and length at the front of a text holds. There is none where a name or text is no UTF-8.
+-- What the prefix of this length of a text holds as a token of this kind. There is none where a name or text is no UTF-8.
 abbrev pub content_by : Kind → Text → Text → Option Content
 content_by k.Quoted spelling z = option_map Name (if_utf8 (undouble 34 false (inside 1 spelling)))
 content_by k.TextLiteral spelling z = option_map (λ t. Literal (value.Text t)) (if_utf8 (undouble 39 false (inside 1 spelling)))
-content_by k.BytesLiteral spelling z = Some (Literal (value.Bytes (decoded (inside 2 spelling))))
+content_by k.BytesLiteral spelling z = Some (Literal (value.Bytes (bytes_of_hex (inside 2 spelling))))
 content_by k.Number spelling z = Some (Number (number spelling))
 content_by k.Signed spelling z = Some (Number (number (signed_digits z)))
 content_by _ spelling z = option_map Name (if_utf8 spelling)

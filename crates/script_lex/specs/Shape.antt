@@ -1,4 +1,4 @@
--- The kind and the length of the token at the front of a text. A text reads as 0 past its end.
+-- The kind and the length of the token that a text begins with. A text reads as 0 past its end.
 use Rattle.std.specs.Prelude.{◌≡◌, ◌≤◌, ℕ, ◌+◌, ◌%◌, Bool, true, false, not, ◌&&◌, ◌||◌, if◌then◌else◌, ◌==◌, List, [], ◌∷◌, ◌++◌, take, drop, codes, slice_index, Option, Some, None}
 use Rattle.std.specs.Char.{is_ascii_digit, is_ascii_hexdigit, is_ascii_alphanumeric}
 use Rattle.std.specs.List.{prefix_len}
@@ -69,17 +69,17 @@ abbrev pub word : Text → Kind × ℕ
 word z = (keyword (take (past class.Word z 0) z), past class.Word z 0)
 
 -- the place after the closing quote, for a text that begins at `at`; a doubled quote does not close
-abbrev pub closing : ℕ → Bool → ℕ → Text → Option ℕ
-closing quote is_second at [] = None
-closing quote true at (b ∷ z) = closing quote false (at + 1) z
-closing quote false at (b ∷ z) = if b == quote && not (slice_index z 0 == quote) then Some (at + 1) else closing quote (b == quote) (at + 1) z
+abbrev pub quote_end : ℕ → Bool → ℕ → Text → Option ℕ
+quote_end quote is_second at [] = None
+quote_end quote true at (b ∷ z) = quote_end quote false (at + 1) z
+quote_end quote false at (b ∷ z) = if b == quote && not (slice_index z 0 == quote) then Some (at + 1) else quote_end quote (b == quote) (at + 1) z
 
-abbrev pub closed : Kind → Option ℕ → Kind × ℕ
-closed kind None = (k.Bad, 1)
-closed kind (Some end) = (kind, end)
+abbrev pub kind_or_bad : Kind → Option ℕ → Kind × ℕ
+kind_or_bad kind None = (k.Bad, 1)
+kind_or_bad kind (Some end) = (kind, end)
 
-abbrev pub quoted : Kind → Text → Kind × ℕ
-quoted kind z = closed kind (closing (slice_index z 0) false 1 (drop 1 z))
+abbrev pub quoted_prefix : Kind → Text → Kind × ℕ
+quoted_prefix kind z = kind_or_bad kind (quote_end (slice_index z 0) false 1 (drop 1 z))
 
 -- one byte long, or two where there is a second
 abbrev pub IsShort : ℕ → ℕ → Type 0
@@ -117,13 +117,13 @@ is_bytes z =
     let end = past class.Hex z 2 in
     slice_index z 0 == 120 && slice_index z 1 == 39 && slice_index z end == 39 && end % 2 == 0
 
--- the kind of the longest token at the front of a text that begins with no blank, and its length in bytes
-unfoldable pub front : Text → Kind × ℕ
-front z =
+-- the kind of the longest prefix of a text that is a token, and its length in bytes; the text begins with no blank
+unfoldable pub token_prefix : Text → Kind × ℕ
+token_prefix z =
     let b = slice_index z 0 in
     if is_bytes z then (k.BytesLiteral, past class.Hex z 2 + 1)
     else (if is_ascii_digit b then (k.Number, past class.Digit z 0)
     else (if is_in class.Word b then word z
-    else (if b == 34 then quoted k.Quoted z
-    else (if b == 39 then quoted k.TextLiteral z
+    else (if b == 34 then quoted_prefix k.Quoted z
+    else (if b == 39 then quoted_prefix k.TextLiteral z
     else symbol b (slice_index z 1)))))

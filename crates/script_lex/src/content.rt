@@ -41,7 +41,7 @@ fn hex_digit(b: u8) -> u8
 
 /// A byte for each two digits.
 fn decoded(alloc: Global, mut digits: &[u8]) -> Result<Vec<u8>, AllocError>
-    ensures { IfOk result (λ v. v.items ≡ spec.decoded digits.entry.now) }
+    ensures { IfOk result (λ v. v.items ≡ spec.bytes_of_hex digits.entry.now) }
 {
     let mut bytes = Vec::new(alloc);
     while let [high, low, rest @ ..] = digits {
@@ -110,7 +110,7 @@ fn text(bytes: Vec<u8>) -> Option<Content>
     }
 }
 
-/// What a token of this kind and length at the front of a text holds. There is none where a name or text is no UTF-8.
+/// What the prefix of this length of a text holds as a token of this kind. There is none where a name or text is no UTF-8.
 #[tactic(auto, unfolding(crate::specs::Content::content))]
 pub fn content(
     alloc: Global,
@@ -134,11 +134,11 @@ pub fn content(
     }
 }
 
-/// Without this many bytes in front, and one behind.
-fn inside(front: usize, text: &[u8]) -> &[u8]
-    ensures { result.now ≡ spec.inside front text.now }
+/// Without a prefix of this many bytes, and without the last byte.
+fn inside(prefix: usize, text: &[u8]) -> &[u8]
+    ensures { result.now ≡ spec.inside prefix text.now }
 {
-    let rest = &text[front.min(text.len())..];
+    let rest = &text[prefix.min(text.len())..];
     &rest[..rest.len().saturating_sub(1)]
 }
 

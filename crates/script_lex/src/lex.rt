@@ -4,7 +4,7 @@ ghost use Rattle.std.specs.Prelude.{◌≡◌, ◌≢◌, ◌<◌, ◌≤◌, �
 ghost use Rattle.script_lex.specs.Lex as spec;
 
 use crate::content::content;
-use crate::shape::front;
+use crate::shape::token_prefix;
 use crate::{Content, Kind, Token};
 use std::alloc::{AllocError, Global};
 
@@ -25,7 +25,7 @@ fn is_blank(b: u8) -> bool
 
 /// A line of blanks alone, or one whose first other byte is `#`.
 pub fn skipped(mut line: &[u8]) -> bool
-    ensures { result ≡ spec.skipped line.entry.now }
+    ensures { result ≡ spec.is_ignored line.entry.now }
 {
     while let [b, rest @ ..] = line {
         if !is_blank(*b) {
@@ -36,14 +36,14 @@ pub fn skipped(mut line: &[u8]) -> bool
     true
 }
 
-/// The token at the front of a text that begins with no blank, and its length. Its kind is `Bad` where no token begins there.
-#[tactic(auto, unfolding(crate::specs::Lex::cut))]
+/// The first token of a text that begins with no blank, and its length. Its kind is `Bad` where no token begins there.
+#[tactic(auto, unfolding(crate::specs::Lex::first_token))]
 fn cut(alloc: Global, z: &[u8], at: usize) -> Result<(Token, usize), AllocError>
     requires { 0 < length z.now }
-    ensures value { IfOk result (λ t. t ≡ spec.cut at z.now) }
+    ensures value { IfOk result (λ t. t ≡ spec.first_token at z.now) }
     ensures within { IfOk result (λ t. (1 ≤ t.1) × (t.1 ≤ length z.now)) }
 {
-    let (kind, len) = front(z);
+    let (kind, len) = token_prefix(z);
     match content(alloc, kind, len, z)? {
         Some(content) => Ok((Token { kind, content, at }, len)),
         None => Ok((

@@ -1,4 +1,4 @@
-//! The kind and the length of the token at the front of a text.
+//! The kind and the length of the token that a text begins with.
 
 ghost use Rattle.std.specs.Prelude.{◌≡◌, ◌≢◌, ◌<◌, ◌≤◌, ◌+◌, length, map, slice_index, IfSome, true, false};
 ghost use Rattle.script_lex.specs.Shape as spec;
@@ -75,7 +75,7 @@ fn word(z: &[u8]) -> (Kind, usize)
 }
 
 fn closing(quote: u8, mut z: &[u8]) -> Option<usize>
-    ensures value { result ≡ spec.closing quote false 1 z.entry.now }
+    ensures value { result ≡ spec.quote_end quote false 1 z.entry.now }
     ensures within { IfSome result (λ end. (1 ≤ end) × (end ≤ length z.entry.now + 1)) }
 {
     let mut is_second = false;
@@ -93,7 +93,7 @@ fn closing(quote: u8, mut z: &[u8]) -> Option<usize>
 
 fn quoted(kind: Kind, z: &[u8]) -> (Kind, usize)
     requires { 0 < length z.now }
-    ensures value { result ≡ spec.quoted kind z.now }
+    ensures value { result ≡ spec.quoted_prefix kind z.now }
     ensures within { (1 ≤ result.1) × (result.1 ≤ length z.now) }
 {
     match closing(z[0], &z[1..]) {
@@ -189,11 +189,11 @@ fn is_bytes(z: &[u8]) -> bool
     byte(z, end) == b'\'' && end % 2 == 0
 }
 
-/// The kind of the longest token at the front of a text that begins with no blank, and its length in bytes.
-#[tactic(auto, unfolding(crate::specs::Shape::front))]
-pub fn front(z: &[u8]) -> (Kind, usize)
+/// The kind of the longest prefix of a text that is a token, and its length in bytes. The text begins with no blank.
+#[tactic(auto, unfolding(crate::specs::Shape::token_prefix))]
+pub fn token_prefix(z: &[u8]) -> (Kind, usize)
     requires { 0 < length z.now }
-    ensures value { result ≡ spec.front z.now }
+    ensures value { result ≡ spec.token_prefix z.now }
     ensures within { (1 ≤ result.1) × (result.1 ≤ length z.now) }
 {
     let b = z[0];

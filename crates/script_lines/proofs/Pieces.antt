@@ -5,7 +5,7 @@ use Rattle.std.proofs.lemmas.List.Folds.{prefix_len-append}
 use Rattle.std.proofs.lemmas.List.Sums.{prefix_len-le-length}
 use Rattle.std.proofs.lemmas.Bool.Decides.{nat_tests}
 use Rattle.std.specs.Io.BufRead.{strip_last}
-use Rattle.script_lines.specs.Cutting.{is_newline, carriage_return, line_width, has_newline, whole_line, last_line, passes_limit, most_bytes, cut, TooLong, Ended, Line, Cut}
+use Rattle.script_lines.specs.Cutting.{is_newline, carriage_return, line_width, has_newline, whole_line, last_line, passes_limit, most_bytes, next_cut, TooLong, Ended, Line, Cut}
 
 pub when_true : (test : Bool) (x y : Cut) → test ≡ true → cond test x y ≡ x
 when_true true x y is = refl
@@ -55,16 +55,16 @@ width_past bytes more bare =
 pub has_more : (bytes more : List ℕ) → line_width bytes < length bytes → has_newline (bytes ++ more) ≡ true
 has_more bytes more within = below (line_width (bytes ++ more)) (length (bytes ++ more)) (omega (arith, width_more bytes more within, length-append bytes more))
 
-pub cut_whole : (taken : ℕ) (bytes : List ℕ) → line_width bytes < length bytes → cut taken bytes ≡ whole_line taken bytes
-unfolding cut
+pub cut_whole : (taken : ℕ) (bytes : List ℕ) → line_width bytes < length bytes → next_cut taken bytes ≡ whole_line taken bytes
+unfolding next_cut
 cut_whole taken bytes within = when_true (has_newline bytes) _ _ (below _ _ within)
 
-pub cut_last : (taken : ℕ) (bytes : List ℕ) → length bytes ≤ line_width bytes → 0 < length bytes → cut taken bytes ≡ last_line taken bytes
-unfolding cut
+pub cut_last : (taken : ℕ) (bytes : List ℕ) → length bytes ≤ line_width bytes → 0 < length bytes → next_cut taken bytes ≡ last_line taken bytes
+unfolding next_cut
 cut_last taken bytes bare some = when_false (has_newline bytes) _ _ (not_below _ _ bare) ∙ when_false (eqb (length bytes) 0) _ _ (other _ _ some)
 
-pub cut_none : (taken : ℕ) (bytes : List ℕ) → length bytes ≡ 0 → cut taken bytes ≡ Ended
-unfolding cut
+pub cut_none : (taken : ℕ) (bytes : List ℕ) → length bytes ≡ 0 → next_cut taken bytes ≡ Ended
+unfolding next_cut
 cut_none taken bytes none = when_false (has_newline bytes) _ _ (not_below _ _ (omega arith)) ∙ when_true (eqb (length bytes) 0) _ _ (same _ _ none)
 
 pub whole_too_long_at : (taken : ℕ) (bytes : List ℕ) → passes_limit (line_width bytes) (taken + (line_width bytes + 1)) ≡ true → whole_line taken bytes ≡ TooLong
@@ -79,14 +79,14 @@ last_too_long taken bytes long = when_true (passes_limit (length bytes) (taken +
 
 -- the line that a newline ends
 
-pub whole_too_long : (bytes more : List ℕ) (taken width : ℕ) → width ≡ line_width bytes → width < length bytes → passes_limit width (taken + (width + 1)) ≡ true → cut taken (bytes ++ more) ≡ TooLong
+pub whole_too_long : (bytes more : List ℕ) (taken width : ℕ) → width ≡ line_width bytes → width < length bytes → passes_limit width (taken + (width + 1)) ≡ true → next_cut taken (bytes ++ more) ≡ TooLong
 whole_too_long bytes more taken width is within long =
     let e : line_width (bytes ++ more) ≡ width = width_more bytes more (omega arith) ∙ sym is in
     cut_whole taken (bytes ++ more) (omega (arith, length-append bytes more))
     ∙ whole_too_long_at taken (bytes ++ more) (passes_more width (line_width (bytes ++ more)) (taken + (width + 1)) (taken + (line_width (bytes ++ more) + 1)) (omega arith) (omega arith) long)
 
 pub whole_is : (bytes more : List ℕ) (taken width size : ℕ) → width ≡ line_width bytes → width < length bytes → size ≤ width → take size (take width bytes) ≡ strip_last carriage_return (take width bytes)
-    → passes_limit width (taken + (width + 1)) ≡ false → cut taken (bytes ++ more) ≡ Line (take size bytes) (taken + (width + 1)) (drop (width + 1) bytes ++ more)
+    → passes_limit width (taken + (width + 1)) ≡ false → next_cut taken (bytes ++ more) ≡ Line (take size bytes) (taken + (width + 1)) (drop (width + 1) bytes ++ more)
 whole_is bytes more taken width size is within fits stripped short =
     let e : width ≡ line_width (bytes ++ more) = is ∙ sym (width_more bytes more (omega arith)) in
     let front : take width (bytes ++ more) ≡ take width bytes = take-append-le width bytes more (omega arith) in
@@ -98,13 +98,13 @@ whole_is bytes more taken width size is within fits stripped short =
 
 -- bytes without a newline
 
-pub open_too_long : (bytes more : List ℕ) (taken : ℕ) → taken ≤ most_bytes → length bytes ≤ line_width bytes → passes_limit (length bytes) (taken + length bytes) ≡ true → cut taken (bytes ++ more) ≡ TooLong
+pub open_too_long : (bytes more : List ℕ) (taken : ℕ) → taken ≤ most_bytes → length bytes ≤ line_width bytes → passes_limit (length bytes) (taken + length bytes) ≡ true → next_cut taken (bytes ++ more) ≡ TooLong
 open_too_long bytes more taken few bare long = by_newline (has_newline (bytes ++ more)) refl
   where
     all : length (bytes ++ more) ≡ length bytes + length more
     all = length-append bytes more
 
-    by_newline : (has : Bool) → has_newline (bytes ++ more) ≡ has → cut taken (bytes ++ more) ≡ TooLong
+    by_newline : (has : Bool) → has_newline (bytes ++ more) ≡ has → next_cut taken (bytes ++ more) ≡ TooLong
     by_newline true is =
         let past = width_past bytes more bare in
         cut_whole taken (bytes ++ more) (stands (line_width (bytes ++ more)) (length (bytes ++ more)) is) ∙ whole_too_long_at taken (bytes ++ more) (passes_more (length bytes) (line_width (bytes ++ more)) (taken + length bytes) (taken + (line_width (bytes ++ more) + 1)) past (omega arith) long)
@@ -114,11 +114,11 @@ open_too_long bytes more taken few bare long = by_newline (has_newline (bytes ++
         cut_last taken (bytes ++ more) bare_all (omega (arith, all))
         ∙ last_too_long taken (bytes ++ more) (passes_more (length bytes) (length (bytes ++ more)) (taken + length bytes) (taken + length (bytes ++ more)) (omega (arith, all)) (omega (arith, all)) long)
 
-pub ended_empty : (bytes more : List ℕ) (taken : ℕ) → more ≡ [] → length bytes ≡ 0 → cut taken (bytes ++ more) ≡ Ended
+pub ended_empty : (bytes more : List ℕ) (taken : ℕ) → more ≡ [] → length bytes ≡ 0 → next_cut taken (bytes ++ more) ≡ Ended
 ended_empty bytes more taken nothing empty = cut_none taken (bytes ++ more) (omega (arith, length-append bytes more, ap length nothing))
 
 pub ended_is : (bytes more : List ℕ) (taken : ℕ) → more ≡ [] → 0 < length bytes → length bytes ≤ line_width bytes → passes_limit (length bytes) (taken + length bytes) ≡ false
-    → cut taken (bytes ++ more) ≡ Line (take (length bytes) bytes) (taken + length bytes) (drop (length bytes) bytes ++ more)
+    → next_cut taken (bytes ++ more) ≡ Line (take (length bytes) bytes) (taken + length bytes) (drop (length bytes) bytes ++ more)
 ended_is bytes more taken nothing some bare short =
     let front : take (length bytes) bytes ≡ bytes = take_all (length bytes) bytes (omega arith) in
     let rest : drop (length bytes) bytes ≡ [] = drop_all (length bytes) bytes (omega arith) in

@@ -5,7 +5,7 @@ use Rattle.std.proofs.lemmas.List.Sums.{passes_at_first}
 use Rattle.std.proofs.lemmas.Bool.Decides.{nat_tests}
 use Rattle.std.proofs.Math.Seq.{drop-cons}
 use Rattle.std.specs.Io.BufRead.{strip_last, ends_with_byte}
-use Rattle.script_lines.specs.Cutting.{is_newline, carriage_return, line_width, has_newline, whole_line, last_line, passes_limit, most_bytes, cut, TooLong, Ended, Line, Cut}
+use Rattle.script_lines.specs.Cutting.{is_newline, carriage_return, line_width, has_newline, whole_line, last_line, passes_limit, most_bytes, next_cut, TooLong, Ended, Line, Cut}
 use Rattle.script_lines.specs.Scripts.{Lines, lines_by, lines_from, lines_of, LineEnd, Newline, ReturnAndNewline, ScriptEnd, end_bytes, BeginsWithLine, AreLines, IsOfItsLines}
 use Rattle.script_lines.proofs.Pieces.{when_true, when_false, below, not_below, stands, reaches, same, width_more, cut_whole, cut_last, cut_none, whole_too_long_at, whole_line_at, last_too_long}
 
@@ -101,17 +101,17 @@ last_says taken bytes bare some = by_limit (passes_limit (length bytes) (taken +
         let line : BeginsWithLine bytes bytes [] = record { end = ScriptEnd; bare = bare; joined = sym (append-nil bytes); last = λ e. refl } in
         subst says (sym (when_false (passes_limit (length bytes) (taken + length bytes)) _ _ is)) (line, omega arith, short_of (length bytes) (taken + length bytes) is)
 
-cut_says : (taken : ℕ) (bytes : List ℕ) → CutSays (cut taken bytes) taken bytes
+cut_says : (taken : ℕ) (bytes : List ℕ) → CutSays (next_cut taken bytes) taken bytes
 cut_says taken bytes = by_newline (has_newline bytes) refl
   where
     says : Cut → Type 0
     says c = CutSays c taken bytes
 
-    by_size : has_newline bytes ≡ false → (n : ℕ) → length bytes ≡ n → says (cut taken bytes)
+    by_size : has_newline bytes ≡ false → (n : ℕ) → length bytes ≡ n → says (next_cut taken bytes)
     by_size bare zero none = subst says (sym (cut_none taken bytes none)) (nil_from_length bytes none)
     by_size bare (suc n) some = subst says (sym (cut_last taken bytes (reaches _ _ bare) (omega arith))) (last_says taken bytes bare (omega arith))
 
-    by_newline : (has : Bool) → has_newline bytes ≡ has → says (cut taken bytes)
+    by_newline : (has : Bool) → has_newline bytes ≡ has → says (next_cut taken bytes)
     by_newline true is = subst says (sym (cut_whole taken bytes (stands _ _ is))) (whole_says taken bytes (stands _ _ is))
     by_newline false is = by_size is (length bytes) refl
 
@@ -124,7 +124,7 @@ record AreOfLines (most taken : ℕ) (bytes : List ℕ) (lines : Lines) : Type 0
 lines_are : (most taken : ℕ) (bytes : List ℕ) → AreOfLines most taken bytes (lines_from most taken bytes)
 unfolding lines_from
 lines_are zero taken bytes = record { rest = bytes; joined = refl; whole = λ all enough within. absurd (omega arith) }
-lines_are (suc most) taken bytes = by (cut taken bytes) (cut_says taken bytes) (lines_are most)
+lines_are (suc most) taken bytes = by (next_cut taken bytes) (cut_says taken bytes) (lines_are most)
   where
     by : (c : Cut) → CutSays c taken bytes → ((now : ℕ) (behind : List ℕ) → AreOfLines most now behind (lines_from most now behind))
         → AreOfLines (suc most) taken bytes (lines_by c (lines_from most))

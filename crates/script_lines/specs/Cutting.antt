@@ -51,8 +51,8 @@ last_line taken bytes =
     else Line bytes (taken + length bytes) []
 
 -- what comes next of a script of which so many bytes were taken and these are left
-unfoldable pub cut : ℕ → List ℕ → Cut
-cut taken bytes =
+unfoldable pub next_cut : ℕ → List ℕ → Cut
+next_cut taken bytes =
     if has_newline bytes then whole_line taken bytes
     else (if nat_eq (length bytes) 0 then Ended else last_line taken bytes)
 
@@ -81,7 +81,7 @@ IsNext cut answer taken bytes now rest = ⊥
 abbrev pub IsNextOf : ℕ → Option (List ℕ) → NextLine → ℕ → Option (List ℕ) → Type 0
 IsNextOf taken None answer now rest = Unit {0}
 IsNextOf taken (Some bytes) answer now None = ⊥
-IsNextOf taken (Some bytes) answer now (Some rest) = IsNext (cut taken bytes) answer taken bytes now rest
+IsNextOf taken (Some bytes) answer now (Some rest) = IsNext (next_cut taken bytes) answer taken bytes now rest
 
 -- the answer is what comes next of the script, where the source tells its bytes
 abbrev pub IsNextTold : Pending → Option (List ℕ) → NextLine → Pending → Option (List ℕ) → Type 0
@@ -104,16 +104,16 @@ IsKept old before now left = (now.taken ≡ old.taken) × Keeps (to_come old bef
 -- what can be told of pending bytes, whatever bytes are still to come; none come once the source has ended
 abbrev pub IsPiece : List ℕ → ℕ → Bool → Piece → Type 0
 IsPiece bytes taken ended piece.Open = (has_newline bytes ≡ false) × (length bytes ≤ most_in_line) × (ended ≡ false)
-IsPiece bytes taken ended piece.End = (more : List ℕ) → (ended ≡ true → more ≡ []) → cut taken (bytes ++ more) ≡ Ended
-IsPiece bytes taken ended piece.TooLong = (more : List ℕ) → (ended ≡ true → more ≡ []) → cut taken (bytes ++ more) ≡ TooLong
+IsPiece bytes taken ended piece.End = (more : List ℕ) → (ended ≡ true → more ≡ []) → next_cut taken (bytes ++ more) ≡ Ended
+IsPiece bytes taken ended piece.TooLong = (more : List ℕ) → (ended ≡ true → more ≡ []) → next_cut taken (bytes ++ more) ≡ TooLong
 IsPiece bytes taken ended (piece.Line size width) = (size ≤ most_in_line) × (size ≤ width) × (0 < width) × (width ≤ length bytes) × (taken + width ≤ most_bytes)
-    × ((more : List ℕ) → (ended ≡ true → more ≡ []) → (cut taken (bytes ++ more) ≡ Line (take size bytes) (taken + width) (drop width bytes ++ more)) × (ended ≡ false → has_newline (bytes ++ more) ≡ true))
+    × ((more : List ℕ) → (ended ≡ true → more ≡ []) → (next_cut taken (bytes ++ more) ≡ Line (take size bytes) (taken + width) (drop width bytes ++ more)) × (ended ≡ false → has_newline (bytes ++ more) ≡ true))
 
 -- what stands pending after a call that told nothing, or took a line
 abbrev pub IsTaken : Pending → Option NextLine → Pending → Type 0
 IsTaken old None now = (now ≡ old) × (has_newline old.bytes ≡ false) × (length old.bytes ≤ most_in_line) × (old.ended ≡ false)
 IsTaken old (Some answer) now = (now.ended ≡ old.ended) × KeepsLimits answer old.taken now.taken
-    × ((left : List ℕ) → (old.ended ≡ true → left ≡ []) → IsNext (cut old.taken (old.bytes ++ left)) answer old.taken (old.bytes ++ left) now.taken (now.bytes ++ left)
+    × ((left : List ℕ) → (old.ended ≡ true → left ≡ []) → IsNext (next_cut old.taken (old.bytes ++ left)) answer old.taken (old.bytes ++ left) now.taken (now.bytes ++ left)
     × IsWhole answer old.ended (Some (old.bytes ++ left)))
 
 -- bytes of the source came behind the pending ones, at least one, or it has ended

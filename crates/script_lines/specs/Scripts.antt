@@ -1,6 +1,6 @@
 -- The lines of a script.
 use Rattle.std.specs.Prelude.{◌≡◌, ℕ, zero, suc, ◌+◌, Bool, true, false, List, [], ◌∷◌, ◌++◌}
-use Rattle.script_lines.specs.Cutting.{Cut, Ended, TooLong, Line, cut, has_newline, most_bytes}
+use Rattle.script_lines.specs.Cutting.{Cut, Ended, TooLong, Line, next_cut, has_newline, most_bytes}
 
 -- the lines of a script, and whether it or the line behind them is too long
 pub record Lines : Type 0 where
@@ -20,7 +20,7 @@ lines_by (Line line taken rest) behind = led_by line (behind taken rest)
 -- the lines of the bytes that are left, at most so many, where so many bytes were taken
 unfoldable pub lines_from : ℕ → ℕ → List ℕ → Lines
 lines_from zero taken bytes = record { lines = []; too_long = false }
-lines_from (suc most) taken bytes = lines_by (cut taken bytes) (lines_from most)
+lines_from (suc most) taken bytes = lines_by (next_cut taken bytes) (lines_from most)
 
 -- the lines of a script: each takes a byte at least, so that a script within the limits has no more of them than bytes
 abbrev pub lines_of : List ℕ → Lines

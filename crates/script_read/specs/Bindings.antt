@@ -4,7 +4,7 @@ use Rattle.script_types.specs.declared.command.Command.{Command}
 use Rattle.script_types.specs.declared.command.Command.TheVariants as c
 use Rattle.script_lex.specs.declared.kind.Kind.{Kind}
 use Rattle.script_lex.specs.declared.kind.Kind.TheVariants as k
-use Rattle.script_tokens.specs.Input.{Reader, ◌>>=◌, ◌>>◌, ◌<$>◌, pure, refuse, peek, take_token, eat, expect, clause, sees, separated}
+use Rattle.script_tokens.specs.Input.{Reader, ◌>>=◌, ◌>>◌, ◌<$>◌, pure, refuse, peek, take_token, eat, expect, clause, sees, comma_list}
 use Rattle.script_tokens.specs.Names.{name, names}
 use Rattle.base_core.specs.declared.value.Value.{Value}
 use Rattle.script_tokens.specs.Literals.{value, literals}
@@ -20,7 +20,7 @@ cell = do
   pure (attribute, found)
 
 unfoldable pub cells : Reader (List (List ℕ × Value))
-cells = separated cell
+cells = comma_list cell
 
 -- no cells where the line ends
 unfoldable pub cells_if_any : Reader (List (List ℕ × Value))

@@ -8,7 +8,7 @@ use Rattle.script_types.specs.declared.command.Inside.{Inside}
 use Rattle.script_types.specs.declared.command.Inside.TheVariants.{Top, Table, Class}
 use Rattle.script_lex.specs.declared.kind.Kind.TheVariants as k
 use Rattle.script_lex.specs.declared.token.Token.{Token}
-use Rattle.script_lex.specs.Lex.{same_kind, skipped, tokens}
+use Rattle.script_lex.specs.Lex.{same_kind, is_ignored, tokens}
 use Rattle.script_tokens.specs.declared.fault.Fault.{Fault}
 use Rattle.script_tokens.specs.declared.fault.Fault.TheVariants as fault
 use Rattle.script_tokens.specs.Input.{Outcome, Reader, ◌>>=◌, ◌>>◌, pure, refuse, sees, second_kind, start_of}
@@ -48,7 +48,7 @@ answer_of number (Err e) = Err (refusal_of number e)
 
 -- what a line of this number and place says, or where no line of the forms goes on
 unfoldable pub line : List ℕ → ℕ → Inside → Result Command Refusal
-line bytes number inside = if skipped bytes then Ok Skip else answer_of number (line_of inside (start_of (tokens bytes)))
+line bytes number inside = if is_ignored bytes then Ok Skip else answer_of number (line_of inside (start_of (tokens bytes)))
 
 -- a call gives the answer, unless memory ran out
 abbrev pub Gives : Result Command Refusal → Result Command Refusal → Type 0

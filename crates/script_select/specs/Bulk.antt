@@ -6,15 +6,15 @@ use Rattle.script_types.specs.declared.select.SynBulk.{SynBulk}
 use Rattle.script_types.specs.declared.select.SynBulk.TheVariants.{Insert, Update, Delete}
 use Rattle.script_lex.specs.declared.kind.Kind.{Kind}
 use Rattle.script_lex.specs.declared.kind.Kind.TheVariants as k
-use Rattle.script_tokens.specs.Input.{Reader, ◌>>=◌, ◌>>◌, ◌<$>◌, pure, refuse, peek, take_token, eat, expect, separated}
+use Rattle.script_tokens.specs.Input.{Reader, ◌>>=◌, ◌>>◌, ◌<$>◌, pure, refuse, peek, take_token, eat, expect, comma_list}
 use Rattle.script_tokens.specs.Names.{name, names}
 use Rattle.script_tokens.specs.Literals.{values}
 use Rattle.script_expr.specs.Expr.{whole}
 use Rattle.script_select.specs.Select.{condition}
 
 -- `null`, or an expression
-unfoldable pub assigned : Reader (Option Syn)
-assigned = do
+unfoldable pub null_or_expression : Reader (Option Syn)
+null_or_expression = do
   is_null ← eat k.Null
   if is_null then pure None else Some <$> whole
 
@@ -23,11 +23,11 @@ unfoldable pub cell : Reader (List ℕ × Option Syn)
 cell = do
   column ← name
   expect k.Assign
-  value ← assigned
+  value ← null_or_expression
   pure (column, value)
 
 unfoldable pub cells : Reader (List (List ℕ × Option Syn))
-cells = separated cell
+cells = comma_list cell
 
 -- values with commas between, in parentheses
 unfoldable pub row : Reader (List Value)

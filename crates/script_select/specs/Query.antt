@@ -3,7 +3,7 @@ use Rattle.std.specs.Prelude.{ℕ, zero, suc, Bool, true, false, if◌then◌els
 use Rattle.script_types.specs.declared.select.SynQuery.{SynQuery}
 use Rattle.script_lex.specs.declared.kind.Kind.{Kind}
 use Rattle.script_lex.specs.declared.kind.Kind.TheVariants as k
-use Rattle.script_tokens.specs.Input.{Reader, ◌>>=◌, ◌>>◌, ◌<$>◌, pure, refuse, peek, take_token, eat, expect, clause, turns, separated, separated_from}
+use Rattle.script_tokens.specs.Input.{Reader, ◌>>=◌, ◌>>◌, ◌<$>◌, pure, refuse, peek, take_token, eat, expect, clause, turns, comma_list, separated_from}
 use Rattle.script_tokens.specs.Many.{many_from}
 use Rattle.script_tokens.specs.Names.{name}
 use Rattle.script_select.specs.Select.{condition, last_part}
@@ -36,7 +36,7 @@ option = do
   pure (joined, path.0, path.1)
 
 unfoldable pub option_list : Reader (List (Bool × List ℕ × List ℕ))
-option_list = separated option
+option_list = comma_list option
 
 -- `with ..`, where it comes next
 unfoldable pub options : Reader (List (Bool × List ℕ × List ℕ))

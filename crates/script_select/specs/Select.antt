@@ -9,7 +9,7 @@ use Rattle.script_lex.specs.declared.kind.Kind.TheVariants as k
 use Rattle.script_lex.specs.Lex.{same_kind}
 use Rattle.script_select.specs.declared.select.Ending.{Ending}
 use Rattle.script_select.specs.declared.select.Grouping.{Grouping}
-use Rattle.script_tokens.specs.Input.{Reader, ◌>>=◌, ◌>>◌, ◌<$>◌, pure, refuse, peek, take_token, eat, expect, clause, turns, separated, separated_from}
+use Rattle.script_tokens.specs.Input.{Reader, ◌>>=◌, ◌>>◌, ◌<$>◌, pure, refuse, peek, take_token, eat, expect, clause, turns, comma_list, separated_from}
 use Rattle.script_tokens.specs.Many.{many_from}
 use Rattle.script_tokens.specs.Names.{name}
 use Rattle.script_tokens.specs.Literals.{int}
@@ -23,22 +23,22 @@ item = do
   pure (value, called)
 
 unfoldable pub items : Reader (List (Syn × Option (List ℕ)))
-items = separated item
+items = comma_list item
 
 -- `desc`, `asc` or neither
-unfoldable pub descending : Reader Bool
-descending = do
+unfoldable pub is_descending : Reader Bool
+is_descending = do
   found ← eat k.Desc
   if found then pure true else eat k.Asc >> pure false
 
 unfoldable pub order_item : Reader (Syn × Bool)
 order_item = do
   value ← whole
-  down ← descending
+  down ← is_descending
   pure (value, down)
 
 unfoldable pub order_items : Reader (List (Syn × Bool))
-order_items = separated order_item
+order_items = comma_list order_item
 
 -- `order by ..`, where there is one
 unfoldable pub order : Reader (List (Syn × Bool))
@@ -59,7 +59,7 @@ last_part = do
   pure (record { order = keys; limit = limit; offset = offset })
 
 unfoldable pub expressions : Reader (List Syn)
-expressions = separated whole
+expressions = comma_list whole
 
 -- `group by ..`, where there is one
 unfoldable pub groups : Reader (List Syn)
@@ -108,8 +108,8 @@ unfoldable pub joins : Reader (List SynJoin)
 joins = λ i. many_from join_if_any (turns i) [] i
 
 -- a select of its parts
-abbrev pub selected : Bool → List (Syn × Option (List ℕ)) → SynSource → List SynJoin → Grouping → Ending → SynSelect
-selected distinct items first joins part end = record {
+abbrev pub select_of_parts : Bool → List (Syn × Option (List ℕ)) → SynSource → List SynJoin → Grouping → Ending → SynSelect
+select_of_parts distinct items first joins part end = record {
   distinct = distinct;
   items = items;
   first = first;
@@ -131,4 +131,4 @@ select = do
   others ← joins
   part ← middle_part
   end ← last_part
-  pure (selected distinct shown first others part end)
+  pure (select_of_parts distinct shown first others part end)

@@ -14,9 +14,9 @@ use script_tokens::{Fault, Tokens};
 use script_types::{Syn, SynBulk};
 use std::alloc::Global;
 
-#[tactic(auto, unfolding(crate::specs::Bulk::assigned))]
+#[tactic(auto, unfolding(crate::specs::Bulk::null_or_expression))]
 fn assigned(alloc: Global, tokens: &mut Tokens<'_>) -> Result<Option<Syn>, Fault>
-    ensures { Reads (spec.assigned tokens.old) result tokens.new }
+    ensures { Reads (spec.null_or_expression tokens.old) result tokens.new }
 {
     if tokens.eat(Kind::Null) {
         Ok(None)

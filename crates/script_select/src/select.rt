@@ -78,9 +78,9 @@ fn items(alloc: Global, tokens: &mut Tokens<'_>) -> Result<ListOf<(Syn, Option<N
     separated(alloc, tokens, Kind::Comma, Vec::new(alloc), item)
 }
 
-#[tactic(auto, unfolding(crate::specs::Select::descending))]
+#[tactic(auto, unfolding(crate::specs::Select::is_descending))]
 fn descending(tokens: &mut Tokens<'_>) -> bool
-    ensures { spec.descending tokens.old ≡ Ok (result, tokens.new) }
+    ensures { spec.is_descending tokens.old ≡ Ok (result, tokens.new) }
 {
     if tokens.eat(Kind::Desc) {
         return true;

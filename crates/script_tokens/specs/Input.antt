@@ -119,8 +119,8 @@ separated_from mark item (suc n) found = do
   if more then separated_from mark item n (found ++ x ∷ []) else pure (found ++ x ∷ [])
 
 -- one or more, with commas between
-abbrev pub separated : {A : Type 0} → Reader A → Reader (List A)
-separated item = λ i. separated_from k.Comma item (turns i) [] i
+abbrev pub comma_list : {A : Type 0} → Reader A → Reader (List A)
+comma_list item = λ i. separated_from k.Comma item (turns i) [] i
 
 -- ---- the count of `+ - || *` in one expression
 

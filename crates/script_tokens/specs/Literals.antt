@@ -7,7 +7,7 @@ use Rattle.script_lex.specs.declared.kind.Kind.TheVariants as k
 use Rattle.script_lex.specs.declared.token.Content.{Content}
 use Rattle.script_lex.specs.declared.token.Content.TheVariants.{Name, Nothing, Number, Literal}
 use Rattle.script_lex.specs.Lex.{same_kind}
-use Rattle.script_tokens.specs.Input.{Input, head, kind, next, Reader, ◌>>=◌, ◌>>◌, ◌<$>◌, pure, refuse, expect, eat, peek, separated}
+use Rattle.script_tokens.specs.Input.{Input, head, kind, next, Reader, ◌>>=◌, ◌>>◌, ◌<$>◌, pure, refuse, expect, eat, peek, comma_list}
 
 -- a number without a minus
 abbrev pub positive : ℕ → Option Value
@@ -39,8 +39,8 @@ literal_in kind (Literal found) = quoted_by kind found
 literal_in kind (Name word) = truth_by kind
 literal_in kind Nothing = None
 
-unfoldable pub written : Input → Option Value
-written i = literal_in (head i).kind (head i).content
+unfoldable pub next_literal : Input → Option Value
+next_literal i = literal_in (head i).kind (head i).content
 
 -- a number with a minus is two tokens
 unfoldable pub past_literal : Input → Input
@@ -51,7 +51,7 @@ literal_by None = refuse
 literal_by (Some found) = λ i. Ok (found, past_literal i)
 
 unfoldable pub literal : Reader Value
-literal = λ i. literal_by (written i) i
+literal = λ i. literal_by (next_literal i) i
 
 abbrev pub begins_literal : Kind → Bool
 begins_literal k.Number = true
@@ -81,7 +81,7 @@ value = do
   if is_null then pure v.Null else literal
 
 unfoldable pub literals : Reader (List Value)
-literals = separated literal
+literals = comma_list literal
 
 unfoldable pub values : Reader (List Value)
-values = separated value
+values = comma_list value

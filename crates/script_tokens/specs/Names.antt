@@ -5,7 +5,7 @@ use Rattle.script_lex.specs.declared.kind.Kind.TheVariants as k
 use Rattle.script_lex.specs.declared.token.Content.{Content}
 use Rattle.script_lex.specs.declared.token.Content.TheVariants.{Name, Nothing, Number, Literal}
 use Rattle.script_lex.specs.declared.token.Token.{Token}
-use Rattle.script_tokens.specs.Input.{Input, head, next, Reader, ◌>>=◌, ◌>>◌, ◌<$>◌, pure, refuse, expect, eat, clause, separated}
+use Rattle.script_tokens.specs.Input.{Input, head, next, Reader, ◌>>=◌, ◌>>◌, ◌<$>◌, pure, refuse, expect, eat, clause, comma_list}
 
 -- a word that is no name
 abbrev pub is_reserved : Kind → Bool
@@ -83,20 +83,20 @@ name_in true (Name name) = if has_length name then Some name else None
 name_in _ _ = None
 
 -- the name that the next token is
-unfoldable pub called : Input → Option (List ℕ)
-called i = name_in (not (is_no_name (head i).kind)) (head i).content
+unfoldable pub next_name : Input → Option (List ℕ)
+next_name i = name_in (not (is_no_name (head i).kind)) (head i).content
 
 abbrev pub named_by : Option (List ℕ) → Reader (List ℕ)
 named_by None = refuse
 named_by (Some name) = λ i. Ok (name, next i)
 
 unfoldable pub name : Reader (List ℕ)
-name = λ i. named_by (called i) i
+name = λ i. named_by (next_name i) i
 
 -- `(a, b)`
 unfoldable pub names : Reader (List (List ℕ))
 names = do
   expect k.LParen
-  found ← separated name
+  found ← comma_list name
   expect k.RParen
   pure found

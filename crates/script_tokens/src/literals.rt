@@ -66,9 +66,9 @@ fn truth_by(kind: Kind) -> Option<Value>
 }
 
 /// The value of the literal that begins with the next token.
-#[tactic(auto, unfolding(crate::specs::Literals::written))]
+#[tactic(auto, unfolding(crate::specs::Literals::next_literal))]
 fn written(tokens: &Tokens<'_>) -> Result<Option<Value>, AllocError>
-    ensures { IfOk result (λ found. found ≡ spec.written tokens.now) }
+    ensures { IfOk result (λ found. found ≡ spec.next_literal tokens.now) }
 {
     match tokens.content() {
         Some(Content::Number(n)) => Ok(number_by(tokens.kind(), *n)),

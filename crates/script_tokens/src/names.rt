@@ -2,7 +2,7 @@
 
 ghost use Rattle.std.specs.Prelude.{◌≡◌, IfOk};
 ghost use Rattle.std.specs.Option.{option_copied};
-ghost use Rattle.script_tokens.specs.Input.{Reads, separated};
+ghost use Rattle.script_tokens.specs.Input.{Reads, comma_list};
 ghost use Rattle.script_tokens.specs.Names as spec;
 
 use crate::lists::separated;
@@ -106,9 +106,9 @@ fn has_length(name: &Name) -> bool
 }
 
 /// The name that the next token is.
-#[tactic(auto, unfolding(crate::specs::Names::called))]
+#[tactic(auto, unfolding(crate::specs::Names::next_name))]
 fn called<'a>(tokens: &Tokens<'a>) -> Option<&'a Name>
-    ensures { option_copied result ≡ spec.called tokens.now }
+    ensures { option_copied result ≡ spec.next_name tokens.now }
 {
     match tokens.content() {
         Some(Content::Name(name)) if !is_no_name(tokens.kind()) && has_length(name) => Some(name),
@@ -132,7 +132,7 @@ pub fn name(tokens: &mut Tokens<'_>) -> Result<Name, Fault>
 }
 
 fn name_list(alloc: Global, tokens: &mut Tokens<'_>) -> Result<ListOf<Name>, Fault>
-    ensures { Reads (separated spec.name tokens.old) result tokens.new }
+    ensures { Reads (comma_list spec.name tokens.old) result tokens.new }
 {
     separated(
         alloc,

@@ -14,7 +14,7 @@ use Rattle.script_lines.specs.declared.lines.NextLine.{NextLine}
 use Rattle.script_lines.specs.declared.lines.NextLine.TheVariants as next
 use Rattle.script_lines.specs.declared.lines.ReadStop.{ReadStop}
 use Rattle.script_lines.specs.declared.lines.ReadStop.TheVariants as read
-use Rattle.script_lines.specs.Cutting.{Cut, Ended, TooLong, Line, IsNext, IsNextOf, cut, has_newline, last_line, line_width, most_bytes, passes_limit, whole_line}
+use Rattle.script_lines.specs.Cutting.{Cut, Ended, TooLong, Line, IsNext, IsNextOf, next_cut, has_newline, last_line, line_width, most_bytes, passes_limit, whole_line}
 use Rattle.shell_steps.specs.ShellState.{ShellState}
 use Rattle.sqla_shell.specs.declared.ending.Ending.{Ending}
 use Rattle.sqla_shell.specs.declared.ending.Ending.TheVariants as ending
@@ -67,10 +67,10 @@ record Turned (all : Lines) (i : ℕ) (line : List ℕ) (now : ℕ) (rest : List
 turned : (all : Lines) (most i taken : ℕ) (bytes line : List ℕ) (now : ℕ) (rest : List ℕ)
     → most_bytes + 1 ≤ most + taken → taken < now → now ≤ most_bytes
     → lines_from most taken bytes ≡ record { lines = drop i all.lines; too_long = all.too_long }
-    → IsNext (cut taken bytes) (next.Line line) taken bytes now rest → Turned all i line now rest
+    → IsNext (next_cut taken bytes) (next.Line line) taken bytes now rest → Turned all i line now rest
 unfolding lines_from
 turned all zero i taken bytes line now rest few later within lines is = absurd (omega (arith, few, later, within))
-turned all (suc most) i taken bytes line now rest few later within lines is = by (cut taken bytes) lines is
+turned all (suc most) i taken bytes line now rest few later within lines is = by (next_cut taken bytes) lines is
   where
     by : (c : Cut) → lines_by c (lines_from most) ≡ record { lines = drop i all.lines; too_long = all.too_long } → IsNext c (next.Line line) taken bytes now rest → Turned all i line now rest
     by Ended same p = absurd p
@@ -122,8 +122,8 @@ line_stopped_as {tell = tell} old {new = new} start i taken left line now more l
 -- the next cut is no line
 ended : (all : Lines) (most i taken : ℕ) (bytes : List ℕ) (answer : NextLine) (b : Bool)
     → most_bytes + 1 ≤ most + taken → taken ≤ most_bytes → lines_from most taken bytes ≡ record { lines = drop i all.lines; too_long = all.too_long }
-    → lines_by (cut taken bytes) (lines_from most) ≡ lines_by (cut taken bytes) (lines_from most)
-    → ((most : ℕ) → lines_by (cut taken bytes) (lines_from most) ≡ record { lines = []; too_long = b })
+    → lines_by (next_cut taken bytes) (lines_from most) ≡ lines_by (next_cut taken bytes) (lines_from most)
+    → ((most : ℕ) → lines_by (next_cut taken bytes) (lines_from most) ≡ record { lines = []; too_long = b })
     → (length all.lines ≤ i) × (all.too_long ≡ b)
 unfolding lines_from
 ended all zero i taken bytes answer b few within lines same none = absurd (omega (arith, few, within))
@@ -149,7 +149,7 @@ lines_ended tell old mid (Some script) i taken None now more within on is = absu
 lines_ended tell old mid (Some script) i taken (Some bytes) now None within on is = absurd is
 lines_ended tell old mid (Some script) i taken (Some bytes) now (Some rest) within on is =
     let all = lines_of script in
-    let e = ended all on.most i taken bytes next.End false on.few within on.lines refl (λ most. ap (λ c. lines_by c (lines_from most)) (cut_ended taken bytes now rest (cut taken bytes) is)) in
+    let e = ended all on.most i taken bytes next.End false on.few within on.lines refl (λ most. ap (λ c. lines_by c (lines_from most)) (cut_ended taken bytes now rest (next_cut taken bytes) is)) in
     (each_end answered all.lines i on.way e.0 refl, by all.too_long e.1)
   where
     by : (b : Bool) → b ≡ false → ending.Finished ≡ ending_of b
@@ -164,7 +164,7 @@ lines_too_long tell old mid (Some script) i taken None now more within on is = a
 lines_too_long tell old mid (Some script) i taken (Some bytes) now None within on is = absurd is
 lines_too_long tell old mid (Some script) i taken (Some bytes) now (Some rest) within on is =
     let all = lines_of script in
-    let e = ended all on.most i taken bytes next.TooLong true on.few within on.lines refl (λ most. ap (λ c. lines_by c (lines_from most)) (cut_too_long taken bytes now rest (cut taken bytes) is)) in
+    let e = ended all on.most i taken bytes next.TooLong true on.few within on.lines refl (λ most. ap (λ c. lines_by c (lines_from most)) (cut_too_long taken bytes now rest (next_cut taken bytes) is)) in
     (each_end answered all.lines i on.way e.0 refl, by all.too_long e.1)
   where
     by : (b : Bool) → b ≡ true → ending.TooLong ≡ ending_of b
@@ -186,8 +186,8 @@ read_stopped tell old mid (Some script) i taken (Some bytes) stop cause is on =
 -- ---- the end of the source
 
 -- nothing is cut of nothing alone
-cut_empty : (taken : ℕ) (bytes : List ℕ) → cut taken bytes ≡ Ended → bytes ≡ []
-unfolding cut
+cut_empty : (taken : ℕ) (bytes : List ℕ) → next_cut taken bytes ≡ Ended → bytes ≡ []
+unfolding next_cut
 cut_empty taken bytes is = by (has_newline bytes) (nat_eq (length bytes) 0) refl is
   where
     long : (b : Bool) (line : Cut) → cond b TooLong line ≡ Ended → (line ≡ Ended → ⊥) → ⊥
@@ -210,9 +210,9 @@ nothing_left tell old mid None i taken come now pending left on is = tt
 nothing_left tell old mid (Some script) i taken None now pending left on is = absurd on
 nothing_left tell old mid (Some script) i taken (Some bytes) now pending None on is = absurd is
 nothing_left tell old mid (Some script) i taken (Some bytes) now pending (Some rest) on is =
-    by (cut taken bytes) refl is
+    by (next_cut taken bytes) refl is
   where
-    by : (c : Cut) → cut taken bytes ≡ c → IsNext c next.End taken bytes now (pending ++ rest) → Some rest ≡ Some []
+    by : (c : Cut) → next_cut taken bytes ≡ c → IsNext c next.End taken bytes now (pending ++ rest) → Some rest ≡ Some []
     by Ended same p = ap Some (nothing_behind pending rest (p.1 ∙ cut_empty taken bytes same))
     by TooLong same p = absurd p
     by (Line l t r) same p = absurd p
