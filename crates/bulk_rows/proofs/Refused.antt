@@ -24,18 +24,18 @@ use Rattle.sql_semantics.specs.Truth.{passes}
 use Rattle.sql_semantics.specs.Eval as eval
 use Rattle.expr_eval.proofs.Refused.{OnlyData, bind_data, evaluated_data}
 use Rattle.sql_semantics.specs.Created.{bare}
-use Rattle.sql_semantics.specs.Rows.{created}
+use Rattle.sql_semantics.specs.Rows.{require_created}
 use Rattle.select_rows.proofs.Refused.{OnlyMisses, created_misses}
 use Rattle.sql_semantics.specs.Applied as spec
-use Rattle.sql_semantics.specs.Applied.{Outcome, applied, count_rows, found, named_in, of_judged}
+use Rattle.sql_semantics.specs.Applied.{Outcome, bulk_outcome, count_rows, rows_or_refusal, named_in, of_judged}
 use Rattle.sql_semantics.specs.BulkRefusals.{CanRefuse, has_expressions, tables_of}
-use Rattle.sql_semantics.specs.Taken.{at, cells_from, deleted_from, inserted, one_more, rewritten, takes, updated_from, value_for}
+use Rattle.sql_semantics.specs.Taken.{at, cells_from, deleted_from, inserted_row, one_more, rewritten_row, takes, updated_from, value_for}
 
 -- ---- nothing but a result outside 64 bits refuses what is evaluated
 
 takes_data : (tables : eval.Tables) (filter : Option Expr) (r : eval.Row) → OnlyData (takes tables filter r)
 takes_data tables None r = tt
-takes_data tables (Some e) r = bind_data (eval.evaluated e (at tables r)) (λ v. Ok (passes v)) (evaluated_data e (at tables r)) (λ v. tt)
+takes_data tables (Some e) r = bind_data (eval.meaning_of e (at tables r)) (λ v. Ok (passes v)) (evaluated_data e (at tables r)) (λ v. tt)
 
 value_data : (tables : eval.Tables) (r : eval.Row) (e : Option Expr) → OnlyData (value_for tables r e)
 value_data tables r None = tt
@@ -46,11 +46,11 @@ cells_data tables r done [] = tt
 cells_data tables r done (cell ∷ cells) =
     bind_data (value_for tables r cell.1) (λ v. cells_from tables r (done ++ (cell.0, v) ∷ []) cells) (value_data tables r cell.1) (λ v. cells_data tables r (done ++ (cell.0, v) ∷ []) cells)
 
-rewritten_data : (tables : eval.Tables) (cells : List (ColumnNo × Option Expr)) (r : eval.Row) → OnlyData (rewritten tables cells r)
+rewritten_data : (tables : eval.Tables) (cells : List (ColumnNo × Option Expr)) (r : eval.Row) → OnlyData (rewritten_row tables cells r)
 rewritten_data tables cells r = bind_data (cells_from tables r [] cells) (λ written. Ok (with_cells r written)) (cells_data tables r [] cells) (λ written. tt)
 
 one_data : (tables : eval.Tables) (cells : List (ColumnNo × Option Expr)) (done : Rows) (entry : List Value × eval.Row) (taken : Bool) → OnlyData (one_more tables cells done entry taken)
-one_data tables cells done entry true = bind_data (rewritten tables cells entry.1) (λ r. Ok (done ++ (entry.0, r) ∷ [])) (rewritten_data tables cells entry.1) (λ r. tt)
+one_data tables cells done entry true = bind_data (rewritten_row tables cells entry.1) (λ r. Ok (done ++ (entry.0, r) ∷ [])) (rewritten_data tables cells entry.1) (λ r. tt)
 one_data tables cells done entry false = tt
 
 pub updated_data : (tables : eval.Tables) (cells : List (ColumnNo × Option Expr)) (filter : Option Expr) (done rows : Rows) → OnlyData (updated_from tables cells filter done rows)
@@ -85,7 +85,7 @@ of_misses s first more (Ok a) is h = tt
 of_misses s first more (Err (OperationalError table)) is h = subst (λ ts. IsTrue (list_any (λ t. t == table.0) ts)) (sym is) (or_then (first == table.0) (list_any (λ t. t == table.0) more) h)
 of_misses s first more (Err e) is h = absurd h
 
-found_of : (s : Bulk) (table : TableId) (more : List ℕ) (rows : Option Rows) → tables_of s ≡ table.0 ∷ more → OnlyOf s (found table rows)
+found_of : (s : Bulk) (table : TableId) (more : List ℕ) (rows : Option Rows) → tables_of s ≡ table.0 ∷ more → OnlyOf s (rows_or_refusal table rows)
 found_of s table more None is = subst (λ ts. IsTrue (list_any (λ t. t == table.0) ts)) (sym is) (or_first (table.0 == table.0) (list_any (λ t. t == table.0) more) (nat_eq_equiv.refl table.0))
 found_of s table more (Some rows) is = tt
 
@@ -102,9 +102,9 @@ judged_of s table (Err violation) h = h
 insert_of : (schema : Catalog) (tables : Tables) (table : TableId) (columns : List ColumnNo) (values : List Value) (rows : Rows) → OnlyOf (bulk.Insert table columns values) (spec.insert schema tables table columns values rows)
 insert_of schema tables table columns values rows =
     let s : Bulk = bulk.Insert table columns values in
-    let done : row.Outcome = row.insert_rows schema tables table rows (inserted (length (spec_of schema table).columns) columns values ∷ []) in
+    let done : row.Outcome = row.insert_rows schema tables table rows (inserted_row (length (spec_of schema table).columns) columns values ∷ []) in
     bind_of s (of_judged table done) (λ answer. Ok (1, answer.1))
-    (judged_of s table done (insert_errs (OnlyBy s table) schema tables table rows (inserted (length (spec_of schema table).columns) columns values ∷ []) (refl, refl) (refl, refl) (refl, refl) (refl, refl) (refl, refl)))
+    (judged_of s table done (insert_errs (OnlyBy s table) schema tables table rows (inserted_row (length (spec_of schema table).columns) columns values ∷ []) (refl, refl) (refl, refl) (refl, refl) (refl, refl) (refl, refl)))
     (λ answer. tt)
 
 count_of : (s : Bulk) (table : TableId) (count : ℕ) (left : Judged Tables) → IfErr left (OnlyBy s table) → OnlyOf s (count_rows table count left)
@@ -123,30 +123,30 @@ delete_of schema tables table filter rows (k ∷ ks) =
     let s : Bulk = bulk.Delete table filter in
     count_of s table (length (k ∷ ks)) (remove_all schema tables table rows (k ∷ ks)) (remove_errs (OnlyBy s table) schema tables table rows (k ∷ ks) (refl, refl))
 
-applied_of : (schema : Catalog) (tables : Tables) (s : Bulk) → OnlyOf s (applied schema tables s)
-unfolding applied
+applied_of : (schema : Catalog) (tables : Tables) (s : Bulk) → OnlyOf s (bulk_outcome schema tables s)
+unfolding bulk_outcome
 applied_of schema tables (bulk.Insert table columns values) =
     let s : Bulk = bulk.Insert table columns values in
-    bind_of s (found table (rows_in tables table)) (spec.insert schema tables table columns values) (found_of s table [] (rows_in tables table) refl)
+    bind_of s (rows_or_refusal table (rows_in tables table)) (spec.insert schema tables table columns values) (found_of s table [] (rows_in tables table) refl)
     (λ rows. insert_of schema tables table columns values rows)
 applied_of schema tables (bulk.Update table cells filter) =
     let s : Bulk = bulk.Update table cells filter in
     let judged : Rows → Rows → Outcome = λ rows entries. spec.update_entries schema tables table rows entries in
     let taken : Rows → Outcome = λ rows. updated_from (bare tables) cells filter [] rows >>= judged rows in
-    bind_of s (found table (rows_in tables table)) (λ rows. created (bare tables) (named_in cells filter) >>= λ _. taken rows) (found_of s table (named_in cells filter) (rows_in tables table) refl)
-    (λ rows. bind_of s (created (bare tables) (named_in cells filter)) (λ _. taken rows) (of_misses s table.0 (named_in cells filter) (created (bare tables) (named_in cells filter)) refl (created_misses (bare tables) (named_in cells filter)))
+    bind_of s (rows_or_refusal table (rows_in tables table)) (λ rows. require_created (bare tables) (named_in cells filter) >>= λ _. taken rows) (found_of s table (named_in cells filter) (rows_in tables table) refl)
+    (λ rows. bind_of s (require_created (bare tables) (named_in cells filter)) (λ _. taken rows) (of_misses s table.0 (named_in cells filter) (require_created (bare tables) (named_in cells filter)) refl (created_misses (bare tables) (named_in cells filter)))
     (λ _. bind_of s (updated_from (bare tables) cells filter [] rows) (judged rows) (of_data s (updated_from (bare tables) cells filter [] rows) refl (updated_data (bare tables) cells filter [] rows))
     (λ entries. update_of schema tables table cells filter rows entries)))
 applied_of schema tables (bulk.Delete table filter) =
     let s : Bulk = bulk.Delete table filter in
     let judged : Rows → List (List Value) → Outcome = λ rows keys. spec.delete_keys schema tables table rows keys in
     let taken : Rows → Outcome = λ rows. deleted_from (bare tables) filter [] rows >>= judged rows in
-    bind_of s (found table (rows_in tables table)) (λ rows. created (bare tables) (named_in [] filter) >>= λ _. taken rows) (found_of s table (named_in [] filter) (rows_in tables table) refl)
-    (λ rows. bind_of s (created (bare tables) (named_in [] filter)) (λ _. taken rows) (of_misses s table.0 (named_in [] filter) (created (bare tables) (named_in [] filter)) refl (created_misses (bare tables) (named_in [] filter)))
+    bind_of s (rows_or_refusal table (rows_in tables table)) (λ rows. require_created (bare tables) (named_in [] filter) >>= λ _. taken rows) (found_of s table (named_in [] filter) (rows_in tables table) refl)
+    (λ rows. bind_of s (require_created (bare tables) (named_in [] filter)) (λ _. taken rows) (of_misses s table.0 (named_in [] filter) (require_created (bare tables) (named_in [] filter)) refl (created_misses (bare tables) (named_in [] filter)))
     (λ _. bind_of s (deleted_from (bare tables) filter [] rows) (judged rows) (of_data s (deleted_from (bare tables) filter [] rows) refl (deleted_data (bare tables) filter [] rows))
     (λ keys. delete_of schema tables table filter rows keys)))
 
 -- what refuses a bulk statement is of its text, unless memory ran out
-pub refused : (schema : Catalog) (tables : Tables) (s : Bulk) (e : Refusal) → Refuses e (applied schema tables s) → CanRefuse s e
+pub refused : (schema : Catalog) (tables : Tables) (s : Bulk) (e : Refusal) → Refuses e (bulk_outcome schema tables s) → CanRefuse s e
 refused schema tables s Memory g = tt
 refused schema tables s e g = subst (OnlyOf s) g (applied_of schema tables s)

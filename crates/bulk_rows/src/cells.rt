@@ -82,7 +82,7 @@ pub(crate) fn rewritten(
     row: &RowValues,
     written: &[(ColumnNo, Option<Expr>)],
 ) -> Result<RowValues, Refusal>
-    ensures { Gives (λ x. x) result (spec.rewritten tables.now written.now row.now) }
+    ensures { Gives (λ x. x) result (spec.rewritten_row tables.now written.now row.now) }
 {
     let cells = cells(alloc, tables, row.as_slice(), written)?;
     Ok(with_cells(row.copied()?.into_vec(), &cells)?)
@@ -107,7 +107,7 @@ fn paired(
     values: &[Value],
 ) -> Result<Vec<(ColumnNo, Value)>, AllocError>
     requires { length columns.now ≡ length values.now }
-    ensures { IfOk result (λ cells. cells.items ≡ spec.paired columns.now values.now) }
+    ensures { IfOk result (λ cells. cells.items ≡ spec.column_values columns.now values.now) }
 {
     let mut cells = Vec::new(alloc);
     for place in 0..columns.len() {
@@ -125,7 +125,7 @@ pub fn inserted(
     values: &RowValues,
 ) -> Result<RowValues, AllocError>
     requires { length columns.now ≡ length values.now }
-    ensures { IfOk result (λ row. row ≡ spec.inserted width columns.now values.now) }
+    ensures { IfOk result (λ row. row ≡ spec.inserted_row width columns.now values.now) }
 {
     let cells = paired(alloc, columns.as_slice(), values.as_slice())?;
     with_cells(nulls(alloc, width)?, &cells)

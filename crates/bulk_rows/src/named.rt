@@ -2,7 +2,7 @@
 
 ghost use Rattle.std.specs.Prelude.{◌≡◌, ◌++◌, map, OnOk};
 ghost use Rattle.sql_semantics.specs.Checked.{Gives};
-ghost use Rattle.sql_semantics.specs.Rows.{created, flat, named_where};
+ghost use Rattle.sql_semantics.specs.Rows.{require_created, flat, named_where};
 ghost use Rattle.sql_semantics.specs.Applied as spec;
 
 use base_core::{ColumnNo, ListOf, Refusal};
@@ -43,7 +43,7 @@ pub fn all_created(
     cells: &[(ColumnNo, Option<Expr>)],
     filter: &Option<Expr>,
 ) -> Result<(), Refusal>
-    ensures { Gives (λ x. x) result (created tables.now (spec.named_in cells.now filter.now)) }
+    ensures { Gives (λ x. x) result (require_created tables.now (spec.named_in cells.now filter.now)) }
 {
     let mut found = Vec::new(alloc);
     of_cells(cells, &mut found)?;

@@ -13,7 +13,7 @@ use std::alloc::AllocError;
 
 /// The values that are not NULL.
 pub(crate) fn known(values: Vec<Value>) -> Vec<Value>
-    ensures { result.items ≡ spec.known values.items }
+    ensures { result.items ≡ spec.known_values values.items }
 {
     let mut values = values;
     values.retain(|value| !is_null(value));
@@ -64,7 +64,7 @@ pub(crate) fn greatest(values: &[Value]) -> Result<Value, AllocError>
 
 /// An aggregate of a group's values; NULL outside a group.
 pub(crate) fn aggregated(function: Func, values: Option<Vec<Value>>) -> Result<Value, Refusal>
-    ensures { Gives (λ x. x) result (spec.aggregated function (option_map (λ v. v.items) values)) }
+    ensures { Gives (λ x. x) result (spec.aggregate_value function (option_map (λ v. v.items) values)) }
 {
     let Some(values) = values else {
         return Ok(Value::Null);

@@ -31,7 +31,7 @@ pub fn below(a: &Value, b: &Value) -> bool
 }
 
 fn ordered(op: CompareOp, a: &Value, b: &Value) -> bool
-    ensures { result ≡ spec.ordered op a.now b.now }
+    ensures { result ≡ spec.comparison_holds op a.now b.now }
 {
     match op {
         CompareOp::Equal => same(a, b),
@@ -45,7 +45,7 @@ fn ordered(op: CompareOp, a: &Value, b: &Value) -> bool
 
 /// A comparison with NULL is not known.
 pub(crate) fn compared(op: CompareOp, a: &Value, b: &Value) -> Option<bool>
-    ensures { result ≡ spec.compared op a.now b.now }
+    ensures { result ≡ spec.comparison_truth op a.now b.now }
 {
     if is_null(a) || is_null(b) {
         None

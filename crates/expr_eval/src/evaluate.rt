@@ -5,7 +5,7 @@ ghost use Rattle.std.specs.Option.{option_map, option_copied};
 ghost use Rattle.base_core.specs.Answers.{Gives};
 ghost use Rattle.base_core.specs.Order.{same_value};
 ghost use Rattle.sql_semantics.specs.Eval as spec;
-ghost use Rattle.sql_semantics.specs.Eval.{evaluated};
+ghost use Rattle.sql_semantics.specs.Eval.{meaning_of};
 ghost use Rattle.expr_eval.specs.Place.{place_of};
 ghost use Rattle.sql_semantics.specs.Truth as truth;
 
@@ -22,10 +22,10 @@ use sqlite_items::{Boxed, Items};
 use std::alloc::Global;
 
 /// The value of an expression in a scope. Operands are evaluated from left to right, with no short cut.
-#[tactic(auto, unfolding(sql_semantics::specs::Eval::evaluated))]
+#[tactic(auto, unfolding(sql_semantics::specs::Eval::meaning_of))]
 #[cycle(eval)]
 pub fn value_in(alloc: Global, e: &Expr, scope: &Scope<'_>) -> Result<Value, Refusal>
-    ensures { Gives (λ x. x) result (evaluated e.now (place_of scope.now)) }
+    ensures { Gives (λ x. x) result (meaning_of e.now (place_of scope.now)) }
 {
     match e {
         Expr::Column(source, column) => Ok(scope.column(*source, *column)?),
@@ -60,7 +60,7 @@ pub fn eval<'x>(
     row: &'x RowValues,
     starts: &'x [u32],
 ) -> Result<Value, Refusal>
-    ensures { Gives (λ x. x) result (evaluated e.now (spec.at_row row.now starts.now)) }
+    ensures { Gives (λ x. x) result (meaning_of e.now (spec.at_row row.now starts.now)) }
 {
     let scope = Scope {
         row: row.as_slice(),
@@ -80,8 +80,8 @@ fn comparison(
     scope: &Scope<'_>,
 ) -> Result<Value, Refusal>
     ensures { Gives (λ x. x) result
-        (spec.two (evaluated a.now) (evaluated b.now)
-        (λ x y. spec.truth (spec.compared op x y)) (place_of scope.now)) }
+        (spec.two (meaning_of a.now) (meaning_of b.now)
+        (λ x y. spec.truth (spec.comparison_truth op x y)) (place_of scope.now)) }
 {
     let (x, y) = both(alloc, a, b, scope)?;
     Ok(value_of(compared(op, &x, &y)))
@@ -95,8 +95,8 @@ fn null_test(
     scope: &Scope<'_>,
 ) -> Result<Value, Refusal>
     ensures { Gives (λ x. x) result
-        (spec.one (evaluated a.now)
-        (λ x. spec.truth (truth.signed negated (Some (spec.is_null x)))) (place_of scope.now)) }
+        (spec.one (meaning_of a.now)
+        (λ x. spec.truth (truth.truth_or_opposite negated (Some (spec.is_null x)))) (place_of scope.now)) }
 {
     let x = value_in(alloc, a.get(), scope)?;
     Ok(value_of(signed(negated, Some(is_null(&x)))))
@@ -105,7 +105,7 @@ fn null_test(
 #[cycle(eval)]
 fn conjunction(alloc: Global, parts: &Items<Expr>, scope: &Scope<'_>) -> Result<Value, Refusal>
     ensures { Gives (λ x. x) result
-        (spec.several (map evaluated parts.now)
+        (spec.several (map meaning_of parts.now)
         (λ vs. spec.truth (truth.all3 (map truth.truth_of vs))) (place_of scope.now)) }
 {
     let values = several(alloc, parts, scope)?;
@@ -115,7 +115,7 @@ fn conjunction(alloc: Global, parts: &Items<Expr>, scope: &Scope<'_>) -> Result<
 #[cycle(eval)]
 fn disjunction(alloc: Global, parts: &Items<Expr>, scope: &Scope<'_>) -> Result<Value, Refusal>
     ensures { Gives (λ x. x) result
-        (spec.several (map evaluated parts.now)
+        (spec.several (map meaning_of parts.now)
         (λ vs. spec.truth (truth.any3 (map truth.truth_of vs))) (place_of scope.now)) }
 {
     let values = several(alloc, parts, scope)?;
@@ -125,7 +125,7 @@ fn disjunction(alloc: Global, parts: &Items<Expr>, scope: &Scope<'_>) -> Result<
 #[cycle(eval)]
 fn opposite(alloc: Global, a: &Boxed<Expr>, scope: &Scope<'_>) -> Result<Value, Refusal>
     ensures { Gives (λ x. x) result
-        (spec.one (evaluated a.now)
+        (spec.one (meaning_of a.now)
         (λ x. spec.truth (truth.not3 (truth.truth_of x))) (place_of scope.now)) }
 {
     let x = value_in(alloc, a.get(), scope)?;
@@ -141,7 +141,7 @@ fn calculation(
     scope: &Scope<'_>,
 ) -> Result<Value, Refusal>
     ensures { Gives (λ x. x) result
-        (spec.two (evaluated a.now) (evaluated b.now) (spec.arithmetic op) (place_of scope.now)) }
+        (spec.two (meaning_of a.now) (meaning_of b.now) (spec.arithmetic op) (place_of scope.now)) }
 {
     let (x, y) = both(alloc, a, b, scope)?;
     arithmetic(op, &x, &y)
@@ -149,7 +149,7 @@ fn calculation(
 
 #[cycle(eval)]
 fn minus(alloc: Global, a: &Boxed<Expr>, scope: &Scope<'_>) -> Result<Value, Refusal>
-    ensures { Gives (λ x. x) result (spec.one (evaluated a.now) spec.negated (place_of scope.now)) }
+    ensures { Gives (λ x. x) result (spec.one (meaning_of a.now) spec.unary_minus (place_of scope.now)) }
 {
     let x = value_in(alloc, a.get(), scope)?;
     negated(&x)
@@ -163,8 +163,8 @@ fn concatenation(
     scope: &Scope<'_>,
 ) -> Result<Value, Refusal>
     ensures { Gives (λ x. x) result
-        (spec.two (evaluated a.now) (evaluated b.now)
-        (λ x y. Ok (spec.concatenated x y)) (place_of scope.now)) }
+        (spec.two (meaning_of a.now) (meaning_of b.now)
+        (λ x y. Ok (spec.concatenation_of x y)) (place_of scope.now)) }
 {
     let (x, y) = both(alloc, a, b, scope)?;
     Ok(concatenated(alloc, &x, &y)?)
@@ -179,8 +179,8 @@ fn likeness(
     scope: &Scope<'_>,
 ) -> Result<Value, Refusal>
     ensures { Gives (λ x. x) result
-        (spec.two (evaluated a.now) (evaluated b.now)
-        (λ x y. spec.truth (truth.signed negated (spec.is_like x y))) (place_of scope.now)) }
+        (spec.two (meaning_of a.now) (meaning_of b.now)
+        (λ x y. spec.truth (truth.truth_or_opposite negated (spec.is_like x y))) (place_of scope.now)) }
 {
     let (x, y) = both(alloc, a, b, scope)?;
     Ok(value_of(signed(negated, is_like(alloc, &x, &y)?)))
@@ -195,8 +195,8 @@ fn membership(
     scope: &Scope<'_>,
 ) -> Result<Value, Refusal>
     ensures { Gives (λ x. x) result
-        (spec.one (evaluated a.now)
-        (λ x. spec.truth (truth.signed negated (spec.among x list.now))) (place_of scope.now)) }
+        (spec.one (meaning_of a.now)
+        (λ x. spec.truth (truth.truth_or_opposite negated (spec.among x list.now))) (place_of scope.now)) }
 {
     let x = value_in(alloc, a.get(), scope)?;
     Ok(value_of(signed(negated, among(&x, list.as_slice()))))
@@ -212,8 +212,8 @@ fn range_test(
     scope: &Scope<'_>,
 ) -> Result<Value, Refusal>
     ensures { Gives (λ x. x) result
-        (spec.three (evaluated a.now) (evaluated low.now) (evaluated high.now)
-        (λ x y z. spec.truth (truth.signed negated (spec.between x y z))) (place_of scope.now)) }
+        (spec.three (meaning_of a.now) (meaning_of low.now) (meaning_of high.now)
+        (λ x y z. spec.truth (truth.truth_or_opposite negated (spec.between x y z))) (place_of scope.now)) }
 {
     let x = value_in(alloc, a.get(), scope)?;
     let (y, z) = both(alloc, low, high, scope)?;
@@ -229,8 +229,8 @@ fn difference(
     scope: &Scope<'_>,
 ) -> Result<Value, Refusal>
     ensures { Gives (λ x. x) result
-        (spec.two (evaluated a.now) (evaluated b.now)
-        (λ x y. spec.truth (truth.signed negated (Some (not (same_value x y)))))
+        (spec.two (meaning_of a.now) (meaning_of b.now)
+        (λ x y. spec.truth (truth.truth_or_opposite negated (Some (not (same_value x y)))))
         (place_of scope.now)) }
 {
     let (x, y) = both(alloc, a, b, scope)?;
@@ -246,7 +246,7 @@ fn existence(
     scope: &Scope<'_>,
 ) -> Result<Value, Refusal>
     ensures { Gives (λ x. x) result
-        (spec.existence negated origin.now (evaluated condition.now) (place_of scope.now)) }
+        (spec.existence negated origin.now (meaning_of condition.now) (place_of scope.now)) }
 {
     let rows = rows_in(scope.tables, origin.table);
     let found = some_row(alloc, condition, rows, scope)?;
@@ -261,7 +261,7 @@ fn both(
     scope: &Scope<'_>,
 ) -> Result<(Value, Value), Refusal>
     ensures { Gives (λ x. x) result
-        (spec.pair (evaluated a.now) (evaluated b.now) (place_of scope.now)) }
+        (spec.pair (meaning_of a.now) (meaning_of b.now) (place_of scope.now)) }
 {
     let x = value_in(alloc, a.get(), scope)?;
     let y = value_in(alloc, b.get(), scope)?;
@@ -271,7 +271,7 @@ fn both(
 #[cycle(eval)]
 fn several(alloc: Global, parts: &Items<Expr>, scope: &Scope<'_>) -> Result<Vec<Value>, Refusal>
     ensures { Gives (λ v. v.items) result
-        (spec.all_from (place_of scope.now) [] (map evaluated parts.now)) }
+        (spec.all_from (place_of scope.now) [] (map meaning_of parts.now)) }
 {
     let mut values = Vec::new(alloc);
     for part in parts.as_slice() {
@@ -288,7 +288,7 @@ fn called(
     scope: &Scope<'_>,
 ) -> Result<Value, Refusal>
     ensures { Gives (λ x. x) result
-        (spec.called function (map evaluated operands.now) (place_of scope.now)) }
+        (spec.call_meaning function (map meaning_of operands.now) (place_of scope.now)) }
 {
     if function.is_aggregate() {
         let values = gathered(alloc, operands, scope)?;
@@ -308,7 +308,7 @@ fn gathered(
     scope: &Scope<'_>,
 ) -> Result<Option<Vec<Value>>, Refusal>
     ensures { Gives (option_map (λ v. v.items)) result
-        (spec.gathered (map evaluated operands.now) (place_of scope.now)) }
+        (spec.group_values (map meaning_of operands.now) (place_of scope.now)) }
 {
     match operands.get(0) {
         Some(operand) => over(alloc, operand, scope),
@@ -319,7 +319,7 @@ fn gathered(
 #[cycle(eval)]
 fn over(alloc: Global, operand: &Expr, scope: &Scope<'_>) -> Result<Option<Vec<Value>>, Refusal>
     ensures { Gives (option_map (λ v. v.items)) result
-        (spec.over (option_copied scope.now.group) (place_of scope.now) (evaluated operand.now)) }
+        (spec.over (option_copied scope.now.group) (place_of scope.now) (meaning_of operand.now)) }
 {
     let Some(rows) = scope.group else {
         return Ok(None);
@@ -336,8 +336,8 @@ fn along<'x>(
     scope: &Scope<'x>,
 ) -> Result<Vec<Value>, Refusal>
     ensures { Gives (λ v. v.items) result
-        (spec.along_from (spec.ungrouped (place_of scope.now))
-        (evaluated operand.now) [] rows.now) }
+        (spec.along_from (spec.without_group (place_of scope.now))
+        (meaning_of operand.now) [] rows.now) }
 {
     let mut values = Vec::new(alloc);
     for row in rows {
@@ -361,7 +361,7 @@ fn some_row(
     scope: &Scope<'_>,
 ) -> Result<bool, Refusal>
     ensures { Gives (λ x. x) result
-        (spec.some_from (place_of scope.now) (evaluated condition.now) false rows.now) }
+        (spec.some_from (place_of scope.now) (meaning_of condition.now) false rows.now) }
 {
     let starts = more_starts(alloc, scope.starts, scope.row.len())?;
     let mut found = false;

@@ -11,7 +11,7 @@ use std::alloc::{AllocError, Global};
 
 /// A function that is no aggregate, of the values of its operands.
 pub(crate) fn applied(alloc: Global, function: Func, values: &[Value]) -> Result<Value, AllocError>
-    ensures { IfOk result (λ v. v ≡ spec.applied function values.now) }
+    ensures { IfOk result (λ v. v ≡ spec.function_value function values.now) }
 {
     match function {
         Func::Coalesce => first_known(values),

@@ -7,7 +7,7 @@ use base_core::{ArithOp, Refusal, Value};
 
 /// The exact result; one outside 64 bits is refused with the operator and its operands.
 pub(crate) fn calculated(op: ArithOp, a: i64, b: i64) -> Result<i64, Refusal>
-    ensures { result ≡ spec.calculated op a b }
+    ensures { result ≡ spec.integer_result op a b }
 {
     let exact = match op {
         ArithOp::Add => a.checked_add(b),
@@ -32,7 +32,7 @@ pub(crate) fn arithmetic(op: ArithOp, a: &Value, b: &Value) -> Result<Value, Ref
 
 /// 0 minus the value.
 pub(crate) fn negated(a: &Value) -> Result<Value, Refusal>
-    ensures { result ≡ spec.negated a.now }
+    ensures { result ≡ spec.unary_minus a.now }
 {
     match a {
         Value::Int(x) => Ok(Value::Int(calculated(ArithOp::Sub, 0, *x)?)),

@@ -10,7 +10,7 @@ use std::alloc::{AllocError, Global};
 
 /// Both texts, one after another.
 pub(crate) fn concatenated(alloc: Global, a: &Value, b: &Value) -> Result<Value, AllocError>
-    ensures { IfOk result (λ v. v ≡ spec.concatenated a.now b.now) }
+    ensures { IfOk result (λ v. v ≡ spec.concatenation_of a.now b.now) }
 {
     match (a, b) {
         (Value::Text(x), Value::Text(y)) => {
@@ -24,7 +24,7 @@ pub(crate) fn concatenated(alloc: Global, a: &Value, b: &Value) -> Result<Value,
 
 /// The text with ASCII letters in lower case.
 pub(crate) fn lowered(alloc: Global, value: &Value) -> Result<Value, AllocError>
-    ensures { IfOk result (λ v. v ≡ spec.lowered value.now) }
+    ensures { IfOk result (λ v. v ≡ spec.lower_case value.now) }
 {
     match value {
         Value::Text(t) => {
@@ -38,7 +38,7 @@ pub(crate) fn lowered(alloc: Global, value: &Value) -> Result<Value, AllocError>
 
 /// The text with ASCII letters in upper case.
 pub(crate) fn raised(alloc: Global, value: &Value) -> Result<Value, AllocError>
-    ensures { IfOk result (λ v. v ≡ spec.raised value.now) }
+    ensures { IfOk result (λ v. v ≡ spec.upper_case value.now) }
 {
     match value {
         Value::Text(t) => {

@@ -45,7 +45,7 @@ pub(crate) fn not3(truth: Option<bool>) -> Option<bool>
 
 /// The truth, or its opposite in a negated form.
 pub(crate) fn signed(negated: bool, truth: Option<bool>) -> Option<bool>
-    ensures { result ≡ spec.signed negated truth }
+    ensures { result ≡ spec.truth_or_opposite negated truth }
 {
     if negated { not3(truth) } else { truth }
 }

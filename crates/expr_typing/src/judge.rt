@@ -3,7 +3,7 @@
 ghost use Rattle.std.specs.Prelude.{◌≡◌, ◌∷◌, [], map};
 ghost use Rattle.base_core.specs.Answers.{Gives};
 ghost use Rattle.sql_semantics.specs.Kinds as spec;
-ghost use Rattle.sql_semantics.specs.Kinds.{judged, in_scope, all_of, all_alike};
+ghost use Rattle.sql_semantics.specs.Kinds.{expression_kind, in_scope, all_of, all_alike};
 
 use crate::kind::{column_kind, entered, expected, value_kind, values_of};
 use base_core::{Kind, Refusal, TableId};
@@ -12,10 +12,10 @@ use schema_core::Schema;
 use sqlite_items::Boxed;
 use std::alloc::Global;
 
-#[tactic(auto, unfolding(sql_semantics::specs::Kinds::judged), using(crate::proofs::Refused::refused))]
+#[tactic(auto, unfolding(sql_semantics::specs::Kinds::expression_kind), using(crate::proofs::Refused::refused))]
 #[cycle(judges)]
 fn judge(alloc: Global, schema: &Schema, scope: &[TableId], e: &Expr) -> Result<Kind, Refusal>
-    ensures { Gives (λ kind. kind) result (judged schema.now e.now scope.now) }
+    ensures { Gives (λ kind. kind) result (expression_kind schema.now e.now scope.now) }
 {
     match e {
         Expr::Column(source, column) => Ok(column_kind(schema, scope, *source, *column)),
@@ -77,7 +77,7 @@ fn one(
     wanted: Kind,
     a: &Boxed<Expr>,
 ) -> Result<Kind, Refusal>
-    ensures { Gives (λ kind. kind) result (all_of wanted (judged schema.now a.now scope.now ∷ [])) }
+    ensures { Gives (λ kind. kind) result (all_of wanted (expression_kind schema.now a.now scope.now ∷ [])) }
 {
     let found = judge(alloc, schema, scope, a.get())?;
     expected(wanted, found)
@@ -94,8 +94,8 @@ fn two(
     b: &Boxed<Expr>,
 ) -> Result<Kind, Refusal>
     ensures { Gives (λ kind. kind) result
-        (all_of wanted (judged schema.now a.now scope.now
-        ∷ judged schema.now b.now scope.now ∷ [])) }
+        (all_of wanted (expression_kind schema.now a.now scope.now
+        ∷ expression_kind schema.now b.now scope.now ∷ [])) }
 {
     one(alloc, schema, scope, wanted, a)?;
     one(alloc, schema, scope, wanted, b)
@@ -111,7 +111,7 @@ fn alike(
     b: &Boxed<Expr>,
 ) -> Result<Kind, Refusal>
     ensures { Gives (λ kind. kind) result
-        (all_alike (judged schema.now a.now scope.now ∷ judged schema.now b.now scope.now ∷ [])) }
+        (all_alike (expression_kind schema.now a.now scope.now ∷ expression_kind schema.now b.now scope.now ∷ [])) }
 {
     let kind = judge(alloc, schema, scope, a.get())?;
     one(alloc, schema, scope, kind, b)
@@ -127,7 +127,7 @@ fn all(
     operands: &[Expr],
 ) -> Result<Kind, Refusal>
     ensures { Gives (λ kind. kind) result
-        (all_of wanted (in_scope scope.now (map (judged schema.now) operands.now))) }
+        (all_of wanted (in_scope scope.now (map (expression_kind schema.now) operands.now))) }
 {
     for operand in operands {
         let found = judge(alloc, schema, scope, operand)?;
@@ -145,7 +145,7 @@ fn first_kind(
     operands: &[Expr],
 ) -> Result<Kind, Refusal>
     ensures { Gives (λ kind. kind) result
-        (all_alike (in_scope scope.now (map (judged schema.now) operands.now))) }
+        (all_alike (in_scope scope.now (map (expression_kind schema.now) operands.now))) }
 {
     let Some((first, others)) = operands.split_first() else {
         return Ok(Kind::Integer);
@@ -164,7 +164,7 @@ fn called(
     operands: &[Expr],
 ) -> Result<Kind, Refusal>
     ensures { Gives (λ kind. kind) result
-        (spec.called function (in_scope scope.now (map (judged schema.now) operands.now))) }
+        (spec.call_kind function (in_scope scope.now (map (expression_kind schema.now) operands.now))) }
 {
     match function {
         Func::Count => {
@@ -190,7 +190,7 @@ fn called(
 /// condition of `exists` booleans. Operands are read from left to right, and an operand's own mismatch comes before
 /// that of the operator above it.
 pub fn type_of(alloc: Global, schema: &Schema, scope: &[TableId], e: &Expr) -> Result<Kind, Refusal>
-    ensures { Gives (λ kind. kind) result (judged schema.now e.now scope.now) }
+    ensures { Gives (λ kind. kind) result (expression_kind schema.now e.now scope.now) }
 {
     judge(alloc, schema, scope, e)
 }

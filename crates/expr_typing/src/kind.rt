@@ -59,7 +59,7 @@ pub(crate) fn column_kind(schema: &Schema, scope: &[TableId], source: u32, colum
 
 /// The kind that is wanted, or a mismatch.
 pub(crate) fn expected(wanted: Kind, found: Kind) -> Result<Kind, Refusal>
-    ensures { result ≡ spec.expected wanted found }
+    ensures { result ≡ spec.kind_or_mismatch wanted found }
 {
     if same_kind(found, wanted) {
         Ok(wanted)

@@ -26,7 +26,7 @@ use Rattle.expr_types.specs.declared.select.Select.{Select}
 use Rattle.sql_semantics.specs.Created.{bare}
 use Rattle.sql_semantics.specs.Rows.{answer}
 use Rattle.expr_types.specs.declared.select.Bulk.{Bulk}
-use Rattle.sql_semantics.specs.Applied.{applied}
+use Rattle.sql_semantics.specs.Applied.{bulk_outcome}
 use Rattle.sql_semantics.specs.Applied as bulks
 use Rattle.programs.specs.Store.{Store, committed_of, with_empty_table, without_table}
 
@@ -116,7 +116,7 @@ bulked statement (Err refusal) w = sends (sent.Bulk statement) w (Err refusal)
 
 -- a bulk statement, which answers the number of its rows; a refused one changes nothing, and is sent too
 unfoldable pub bulk : Catalog → Bulk → Store → Run Store ℕ
-bulk schema statement w = bulked statement (applied schema w.tables statement) w
+bulk schema statement w = bulked statement (bulk_outcome schema w.tables statement) w
 
 -- the rows of a select over the tables now; it changes nothing, and a refused one is sent too
 unfoldable pub query : Catalog → Select → Store → Run Store (List (List Value))

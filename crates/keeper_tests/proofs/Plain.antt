@@ -25,7 +25,7 @@ use Rattle.expr_types.specs.declared.select.Bulk.{Bulk}
 use Rattle.expr_types.specs.declared.select.Select.{Select}
 use Rattle.expr_types.specs.Normal.{normal}
 use Rattle.expr_types.proofs.Folds.{fold-Compare, fold-Column, fold-Lit, fold-Arith, fold-Exists}
-use Rattle.sql_semantics.specs.Kinds.{Judged, Scope, column_in, judged, judged_level}
+use Rattle.sql_semantics.specs.Kinds.{Judged, Scope, column_in, expression_kind, judged_level}
 use Rattle.sql_semantics.specs.Plain.{IsFilter, IsPlainBulk, IsPlainSelect, IfSet, IsWritten, StandsIn, adds_name, alone, fits, fits_level, has_full_lists, has_kind, is_free_column, is_key_column, is_kind_where, lacks_aggregate, name_of, names_apart}
 use Rattle.keeper_tests.specs.Pair.{AreApart, IsPair, above, cell, clear, clear_named, literal, names, number, put, raised, rewrite}
 
@@ -82,8 +82,8 @@ apart_of : (schema : Catalog) (e : Expr) (names : List (List ℕ)) → fold-Expr
 unfolding names_apart
 apart_of schema e names is = is
 
-judged_of : (schema : Catalog) (e : Expr) (scope : Scope) (kind : Kind) → fold-Expr (Scope → Judged) (judged_level schema) e scope ≡ Ok kind → judged schema e scope ≡ Ok kind
-unfolding judged
+judged_of : (schema : Catalog) (e : Expr) (scope : Scope) (kind : Kind) → fold-Expr (Scope → Judged) (judged_level schema) e scope ≡ Ok kind → expression_kind schema e scope ≡ Ok kind
+unfolding expression_kind
 judged_of schema e scope kind is = is
 
 lacks_of : (e : Expr) → fold-Expr Bool aggregate_level e ≡ false → IsTrue (lacks_aggregate e)
@@ -140,7 +140,7 @@ sum : (schema : Catalog) (table : TableId) (by : ℤ) → IsPair schema table �
 unfolding normal has_full_lists
 sum schema table by is =
     let e : Expr = expr.Arith Add number (expr.Lit (Int by)) in
-    let kind : judged schema e (table ∷ []) ≡ Ok Integer = judged_of schema e (table ∷ []) Integer (simp (arith_at, column_at, lit_at, is.columns, is.integer)) in
+    let kind : expression_kind schema e (table ∷ []) ≡ Ok Integer = judged_of schema e (table ∷ []) Integer (simp (arith_at, column_at, lit_at, is.columns, is.integer)) in
     record {
       stands = record {
         fitting = fitting_of schema e (table ∷ []) (simp (arith_at, column_at, lit_at, is.columns));
@@ -157,7 +157,7 @@ given : (schema : Catalog) (table : TableId) (n : ℤ) → IsPair schema table �
 unfolding normal has_full_lists
 given schema table n is =
     let e : Expr = expr.Lit (Int n) in
-    let kind : judged schema e (table ∷ []) ≡ Ok Integer = judged_of schema e (table ∷ []) Integer (simp lit_at) in
+    let kind : expression_kind schema e (table ∷ []) ≡ Ok Integer = judged_of schema e (table ∷ []) Integer (simp lit_at) in
     record {
       stands = record {
         fitting = fitting_of schema e (table ∷ []) (simp lit_at);
@@ -179,7 +179,7 @@ named : (schema : Catalog) (table other : TableId) → IsPair schema table → I
 unfolding normal has_full_lists
 named schema table other is other_is apart =
     let e : Expr = names other in
-    let kind : judged schema e (table ∷ []) ≡ Ok Boolean = judged_of schema e (table ∷ []) Boolean (simp (exists_at, compare_at, column_at, is.columns, is.number, other_is.columns, other_is.integer)) in
+    let kind : expression_kind schema e (table ∷ []) ≡ Ok Boolean = judged_of schema e (table ∷ []) Boolean (simp (exists_at, compare_at, column_at, is.columns, is.number, other_is.columns, other_is.integer)) in
     record {
       condition = record {
         stands = record {

@@ -11,12 +11,12 @@ use Rattle.schema_core.specs.Tables.{AreAscending, Legal, Rows, Tables, is_legal
 use Rattle.expr_types.specs.declared.expr.Expr.{Expr}
 use Rattle.expr_types.specs.declared.select.Bulk.{Bulk}
 use Rattle.expr_types.specs.declared.select.Bulk.TheVariants as bulk
-use Rattle.sql_semantics.specs.Applied.{Outcome, applied, count_rows, delete, delete_keys, found, insert, named_in, of_judged, update, update_entries}
+use Rattle.sql_semantics.specs.Applied.{Outcome, bulk_outcome, count_rows, delete, delete_keys, rows_or_refusal, insert, named_in, of_judged, update, update_entries}
 use Rattle.sql_semantics.specs.Checked.{Checked, ◌>>=◌}
 use Rattle.sql_semantics.specs.Created.{bare}
 use Rattle.sql_semantics.specs.Plain.{IsPlainBulk}
-use Rattle.sql_semantics.specs.Rows.{created}
-use Rattle.sql_semantics.specs.Taken.{deleted_from, inserted, updated_from}
+use Rattle.sql_semantics.specs.Rows.{require_created}
+use Rattle.sql_semantics.specs.Taken.{deleted_from, inserted_row, updated_from}
 use Rattle.programs.specs.Store.{Store}
 use Rattle.keeper_core.specs.Calls as call
 use Rattle.select_sources.proofs.Sure.{Sure}
@@ -39,7 +39,7 @@ judged_ok : {A : Type 0} (table : TableId) (j : Judged A) (a : A) → of_judged 
 judged_ok table (Ok b) a e = let same : b ≡ a = cc in ap Ok same
 judged_ok table (Err v) a e = absurd (cc)
 
-found_ok : (table : TableId) (o : Option Rows) (rows : Rows) → found table o ≡ Ok rows → o ≡ Some rows
+found_ok : (table : TableId) (o : Option Rows) (rows : Rows) → rows_or_refusal table o ≡ Ok rows → o ≡ Some rows
 found_ok table (Some other) rows e = let same : other ≡ rows = cc in ap Some same
 found_ok table None rows e = absurd (cc)
 
@@ -57,10 +57,10 @@ count_ok table count n left after e =
 -- ---- what each statement leaves
 
 insert_leaves : (R : Tables → Type 0) (schema : Catalog) (tables after : Tables) (table : TableId) (columns : List ColumnNo) (values : List Value) (rows : Rows) (n : ℕ)
-    → ((answer : List (List Value) × Tables) → row.insert_rows schema tables table rows (inserted (length (spec_of schema table).columns) columns values ∷ []) ≡ Ok answer → R answer.1)
+    → ((answer : List (List Value) × Tables) → row.insert_rows schema tables table rows (inserted_row (length (spec_of schema table).columns) columns values ∷ []) ≡ Ok answer → R answer.1)
     → insert schema tables table columns values rows ≡ Ok (n, after) → R after
 insert_leaves R schema tables after table columns values rows n put e =
-    let done : row.Outcome = row.insert_rows schema tables table rows (inserted (length (spec_of schema table).columns) columns values ∷ []) in
+    let done : row.Outcome = row.insert_rows schema tables table rows (inserted_row (length (spec_of schema table).columns) columns values ∷ []) in
     let one = bind_ok (of_judged table done) (λ answer. Ok (1, answer.1)) (n, after) e in
     subst R (same_left 1 n one.0.1 after one.2) (put one.0 (judged_ok table done one.0 one.1))
 
@@ -74,7 +74,7 @@ update_leaves : (R : Tables → Type 0) (schema : Catalog) (tables after : Table
     → ((entries : Rows) → updated_from (bare tables) cells filter [] rows ≡ Ok entries → change_all schema tables table rows entries ≡ Ok after → R after)
     → update schema tables table cells filter rows ≡ Ok (n, after) → R after
 update_leaves R schema tables after table cells filter rows n same changed e =
-    let one = bind_ok (created (bare tables) (named_in cells filter)) (λ _. updated_from (bare tables) cells filter [] rows >>= λ entries. update_entries schema tables table rows entries) (n, after) e in
+    let one = bind_ok (require_created (bare tables) (named_in cells filter)) (λ _. updated_from (bare tables) cells filter [] rows >>= λ entries. update_entries schema tables table rows entries) (n, after) e in
     let two = bind_ok (updated_from (bare tables) cells filter [] rows) (λ entries. update_entries schema tables table rows entries) (n, after) one.2 in
     entries_leave R schema tables after table rows two.0 n same (changed two.0 two.1) two.2
 
@@ -88,7 +88,7 @@ delete_leaves : (R : Tables → Type 0) (schema : Catalog) (tables after : Table
     → ((keys : List (List Value)) → remove_all schema tables table rows keys ≡ Ok after → R after)
     → delete schema tables table filter rows ≡ Ok (n, after) → R after
 delete_leaves R schema tables after table filter rows n same removed e =
-    let one = bind_ok (created (bare tables) (named_in [] filter)) (λ _. deleted_from (bare tables) filter [] rows >>= λ keys. delete_keys schema tables table rows keys) (n, after) e in
+    let one = bind_ok (require_created (bare tables) (named_in [] filter)) (λ _. deleted_from (bare tables) filter [] rows >>= λ keys. delete_keys schema tables table rows keys) (n, after) e in
     let two = bind_ok (deleted_from (bare tables) filter [] rows) (λ keys. delete_keys schema tables table rows keys) (n, after) one.2 in
     keys_leave R schema tables after table rows two.0 n same (removed two.0) two.2
 
@@ -111,47 +111,47 @@ held_entries schema table entries held full =
 
 -- ---- the laws
 
-pub bulk_legal : (schema : Catalog) (tables : Tables) (statement : Bulk) (count : ℕ) (after : Tables) → IsPlainBulk schema statement → Legal schema tables → applied schema tables statement ≡ Ok (count, after) → Legal schema after
-unfolding applied
+pub bulk_legal : (schema : Catalog) (tables : Tables) (statement : Bulk) (count : ℕ) (after : Tables) → IsPlainBulk schema statement → Legal schema tables → bulk_outcome schema tables statement ≡ Ok (count, after) → Legal schema after
+unfolding bulk_outcome
 bulk_legal schema tables (bulk.Insert table columns values) count after plain legal e =
-    let one = bind_ok (found table (rows_in tables table)) (insert schema tables table columns values) (count, after) e in
+    let one = bind_ok (rows_or_refusal table (rows_in tables table)) (insert schema tables table columns values) (count, after) e in
     let there = found_ok table (rows_in tables table) one.0 one.1 in
     insert_leaves (Legal schema) schema tables after table columns values one.0 count
-    (λ answer is. insert_legal schema tables table one.0 (inserted (length (spec_of schema table).columns) columns values ∷ []) answer legal there
+    (λ answer is. insert_legal schema tables table one.0 (inserted_row (length (spec_of schema table).columns) columns values ∷ []) answer legal there
     (ap (λ b. b && true) (inserted_held schema table columns values plain.2)) is) one.2
 bulk_legal schema tables (bulk.Update table cells filter) count after plain legal e =
-    let one = bind_ok (found table (rows_in tables table)) (update schema tables table cells filter) (count, after) e in
+    let one = bind_ok (rows_or_refusal table (rows_in tables table)) (update schema tables table cells filter) (count, after) e in
     let there = found_ok table (rows_in tables table) one.0 one.1 in
     update_leaves (Legal schema) schema tables after table cells filter one.0 count legal
     (λ entries is. change_legal schema tables after table one.0 entries legal there
     (held_entries schema table entries
     (subst (Sure (AllByRecursion (IsHeld schema table))) is (updated_sure schema table (bare tables) cells filter plain.2 plain.3 one.0 [] (held_rows schema tables table one.0 legal there) tt)))) one.2
 bulk_legal schema tables (bulk.Delete table filter) count after plain legal e =
-    let one = bind_ok (found table (rows_in tables table)) (delete schema tables table filter) (count, after) e in
+    let one = bind_ok (rows_or_refusal table (rows_in tables table)) (delete schema tables table filter) (count, after) e in
     let there = found_ok table (rows_in tables table) one.0 one.1 in
     delete_leaves (Legal schema) schema tables after table filter one.0 count legal (λ keys. remove_legal schema tables after table one.0 keys legal there) one.2
 
-pub bulk_ascends : (schema : Catalog) (tables : Tables) (statement : Bulk) (count : ℕ) (after : Tables) → AreAscending tables → applied schema tables statement ≡ Ok (count, after) → AreAscending after
-unfolding applied
+pub bulk_ascends : (schema : Catalog) (tables : Tables) (statement : Bulk) (count : ℕ) (after : Tables) → AreAscending tables → bulk_outcome schema tables statement ≡ Ok (count, after) → AreAscending after
+unfolding bulk_outcome
 bulk_ascends schema tables (bulk.Insert table columns values) count after up e =
-    let one = bind_ok (found table (rows_in tables table)) (insert schema tables table columns values) (count, after) e in
+    let one = bind_ok (rows_or_refusal table (rows_in tables table)) (insert schema tables table columns values) (count, after) e in
     let there = found_ok table (rows_in tables table) one.0 one.1 in
     insert_leaves AreAscending schema tables after table columns values one.0 count
-    (λ answer is. insert_ascends schema tables table one.0 (inserted (length (spec_of schema table).columns) columns values ∷ []) answer up there is) one.2
+    (λ answer is. insert_ascends schema tables table one.0 (inserted_row (length (spec_of schema table).columns) columns values ∷ []) answer up there is) one.2
 bulk_ascends schema tables (bulk.Update table cells filter) count after up e =
-    let one = bind_ok (found table (rows_in tables table)) (update schema tables table cells filter) (count, after) e in
+    let one = bind_ok (rows_or_refusal table (rows_in tables table)) (update schema tables table cells filter) (count, after) e in
     let there = found_ok table (rows_in tables table) one.0 one.1 in
     update_leaves AreAscending schema tables after table cells filter one.0 count up (λ entries is. change_ascends schema tables after table one.0 entries up there) one.2
 bulk_ascends schema tables (bulk.Delete table filter) count after up e =
-    let one = bind_ok (found table (rows_in tables table)) (delete schema tables table filter) (count, after) e in
+    let one = bind_ok (rows_or_refusal table (rows_in tables table)) (delete schema tables table filter) (count, after) e in
     let there = found_ok table (rows_in tables table) one.0 one.1 in
     delete_leaves AreAscending schema tables after table filter one.0 count up (λ keys. remove_ascends schema tables after table one.0 keys up there) one.2
 
-bulk_has : (P : Tables → Type 0) (schema : Catalog) (statement : Bulk) → ((tables after : Tables) (count : ℕ) → P tables → applied schema tables statement ≡ Ok (count, after) → P after) → Keeps (Throughout P) (call.bulk schema statement)
+bulk_has : (P : Tables → Type 0) (schema : Catalog) (statement : Bulk) → ((tables after : Tables) (count : ℕ) → P tables → bulk_outcome schema tables statement ≡ Ok (count, after) → P after) → Keeps (Throughout P) (call.bulk schema statement)
 unfolding call.bulk
-bulk_has P schema statement stays = record { kept = λ w all. by w (applied schema w.tables statement) refl all }
+bulk_has P schema statement stays = record { kept = λ w all. by w (bulk_outcome schema w.tables statement) refl all }
   where
-    by : (w : Store) (outcome : Outcome) → applied schema w.tables statement ≡ outcome → Throughout P w → Throughout P (call.bulked statement outcome w).after
+    by : (w : Store) (outcome : Outcome) → bulk_outcome schema w.tables statement ≡ outcome → Throughout P w → Throughout P (call.bulked statement outcome w).after
     by w (Ok done) is all = record { tables = stays w.tables done.1 done.0 all.tables is; scopes = all.scopes }
     by w (Err refusal) is all = all
 

@@ -18,7 +18,7 @@ use Rattle.schema_core.specs.Tables.{key_cells}
 use Rattle.schema_core.specs.WellFormed.{is_row, may_hold}
 use Rattle.sql_semantics.specs.Kinds.{column_in}
 use Rattle.sql_semantics.specs.Plain.{are_for, has_kind, is_of_kind}
-use Rattle.sql_semantics.specs.Taken.{inserted, paired}
+use Rattle.sql_semantics.specs.Taken.{inserted_row, column_values}
 use Rattle.sql_semantics.proofs.Typed.{same_kind_is}
 
 -- ---- one cell
@@ -92,7 +92,7 @@ one_for : (cs : List ColumnSpec) (column : ColumnNo) (v : Value) (o : Option Col
 one_for cs column v (Some c) at e = (c, at, held_by_kind c v e)
 one_for cs column v None at e = absurd (not_wide e)
 
-pairs_for : (schema : Catalog) (table : TableId) (columns : List ColumnNo) (values : List Value) → are_for schema table columns values ≡ true → AllByRecursion (IsFor (spec_of schema table).columns) (paired columns values)
+pairs_for : (schema : Catalog) (table : TableId) (columns : List ColumnNo) (values : List Value) → are_for schema table columns values ≡ true → AllByRecursion (IsFor (spec_of schema table).columns) (column_values columns values)
 pairs_for schema table [] [] e = tt
 pairs_for schema table [] (v ∷ values) e = tt
 pairs_for schema table (column ∷ columns) [] e = tt
@@ -102,7 +102,7 @@ pairs_for schema table (column ∷ columns) (v ∷ values) e =
 
 -- the row that a plain INSERT puts in has a value for each column, NULL or of its kind
 pub inserted_held : (schema : Catalog) (table : TableId) (columns : List ColumnNo) (values : List Value) → are_for schema table columns values ≡ true
-    → is_row (spec_of schema table) (inserted (length (spec_of schema table).columns) columns values) ≡ true
+    → is_row (spec_of schema table) (inserted_row (length (spec_of schema table).columns) columns values) ≡ true
 inserted_held schema table columns values e =
-    cells_held (spec_of schema table).columns (replicate (length (spec_of schema table).columns) value.Null) (paired columns values)
+    cells_held (spec_of schema table).columns (replicate (length (spec_of schema table).columns) value.Null) (column_values columns values)
     (pairs_for schema table columns values e) (nulls_held (spec_of schema table).columns)

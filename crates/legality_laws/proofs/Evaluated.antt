@@ -16,10 +16,10 @@ use Rattle.schema_core.specs.Tables.{Rows, key_of}
 use Rattle.schema_core.specs.WellFormed.{is_row, may_hold}
 use Rattle.expr_types.specs.declared.expr.Expr.{Expr}
 use Rattle.sql_semantics.specs.Checked.{Checked, ◌>>=◌}
-use Rattle.sql_semantics.specs.Eval.{Row, Tables, evaluated, item_or_null}
+use Rattle.sql_semantics.specs.Eval.{Row, Tables, meaning_of, item_or_null}
 use Rattle.sql_semantics.specs.Kinds.{column_in}
 use Rattle.sql_semantics.specs.Plain.{IfSet, IsWritten, is_free_column, is_key_column, is_kind_where}
-use Rattle.sql_semantics.specs.Taken.{at, cells_from, one_more, rewritten, takes, updated_from, value_for}
+use Rattle.sql_semantics.specs.Taken.{at, cells_from, one_more, rewritten_row, takes, updated_from, value_for}
 use Rattle.select_sources.proofs.Columns.{Columns}
 use Rattle.select_sources.proofs.Sure.{Sure, always, bind_sure, every_more}
 use Rattle.select_rows.proofs.ValueKinds.{KindAt, OfKind, kind_sure}
@@ -57,14 +57,14 @@ row_columns schema table row held (suc s) column c is = absurd (no is)
 -- ---- one value
 
 written_kind : (schema : Catalog) (table : TableId) (tables : Tables) (row : Row) (column : ColumnNo) (e : Expr) → is_row (spec_of schema table) row ≡ true → IsWritten schema table column e
-    → Sure (λ v. IsFor (spec_of schema table).columns (column, v)) (evaluated e (at tables row))
+    → Sure (λ v. IsFor (spec_of schema table).columns (column, v)) (meaning_of e (at tables row))
 written_kind schema table tables row column e held w = by (column_in schema (table ∷ []) 0 column) refl w.of_kind.2
   where
-    by : (o : Option ColumnSpec) → column_in schema (table ∷ []) 0 column ≡ o → is_kind_where o w.of_kind.0 → Sure (λ v. IsFor (spec_of schema table).columns (column, v)) (evaluated e (at tables row))
+    by : (o : Option ColumnSpec) → column_in schema (table ∷ []) 0 column ≡ o → is_kind_where o w.of_kind.0 → Sure (λ v. IsFor (spec_of schema table).columns (column, v)) (meaning_of e (at tables row))
     by None there is = absurd is
     by (Some c) there is =
         let sure = kind_sure e schema (table ∷ []) (at tables row) false (record { columns = λ _. row_columns schema table row held; members = tt }) (λ b. absurd (cc)) w.stands.fitting w.of_kind.0 w.of_kind.1 in
-        of_column (evaluated e (at tables row)) sure
+        of_column (meaning_of e (at tables row)) sure
       where
         of_column : (r : Checked Value) → Sure (OfKind w.of_kind.0) r → Sure (λ v. IsFor (spec_of schema table).columns (column, v)) r
         of_column (Ok v) h = (c, there, held_by_kind c v (subst (λ k. OfKind k v) is h))
@@ -114,7 +114,7 @@ abbrev pub IsHeld : Catalog → TableId → List Value × List Value → Type 0
 IsHeld schema table entry = (key_of (spec_of schema table) entry.1 ≡ entry.0) × (is_row (spec_of schema table) entry.1 ≡ true)
 
 rewritten_sure : (schema : Catalog) (table : TableId) (tables : Tables) (cells : List (ColumnNo × Option Expr)) (entry : List Value × Row) → list_all (λ cell. is_free_column schema table cell.0) cells ≡ true
-    → AllByRecursion (λ cell. IfSet (IsWritten schema table cell.0) cell.1) cells → IsHeld schema table entry → Sure (λ row. IsHeld schema table (entry.0, row)) (rewritten tables cells entry.1)
+    → AllByRecursion (λ cell. IfSet (IsWritten schema table cell.0) cell.1) cells → IsHeld schema table entry → Sure (λ row. IsHeld schema table (entry.0, row)) (rewritten_row tables cells entry.1)
 rewritten_sure schema table tables cells entry free written held =
     bind_sure (AllByRecursion (IsCell (spec_of schema table).columns)) (λ row. IsHeld schema table (entry.0, row)) (cells_from tables entry.1 [] cells) (λ done. Ok (with_cells entry.1 done))
     (cells_sure schema table tables entry.1 held.1 cells [] free written tt)
@@ -125,7 +125,7 @@ rewritten_sure schema table tables cells entry free written held =
 more_sure : (schema : Catalog) (table : TableId) (tables : Tables) (cells : List (ColumnNo × Option Expr)) (done : Rows) (entry : List Value × Row) (taken : Bool) → list_all (λ cell. is_free_column schema table cell.0) cells ≡ true
     → AllByRecursion (λ cell. IfSet (IsWritten schema table cell.0) cell.1) cells → IsHeld schema table entry → AllByRecursion (IsHeld schema table) done → Sure (AllByRecursion (IsHeld schema table)) (one_more tables cells done entry taken)
 more_sure schema table tables cells done entry true free written held d =
-    bind_sure (λ row. IsHeld schema table (entry.0, row)) (AllByRecursion (IsHeld schema table)) (rewritten tables cells entry.1) (λ row. Ok (done ++ (entry.0, row) ∷ []))
+    bind_sure (λ row. IsHeld schema table (entry.0, row)) (AllByRecursion (IsHeld schema table)) (rewritten_row tables cells entry.1) (λ row. Ok (done ++ (entry.0, row) ∷ []))
     (rewritten_sure schema table tables cells entry free written held) (λ row fit. every_more (IsHeld schema table) done (entry.0, row) d fit)
 more_sure schema table tables cells done entry false free written held d = d
 

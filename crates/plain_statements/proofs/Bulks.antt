@@ -13,7 +13,7 @@ use Rattle.schema_core.specs.Declaration.{some_two}
 use Rattle.expr_types.specs.declared.expr.Expr.{Expr}
 use Rattle.expr_types.specs.declared.select.Bulk.{Bulk}
 use Rattle.expr_types.specs.declared.select.Bulk.TheVariants as bulk
-use Rattle.sql_semantics.specs.Kinds.{column_in, judged}
+use Rattle.sql_semantics.specs.Kinds.{column_in, expression_kind}
 use Rattle.sql_semantics.specs.Plain.{IfSet, IsFilter, IsPlainBulk, IsWritten, StandsIn, alone, are_apart, are_for, has_column, is_free_column, is_key_column, is_kind_where, lacks_aggregate}
 use Rattle.sql_semantics.specs.PlainStatement.{IsFittingBulk}
 use Rattle.plain_statements.specs.Tested as test
@@ -62,7 +62,7 @@ all_there schema table (cell ∷ cells) h =
 -- ---- expressions
 
 abbrev OfKind : Catalog → TableId → Option ColumnSpec → Expr → Type 0
-OfKind schema table c e = StandsIn schema (alone table) e × (kind : Kind) × (judged schema e (table ∷ []) ≡ Ok kind) × is_kind_where c kind
+OfKind schema table c e = StandsIn schema (alone table) e × (kind : Kind) × (expression_kind schema e (table ∷ []) ≡ Ok kind) × is_kind_where c kind
 
 at_column : (schema : Catalog) (table : TableId) (c : Option ColumnSpec) (e : Expr) → Tells (test.stands_at schema (table ∷ []) (test.names_alone schema table) c e) (OfKind schema table c e)
 at_column schema table (Some c) e =

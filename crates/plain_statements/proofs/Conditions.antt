@@ -9,7 +9,7 @@ use Rattle.expr_types.specs.declared.expr.Expr.{Expr}
 use Rattle.expr_types.specs.declared.expr.Origin.{Origin}
 use Rattle.expr_types.specs.Normal.{normal}
 use Rattle.expr_types.specs.Same.{same}
-use Rattle.sql_semantics.specs.Kinds.{Judged, Scope, judged}
+use Rattle.sql_semantics.specs.Kinds.{Judged, Scope, expression_kind}
 use Rattle.sql_semantics.specs.Plain.{IfSet, IsCondition, IsFilter, StandsIn, fits, has_full_lists, lacks_aggregate, names_apart}
 use Rattle.sql_semantics.proofs.Typed.{same_kind_is}
 use Rattle.plain_statements.specs.Tested as test
@@ -51,7 +51,7 @@ kind_ok kind r h = ap is_ok h
 -- ---- an expression under sources
 
 pub placed : (schema : Catalog) (sources : List Origin) (e : Expr) → test.is_placed schema (test.tables_of sources) (test.names_of schema sources) e ≡ true
-    → is_ok (judged schema e (test.tables_of sources)) ≡ true → StandsIn schema sources e
+    → is_ok (expression_kind schema e (test.tables_of sources)) ≡ true → StandsIn schema sources e
 placed schema sources e h typed =
     let scope : Scope = test.tables_of sources in
     let names : List (List ℕ) = test.names_of schema sources in
@@ -73,22 +73,22 @@ standing schema sources e =
     let scope : Scope = test.tables_of sources in
     let names : List (List ℕ) = test.names_of schema sources in
     record {
-      told = λ h. let both = and_parts (test.is_placed schema scope names e) (is_ok (judged schema e scope)) h in placed schema sources e both.0 both.1;
-      holds = λ s. and_from (test.is_placed schema scope names e) (is_ok (judged schema e scope)) (placed_from schema sources e s) s.typed;
+      told = λ h. let both = and_parts (test.is_placed schema scope names e) (is_ok (expression_kind schema e scope)) h in placed schema sources e both.0 both.1;
+      holds = λ s. and_from (test.is_placed schema scope names e) (is_ok (expression_kind schema e scope)) (placed_from schema sources e s) s.typed;
     }
 
 -- an expression that stands and is of a kind
 pub standing_as : (schema : Catalog) (sources : List Origin) (kind : Kind) (e : Expr)
-    → Tells (test.stands_as schema (test.tables_of sources) (test.names_of schema sources) kind e) (StandsIn schema sources e × (judged schema e (test.tables_of sources) ≡ Ok kind))
+    → Tells (test.stands_as schema (test.tables_of sources) (test.names_of schema sources) kind e) (StandsIn schema sources e × (expression_kind schema e (test.tables_of sources) ≡ Ok kind))
 standing_as schema sources kind e =
     let scope : Scope = test.tables_of sources in
     let names : List (List ℕ) = test.names_of schema sources in
     record {
       told = λ h.
-          let both = and_parts (test.is_placed schema scope names e) (test.is_of kind (judged schema e scope)) h in
-          let is : judged schema e scope ≡ Ok kind = (of_kind kind (judged schema e scope)).told both.1 in
-          (placed schema sources e both.0 (kind_ok kind (judged schema e scope) is), is);
-      holds = λ s. and_from (test.is_placed schema scope names e) (test.is_of kind (judged schema e scope)) (placed_from schema sources e s.0) ((of_kind kind (judged schema e scope)).holds s.1);
+          let both = and_parts (test.is_placed schema scope names e) (test.is_of kind (expression_kind schema e scope)) h in
+          let is : expression_kind schema e scope ≡ Ok kind = (of_kind kind (expression_kind schema e scope)).told both.1 in
+          (placed schema sources e both.0 (kind_ok kind (expression_kind schema e scope) is), is);
+      holds = λ s. and_from (test.is_placed schema scope names e) (test.is_of kind (expression_kind schema e scope)) (placed_from schema sources e s.0) ((of_kind kind (expression_kind schema e scope)).holds s.1);
     }
 
 pub condition : (schema : Catalog) (sources : List Origin) (e : Expr) → Tells (test.is_condition schema (test.tables_of sources) (test.names_of schema sources) e) (IsCondition schema sources e)

@@ -11,7 +11,7 @@ use Rattle.expr_types.specs.declared.select.Joined.{Joined}
 use Rattle.expr_types.specs.declared.select.Select.{Select}
 use Rattle.expr_types.specs.Level.{has_aggregate}
 use Rattle.sql_semantics.specs.Kinds.{Scope}
-use Rattle.sql_semantics.specs.Plain.{AreJoined, IfSet, IsCondition, IsFilter, IsPlainSelect, StandsIn, and_having, are_distinct, is_declared, is_grouped, is_limit, lacks_aggregate, name_of, outputs, settled, sources_of}
+use Rattle.sql_semantics.specs.Plain.{AreJoined, IfSet, IsCondition, IsFilter, IsPlainSelect, StandsIn, and_having, are_distinct, is_declared, is_grouped, is_limit, lacks_aggregate, name_of, outputs, is_well_grouped, sources_of}
 use Rattle.plain_statements.specs.Tested as test
 use Rattle.plain_statements.proofs.Conditions.{Tells, condition, each, if_there, row_condition, standing}
 
@@ -82,9 +82,9 @@ with_having : (p : Expr → Bool) (having : Option Expr) (es : List Expr) → (t
 with_having p None es = refl
 with_having p (Some e) es = refl
 
-all_settled : (g : Bool) (groups : List Expr) (own : ℕ) (s : Select) → test.are_settled g groups own s ≡ list_all (settled g groups own) (and_having s.having (outputs s))
+all_settled : (g : Bool) (groups : List Expr) (own : ℕ) (s : Select) → test.are_settled g groups own s ≡ list_all (is_well_grouped g groups own) (and_having s.having (outputs s))
 all_settled g groups own s =
-    let p : Expr → Bool = settled g groups own in
+    let p : Expr → Bool = is_well_grouped g groups own in
     let items : List Expr = map (λ (item : Expr × Option (List ℕ)). item.0) s.items in
     let keys : List Expr = map (λ (key : Expr × Bool). key.0) s.order in
     and_moved (test.if_set p s.having) (list_all (λ (item : Expr × Option (List ℕ)). p item.0) s.items) (list_all (λ (key : Expr × Bool). p key.0) s.order)
@@ -94,7 +94,7 @@ all_settled g groups own s =
     ∙ with_having p s.having (outputs s)
 
 -- in the words of the definition
-settled_is : (s : Select) → test.are_settled (test.groups_rows s) s.groups (length (test.tables_of (sources_of s))) s ≡ list_all (settled (is_grouped s) s.groups (length (sources_of s))) (and_having s.having (outputs s))
+settled_is : (s : Select) → test.are_settled (test.groups_rows s) s.groups (length (test.tables_of (sources_of s))) s ≡ list_all (is_well_grouped (is_grouped s) s.groups (length (sources_of s))) (and_having s.having (outputs s))
 settled_is s =
     ap (λ g. test.are_settled g s.groups (length (test.tables_of (sources_of s))) s) (grouped s)
     ∙ ap (λ (n : ℕ). test.are_settled (is_grouped s) s.groups n s) (length-map (sources_of s) (λ (o : Origin). o.table))

@@ -26,8 +26,8 @@ use Rattle.expr_types.specs.declared.select.Bulk.TheVariants as bulk
 use Rattle.expr_types.specs.Level.{has_aggregate}
 use Rattle.expr_types.specs.Normal.{normal}
 use Rattle.expr_types.specs.Same.{same}
-use Rattle.sql_semantics.specs.Kinds.{Judged, Scope, column_in, judged}
-use Rattle.sql_semantics.specs.Plain.{Found, are_distinct, fits, has_full_lists, has_kind, is_free_column, is_limit, lacks_aggregate, name_of, names_apart, settled, settled_level, sources_of}
+use Rattle.sql_semantics.specs.Kinds.{Judged, Scope, column_in, expression_kind}
+use Rattle.sql_semantics.specs.Plain.{Found, are_distinct, fits, has_full_lists, has_kind, is_free_column, is_limit, lacks_aggregate, name_of, names_apart, is_well_grouped, is_well_grouped_level, sources_of}
 
 -- ---- expressions
 
@@ -55,11 +55,11 @@ is_of kind (Ok found) = same_kind found kind
 is_of kind (Err mismatch) = false
 
 abbrev pub stands : Catalog → Scope → List (List ℕ) → Expr → Bool
-stands schema scope names e = is_placed schema scope names e && is_ok (judged schema e scope)
+stands schema scope names e = is_placed schema scope names e && is_ok (expression_kind schema e scope)
 
 -- an expression of a kind
 abbrev pub stands_as : Catalog → Scope → List (List ℕ) → Kind → Expr → Bool
-stands_as schema scope names kind e = is_placed schema scope names e && is_of kind (judged schema e scope)
+stands_as schema scope names kind e = is_placed schema scope names e && is_of kind (expression_kind schema e scope)
 
 abbrev pub is_condition : Catalog → Scope → List (List ℕ) → Expr → Bool
 is_condition schema scope names e = stands_as schema scope names Boolean e
@@ -77,11 +77,11 @@ abbrev pub occurs_in : List Expr → Expr → Bool
 occurs_in groups e = list_any (λ g. same g e) groups
 
 abbrev pub found_in : Bool → List Expr → ℕ → Expr → Found
-found_in grouped groups own e = (e, settled grouped groups own e)
+found_in grouped groups own e = (e, is_well_grouped grouped groups own e)
 
 -- what is asked of an expression that is no group expression
 abbrev pub settled_inside : Bool → List Expr → ℕ → Expr → Bool
-settled_inside grouped groups own e = settled_level grouped own (map-Expr Expr Found (found_in grouped groups own) (out-Expr e))
+settled_inside grouped groups own e = is_well_grouped_level grouped own (map-Expr Expr Found (found_in grouped groups own) (out-Expr e))
 
 -- ---- selects
 
@@ -117,7 +117,7 @@ groups_rows s =
 -- what is evaluated for each row or group is settled
 abbrev pub are_settled : Bool → List Expr → ℕ → Select → Bool
 are_settled grouped groups own s =
-    if_set (settled grouped groups own) s.having && list_all (λ item. settled grouped groups own item.0) s.items && list_all (λ key. settled grouped groups own key.0) s.order
+    if_set (is_well_grouped grouped groups own) s.having && list_all (λ item. is_well_grouped grouped groups own item.0) s.items && list_all (λ key. is_well_grouped grouped groups own key.0) s.order
 
 -- sources that are declared, each under a name of its own
 abbrev pub are_sources : Catalog → Scope → List (List ℕ) → Bool

@@ -176,7 +176,7 @@ fn groups_rows(select: &Select) -> bool
 
 fn is_settled(query: &Grouping<'_>, e: &Option<Expr>) -> bool
     ensures { result ≡ spec.if_set
-        (plain.settled query.now.grouped query.now.groups.now query.now.own) e.now }
+        (plain.is_well_grouped query.now.grouped query.now.groups.now query.now.own) e.now }
 {
     match e {
         Some(e) => settled(query, e),
@@ -185,14 +185,14 @@ fn is_settled(query: &Grouping<'_>, e: &Option<Expr>) -> bool
 }
 
 fn items_settled(query: &Grouping<'_>, items: &[(Expr, Option<Name>)]) -> bool
-    ensures { result ≡ list_all (λ item. plain.settled query.now.grouped query.now.groups.now
+    ensures { result ≡ list_all (λ item. plain.is_well_grouped query.now.grouped query.now.groups.now
         query.now.own item.0) items.now }
 {
     items.iter().all(|item| settled(query, &item.0))
 }
 
 fn keys_settled(query: &Grouping<'_>, keys: &[(Expr, bool)]) -> bool
-    ensures { result ≡ list_all (λ key. plain.settled query.now.grouped query.now.groups.now
+    ensures { result ≡ list_all (λ key. plain.is_well_grouped query.now.grouped query.now.groups.now
         query.now.own key.0) keys.now }
 {
     keys.iter().all(|key| settled(query, &key.0))

@@ -68,7 +68,7 @@ pub(crate) struct Grouping<'a> {
 #[tactic(auto, using(crate::proofs::Groups::settled_at))]
 #[cycle(settling)]
 pub(crate) fn settled(query: &Grouping<'_>, e: &Expr) -> bool
-    ensures { result ≡ spec.settled query.now.grouped query.now.groups.now query.now.own e.now }
+    ensures { result ≡ spec.is_well_grouped query.now.grouped query.now.groups.now query.now.own e.now }
 {
     if query.grouped && occurs_in(query.groups, e) {
         return true;
@@ -113,7 +113,7 @@ fn settled_inside(query: &Grouping<'_>, e: &Expr) -> bool
 #[cycle(settling)]
 fn all_settled(query: &Grouping<'_>, es: &[Expr]) -> bool
     ensures { result
-        ≡ list_all (spec.settled query.now.grouped query.now.groups.now query.now.own) es.now }
+        ≡ list_all (spec.is_well_grouped query.now.grouped query.now.groups.now query.now.own) es.now }
 {
     for e in es {
         if !settled(query, e) {

@@ -1,7 +1,7 @@
 //! Whether an expression stands under its sources.
 
 ghost use Rattle.std.specs.Prelude.{◌≡◌, ◌++◌, ◌∷◌, [], IfOk, OnOk};
-ghost use Rattle.sql_semantics.specs.Kinds.{judged};
+ghost use Rattle.sql_semantics.specs.Kinds.{expression_kind};
 ghost use Rattle.sql_semantics.specs.Plain as plain;
 ghost use Rattle.plain_statements.specs.Tested as spec;
 
@@ -71,7 +71,7 @@ fn kind_in(
     scope: &[TableId],
     e: &Expr,
 ) -> Result<Option<Kind>, AllocError>
-    ensures { IfOk result (λ kind. kind ≡ spec.kind_told (judged schema.now e.now scope.now)) }
+    ensures { IfOk result (λ kind. kind ≡ spec.kind_told (expression_kind schema.now e.now scope.now)) }
 {
     match type_of(alloc, schema, scope, e) {
         Ok(kind) => Ok(Some(kind)),

@@ -34,7 +34,7 @@ write_stays schema statement w = by (row.apply schema w.tables statement)
 
 bulk_stays : (schema : Catalog) (statement : Bulk) (w : Store) → (call.bulk schema statement w).after.scopes ≡ w.scopes
 unfolding call.bulk
-bulk_stays schema statement w = by (bulk.applied schema w.tables statement)
+bulk_stays schema statement w = by (bulk.bulk_outcome schema w.tables statement)
   where
     by : (outcome : bulk.Outcome) → (call.bulked statement outcome w).after.scopes ≡ w.scopes
     by (Ok done) = refl

@@ -12,7 +12,7 @@ use Rattle.base_core.specs.declared.ids.ColumnNo.{ColumnNo}
 use Rattle.expr_types.specs.declared.expr.Expr.TheVariants as expr
 use Rattle.sql_semantics.specs.Kinds.{Scope, column_in}
 use Rattle.sql_semantics.specs.Plain.{is_of_kind}
-use Rattle.sql_semantics.specs.Eval.{Row, Place, after, inside, item_or_null, rows_in, ungrouped}
+use Rattle.sql_semantics.specs.Eval.{Row, Place, after, inside, item_or_null, rows_in, without_group}
 use Rattle.select_laws.specs.Places.{StandsAt, FitsTable, BeginsAt, FitsPlace, FitsGroup, FitsNoRows}
 use Rattle.select_laws.proofs.Apart.{Apart, column_inner}
 
@@ -46,7 +46,7 @@ begins_reads row None c kind h = absurd h
 
 -- the place without its group, at a row
 abbrev pub member : Place → Row → Place
-member p row = record (ungrouped p) { row = row }
+member p row = record (without_group p) { row = row }
 
 -- the columns of the sources behind the outer ones stand in the row, those of all sources can be read where one is free to, and there each row of the group fits too
 pub record Fits (schema : Catalog) (scope : Scope) (outer : ℕ) (free : Bool) (p : Place) : Type 0 where

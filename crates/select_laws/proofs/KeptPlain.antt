@@ -15,8 +15,8 @@ use Rattle.expr_types.specs.Level.{aggregate_level, has_aggregate}
 use Rattle.expr_types.specs.Normal.{normal}
 use Rattle.expr_types.specs.NormalSelect.{normal_join, normal_select, normal_where}
 use Rattle.expr_normal.proofs.Fixed.{normal_again}
-use Rattle.sql_semantics.specs.Kinds.{Scope, Judged, judged}
-use Rattle.sql_semantics.specs.Plain.{AreJoined, IfSet, IsCondition, IsFilter, IsPlainSelect, StandsIn, adds_name, and_having, are_distinct, fits, fits_level, is_grouped, lacks_aggregate, name_of, names_apart, outputs, settled, sources_of}
+use Rattle.sql_semantics.specs.Kinds.{Scope, Judged, expression_kind}
+use Rattle.sql_semantics.specs.Plain.{AreJoined, IfSet, IsCondition, IsFilter, IsPlainSelect, StandsIn, adds_name, and_having, are_distinct, fits, fits_level, is_grouped, lacks_aggregate, name_of, names_apart, outputs, is_well_grouped, sources_of}
 use Rattle.sql_semantics.specs.Typed.{AreTypedJoins, IsTyped, IsTypedCondition, IsTypedFilter, IsTypedSelect}
 use Rattle.sql_semantics.proofs.Equations.{enter}
 use Rattle.sql_semantics.proofs.Typed.{has_kind}
@@ -105,10 +105,10 @@ ok_kind r k e = ap is_ok e
 stands : (schema : Catalog) (sources : List Origin) (e : Expr) → IsTyped schema sources e → StandsIn schema sources (normal e)
 stands schema sources e h =
     let scope : Scope = map (λ (origin : Origin). origin.table) sources in
-    let kind = has_kind (judged schema e scope) h.typed in
+    let kind = has_kind (expression_kind schema e scope) h.typed in
     record {
       fitting = fits_kept schema scope e ∙ h.fitting;
-      typed = ok_kind (judged schema (normal e) scope) kind.0 (kind_kept e schema scope kind.0 kind.1);
+      typed = ok_kind (expression_kind schema (normal e) scope) kind.0 (kind_kept e schema scope kind.0 kind.1);
       in_normal_form = normal_again e;
       full_lists = lists_kept e h.full_lists;
       apart = names_kept schema (map (name_of schema) sources) e ∙ h.apart;
@@ -199,8 +199,8 @@ normal_is_plain schema s h =
       groups_plain = groups_lack s.groups ∙ h.groups_plain;
       having_stands = subst (λ os. IfSet (IsCondition schema os) (normal_where s.having)) same (if_set (IsTypedCondition schema (sources_of s)) (IsCondition schema (sources_of s)) (is_condition schema (sources_of s)) s.having h.having_typed);
       order_stands = subst (λ os. AllByRecursion (λ (key : Expr × Bool). StandsIn schema os key.0) (normal_select s).order) same (each_stands schema (sources_of s) s.order h.order_typed);
-      grouped_columns = subst (λ (g : Bool). list_all (settled g (map normal s.groups) (length (sources_of (normal_select s)))) (and_having (normal_where s.having) (outputs (normal_select s))) ≡ true) (sym (grouped_kept s))
-          (subst (λ os. list_all (settled (is_grouped s) (map normal s.groups) (length os)) (and_having (normal_where s.having) (outputs (normal_select s))) ≡ true) same h.grouped_columns);
+      grouped_columns = subst (λ (g : Bool). list_all (is_well_grouped g (map normal s.groups) (length (sources_of (normal_select s)))) (and_having (normal_where s.having) (outputs (normal_select s))) ≡ true) (sym (grouped_kept s))
+          (subst (λ os. list_all (is_well_grouped (is_grouped s) (map normal s.groups) (length os)) (and_having (normal_where s.having) (outputs (normal_select s))) ≡ true) same h.grouped_columns);
       fits_limit = h.fits_limit;
       fits_offset = h.fits_offset;
     }

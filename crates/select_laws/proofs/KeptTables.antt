@@ -6,7 +6,7 @@ use Rattle.expr_types.specs.declared.select.Joined.{Joined}
 use Rattle.expr_types.specs.declared.select.Select.{Select}
 use Rattle.expr_types.specs.Normal.{normal}
 use Rattle.expr_types.specs.NormalSelect.{normal_join, normal_select, normal_where}
-use Rattle.sql_semantics.specs.Rows.{flat, named, named_where, tables_of}
+use Rattle.sql_semantics.specs.Rows.{flat, exists_tables, named_where, tables_of}
 use Rattle.select_laws.proofs.KeptFolds.{Keeps, kept}
 
 flat_append : (xs ys : List (List ℕ)) → flat (xs ++ ys) ≡ flat xs ++ flat ys
@@ -36,28 +36,28 @@ tables_keep = record {
   lowers = λ g a b. pair a b;
 }
 
-named_kept : (e : Expr) → named (normal e) ≡ named e
-unfolding named
+named_kept : (e : Expr) → exists_tables (normal e) ≡ exists_tables e
+unfolding exists_tables
 named_kept e = kept (List ℕ) named_step tables_keep e
 
 where_kept : (o : Option Expr) → named_where (normal_where o) ≡ named_where o
 where_kept None = refl
 where_kept (Some e) = named_kept e
 
-each_kept : {A : Type 0} (xs : List (Expr × A)) → flat (map (λ (x : Expr × A). named x.0) (map (λ (x : Expr × A). (normal x.0, x.1)) xs)) ≡ flat (map (λ (x : Expr × A). named x.0) xs)
+each_kept : {A : Type 0} (xs : List (Expr × A)) → flat (map (λ (x : Expr × A). exists_tables x.0) (map (λ (x : Expr × A). (normal x.0, x.1)) xs)) ≡ flat (map (λ (x : Expr × A). exists_tables x.0) xs)
 each_kept [] = refl
 each_kept {A} (x ∷ xs) =
-    ap (λ l. l ++ flat (map (λ (y : Expr × A). named y.0) (map (λ (y : Expr × A). (normal y.0, y.1)) xs))) (named_kept x.0) ∙ ap (λ l. named x.0 ++ l) (each_kept xs)
+    ap (λ l. l ++ flat (map (λ (y : Expr × A). exists_tables y.0) (map (λ (y : Expr × A). (normal y.0, y.1)) xs))) (named_kept x.0) ∙ ap (λ l. exists_tables x.0 ++ l) (each_kept xs)
 
-groups_kept : (es : List Expr) → flat (map named (map normal es)) ≡ flat (map named es)
+groups_kept : (es : List Expr) → flat (map exists_tables (map normal es)) ≡ flat (map exists_tables es)
 groups_kept [] = refl
-groups_kept (e ∷ es) = ap (λ l. l ++ flat (map named (map normal es))) (named_kept e) ∙ ap (λ l. named e ++ l) (groups_kept es)
+groups_kept (e ∷ es) = ap (λ l. l ++ flat (map exists_tables (map normal es))) (named_kept e) ∙ ap (λ l. exists_tables e ++ l) (groups_kept es)
 
-joins_kept : (js : List Joined) → flat (map (λ (j : Joined). j.origin.table.0 ∷ named j.on) (map normal_join js)) ≡ flat (map (λ (j : Joined). j.origin.table.0 ∷ named j.on) js)
+joins_kept : (js : List Joined) → flat (map (λ (j : Joined). j.origin.table.0 ∷ exists_tables j.on) (map normal_join js)) ≡ flat (map (λ (j : Joined). j.origin.table.0 ∷ exists_tables j.on) js)
 joins_kept [] = refl
 joins_kept (j ∷ js) =
-    ap (λ l. (j.origin.table.0 ∷ l) ++ flat (map (λ (k : Joined). k.origin.table.0 ∷ named k.on) (map normal_join js))) (named_kept j.on)
-    ∙ ap (λ l. (j.origin.table.0 ∷ named j.on) ++ l) (joins_kept js)
+    ap (λ l. (j.origin.table.0 ∷ l) ++ flat (map (λ (k : Joined). k.origin.table.0 ∷ exists_tables k.on) (map normal_join js))) (named_kept j.on)
+    ∙ ap (λ l. (j.origin.table.0 ∷ exists_tables j.on) ++ l) (joins_kept js)
 
 abbrev listed : ℕ → List ℕ → List ℕ → List ℕ → List ℕ → List ℕ → List ℕ → List ℕ
 listed first items joins filter groups having order = items ++ first ∷ joins ++ filter ++ groups ++ having ++ order

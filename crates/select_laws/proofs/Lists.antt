@@ -8,7 +8,7 @@ use Rattle.expr_types.specs.declared.expr.Expr.TheVariants as expr
 use Rattle.expr_types.specs.Normal.{joined_parts, and_parts, and_parts_at, or_parts, or_parts_at}
 use Rattle.sql_semantics.specs.Checked.{Checked, ◌>>=◌}
 use Rattle.sql_semantics.specs.Truth.{truth_of, value_of, and3, or3, all3, any3}
-use Rattle.sql_semantics.specs.Eval.{Place, Meaning, evaluated, truth, all_from}
+use Rattle.sql_semantics.specs.Eval.{Place, Meaning, meaning_of, truth, all_from}
 use Rattle.sql_semantics.proofs.Equations.{evaluated-And, evaluated-Or}
 use Rattle.sql_semantics.proofs.Truths.{and3_assoc, and3_true, or3_assoc, or3_false}
 use Rattle.expr_types.proofs.Folds.{whole_is}
@@ -67,24 +67,24 @@ and_alone (Ok v) xs ys k l e h = h (xs ++ v ∷ []) (ys ++ v ∷ []) (and_append
 and_alone (Err f) xs ys k l e h = refl
 
 and_parts_same : (n : Expr) (x : Expr-F Expr) → out-Expr n ≡ x → (p : Place) (xs ys : List Value) (k l : List Value → Checked Value) → and_of xs ≡ and_of ys →
-    ((vs ws : List Value) → and_of vs ≡ and_of ws → k vs ≡ l ws) → (all_from p xs (map evaluated (and_parts_at n x)) >>= k) ≡ (evaluated n p >>= λ v. l (ys ++ v ∷ []))
+    ((vs ws : List Value) → and_of vs ≡ and_of ws → k vs ≡ l ws) → (all_from p xs (map meaning_of (and_parts_at n x)) >>= k) ≡ (meaning_of n p >>= λ v. l (ys ++ v ∷ []))
 and_parts_same n (Expr-F.And es) is p xs ys k l e h =
-    ap (λ r. r >>= k) (from_none p xs (map evaluated es)) ∙ and_rest (all_from p [] (map evaluated es)) xs ys k l e h
-    ∙ ap (λ (r : Checked Value). r >>= λ v. l (ys ++ v ∷ [])) (sym (ap (λ m. m p) (ap evaluated (whole_is n (Expr-F.And es) is ∙ expr.rolls-And es) ∙ evaluated-And es)))
-and_parts_same n level is p xs ys k l e h = and_alone (evaluated n p) xs ys k l e h
+    ap (λ r. r >>= k) (from_none p xs (map meaning_of es)) ∙ and_rest (all_from p [] (map meaning_of es)) xs ys k l e h
+    ∙ ap (λ (r : Checked Value). r >>= λ v. l (ys ++ v ∷ [])) (sym (ap (λ m. m p) (ap meaning_of (whole_is n (Expr-F.And es) is ∙ expr.rolls-And es) ∙ evaluated-And es)))
+and_parts_same n level is p xs ys k l e h = and_alone (meaning_of n p) xs ys k l e h
 
 and_flat : (p : Place) (ns : List Expr) (xs ys : List Value) → and_of xs ≡ and_of ys →
-    (all_from p xs (map evaluated (joined_parts and_parts ns)) >>= and_finish) ≡ (all_from p ys (map evaluated ns) >>= and_finish)
+    (all_from p xs (map meaning_of (joined_parts and_parts ns)) >>= and_finish) ≡ (all_from p ys (map meaning_of ns) >>= and_finish)
 and_flat p [] xs ys e = ap truth e
 and_flat p (n ∷ ns) xs ys e =
-    ap (λ ms. all_from p xs ms >>= and_finish) (map-append evaluated (and_parts n) (joined_parts and_parts ns))
-    ∙ ap (λ r. r >>= and_finish) (from_append p xs (map evaluated (and_parts n)) (map evaluated (joined_parts and_parts ns)))
-    ∙ bind_assoc (all_from p xs (map evaluated (and_parts n))) (λ vs. all_from p vs (map evaluated (joined_parts and_parts ns))) and_finish
-    ∙ ap (λ (es : List Expr). all_from p xs (map evaluated es) >>= λ vs. all_from p vs (map evaluated (joined_parts and_parts ns)) >>= and_finish) (and_parts_by n)
-    ∙ and_parts_same n (out-Expr n) refl p xs ys (λ vs. all_from p vs (map evaluated (joined_parts and_parts ns)) >>= and_finish) (λ ws. all_from p ws (map evaluated ns) >>= and_finish) e (and_flat p ns)
-    ∙ sym (bind_assoc (evaluated n p) (λ v. all_from p (ys ++ v ∷ []) (map evaluated ns)) and_finish)
+    ap (λ ms. all_from p xs ms >>= and_finish) (map-append meaning_of (and_parts n) (joined_parts and_parts ns))
+    ∙ ap (λ r. r >>= and_finish) (from_append p xs (map meaning_of (and_parts n)) (map meaning_of (joined_parts and_parts ns)))
+    ∙ bind_assoc (all_from p xs (map meaning_of (and_parts n))) (λ vs. all_from p vs (map meaning_of (joined_parts and_parts ns))) and_finish
+    ∙ ap (λ (es : List Expr). all_from p xs (map meaning_of es) >>= λ vs. all_from p vs (map meaning_of (joined_parts and_parts ns)) >>= and_finish) (and_parts_by n)
+    ∙ and_parts_same n (out-Expr n) refl p xs ys (λ vs. all_from p vs (map meaning_of (joined_parts and_parts ns)) >>= and_finish) (λ ws. all_from p ws (map meaning_of ns) >>= and_finish) e (and_flat p ns)
+    ∙ sym (bind_assoc (meaning_of n p) (λ v. all_from p (ys ++ v ∷ []) (map meaning_of ns)) and_finish)
 
-pub and_same : (p : Place) (ns : List Expr) → evaluated (expr.And (joined_parts and_parts ns)) p ≡ evaluated (expr.And ns) p
+pub and_same : (p : Place) (ns : List Expr) → meaning_of (expr.And (joined_parts and_parts ns)) p ≡ meaning_of (expr.And ns) p
 and_same p ns = ap (λ m. m p) (evaluated-And (joined_parts and_parts ns)) ∙ and_flat p ns [] [] refl ∙ sym (ap (λ m. m p) (evaluated-And ns))
 
 -- ---- `or`
@@ -117,22 +117,22 @@ or_alone (Ok v) xs ys k l e h = h (xs ++ v ∷ []) (ys ++ v ∷ []) (or_append x
 or_alone (Err f) xs ys k l e h = refl
 
 or_parts_same : (n : Expr) (x : Expr-F Expr) → out-Expr n ≡ x → (p : Place) (xs ys : List Value) (k l : List Value → Checked Value) → or_of xs ≡ or_of ys →
-    ((vs ws : List Value) → or_of vs ≡ or_of ws → k vs ≡ l ws) → (all_from p xs (map evaluated (or_parts_at n x)) >>= k) ≡ (evaluated n p >>= λ v. l (ys ++ v ∷ []))
+    ((vs ws : List Value) → or_of vs ≡ or_of ws → k vs ≡ l ws) → (all_from p xs (map meaning_of (or_parts_at n x)) >>= k) ≡ (meaning_of n p >>= λ v. l (ys ++ v ∷ []))
 or_parts_same n (Expr-F.Or es) is p xs ys k l e h =
-    ap (λ r. r >>= k) (from_none p xs (map evaluated es)) ∙ or_rest (all_from p [] (map evaluated es)) xs ys k l e h
-    ∙ ap (λ (r : Checked Value). r >>= λ v. l (ys ++ v ∷ [])) (sym (ap (λ m. m p) (ap evaluated (whole_is n (Expr-F.Or es) is ∙ expr.rolls-Or es) ∙ evaluated-Or es)))
-or_parts_same n level is p xs ys k l e h = or_alone (evaluated n p) xs ys k l e h
+    ap (λ r. r >>= k) (from_none p xs (map meaning_of es)) ∙ or_rest (all_from p [] (map meaning_of es)) xs ys k l e h
+    ∙ ap (λ (r : Checked Value). r >>= λ v. l (ys ++ v ∷ [])) (sym (ap (λ m. m p) (ap meaning_of (whole_is n (Expr-F.Or es) is ∙ expr.rolls-Or es) ∙ evaluated-Or es)))
+or_parts_same n level is p xs ys k l e h = or_alone (meaning_of n p) xs ys k l e h
 
 or_flat : (p : Place) (ns : List Expr) (xs ys : List Value) → or_of xs ≡ or_of ys →
-    (all_from p xs (map evaluated (joined_parts or_parts ns)) >>= or_finish) ≡ (all_from p ys (map evaluated ns) >>= or_finish)
+    (all_from p xs (map meaning_of (joined_parts or_parts ns)) >>= or_finish) ≡ (all_from p ys (map meaning_of ns) >>= or_finish)
 or_flat p [] xs ys e = ap truth e
 or_flat p (n ∷ ns) xs ys e =
-    ap (λ ms. all_from p xs ms >>= or_finish) (map-append evaluated (or_parts n) (joined_parts or_parts ns))
-    ∙ ap (λ r. r >>= or_finish) (from_append p xs (map evaluated (or_parts n)) (map evaluated (joined_parts or_parts ns)))
-    ∙ bind_assoc (all_from p xs (map evaluated (or_parts n))) (λ vs. all_from p vs (map evaluated (joined_parts or_parts ns))) or_finish
-    ∙ ap (λ (es : List Expr). all_from p xs (map evaluated es) >>= λ vs. all_from p vs (map evaluated (joined_parts or_parts ns)) >>= or_finish) (or_parts_by n)
-    ∙ or_parts_same n (out-Expr n) refl p xs ys (λ vs. all_from p vs (map evaluated (joined_parts or_parts ns)) >>= or_finish) (λ ws. all_from p ws (map evaluated ns) >>= or_finish) e (or_flat p ns)
-    ∙ sym (bind_assoc (evaluated n p) (λ v. all_from p (ys ++ v ∷ []) (map evaluated ns)) or_finish)
+    ap (λ ms. all_from p xs ms >>= or_finish) (map-append meaning_of (or_parts n) (joined_parts or_parts ns))
+    ∙ ap (λ r. r >>= or_finish) (from_append p xs (map meaning_of (or_parts n)) (map meaning_of (joined_parts or_parts ns)))
+    ∙ bind_assoc (all_from p xs (map meaning_of (or_parts n))) (λ vs. all_from p vs (map meaning_of (joined_parts or_parts ns))) or_finish
+    ∙ ap (λ (es : List Expr). all_from p xs (map meaning_of es) >>= λ vs. all_from p vs (map meaning_of (joined_parts or_parts ns)) >>= or_finish) (or_parts_by n)
+    ∙ or_parts_same n (out-Expr n) refl p xs ys (λ vs. all_from p vs (map meaning_of (joined_parts or_parts ns)) >>= or_finish) (λ ws. all_from p ws (map meaning_of ns) >>= or_finish) e (or_flat p ns)
+    ∙ sym (bind_assoc (meaning_of n p) (λ v. all_from p (ys ++ v ∷ []) (map meaning_of ns)) or_finish)
 
-pub or_same : (p : Place) (ns : List Expr) → evaluated (expr.Or (joined_parts or_parts ns)) p ≡ evaluated (expr.Or ns) p
+pub or_same : (p : Place) (ns : List Expr) → meaning_of (expr.Or (joined_parts or_parts ns)) p ≡ meaning_of (expr.Or ns) p
 or_same p ns = ap (λ m. m p) (evaluated-Or (joined_parts or_parts ns)) ∙ or_flat p ns [] [] refl ∙ sym (ap (λ m. m p) (evaluated-Or ns))

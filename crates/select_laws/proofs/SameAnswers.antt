@@ -11,15 +11,15 @@ use Rattle.expr_types.specs.declared.expr.Origin.{Origin}
 use Rattle.expr_types.specs.declared.select.Select.{Select}
 use Rattle.expr_types.specs.Normal.{normal}
 use Rattle.expr_types.specs.NormalSelect.{normal_select, normal_where}
-use Rattle.sql_semantics.specs.Plain.{IfSet, and_having, is_grouped, lacks_aggregate, outputs, settled, sources_of}
+use Rattle.sql_semantics.specs.Plain.{IfSet, and_having, is_grouped, lacks_aggregate, outputs, is_well_grouped, sources_of}
 use Rattle.sql_semantics.specs.Typed.{IsTyped, IsTypedCondition, IsTypedFilter, IsTypedSelect}
 use Rattle.sql_semantics.specs.Checked.{Checked, ◌>>=◌}
-use Rattle.sql_semantics.specs.Eval.{Row, Tables, Place, all_from, evaluated}
+use Rattle.sql_semantics.specs.Eval.{Row, Tables, Place, all_from, meaning_of}
 use Rattle.sql_semantics.specs.declared.basis.Basis.{Basis}
 use Rattle.sql_semantics.specs.declared.basis.Basis.TheVariants as basis
 use Rattle.sql_semantics.specs.declared.sort_key.SortKey.{SortKey}
 use Rattle.sql_semantics.specs.Order.{key_of}
-use Rattle.sql_semantics.specs.Rows.{Frame, Keyed, answer, answered, at, at_basis, bases, condition, created, grouped, groups, having, keyed, keys_from, mapped_from, of_rows, output, passed, sources, tables_of, values}
+use Rattle.sql_semantics.specs.Rows.{Frame, Keyed, answer, answer_rows, at, at_basis, bases, condition, require_created, group_bases, groups, groups_having, row_with_key, keys_from, mapped_from, of_rows, output, rows_where, sources, tables_of, values}
 use Rattle.sql_semantics.specs.Shapes.{AreRows, scope_of}
 use Rattle.select_sources.proofs.Columns.{passed_sure}
 use Rattle.select_rows.proofs.Shapes.{OfBasis, bases_sure, having_sure}
@@ -36,31 +36,31 @@ use Rattle.select_laws.proofs.SettledApart.{settled_in_groups}
 
 -- the normal form of an expression has the same value there
 abbrev Same : Place → Expr → Type 0
-Same p e = evaluated (normal e) p ≡ evaluated e p
+Same p e = meaning_of (normal e) p ≡ meaning_of e p
 
 -- ---- lists of expressions
 
-all_same : (p : Place) (es : List Expr) → AllByRecursion (Same p) es → (done : List Value) → all_from p done (map evaluated (map normal es)) ≡ all_from p done (map evaluated es)
+all_same : (p : Place) (es : List Expr) → AllByRecursion (Same p) es → (done : List Value) → all_from p done (map meaning_of (map normal es)) ≡ all_from p done (map meaning_of es)
 all_same p [] h done = refl
 all_same p (e ∷ es) h done =
-    ap (λ (r : Checked Value). r >>= λ v. all_from p (done ++ v ∷ []) (map evaluated (map normal es))) h.0 ∙ bind_same (evaluated e p) _ _ (λ v. all_same p es h.1 (done ++ v ∷ []))
+    ap (λ (r : Checked Value). r >>= λ v. all_from p (done ++ v ∷ []) (map meaning_of (map normal es))) h.0 ∙ bind_same (meaning_of e p) _ _ (λ v. all_same p es h.1 (done ++ v ∷ []))
 
 abbrev Item : Type 0
 Item = Expr × Option (List ℕ)
 
 items_same : (p : Place) (items : List Item) → AllByRecursion (λ (i : Item). Same p i.0) items → (done : List Value)
-    → all_from p done (map (λ (i : Item). evaluated i.0) (map (λ (i : Item). (normal i.0, i.1)) items)) ≡ all_from p done (map (λ (i : Item). evaluated i.0) items)
+    → all_from p done (map (λ (i : Item). meaning_of i.0) (map (λ (i : Item). (normal i.0, i.1)) items)) ≡ all_from p done (map (λ (i : Item). meaning_of i.0) items)
 items_same p [] h done = refl
 items_same p (i ∷ items) h done =
-    ap (λ (r : Checked Value). r >>= λ v. all_from p (done ++ v ∷ []) (map (λ (k : Item). evaluated k.0) (map (λ (k : Item). (normal k.0, k.1)) items))) h.0
-    ∙ bind_same (evaluated i.0 p) _ _ (λ v. items_same p items h.1 (done ++ v ∷ []))
+    ap (λ (r : Checked Value). r >>= λ v. all_from p (done ++ v ∷ []) (map (λ (k : Item). meaning_of k.0) (map (λ (k : Item). (normal k.0, k.1)) items))) h.0
+    ∙ bind_same (meaning_of i.0 p) _ _ (λ v. items_same p items h.1 (done ++ v ∷ []))
 
 keys_same : (p : Place) (order : List (Expr × Bool)) → AllByRecursion (λ (k : Expr × Bool). Same p k.0) order → (done : List SortKey)
     → keys_from p done (map (λ (k : Expr × Bool). (normal k.0, k.1)) order) ≡ keys_from p done order
 keys_same p [] h done = refl
 keys_same p (k ∷ order) h done =
     ap (λ (r : Checked Value). r >>= λ v. keys_from p (done ++ key_of k.1 v ∷ []) (map (λ (l : Expr × Bool). (normal l.0, l.1)) order)) h.0
-    ∙ bind_same (evaluated k.0 p) _ _ (λ v. keys_same p order h.1 (done ++ key_of k.1 v ∷ []))
+    ∙ bind_same (meaning_of k.0 p) _ _ (λ v. keys_same p order h.1 (done ++ key_of k.1 v ∷ []))
 
 -- ---- the parts of a typed select
 
@@ -70,7 +70,7 @@ module _ (schema : Catalog) (s : Select) (typed : IsTypedSelect schema s) (f : F
 
   -- what stands outside the group expressions
   abbrev is_settled : Expr → Bool
-  is_settled = settled (is_grouped s) (map normal s.groups) (length (sources_of s))
+  is_settled = is_well_grouped (is_grouped s) (map normal s.groups) (length (sources_of s))
 
   abbrev Fitting : Row → Type 0
   Fitting row = FitsPlace schema (scope_of s) (at f row)
@@ -83,13 +83,13 @@ module _ (schema : Catalog) (s : Select) (typed : IsTypedSelect schema s) (f : F
 
   -- ---- one expression
 
-  group_same : (e : Expr) → Stands e → (rows : List Row) (es : List Expr) → s.groups ≡ es → settled true (map normal es) (length (sources_of s)) (normal e) ≡ true → OfBasis Fitting (is_grouped s) es (basis.Group rows)
+  group_same : (e : Expr) → Stands e → (rows : List Row) (es : List Expr) → s.groups ≡ es → is_well_grouped true (map normal es) (length (sources_of s)) (normal e) ≡ true → OfBasis Fitting (is_grouped s) es (basis.Group rows)
       → Same (at_basis f (basis.Group rows)) e
   group_same e t [] [] none h b =
-      in_one_group_of_no_rows schema (scope_of s) e t.fitting t.typed (subst (λ n. settled true [] n (normal e) ≡ true) (sym long) h) (at_basis f (basis.Group []))
+      in_one_group_of_no_rows schema (scope_of s) e t.fitting t.typed (subst (λ n. is_well_grouped true [] n (normal e) ≡ true) (sym long) h) (at_basis f (basis.Group []))
       (record { group = refl; no_row = refl; begins = begins; rows = tables_fit schema f.tables a })
   group_same e t (row ∷ rows) [] none h b =
-      in_one_group schema (scope_of s) e t.fitting t.typed (subst (λ n. settled true [] n (normal e) ≡ true) (sym long) h) (at_basis f (basis.Group (row ∷ rows))) (row ∷ rows)
+      in_one_group schema (scope_of s) e t.fitting t.typed (subst (λ n. is_well_grouped true [] n (normal e) ≡ true) (sym long) h) (at_basis f (basis.Group (row ∷ rows))) (row ∷ rows)
       (record { group = refl; one = b.1.0; each = b.1 })
   group_same e t rows (g ∷ gs) some h b =
       let lack : list_all lacks_aggregate (map normal (g ∷ gs)) ≡ true =
@@ -99,7 +99,7 @@ module _ (schema : Catalog) (s : Select) (typed : IsTypedSelect schema s) (f : F
 
   basis_same : (e : Expr) → Stands e → is_settled (normal e) ≡ true → (b : Basis) → Bases b → Same (at_basis f b) e
   basis_same e t h (basis.Row row) b = in_every_row schema (scope_of s) e t.fitting t.typed (at f row) b
-  basis_same e t h (basis.Group rows) b = group_same e t rows s.groups refl (subst (λ (g : Bool). settled g (map normal s.groups) (length (sources_of s)) (normal e) ≡ true) b.0 h) b
+  basis_same e t h (basis.Group rows) b = group_same e t rows s.groups refl (subst (λ (g : Bool). is_well_grouped g (map normal s.groups) (length (sources_of s)) (normal e) ≡ true) b.0 h) b
 
   -- ---- all outputs
 
@@ -137,40 +137,40 @@ module _ (schema : Catalog) (s : Select) (typed : IsTypedSelect schema s) (f : F
   each_stands row h [] t = tt
   each_stands row h (e ∷ es) t = (in_every_row schema (scope_of s) e t.0.fitting t.0.typed (at f row) h, each_stands row h es t.1)
 
-  keyed_same : (es : List Expr) → AllByRecursion Stands es → (row : Row) → Fitting row → keyed f (map normal es) row ≡ keyed f es row
+  keyed_same : (es : List Expr) → AllByRecursion Stands es → (row : Row) → Fitting row → row_with_key f (map normal es) row ≡ row_with_key f es row
   keyed_same es t row h = ap (λ (r : Checked (List Value)). r >>= λ vs. Ok (vs, row)) (all_same (at f row) es (each_stands row h es t) [])
 
-  grouped_same : (es : List Expr) → AllByRecursion Stands es → (rows : List Row) → AllByRecursion Fitting rows → grouped f (map normal es) rows ≡ grouped f es rows
+  grouped_same : (es : List Expr) → AllByRecursion Stands es → (rows : List Row) → AllByRecursion Fitting rows → group_bases f (map normal es) rows ≡ group_bases f es rows
   grouped_same [] t rows h = refl
   grouped_same (e ∷ es) t rows h =
-      ap (λ (r : Checked (List Keyed)). r >>= λ all. Ok (groups all)) (mapped_same Fitting (keyed f (map normal (e ∷ es))) (keyed f (e ∷ es)) (keyed_same (e ∷ es) t) [] rows h)
+      ap (λ (r : Checked (List Keyed)). r >>= λ all. Ok (groups all)) (mapped_same Fitting (row_with_key f (map normal (e ∷ es))) (row_with_key f (e ∷ es)) (keyed_same (e ∷ es) t) [] rows h)
 
   bases_same : (rows : List Row) → AllByRecursion Fitting rows → bases f (normal_select s) rows ≡ bases f s rows
   bases_same rows h =
       let ungrouped : Checked (List Basis) = Ok (map (λ r. basis.Row r) rows) in
-      ap (λ (b : Bool). if b then grouped f (map normal s.groups) rows else ungrouped) (grouped_kept s)
+      ap (λ (b : Bool). if b then group_bases f (map normal s.groups) rows else ungrouped) (grouped_kept s)
       ∙ ap (λ (r : Checked (List Basis)). if is_grouped s then r else ungrouped) (grouped_same s.groups typed.groups_typed rows h)
 
   having_same : (o : Option Expr) → IfSet (IsTypedCondition schema (sources_of s)) o → list_all is_settled (and_having (normal_where o) (outputs (normal_select s))) ≡ true
-      → (bs : List Basis) → AllByRecursion Bases bs → having f (normal_where o) bs ≡ having f o bs
+      → (bs : List Basis) → AllByRecursion Bases bs → groups_having f (normal_where o) bs ≡ groups_having f o bs
   having_same None t h bs k = refl
   having_same (Some e) t h bs k =
-      kept_same Bases (λ b. evaluated (normal e) (at_basis f b)) (λ b. evaluated e (at_basis f b))
+      kept_same Bases (λ b. meaning_of (normal e) (at_basis f b)) (λ b. meaning_of e (at_basis f b))
       (basis_same e t.stands (and_parts (is_settled (normal e)) (list_all is_settled (outputs (normal_select s))) h).0) [] bs k
 
   -- ---- the rows of the answer
 
   pub rows_same : (rows : List Row) → AllByRecursion Fitting rows → of_rows f (normal_select s) rows ≡ of_rows f s rows
   rows_same rows h =
-      let left : List Basis → Checked (List Row) = λ kept. mapped_from (output f (normal_select s)) [] kept >>= λ outs. Ok (answered s outs) in
-      ap (λ (r : Checked (List Basis)). r >>= λ all. having f (normal_where s.having) all >>= left) (bases_same rows h)
+      let left : List Basis → Checked (List Row) = λ kept. mapped_from (output f (normal_select s)) [] kept >>= λ outs. Ok (answer_rows s outs) in
+      ap (λ (r : Checked (List Basis)). r >>= λ all. groups_having f (normal_where s.having) all >>= left) (bases_same rows h)
       ∙ bind_sure_same (AllByRecursion Bases) (bases f s rows) _ _ (bases_sure Fitting f s rows h)
       (λ all k. ap (λ (r : Checked (List Basis)). r >>= left) (having_same s.having typed.having_typed typed.grouped_columns all k)
-      ∙ bind_sure_same (AllByRecursion Bases) (having f s.having all) _ _ (having_sure Bases f s.having all k)
-      (λ kept l. ap (λ (r : Checked (List (List SortKey × List Value))). r >>= λ outs. Ok (answered s outs)) (mapped_same Bases (output f (normal_select s)) (output f s) output_same [] kept l)))
+      ∙ bind_sure_same (AllByRecursion Bases) (groups_having f s.having all) _ _ (having_sure Bases f s.having all k)
+      (λ kept l. ap (λ (r : Checked (List (List SortKey × List Value))). r >>= λ outs. Ok (answer_rows s outs)) (mapped_same Bases (output f (normal_select s)) (output f s) output_same [] kept l)))
 
 passed_same : (schema : Catalog) (sources : List Origin) (f : Frame) (o : Option Expr) (rows : List Row) → IfSet (IsTypedFilter schema sources) o → AllByRecursion (λ row. FitsPlace schema (map (λ (o : Origin). o.table) sources) (at f row)) rows
-    → passed f (normal_where o) rows ≡ passed f o rows
+    → rows_where f (normal_where o) rows ≡ rows_where f o rows
 passed_same schema sources f None rows t h = refl
 passed_same schema sources f (Some e) rows t h =
     kept_same (λ row. FitsPlace schema (map (λ (o : Origin). o.table) sources) (at f row)) (condition f (normal e)) (condition f e) (λ row k. condition_same schema sources e f row t.condition.stands k) [] rows h
@@ -178,11 +178,11 @@ passed_same schema sources f (Some e) rows t h =
 pub answers_same : (schema : Catalog) (s : Select) → IsTypedSelect schema s → (tables : Tables) → AreRows schema tables → answer schema tables (normal_select s) ≡ answer schema tables s
 unfolding answer
 answers_same schema s typed tables a =
-    let told : Frame × List Row → Checked (List Row) = λ from. passed from.0 (normal_where s.filter) from.1 >>= λ rows. of_rows from.0 (normal_select s) rows in
-    ap (λ (r : Checked (Unit {0})). r >>= λ _. sources schema tables (normal_select s) >>= told) (ap (created tables) (tables_kept s))
-    ∙ bind_same (created tables (tables_of s)) _ _
+    let told : Frame × List Row → Checked (List Row) = λ from. rows_where from.0 (normal_where s.filter) from.1 >>= λ rows. of_rows from.0 (normal_select s) rows in
+    ap (λ (r : Checked (Unit {0})). r >>= λ _. sources schema tables (normal_select s) >>= told) (ap (require_created tables) (tables_kept s))
+    ∙ bind_same (require_created tables (tables_of s)) _ _
     (λ _. ap (λ (r : Checked (Frame × List Row)). r >>= told) (sources_same schema tables s a typed.joins_typed)
     ∙ bind_sure_same (IsFrom schema (scope_of s)) (sources schema tables s) _ _ (sources_fit schema tables s a typed.joins_typed)
     (λ from k. ap (λ (r : Checked (List Row)). r >>= λ rows. of_rows from.0 (normal_select s) rows) (passed_same schema (sources_of s) from.0 s.filter from.1 typed.filter_typed k.rows)
-    ∙ bind_sure_same (AllByRecursion (λ row. FitsPlace schema (scope_of s) (at from.0 row))) (passed from.0 s.filter from.1) _ _ (passed_sure (λ row. FitsPlace schema (scope_of s) (at from.0 row)) from.0 s.filter from.1 k.rows)
+    ∙ bind_sure_same (AllByRecursion (λ row. FitsPlace schema (scope_of s) (at from.0 row))) (rows_where from.0 s.filter from.1) _ _ (passed_sure (λ row. FitsPlace schema (scope_of s) (at from.0 row)) from.0 s.filter from.1 k.rows)
     (λ rows l. rows_same schema s typed from.0 k.begins k.tables rows l)))

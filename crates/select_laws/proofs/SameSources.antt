@@ -15,7 +15,7 @@ use Rattle.expr_types.specs.NormalSelect.{normal_join, normal_select}
 use Rattle.sql_semantics.specs.Kinds.{Scope}
 use Rattle.sql_semantics.specs.Checked.{Checked, ◌>>=◌}
 use Rattle.sql_semantics.specs.Eval.{Row, Tables, rows_in}
-use Rattle.sql_semantics.specs.Rows.{Frame, at, condition, joined, joined_all, joined_row, or_nulls, sources, wider, width}
+use Rattle.sql_semantics.specs.Rows.{Frame, at, condition, rows_of_join, joined_all, joined_row, or_nulls, sources, wider, width}
 use Rattle.sql_semantics.specs.Shapes.{AreRows, scope_of}
 use Rattle.sql_semantics.specs.Typed.{AreTypedJoins, IsTyped, IsTypedFilter}
 use Rattle.select_sources.proofs.Columns as columns
@@ -83,13 +83,13 @@ module _ (schema : Catalog) (before : List Origin) (f : Frame) (n : ℕ) (j : Jo
       (kept_same IsJoined (condition (wider f n) (normal j.on)) (condition (wider f n) j.on) on_same [] (map (λ x. row ++ x) (rows_in f.tables j.origin.table.0))
       (joined_each KindAt schema (tables_in before) f.starts n m (table_of j) row (rows_in f.tables j.origin.table.0) e refl h (rows_of_table KindAt may_hold held_kind schema f.tables (length (tables_in before)) (table_of j) a)))
 
-  pub joined_same : (rows : List Row) → AllByRecursion (IsIn KindAt schema (tables_in before) f.starts n) rows → joined schema (wider f n) (normal_join j) rows ≡ joined schema (wider f n) j rows
+  pub joined_same : (rows : List Row) → AllByRecursion (IsIn KindAt schema (tables_in before) f.starts n) rows → rows_of_join schema (wider f n) (normal_join j) rows ≡ rows_of_join schema (wider f n) j rows
   joined_same rows h = each_same (IsIn KindAt schema (tables_in before) f.starts n) (joined_row (wider f n) (normal_join j) m) (joined_row (wider f n) j m) row_same [] rows h
 
   pub then_sure : (js : List Joined) (rows : List Row) → AllByRecursion (IsIn KindAt schema (tables_in before) f.starts n) rows
-      → Sure (AllByRecursion (IsIn KindAt schema (tables_in (before ++ j.origin ∷ [])) (f.starts ++ n ∷ []) (n + m))) (joined schema (wider f n) j rows)
+      → Sure (AllByRecursion (IsIn KindAt schema (tables_in (before ++ j.origin ∷ [])) (f.starts ++ n ∷ []) (n + m))) (rows_of_join schema (wider f n) j rows)
   then_sure js rows h =
-      subst (λ (s : Scope). Sure (AllByRecursion (IsIn KindAt schema s (f.starts ++ n ∷ []) (n + m))) (joined schema (wider f n) j rows)) (sym more)
+      subst (λ (s : Scope). Sure (AllByRecursion (IsIn KindAt schema s (f.starts ++ n ∷ []) (n + m))) (rows_of_join schema (wider f n) j rows)) (sym more)
       (joined_sure KindAt may_hold held_kind schema (tables_in before) f n j js rows a e (λ i k is l column. refl) h)
 
   pub then_long : length (f.starts ++ n ∷ []) ≡ length (tables_in (before ++ j.origin ∷ []))
@@ -103,7 +103,7 @@ joins_same schema before f n [] rows a e t h = refl
 joins_same schema before f n (j ∷ js) rows a e t h =
     let m : ℕ = width schema j.origin in
     ap (λ (r : Checked (List Row)). r >>= λ more. joined_all schema (wider f n) (n + m) (map normal_join js) more) (joined_same schema before f n j a e t.0 rows h)
-    ∙ bind_sure_same (AllByRecursion (IsIn KindAt schema (tables_in (before ++ j.origin ∷ [])) (f.starts ++ n ∷ []) (n + m))) (joined schema (wider f n) j rows) _ _ (then_sure schema before f n j a e t.0 js rows h)
+    ∙ bind_sure_same (AllByRecursion (IsIn KindAt schema (tables_in (before ++ j.origin ∷ [])) (f.starts ++ n ∷ []) (n + m))) (rows_of_join schema (wider f n) j rows) _ _ (then_sure schema before f n j a e t.0 js rows h)
     (λ more k. joins_same schema (before ++ j.origin ∷ []) (wider f n) (n + m) js more a (then_long schema before f n j a e t.0) t.1 k)
 
 -- the sources in scope, with rows in which they begin
@@ -123,7 +123,7 @@ from_sure schema before f n [] rows a e t h =
 from_sure schema before f n (j ∷ js) rows a e t h =
     let m : ℕ = width schema j.origin in
     let others : List Origin = map (λ (k : Joined). k.origin) js in
-    bind_sure (AllByRecursion (IsIn KindAt schema (tables_in (before ++ j.origin ∷ [])) (f.starts ++ n ∷ []) (n + m))) (IsFrom schema (tables_in (before ++ j.origin ∷ others))) (joined schema (wider f n) j rows)
+    bind_sure (AllByRecursion (IsIn KindAt schema (tables_in (before ++ j.origin ∷ [])) (f.starts ++ n ∷ []) (n + m))) (IsFrom schema (tables_in (before ++ j.origin ∷ others))) (rows_of_join schema (wider f n) j rows)
     (λ more. joined_all schema (wider f n) (n + m) js more) (then_sure schema before f n j a e t.0 js rows h)
     (λ more k. subst (λ (os : List Origin). Sure (IsFrom schema (tables_in os)) (joined_all schema (wider f n) (n + m) js more)) (append_assoc before (j.origin ∷ []) others)
     (from_sure schema (before ++ j.origin ∷ []) (wider f n) (n + m) js more a (then_long schema before f n j a e t.0) t.1 k))

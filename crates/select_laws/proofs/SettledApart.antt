@@ -8,7 +8,7 @@ use Rattle.expr_types.specs.declared.expr.Expr.TheFolds.{map-Expr, para-roll-Exp
 use Rattle.expr_types.specs.Level.{aggregate_level, has_aggregate, is_aggregate_function}
 use Rattle.expr_types.specs.Same.{same}
 use Rattle.expr_types.proofs.Folds.{bare, by_levels}
-use Rattle.sql_semantics.specs.Plain.{Found, lacks_aggregate, settled, settled_level, whole}
+use Rattle.sql_semantics.specs.Plain.{Found, lacks_aggregate, is_well_grouped, is_well_grouped_level, whole}
 use Rattle.select_laws.proofs.Several.{first_false, first_true, one_true, rest_false, rest_true, three_true, two_true}
 use Rattle.select_laws.proofs.LacksApart.{apart_rolled, lacks_apart}
 use Rattle.select_laws.proofs.SameTrees.{aggregate_rolled, same_aggregates}
@@ -41,7 +41,7 @@ occurs_in groups e = list_any (λ g. same g e) groups
 
 module _ (groups : List Expr) (outer : ℕ) (occurs : (e : Expr) → occurs_in groups e ≡ true → AreApart outer e) where
   abbrev found_at : ℕ → Expr → Found
-  found_at own e = (e, settled true groups own e)
+  found_at own e = (e, is_well_grouped true groups own e)
 
   -- ---- one level
 
@@ -55,16 +55,16 @@ module _ (groups : List Expr) (outer : ℕ) (occurs : (e : Expr) → occurs_in g
   unfound own (Expr-F.Call f es) = ap (Expr-F.Call f) (unfound_list own es)
   unfound own x = refl
 
-  settled_by : (own : ℕ) (x : Expr-F Expr) → settled true groups own (roll-Expr x) ≡ (occurs_in groups (roll-Expr x) || settled_level true own (map-Expr Expr Found (found_at own) x))
-  unfolding settled
+  settled_by : (own : ℕ) (x : Expr-F Expr) → is_well_grouped true groups own (roll-Expr x) ≡ (occurs_in groups (roll-Expr x) || is_well_grouped_level true own (map-Expr Expr Found (found_at own) x))
+  unfolding is_well_grouped
   settled_by own x =
-      para-roll-Expr Bool (λ level. (true && occurs_in groups (whole level)) || settled_level true own level) x
-      ∙ ap (λ z. occurs_in groups (roll-Expr z) || settled_level true own (map-Expr Expr Found (found_at own) x)) (unfound own x)
+      para-roll-Expr Bool (λ level. (true && occurs_in groups (whole level)) || is_well_grouped_level true own level) x
+      ∙ ap (λ z. occurs_in groups (roll-Expr z) || is_well_grouped_level true own (map-Expr Expr Found (found_at own) x)) (unfound own x)
 
   -- ---- all levels
 
   abbrev SettlesApart : Expr → Type 0
-  SettlesApart e = (own : ℕ) → outer ≤ own → settled true groups own e ≡ true → AreApart outer e
+  SettlesApart e = (own : ℕ) → outer ≤ own → is_well_grouped true groups own e ≡ true → AreApart outer e
 
   abbrev Known : Type 0
   Known = (e : Expr) × SettlesApart e
@@ -73,11 +73,11 @@ module _ (groups : List Expr) (outer : ℕ) (occurs : (e : Expr) → occurs_in g
   plain = map (λ k. k.0)
 
   abbrev Settled : ℕ → Expr → Type 0
-  Settled own e = settled true groups own e ≡ true
+  Settled own e = is_well_grouped true groups own e ≡ true
 
   all_settled : (own : ℕ) (es : List Expr) → list_all (λ (found : Found). found.1) (map (found_at own) es) ≡ true → AllByRecursion (Settled own) es
   all_settled own [] h = tt
-  all_settled own (e ∷ es) h = let both = and_parts (settled true groups own e) (list_all (λ (found : Found). found.1) (map (found_at own) es)) h in (both.0, all_settled own es both.1)
+  all_settled own (e ∷ es) h = let both = and_parts (is_well_grouped true groups own e) (list_all (λ (found : Found). found.1) (map (found_at own) es)) h in (both.0, all_settled own es both.1)
 
   free_list : (own : ℕ) → outer ≤ own → (ks : List Known) → AllByRecursion (Settled own) (plain ks) → list_all (λ (holds : Bool → Bool). holds true) (map (stands_apart outer) (plain ks)) ≡ true
   free_list own le [] h = refl
@@ -97,44 +97,44 @@ module _ (groups : List Expr) (outer : ℕ) (occurs : (e : Expr) → occurs_in g
     free : apart_level outer (map-Expr Expr (Bool → Bool) (stands_apart outer) (bare y)) true ≡ true
     bound : aggregate_level (map-Expr Expr Bool has_aggregate (bare y)) ≡ false → apart_level outer (map-Expr Expr (Bool → Bool) (stands_apart outer) (bare y)) false ≡ true
 
-  level : (y : Expr-F Known) (own : ℕ) → outer ≤ own → settled_level true own (map-Expr Expr Found (found_at own) (bare y)) ≡ true → Levels y
+  level : (y : Expr-F Known) (own : ℕ) → outer ≤ own → is_well_grouped_level true own (map-Expr Expr Found (found_at own) (bare y)) ≡ true → Levels y
   level (Expr-F.Column s c) own le h =
       let below : own ≤ s = ltb-false s own (not-true (nat_lt s own) (first_true (not (nat_lt s own)) true (first_true (not (nat_lt s own) && true) true h))) in
       record { free = refl; bound = λ lack. one_true (not (nat_lt s outer)) (not_from_false (nat_lt s outer) (le-ltb s outer (omega (arith, le, below)))) }
   level (Expr-F.Lit v) own le h = record { free = refl; bound = λ lack. refl }
   level Expr-F.CountAll own le h = record { free = refl; bound = λ lack. absurd (cc) }
   level (Expr-F.Compare op a b) own le h =
-      let of_a = a.1 own le (first_true (settled true groups own a.0) (settled true groups own b.0 && true) h) in let of_b = b.1 own le (first_true (settled true groups own b.0) true (rest_true (settled true groups own a.0) (settled true groups own b.0 && true) h)) in
+      let of_a = a.1 own le (first_true (is_well_grouped true groups own a.0) (is_well_grouped true groups own b.0 && true) h) in let of_b = b.1 own le (first_true (is_well_grouped true groups own b.0) true (rest_true (is_well_grouped true groups own a.0) (is_well_grouped true groups own b.0 && true) h)) in
       record { free = two_true (stands_apart outer a.0 true) (stands_apart outer b.0 true) of_a.free of_b.free; bound = λ lack. two_true (stands_apart outer a.0 false) (stands_apart outer b.0 false) (of_a.bound (first_false (has_aggregate a.0) (has_aggregate b.0 || false) lack)) (of_b.bound (first_false (has_aggregate b.0) false (rest_false (has_aggregate a.0) (has_aggregate b.0 || false) lack))) }
   level (Expr-F.IsNull g a) own le h =
-      let of_a = a.1 own le (first_true (settled true groups own a.0) true h) in
+      let of_a = a.1 own le (first_true (is_well_grouped true groups own a.0) true h) in
       record { free = one_true (stands_apart outer a.0 true) of_a.free; bound = λ lack. one_true (stands_apart outer a.0 false) (of_a.bound (first_false (has_aggregate a.0) false lack)) }
   level (Expr-F.Not a) own le h =
-      let of_a = a.1 own le (first_true (settled true groups own a.0) true h) in
+      let of_a = a.1 own le (first_true (is_well_grouped true groups own a.0) true h) in
       record { free = one_true (stands_apart outer a.0 true) of_a.free; bound = λ lack. one_true (stands_apart outer a.0 false) (of_a.bound (first_false (has_aggregate a.0) false lack)) }
   level (Expr-F.Arith op a b) own le h =
-      let of_a = a.1 own le (first_true (settled true groups own a.0) (settled true groups own b.0 && true) h) in let of_b = b.1 own le (first_true (settled true groups own b.0) true (rest_true (settled true groups own a.0) (settled true groups own b.0 && true) h)) in
+      let of_a = a.1 own le (first_true (is_well_grouped true groups own a.0) (is_well_grouped true groups own b.0 && true) h) in let of_b = b.1 own le (first_true (is_well_grouped true groups own b.0) true (rest_true (is_well_grouped true groups own a.0) (is_well_grouped true groups own b.0 && true) h)) in
       record { free = two_true (stands_apart outer a.0 true) (stands_apart outer b.0 true) of_a.free of_b.free; bound = λ lack. two_true (stands_apart outer a.0 false) (stands_apart outer b.0 false) (of_a.bound (first_false (has_aggregate a.0) (has_aggregate b.0 || false) lack)) (of_b.bound (first_false (has_aggregate b.0) false (rest_false (has_aggregate a.0) (has_aggregate b.0 || false) lack))) }
   level (Expr-F.Neg a) own le h =
-      let of_a = a.1 own le (first_true (settled true groups own a.0) true h) in
+      let of_a = a.1 own le (first_true (is_well_grouped true groups own a.0) true h) in
       record { free = one_true (stands_apart outer a.0 true) of_a.free; bound = λ lack. one_true (stands_apart outer a.0 false) (of_a.bound (first_false (has_aggregate a.0) false lack)) }
   level (Expr-F.Concat a b) own le h =
-      let of_a = a.1 own le (first_true (settled true groups own a.0) (settled true groups own b.0 && true) h) in let of_b = b.1 own le (first_true (settled true groups own b.0) true (rest_true (settled true groups own a.0) (settled true groups own b.0 && true) h)) in
+      let of_a = a.1 own le (first_true (is_well_grouped true groups own a.0) (is_well_grouped true groups own b.0 && true) h) in let of_b = b.1 own le (first_true (is_well_grouped true groups own b.0) true (rest_true (is_well_grouped true groups own a.0) (is_well_grouped true groups own b.0 && true) h)) in
       record { free = two_true (stands_apart outer a.0 true) (stands_apart outer b.0 true) of_a.free of_b.free; bound = λ lack. two_true (stands_apart outer a.0 false) (stands_apart outer b.0 false) (of_a.bound (first_false (has_aggregate a.0) (has_aggregate b.0 || false) lack)) (of_b.bound (first_false (has_aggregate b.0) false (rest_false (has_aggregate a.0) (has_aggregate b.0 || false) lack))) }
   level (Expr-F.Like g a b) own le h =
-      let of_a = a.1 own le (first_true (settled true groups own a.0) (settled true groups own b.0 && true) h) in let of_b = b.1 own le (first_true (settled true groups own b.0) true (rest_true (settled true groups own a.0) (settled true groups own b.0 && true) h)) in
+      let of_a = a.1 own le (first_true (is_well_grouped true groups own a.0) (is_well_grouped true groups own b.0 && true) h) in let of_b = b.1 own le (first_true (is_well_grouped true groups own b.0) true (rest_true (is_well_grouped true groups own a.0) (is_well_grouped true groups own b.0 && true) h)) in
       record { free = two_true (stands_apart outer a.0 true) (stands_apart outer b.0 true) of_a.free of_b.free; bound = λ lack. two_true (stands_apart outer a.0 false) (stands_apart outer b.0 false) (of_a.bound (first_false (has_aggregate a.0) (has_aggregate b.0 || false) lack)) (of_b.bound (first_false (has_aggregate b.0) false (rest_false (has_aggregate a.0) (has_aggregate b.0 || false) lack))) }
   level (Expr-F.Ilike g a b) own le h =
-      let of_a = a.1 own le (first_true (settled true groups own a.0) (settled true groups own b.0 && true) h) in let of_b = b.1 own le (first_true (settled true groups own b.0) true (rest_true (settled true groups own a.0) (settled true groups own b.0 && true) h)) in
+      let of_a = a.1 own le (first_true (is_well_grouped true groups own a.0) (is_well_grouped true groups own b.0 && true) h) in let of_b = b.1 own le (first_true (is_well_grouped true groups own b.0) true (rest_true (is_well_grouped true groups own a.0) (is_well_grouped true groups own b.0 && true) h)) in
       record { free = two_true (stands_apart outer a.0 true) (stands_apart outer b.0 true) of_a.free of_b.free; bound = λ lack. two_true (stands_apart outer a.0 false) (stands_apart outer b.0 false) (of_a.bound (first_false (has_aggregate a.0) (has_aggregate b.0 || false) lack)) (of_b.bound (first_false (has_aggregate b.0) false (rest_false (has_aggregate a.0) (has_aggregate b.0 || false) lack))) }
   level (Expr-F.InList g a vs) own le h =
-      let of_a = a.1 own le (first_true (settled true groups own a.0) true h) in
+      let of_a = a.1 own le (first_true (is_well_grouped true groups own a.0) true h) in
       record { free = one_true (stands_apart outer a.0 true) of_a.free; bound = λ lack. one_true (stands_apart outer a.0 false) (of_a.bound (first_false (has_aggregate a.0) false lack)) }
   level (Expr-F.Between g a low high) own le h =
-      let of_a = a.1 own le (first_true (settled true groups own a.0) (settled true groups own low.0 && (settled true groups own high.0 && true)) h) in let of_low = low.1 own le (first_true (settled true groups own low.0) (settled true groups own high.0 && true) (rest_true (settled true groups own a.0) (settled true groups own low.0 && (settled true groups own high.0 && true)) h)) in let of_high = high.1 own le (first_true (settled true groups own high.0) true (rest_true (settled true groups own low.0) (settled true groups own high.0 && true) (rest_true (settled true groups own a.0) (settled true groups own low.0 && (settled true groups own high.0 && true)) h))) in
+      let of_a = a.1 own le (first_true (is_well_grouped true groups own a.0) (is_well_grouped true groups own low.0 && (is_well_grouped true groups own high.0 && true)) h) in let of_low = low.1 own le (first_true (is_well_grouped true groups own low.0) (is_well_grouped true groups own high.0 && true) (rest_true (is_well_grouped true groups own a.0) (is_well_grouped true groups own low.0 && (is_well_grouped true groups own high.0 && true)) h)) in let of_high = high.1 own le (first_true (is_well_grouped true groups own high.0) true (rest_true (is_well_grouped true groups own low.0) (is_well_grouped true groups own high.0 && true) (rest_true (is_well_grouped true groups own a.0) (is_well_grouped true groups own low.0 && (is_well_grouped true groups own high.0 && true)) h))) in
       record { free = three_true (stands_apart outer a.0 true) (stands_apart outer low.0 true) (stands_apart outer high.0 true) of_a.free of_low.free of_high.free; bound = λ lack. three_true (stands_apart outer a.0 false) (stands_apart outer low.0 false) (stands_apart outer high.0 false) (of_a.bound (first_false (has_aggregate a.0) (has_aggregate low.0 || (has_aggregate high.0 || false)) lack)) (of_low.bound (first_false (has_aggregate low.0) (has_aggregate high.0 || false) (rest_false (has_aggregate a.0) (has_aggregate low.0 || (has_aggregate high.0 || false)) lack))) (of_high.bound (first_false (has_aggregate high.0) false (rest_false (has_aggregate low.0) (has_aggregate high.0 || false) (rest_false (has_aggregate a.0) (has_aggregate low.0 || (has_aggregate high.0 || false)) lack)))) }
   level (Expr-F.Distinct g a b) own le h =
-      let of_a = a.1 own le (first_true (settled true groups own a.0) (settled true groups own b.0 && true) h) in let of_b = b.1 own le (first_true (settled true groups own b.0) true (rest_true (settled true groups own a.0) (settled true groups own b.0 && true) h)) in
+      let of_a = a.1 own le (first_true (is_well_grouped true groups own a.0) (is_well_grouped true groups own b.0 && true) h) in let of_b = b.1 own le (first_true (is_well_grouped true groups own b.0) true (rest_true (is_well_grouped true groups own a.0) (is_well_grouped true groups own b.0 && true) h)) in
       record { free = two_true (stands_apart outer a.0 true) (stands_apart outer b.0 true) of_a.free of_b.free; bound = λ lack. two_true (stands_apart outer a.0 false) (stands_apart outer b.0 false) (of_a.bound (first_false (has_aggregate a.0) (has_aggregate b.0 || false) lack)) (of_b.bound (first_false (has_aggregate b.0) false (rest_false (has_aggregate a.0) (has_aggregate b.0 || false) lack))) }
   level (Expr-F.And es) own le h =
       let each = all_settled own (plain es) h in
@@ -154,13 +154,13 @@ module _ (groups : List Expr) (outer : ℕ) (occurs : (e : Expr) → occurs_in g
             (λ settles. bound_list own le es (all_settled own (plain es) settles) (rest_false (is_aggregate_function f) any lack));
       }
   level (Expr-F.Exists g o a) own le h =
-      let lack = not-true (has_aggregate a.0) (first_true (not (has_aggregate a.0)) true (first_true (not (has_aggregate a.0) && true) (settled true groups own a.0 && true) h)) in
-      let apart = a.1 own le (first_true (settled true groups own a.0) true (rest_true (not (has_aggregate a.0) && true) (settled true groups own a.0 && true) h)) in
+      let lack = not-true (has_aggregate a.0) (first_true (not (has_aggregate a.0)) true (first_true (not (has_aggregate a.0) && true) (is_well_grouped true groups own a.0 && true) h)) in
+      let apart = a.1 own le (first_true (is_well_grouped true groups own a.0) true (rest_true (not (has_aggregate a.0) && true) (is_well_grouped true groups own a.0 && true) h)) in
       record { free = one_true (stands_apart outer a.0 false) (apart.bound lack); bound = λ _. one_true (stands_apart outer a.0 false) (apart.bound lack) }
 
   step : (y : Expr-F Known) → SettlesApart (roll-Expr (bare y))
   step y own le h =
-      by_either (occurs_in groups (roll-Expr (bare y))) (settled_level true own (map-Expr Expr Found (found_at own) (bare y))) (sym (settled_by own (bare y)) ∙ h)
+      by_either (occurs_in groups (roll-Expr (bare y))) (is_well_grouped_level true own (map-Expr Expr Found (found_at own) (bare y))) (sym (settled_by own (bare y)) ∙ h)
       (λ is. occurs (roll-Expr (bare y)) is)
       (λ is. let one = level y own le is in
       record { free = apart_rolled outer true (bare y) ∙ one.free; bound = λ lack. apart_rolled outer false (bare y) ∙ one.bound (sym (aggregate_rolled (bare y)) ∙ lack) })
@@ -169,7 +169,7 @@ module _ (groups : List Expr) (outer : ℕ) (occurs : (e : Expr) → occurs_in g
   settles = by_levels SettlesApart step
 
 -- where no group expression stands
-pub settled_apart : (e : Expr) (own outer : ℕ) → outer ≤ own → settled true [] own e ≡ true → group_apart outer e ≡ true
+pub settled_apart : (e : Expr) (own outer : ℕ) → outer ≤ own → is_well_grouped true [] own e ≡ true → group_apart outer e ≡ true
 settled_apart e own outer le h = (settles [] outer (λ x is. absurd (cc)) e own le h).free
 
 -- where the group expressions have no aggregates, an expression that is one of them has none
@@ -179,6 +179,6 @@ some_lacks (g ∷ groups) e all is =
     let both = and_parts (lacks_aggregate g) (list_all lacks_aggregate groups) all in
     by_either (same g e) (occurs_in groups e) is (λ one. sym (same_aggregates g e one) ∙ not-true (has_aggregate g) both.0) (λ rest. some_lacks groups e both.1 rest)
 
-pub settled_in_groups : (groups : List Expr) (own : ℕ) (e : Expr) → list_all lacks_aggregate groups ≡ true → settled true groups own e ≡ true → aggregates_apart e ≡ true
+pub settled_in_groups : (groups : List Expr) (own : ℕ) (e : Expr) → list_all lacks_aggregate groups ≡ true → is_well_grouped true groups own e ≡ true → aggregates_apart e ≡ true
 settled_in_groups groups own e all h =
     (settles groups 0 (λ x is. let lack = some_lacks groups x all is in record { free = lacks_apart x lack true; bound = λ _. lacks_apart x lack false }) e own (omega arith) h).free

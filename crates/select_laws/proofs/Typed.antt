@@ -15,7 +15,7 @@ use Rattle.expr_types.specs.declared.expr.Expr.TheVariants as expr
 use Rattle.expr_types.specs.declared.expr.Func.TheVariants.{Count, Sum, Min, Max, Lower, Upper, Length, Coalesce}
 use Rattle.expr_types.specs.Level.{is_aggregate_function}
 use Rattle.schema_core.specs.Catalog.{Catalog}
-use Rattle.sql_semantics.specs.Kinds.{Scope, judged, all_of, all_alike, called, in_scope, value_kind}
+use Rattle.sql_semantics.specs.Kinds.{Scope, expression_kind, all_of, all_alike, call_kind, in_scope, value_kind}
 use Rattle.sql_semantics.specs.Plain.{fits, fits_level}
 use Rattle.sql_semantics.specs.Eval.{Row}
 use Rattle.sql_semantics.proofs.Typed.{alike_each, alike_list, all_fits, gives_ok, of_list}
@@ -29,23 +29,23 @@ pub record Good (schema : Catalog) (scope : Scope) (group : Option (List Row)) (
   pub fitting : fits schema e scope ≡ true
   pub apart : Apart group outer free e
   pub kind : Kind
-  pub typed : judged schema e scope ≡ Ok kind
+  pub typed : expression_kind schema e scope ≡ Ok kind
 
 pub all_good : (schema : Catalog) (scope : Scope) (group : Option (List Row)) (outer : ℕ) (free : Bool) (k : Kind) (es : List Expr) →
-    AllByRecursion (λ e. fits schema e scope ≡ true) es → AllByRecursion (Apart group outer free) es → AllByRecursion (λ e. judged schema e scope ≡ Ok k) es → AllByRecursion (Good schema scope group outer free) es
+    AllByRecursion (λ e. fits schema e scope ≡ true) es → AllByRecursion (Apart group outer free) es → AllByRecursion (λ e. expression_kind schema e scope ≡ Ok k) es → AllByRecursion (Good schema scope group outer free) es
 all_good schema scope group outer free k [] f a j = tt
 all_good schema scope group outer free k (e ∷ es) f a j = (record { fitting = f.0; apart = a.0; kind = k; typed = j.0 }, all_good schema scope group outer free k es f.1 a.1 j.1)
 
 -- the operands of a function
 called_good : (schema : Catalog) (scope : Scope) (group : Option (List Row)) (outer : ℕ) (free : Bool) (f : Func) (k : Kind) (es : List Expr) →
-    AllByRecursion (λ e. fits schema e scope ≡ true) es → AllByRecursion (Apart group outer free) es → called f (in_scope scope (map (judged schema) es)) ≡ Ok k → AllByRecursion (Good schema scope group outer free) es
-called_good schema scope group outer free Count k es f a h = let g = gives_ok kinds.Integer (all_alike (in_scope scope (map (judged schema) es))) k h in all_good schema scope group outer free g.1 es f a (alike_list schema scope g.1 es g.2)
+    AllByRecursion (λ e. fits schema e scope ≡ true) es → AllByRecursion (Apart group outer free) es → call_kind f (in_scope scope (map (expression_kind schema) es)) ≡ Ok k → AllByRecursion (Good schema scope group outer free) es
+called_good schema scope group outer free Count k es f a h = let g = gives_ok kinds.Integer (all_alike (in_scope scope (map (expression_kind schema) es))) k h in all_good schema scope group outer free g.1 es f a (alike_list schema scope g.1 es g.2)
 called_good schema scope group outer free Sum k es f a h = all_good schema scope group outer free kinds.Integer es f a (of_list schema scope kinds.Integer k es h)
 called_good schema scope group outer free Min k es f a h = all_good schema scope group outer free k es f a (alike_list schema scope k es h)
 called_good schema scope group outer free Max k es f a h = all_good schema scope group outer free k es f a (alike_list schema scope k es h)
 called_good schema scope group outer free Lower k es f a h = all_good schema scope group outer free kinds.Text es f a (of_list schema scope kinds.Text k es h)
 called_good schema scope group outer free Upper k es f a h = all_good schema scope group outer free kinds.Text es f a (of_list schema scope kinds.Text k es h)
-called_good schema scope group outer free Length k es f a h = let g = gives_ok kinds.Integer (all_of kinds.Text (in_scope scope (map (judged schema) es))) k h in all_good schema scope group outer free kinds.Text es f a (of_list schema scope kinds.Text g.1 es g.2)
+called_good schema scope group outer free Length k es f a h = let g = gives_ok kinds.Integer (all_of kinds.Text (in_scope scope (map (expression_kind schema) es))) k h in all_good schema scope group outer free kinds.Text es f a (of_list schema scope kinds.Text g.1 es g.2)
 called_good schema scope group outer free Coalesce k es f a h = all_good schema scope group outer free k es f a (alike_list schema scope k es h)
 
 pub good-Compare : (schema : Catalog) (scope : Scope) (group : Option (List Row)) (outer : ℕ) (free : Bool) (op : CompareOp) (a : Expr) (b : Expr) → Good schema scope group outer free (expr.Compare op a b) → AllByRecursion (Good schema scope group outer free) (a ∷ b ∷ [])
@@ -53,14 +53,14 @@ good-Compare schema scope group outer free op a b h =
     let fit = all_fits schema scope (a ∷ b ∷ []) (and_parts (fits_level schema scope (Expr-F.Compare op (fits schema a) (fits schema b))) _ (sym (fits-Compare schema scope op a b) ∙ h.fitting)).1 in
     let apart = apart_each group outer free free (expr.Compare op a b) (may_be outer free (Expr-F.Compare op (stands_apart outer a) (stands_apart outer b))) (a ∷ b ∷ []) (apart-Compare outer free op a b) h.apart in
     let typed = sym (judged-Compare schema scope op a b) ∙ h.typed in
-    let g = gives_ok kinds.Boolean _ h.kind typed in let js = alike_each g.1 (judged schema a scope ∷ judged schema b scope ∷ []) g.2 in all_good schema scope group outer free g.1 (a ∷ b ∷ []) fit apart (js.0, (js.1.0, tt))
+    let g = gives_ok kinds.Boolean _ h.kind typed in let js = alike_each g.1 (expression_kind schema a scope ∷ expression_kind schema b scope ∷ []) g.2 in all_good schema scope group outer free g.1 (a ∷ b ∷ []) fit apart (js.0, (js.1.0, tt))
 
 pub good-IsNull : (schema : Catalog) (scope : Scope) (group : Option (List Row)) (outer : ℕ) (free : Bool) (g : Bool) (a : Expr) → Good schema scope group outer free (expr.IsNull g a) → AllByRecursion (Good schema scope group outer free) (a ∷ [])
 good-IsNull schema scope group outer free g a h =
     let fit = all_fits schema scope (a ∷ []) (and_parts (fits_level schema scope (Expr-F.IsNull g (fits schema a))) _ (sym (fits-IsNull schema scope g a) ∙ h.fitting)).1 in
     let apart = apart_each group outer free free (expr.IsNull g a) (may_be outer free (Expr-F.IsNull g (stands_apart outer a))) (a ∷ []) (apart-IsNull outer free g a) h.apart in
     let typed = sym (judged-IsNull schema scope g a) ∙ h.typed in
-    let g = gives_ok kinds.Boolean (judged schema a scope) h.kind typed in all_good schema scope group outer free g.1 (a ∷ []) fit apart (g.2, tt)
+    let g = gives_ok kinds.Boolean (expression_kind schema a scope) h.kind typed in all_good schema scope group outer free g.1 (a ∷ []) fit apart (g.2, tt)
 
 pub good-And : (schema : Catalog) (scope : Scope) (group : Option (List Row)) (outer : ℕ) (free : Bool) (es : List Expr) → Good schema scope group outer free (expr.And es) → AllByRecursion (Good schema scope group outer free) es
 good-And schema scope group outer free es h =
@@ -123,21 +123,21 @@ good-InList schema scope group outer free g a vs h =
     let fit = all_fits schema scope (a ∷ []) (and_parts (fits_level schema scope (Expr-F.InList g (fits schema a) vs)) _ (sym (fits-InList schema scope g a vs) ∙ h.fitting)).1 in
     let apart = apart_each group outer free free (expr.InList g a vs) (may_be outer free (Expr-F.InList g (stands_apart outer a) vs)) (a ∷ []) (apart-InList outer free g a vs) h.apart in
     let typed = sym (judged-InList schema scope g a vs) ∙ h.typed in
-    let g = gives_ok kinds.Boolean _ h.kind typed in let js = alike_each g.1 (judged schema a scope ∷ map (λ v. Ok (value_kind v)) vs) g.2 in all_good schema scope group outer free g.1 (a ∷ []) fit apart (js.0, tt)
+    let g = gives_ok kinds.Boolean _ h.kind typed in let js = alike_each g.1 (expression_kind schema a scope ∷ map (λ v. Ok (value_kind v)) vs) g.2 in all_good schema scope group outer free g.1 (a ∷ []) fit apart (js.0, tt)
 
 pub good-Between : (schema : Catalog) (scope : Scope) (group : Option (List Row)) (outer : ℕ) (free : Bool) (g : Bool) (a : Expr) (low : Expr) (high : Expr) → Good schema scope group outer free (expr.Between g a low high) → AllByRecursion (Good schema scope group outer free) (a ∷ low ∷ high ∷ [])
 good-Between schema scope group outer free g a low high h =
     let fit = all_fits schema scope (a ∷ low ∷ high ∷ []) (and_parts (fits_level schema scope (Expr-F.Between g (fits schema a) (fits schema low) (fits schema high))) _ (sym (fits-Between schema scope g a low high) ∙ h.fitting)).1 in
     let apart = apart_each group outer free free (expr.Between g a low high) (may_be outer free (Expr-F.Between g (stands_apart outer a) (stands_apart outer low) (stands_apart outer high))) (a ∷ low ∷ high ∷ []) (apart-Between outer free g a low high) h.apart in
     let typed = sym (judged-Between schema scope g a low high) ∙ h.typed in
-    let g = gives_ok kinds.Boolean _ h.kind typed in let js = alike_each g.1 (judged schema a scope ∷ judged schema low scope ∷ judged schema high scope ∷ []) g.2 in all_good schema scope group outer free g.1 (a ∷ low ∷ high ∷ []) fit apart (js.0, (js.1.0, (js.1.1.0, tt)))
+    let g = gives_ok kinds.Boolean _ h.kind typed in let js = alike_each g.1 (expression_kind schema a scope ∷ expression_kind schema low scope ∷ expression_kind schema high scope ∷ []) g.2 in all_good schema scope group outer free g.1 (a ∷ low ∷ high ∷ []) fit apart (js.0, (js.1.0, (js.1.1.0, tt)))
 
 pub good-Distinct : (schema : Catalog) (scope : Scope) (group : Option (List Row)) (outer : ℕ) (free : Bool) (g : Bool) (a : Expr) (b : Expr) → Good schema scope group outer free (expr.Distinct g a b) → AllByRecursion (Good schema scope group outer free) (a ∷ b ∷ [])
 good-Distinct schema scope group outer free g a b h =
     let fit = all_fits schema scope (a ∷ b ∷ []) (and_parts (fits_level schema scope (Expr-F.Distinct g (fits schema a) (fits schema b))) _ (sym (fits-Distinct schema scope g a b) ∙ h.fitting)).1 in
     let apart = apart_each group outer free free (expr.Distinct g a b) (may_be outer free (Expr-F.Distinct g (stands_apart outer a) (stands_apart outer b))) (a ∷ b ∷ []) (apart-Distinct outer free g a b) h.apart in
     let typed = sym (judged-Distinct schema scope g a b) ∙ h.typed in
-    let g = gives_ok kinds.Boolean _ h.kind typed in let js = alike_each g.1 (judged schema a scope ∷ judged schema b scope ∷ []) g.2 in all_good schema scope group outer free g.1 (a ∷ b ∷ []) fit apart (js.0, (js.1.0, tt))
+    let g = gives_ok kinds.Boolean _ h.kind typed in let js = alike_each g.1 (expression_kind schema a scope ∷ expression_kind schema b scope ∷ []) g.2 in all_good schema scope group outer free g.1 (a ∷ b ∷ []) fit apart (js.0, (js.1.0, tt))
 
 pub good-Call : (schema : Catalog) (scope : Scope) (group : Option (List Row)) (outer : ℕ) (free : Bool) (f : Func) (es : List Expr) → is_aggregate_function f ≡ false → Good schema scope group outer free (expr.Call f es) → AllByRecursion (Good schema scope group outer free) es
 good-Call schema scope group outer free f es off h =

@@ -7,7 +7,7 @@ use Rattle.schema_core.specs.declared.table.ColumnSpec.{ColumnSpec}
 use Rattle.schema_core.specs.Catalog.{Catalog, kind_of, spec_of}
 use Rattle.sql_semantics.specs.Kinds.{Scope, column_in}
 use Rattle.sql_semantics.specs.Plain.{is_of_kind}
-use Rattle.sql_semantics.specs.Eval.{Row, Place, item_or_null, rows_in, ungrouped}
+use Rattle.sql_semantics.specs.Eval.{Row, Place, item_or_null, rows_in, without_group}
 
 -- a value stands at this place of the row, NULL or of the kind
 abbrev pub StandsAt : Row → ℕ → Kind → Type 0
@@ -31,8 +31,8 @@ pub record FitsPlace (schema : Catalog) (scope : Scope) (p : Place) : Type 0 whe
 -- a place at which a row stands for the rows of a group: the same place without the group fits, with that row and with each row of the group
 pub record FitsGroup (schema : Catalog) (scope : Scope) (p : Place) (members : List Row) : Type 0 where
   pub group : p.group ≡ Some members
-  pub one : FitsPlace schema scope (ungrouped p)
-  pub each : AllByRecursion (λ row. FitsPlace schema scope (record (ungrouped p) { row = row })) members
+  pub one : FitsPlace schema scope (without_group p)
+  pub each : AllByRecursion (λ row. FitsPlace schema scope (record (without_group p) { row = row })) members
 
 -- a place of a group without rows, for which no row stands
 pub record FitsNoRows (schema : Catalog) (scope : Scope) (p : Place) : Type 0 where

@@ -2,9 +2,9 @@
 
 ghost use Rattle.std.specs.Prelude.{◌≡◌, IsTrue, true, List, [], length, is_ok};
 ghost use Rattle.expr_types.specs.Normal.{normal};
-ghost use Rattle.sql_semantics.specs.Kinds.{judged};
-ghost use Rattle.sql_semantics.specs.Plain.{fits, settled};
-ghost use Rattle.sql_semantics.specs.Eval.{Place, Row, evaluated};
+ghost use Rattle.sql_semantics.specs.Kinds.{expression_kind};
+ghost use Rattle.sql_semantics.specs.Plain.{fits, is_well_grouped};
+ghost use Rattle.sql_semantics.specs.Eval.{Place, Row, meaning_of};
 ghost use Rattle.select_laws.specs.Apart.{aggregates_apart, group_apart};
 ghost use Rattle.select_laws.specs.Places.{FitsPlace, FitsGroup, FitsNoRows};
 
@@ -17,9 +17,9 @@ use schema_core::Schema;
 #[tactic(auto, using(crate::proofs::Meaning::in_every_row))]
 pub fn same_in_every_row(schema: &Schema, scope: &[TableId], e: &Expr)
     requires fitting { IsTrue (fits schema.now e.now scope.now) }
-    requires typed { IsTrue (is_ok (judged schema.now e.now scope.now)) }
+    requires typed { IsTrue (is_ok (expression_kind schema.now e.now scope.now)) }
     ensures { (p : Place) → FitsPlace schema.now scope.now p
-        → evaluated (normal e.now) p ≡ evaluated e.now p }
+        → meaning_of (normal e.now) p ≡ meaning_of e.now p }
 {}
 
 /// The same of a group, for an expression in which, but in the operands of aggregates, no aggregate stands inside an `exists`. It does
@@ -27,10 +27,10 @@ pub fn same_in_every_row(schema: &Schema, scope: &[TableId], e: &Expr)
 #[tactic(auto, using(crate::proofs::Meaning::in_every_group))]
 pub fn same_in_every_group(schema: &Schema, scope: &[TableId], e: &Expr)
     requires fitting { IsTrue (fits schema.now e.now scope.now) }
-    requires typed { IsTrue (is_ok (judged schema.now e.now scope.now)) }
+    requires typed { IsTrue (is_ok (expression_kind schema.now e.now scope.now)) }
     requires apart { IsTrue (aggregates_apart e.now) }
     ensures { (p : Place) (members : List Row) → FitsGroup schema.now scope.now p members
-        → evaluated (normal e.now) p ≡ evaluated e.now p }
+        → meaning_of (normal e.now) p ≡ meaning_of e.now p }
 {}
 
 /// The same of a group without rows, for an expression in which, but in the operands of aggregates, no aggregate and no column of the
@@ -38,10 +38,10 @@ pub fn same_in_every_group(schema: &Schema, scope: &[TableId], e: &Expr)
 #[tactic(auto, using(crate::proofs::Meaning::in_no_rows_same))]
 pub fn same_without_rows(schema: &Schema, scope: &[TableId], e: &Expr)
     requires fitting { IsTrue (fits schema.now e.now scope.now) }
-    requires typed { IsTrue (is_ok (judged schema.now e.now scope.now)) }
+    requires typed { IsTrue (is_ok (expression_kind schema.now e.now scope.now)) }
     requires apart { IsTrue (group_apart (length scope.now) e.now) }
     ensures { (p : Place) → FitsNoRows schema.now scope.now p
-        → evaluated (normal e.now) p ≡ evaluated e.now p }
+        → meaning_of (normal e.now) p ≡ meaning_of e.now p }
 {}
 
 /// The same where all rows are one group, with rows and without, for an expression of a plain select: it asks only for what such a
@@ -49,10 +49,10 @@ pub fn same_without_rows(schema: &Schema, scope: &[TableId], e: &Expr)
 #[tactic(auto, using(crate::proofs::OneGroup::one_group))]
 pub fn same_in_one_group(schema: &Schema, scope: &[TableId], e: &Expr)
     requires fitting { IsTrue (fits schema.now e.now scope.now) }
-    requires typed { IsTrue (is_ok (judged schema.now e.now scope.now)) }
-    requires settled { IsTrue (settled true [] (length scope.now) (normal e.now)) }
+    requires typed { IsTrue (is_ok (expression_kind schema.now e.now scope.now)) }
+    requires settled { IsTrue (is_well_grouped true [] (length scope.now) (normal e.now)) }
     ensures rows { (p : Place) (members : List Row) → FitsGroup schema.now scope.now p members
-        → evaluated (normal e.now) p ≡ evaluated e.now p }
+        → meaning_of (normal e.now) p ≡ meaning_of e.now p }
     ensures no_rows { (p : Place) → FitsNoRows schema.now scope.now p
-        → evaluated (normal e.now) p ≡ evaluated e.now p }
+        → meaning_of (normal e.now) p ≡ meaning_of e.now p }
 {}

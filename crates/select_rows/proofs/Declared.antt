@@ -21,7 +21,7 @@ use Rattle.sql_semantics.specs.Plain.{AreJoined, IfSet, IsCondition, IsFilter, I
 use Rattle.base_core.specs.Answers.{Gives}
 use Rattle.sql_semantics.specs.Eval.{Row, Tables}
 use Rattle.sql_semantics.specs.SelectRefusals.{CanRefuse, IsOfDeclared}
-use Rattle.sql_semantics.specs.Rows.{answer, flat, named, named_where, own_table, tables_of}
+use Rattle.sql_semantics.specs.Rows.{answer, flat, exists_tables, named_where, own_table, tables_of}
 use Rattle.sql_semantics.proofs.Equations.{enter, fits_rolled}
 use Rattle.select_rows.proofs.Refused.{refused_rows}
 
@@ -35,7 +35,7 @@ both_tables schema = every_append (λ t. t < length schema.tables)
 -- ---- expressions
 
 abbrev NamesTables : Expr → Type 0
-NamesTables e = (schema : Catalog) (scope : Scope) → fits schema e scope ≡ true → AreTables schema (named e)
+NamesTables e = (schema : Catalog) (scope : Scope) → fits schema e scope ≡ true → AreTables schema (exists_tables e)
 
 abbrev Known : Type 0
 Known = (e : Expr) × NamesTables e
@@ -46,22 +46,22 @@ plain = map (λ k. k.0)
 abbrev pub named_step : Expr-F (List ℕ) → List ℕ
 named_step level = own_table level ++ flat (operands level)
 
-own_tables : (schema : Catalog) (scope : Scope) (x : Expr-F Expr) → fits_level schema scope (map-Expr Expr (Scope → Bool) (fits schema) x) ≡ true → AreTables schema (own_table (map-Expr Expr (List ℕ) named x))
+own_tables : (schema : Catalog) (scope : Scope) (x : Expr-F Expr) → fits_level schema scope (map-Expr Expr (Scope → Bool) (fits schema) x) ≡ true → AreTables schema (own_table (map-Expr Expr (List ℕ) exists_tables x))
 own_tables schema scope (Expr-F.Exists g o a) h = (ltb-true o.table.0 (length schema.tables) h, tt)
 own_tables schema scope x h = tt
 
-each_named : (schema : Catalog) (scope : Scope) (ks : List Known) → list_all (λ (holds : Scope → Bool). holds scope) (map (fits schema) (plain ks)) ≡ true → AreTables schema (flat (map named (plain ks)))
+each_named : (schema : Catalog) (scope : Scope) (ks : List Known) → list_all (λ (holds : Scope → Bool). holds scope) (map (fits schema) (plain ks)) ≡ true → AreTables schema (flat (map exists_tables (plain ks)))
 each_named schema scope [] h = tt
 each_named schema scope (k ∷ ks) h =
     let both = and_parts (fits schema k.0 scope) (list_all (λ (holds : Scope → Bool). holds scope) (map (fits schema) (plain ks))) h in
-    both_tables schema (named k.0) (flat (map named (plain ks))) (k.1 schema scope both.0) (each_named schema scope ks both.1)
+    both_tables schema (exists_tables k.0) (flat (map exists_tables (plain ks))) (k.1 schema scope both.0) (each_named schema scope ks both.1)
 
 -- the operands of a level, with what becomes of each
 operands_as : {A : Type 0} (f : Expr → A) (y : Expr-F Known) → operands (map-Expr Expr A f (bare y)) ≡ map f (plain (operands y))
 operands_as f y = operands_map f (bare y) ∙ ap (map f) (operands_map (λ k. k.0) y)
 
-named_rolled : (x : Expr-F Expr) → named (roll-Expr x) ≡ named_step (map-Expr Expr (List ℕ) named x)
-unfolding named
+named_rolled : (x : Expr-F Expr) → exists_tables (roll-Expr x) ≡ named_step (map-Expr Expr (List ℕ) exists_tables x)
+unfolding exists_tables
 named_rolled x = fold-roll-Expr (List ℕ) named_step x
 
 step : (y : Expr-F Known) → NamesTables (roll-Expr (bare y))
@@ -70,8 +70,8 @@ step y schema scope h =
     let below : Scope = scope_below enter scope level in
     let both = and_parts (fits_level schema scope level) (list_all (λ (holds : Scope → Bool). holds below) (operands level)) (sym (fits_rolled schema scope (bare y)) ∙ h) in
     subst (AreTables schema) (sym (named_rolled (bare y)))
-    (both_tables schema (own_table (map-Expr Expr (List ℕ) named (bare y))) (flat (operands (map-Expr Expr (List ℕ) named (bare y)))) (own_tables schema scope (bare y) both.0)
-    (subst (λ (ls : List (List ℕ)). AreTables schema (flat ls)) (sym (operands_as named y))
+    (both_tables schema (own_table (map-Expr Expr (List ℕ) exists_tables (bare y))) (flat (operands (map-Expr Expr (List ℕ) exists_tables (bare y)))) (own_tables schema scope (bare y) both.0)
+    (subst (λ (ls : List (List ℕ)). AreTables schema (flat ls)) (sym (operands_as exists_tables y))
     (each_named schema below (operands y) (subst (λ (hs : List (Scope → Bool)). list_all (λ (holds : Scope → Bool). holds below) hs ≡ true) (operands_as (fits schema) y) both.1))))
 
 -- each table of an expression that stands in a scope is declared
@@ -80,12 +80,12 @@ named_tables = by_levels NamesTables step
 
 -- ---- the parts of a select
 
-pub stands_tables : (schema : Catalog) (sources : List Origin) (e : Expr) → StandsIn schema sources e → AreTables schema (named e)
+pub stands_tables : (schema : Catalog) (sources : List Origin) (e : Expr) → StandsIn schema sources e → AreTables schema (exists_tables e)
 stands_tables schema sources e h = named_tables e schema (map (λ origin. origin.table) sources) h.fitting
 
-each_tables : {A : Type 0} (e : A → Expr) (schema : Catalog) (sources : List Origin) (xs : List A) → AllByRecursion (λ x. StandsIn schema sources (e x)) xs → AreTables schema (flat (map (λ x. named (e x)) xs))
+each_tables : {A : Type 0} (e : A → Expr) (schema : Catalog) (sources : List Origin) (xs : List A) → AllByRecursion (λ x. StandsIn schema sources (e x)) xs → AreTables schema (flat (map (λ x. exists_tables (e x)) xs))
 each_tables e schema sources [] h = tt
-each_tables e schema sources (x ∷ xs) h = both_tables schema (named (e x)) (flat (map (λ y. named (e y)) xs)) (stands_tables schema sources (e x) h.0) (each_tables e schema sources xs h.1)
+each_tables e schema sources (x ∷ xs) h = both_tables schema (exists_tables (e x)) (flat (map (λ y. exists_tables (e y)) xs)) (stands_tables schema sources (e x) h.0) (each_tables e schema sources xs h.1)
 
 pub filter_tables : (schema : Catalog) (sources : List Origin) (o : Option Expr) → IfSet (IsFilter schema sources) o → AreTables schema (named_where o)
 filter_tables schema sources None h = tt
@@ -96,23 +96,23 @@ having_tables schema sources None h = tt
 having_tables schema sources (Some e) h = stands_tables schema sources e h.stands
 
 abbrev joins_of : List Joined → List ℕ
-joins_of js = flat (map (λ (j : Joined). j.origin.table.0 ∷ named j.on) js)
+joins_of js = flat (map (λ (j : Joined). j.origin.table.0 ∷ exists_tables j.on) js)
 
 joins_tables : (schema : Catalog) (before : List Origin) (js : List Joined) → list_all (is_declared schema) (map (λ (j : Joined). j.origin) js) ≡ true → AreJoined schema before js → AreTables schema (joins_of js)
 joins_tables schema before [] d h = tt
 joins_tables schema before (j ∷ js) d h =
     let both = and_parts (is_declared schema j.origin) (list_all (is_declared schema) (map (λ (i : Joined). i.origin) js)) d in (
       ltb-true j.origin.table.0 (length schema.tables) both.0,
-      both_tables schema (named j.on) (joins_of js) (stands_tables schema (before ++ j.origin ∷ []) j.on h.0.stands) (joins_tables schema (before ++ j.origin ∷ []) js both.1 h.2),
+      both_tables schema (exists_tables j.on) (joins_of js) (stands_tables schema (before ++ j.origin ∷ []) j.on h.0.stands) (joins_tables schema (before ++ j.origin ∷ []) js both.1 h.2),
     )
 
 -- each table that a plain select names is declared
 pub select_tables : (schema : Catalog) (s : Select) → IsPlainSelect schema s → AreTables schema (tables_of s)
 select_tables schema s h =
     let both = and_parts (is_declared schema s.first) (list_all (is_declared schema) (map (λ (j : Joined). j.origin) s.joins)) h.declared_tables in
-    let items : List ℕ = flat (map (λ (i : Expr × Option (List ℕ)). named i.0) s.items) in
-    let groups : List ℕ = flat (map named s.groups) in
-    let order : List ℕ = flat (map (λ (k : Expr × Bool). named k.0) s.order) in
+    let items : List ℕ = flat (map (λ (i : Expr × Option (List ℕ)). exists_tables i.0) s.items) in
+    let groups : List ℕ = flat (map exists_tables s.groups) in
+    let order : List ℕ = flat (map (λ (k : Expr × Bool). exists_tables k.0) s.order) in
     let sources : List ℕ = s.first.table.0 ∷ joins_of s.joins in
     let both_of = both_tables schema in
     both_of (items ++ sources ++ named_where s.filter ++ groups ++ named_where s.having) order

@@ -10,10 +10,10 @@ use Rattle.schema_core.specs.declared.table.ColumnSpec.{ColumnSpec}
 use Rattle.schema_core.specs.Catalog.{Catalog, kind_of, same_kind}
 use Rattle.schema_core.specs.WellFormed.{may_hold}
 use Rattle.expr_types.specs.declared.select.Select.{Select}
-use Rattle.sql_semantics.specs.Kinds.{judged}
+use Rattle.sql_semantics.specs.Kinds.{expression_kind}
 use Rattle.sql_semantics.specs.Plain.{IsPlainSelect}
 use Rattle.base_core.specs.Answers.{Gives}
-use Rattle.sql_semantics.specs.Eval.{Row, Tables, evaluated}
+use Rattle.sql_semantics.specs.Eval.{Row, Tables, meaning_of}
 use Rattle.sql_semantics.specs.Rows.{answer}
 use Rattle.sql_semantics.specs.Shapes.{AreOfItems, AreRows, IsOfItsKind, scope_of}
 use Rattle.select_rows.proofs.Items.{Reads, rows_sure}
@@ -43,8 +43,8 @@ kind_same r k j v e h g = let same : k ≡ j = cc in subst (λ (c : Kind). OfKin
 
 reads_kinds : (schema : Catalog) (s : Select) → Reads KindAt (IsOfItsKind schema (scope_of s)) schema s
 reads_kinds schema s e p blind h stands b =
-    let typed = judged_some (judged schema e (scope_of s)) stands.typed in
-    sure_all (OfKind typed.0) (IsOfItsKind schema (scope_of s) e) (evaluated e p) (kind_sure e schema (scope_of s) p blind h b stands.fitting typed.0 typed.1) (λ v g k is. kind_same (judged schema e (scope_of s)) typed.0 k v typed.1 g is)
+    let typed = judged_some (expression_kind schema e (scope_of s)) stands.typed in
+    sure_all (OfKind typed.0) (IsOfItsKind schema (scope_of s) e) (meaning_of e p) (kind_sure e schema (scope_of s) p blind h b stands.fitting typed.0 typed.1) (λ v g k is. kind_same (expression_kind schema e (scope_of s)) typed.0 k v typed.1 g is)
 
 -- the values of the rows of a plain select are NULL or of the kinds of its items
 pub rows_of_kinds : (schema : Catalog) (tables : Tables) (s : Select) (r : Result (List Row) Refusal) → Gives (λ (x : List Row). x) r (answer schema tables s) → IsPlainSelect schema s → AreRows schema tables → IfOk r (λ rows. AreOfItems schema s rows)

@@ -14,10 +14,10 @@ use Rattle.expr_types.specs.declared.expr.Expr.TheFolds.{ind-Expr, map-Expr, fol
 use Rattle.expr_types.specs.declared.select.Joined.{Joined}
 use Rattle.expr_types.specs.declared.select.Select.{Select}
 use Rattle.sql_semantics.specs.Kinds.{column_in}
-use Rattle.sql_semantics.specs.Plain.{Found, IsPlainSelect, settled_level}
+use Rattle.sql_semantics.specs.Plain.{Found, IsPlainSelect, is_well_grouped_level}
 use Rattle.base_core.specs.Answers.{Gives}
 use Rattle.sql_semantics.specs.Checked.{Checked}
-use Rattle.sql_semantics.specs.Eval.{Meaning, Place, Row, Tables, after, evaluated, meaning}
+use Rattle.sql_semantics.specs.Eval.{Meaning, Place, Row, Tables, after, meaning_of, meaning}
 use Rattle.sql_semantics.specs.Rows.{answer}
 use Rattle.sql_semantics.specs.Shapes.{AreGiven, AreLegalRows, IsGiven, is_inner, is_inner_join, is_never_null, is_required_level, scope_of, takes_no_null}
 use Rattle.select_sources.proofs.Columns.{Fits, HoldsNulls, Property, column_read, not_both}
@@ -63,23 +63,23 @@ column_given schema s p blind source c (Some column) is h apart e =
 column_given schema s p blind source c None is h apart e = absurd (not_both (is_inner s source && false) e (never (is_inner s source)))
 
 level : (x : Expr-F Expr) (schema : Catalog) (s : Select) (p : Place) (blind : Bool) → Fits (GivenAt s) schema (scope_of s) p blind
-    → (blind ≡ true → settled_level true (length (scope_of s)) (map-Expr Expr Found (with_settled (length (scope_of s))) x) ≡ true)
-    → Sure (Where (is_required_level schema s (map-Expr Expr Bool (is_never_null schema s) x))) (meaning (map-Expr Expr Meaning evaluated x) p)
+    → (blind ≡ true → is_well_grouped_level true (length (scope_of s)) (map-Expr Expr Found (with_settled (length (scope_of s))) x) ≡ true)
+    → Sure (Where (is_required_level schema s (map-Expr Expr Bool (is_never_null schema s) x))) (meaning (map-Expr Expr Meaning meaning_of x) p)
 level (Expr-F.Column source c) schema s p blind h a =
     let apart : Bool = not (nat_lt source (length (scope_of s))) in
     column_given schema s p blind source c (column_in schema (scope_of s) source c) refl h (λ b. (and_parts apart true (and_parts (apart && true) true (a b)).0).0)
-level x schema s p blind h a = nowhere (meaning (map-Expr Expr Meaning evaluated x) p)
+level x schema s p blind h a = nowhere (meaning (map-Expr Expr Meaning meaning_of x) p)
 
 never_rolled : (schema : Catalog) (s : Select) (x : Expr-F Expr) → is_never_null schema s (roll-Expr x) ≡ is_required_level schema s (map-Expr Expr Bool (is_never_null schema s) x)
 unfolding is_never_null
 never_rolled schema s x = fold-roll-Expr Bool (is_required_level schema s) x
 
 abbrev Claim : Expr → Type 0
-Claim e = (schema : Catalog) (s : Select) (p : Place) (blind : Bool) → Fits (GivenAt s) schema (scope_of s) p blind → Settled s blind e → Sure (IsGiven schema s e) (evaluated e p)
+Claim e = (schema : Catalog) (s : Select) (p : Place) (blind : Bool) → Fits (GivenAt s) schema (scope_of s) p blind → Settled s blind e → Sure (IsGiven schema s e) (meaning_of e p)
 
 step : (x : Expr-F Expr) → Claim (roll-Expr x)
 step x schema s p blind h a =
-    subst (λ (b : Bool). Sure (Where b) (evaluated (roll-Expr x) p)) (sym (never_rolled schema s x))
+    subst (λ (b : Bool). Sure (Where b) (meaning_of (roll-Expr x) p)) (sym (never_rolled schema s x))
     (subst (λ (m : Meaning). Sure (Where (is_required_level schema s (map-Expr Expr Bool (is_never_null schema s) x))) (m p)) (sym (rolled x))
     (level x schema s p blind h (λ b. sym (settled_rolled (length (scope_of s)) x) ∙ a b)))
 

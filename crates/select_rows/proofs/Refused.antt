@@ -14,14 +14,14 @@ use Rattle.expr_types.specs.declared.select.Select.{Select}
 use Rattle.sql_semantics.specs.Plain.{is_grouped}
 use Rattle.sql_semantics.specs.Checked.{Checked, ◌>>=◌}
 use Rattle.sql_semantics.specs.Truth.{passes}
-use Rattle.sql_semantics.specs.Eval.{Row, Tables, Place, evaluated, all_from, rows_in}
+use Rattle.sql_semantics.specs.Eval.{Row, Tables, Place, meaning_of, all_from, rows_in}
 use Rattle.expr_eval.proofs.Refused.{OnlyData, bind_data, evaluated_data}
 use Rattle.sql_semantics.specs.declared.basis.Basis.{Basis}
 use Rattle.sql_semantics.specs.declared.basis.Basis.TheVariants as basis
 use Rattle.sql_semantics.specs.declared.sort_key.SortKey.{SortKey}
 use Rattle.sql_semantics.specs.Order.{key_of}
 use Rattle.sql_semantics.specs.SelectRefusals.{CanRefuse}
-use Rattle.sql_semantics.specs.Rows.{Frame, kept_from, each_from, mapped_from, at, at_basis, width, condition, joined_row, joined, joined_all, or_nulls, wider, sources, passed, keyed, groups, grouped, bases, having, keys_from, values, output, answered, of_rows, tables_of, is_created, created, answer}
+use Rattle.sql_semantics.specs.Rows.{Frame, kept_from, each_from, mapped_from, at, at_basis, width, condition, joined_row, rows_of_join, joined_all, or_nulls, wider, sources, rows_where, row_with_key, groups, group_bases, bases, groups_having, keys_from, values, output, answer_rows, of_rows, tables_of, is_created, require_created, answer}
 
 -- ---- lists
 
@@ -37,9 +37,9 @@ mapped_data : {A B : Type 0} (f : A → Checked B) → ((x : A) → OnlyData (f 
 mapped_data f h done [] = tt
 mapped_data f h done (x ∷ xs) = bind_data (f x) (λ y. mapped_from f (done ++ y ∷ []) xs) (h x) (λ y. mapped_data f h (done ++ y ∷ []) xs)
 
-all_data : {A : Type 0} (e : A → Expr) (p : Place) (done : List Value) (xs : List A) → OnlyData (all_from p done (map (λ x. evaluated (e x)) xs))
+all_data : {A : Type 0} (e : A → Expr) (p : Place) (done : List Value) (xs : List A) → OnlyData (all_from p done (map (λ x. meaning_of (e x)) xs))
 all_data e p done [] = tt
-all_data e p done (x ∷ xs) = bind_data (evaluated (e x) p) (λ v. all_from p (done ++ v ∷ []) (map (λ y. evaluated (e y)) xs)) (evaluated_data (e x) p) (λ v. all_data e p (done ++ v ∷ []) xs)
+all_data e p done (x ∷ xs) = bind_data (meaning_of (e x) p) (λ v. all_from p (done ++ v ∷ []) (map (λ y. meaning_of (e y)) xs)) (evaluated_data (e x) p) (λ v. all_data e p (done ++ v ∷ []) xs)
 
 -- ---- the parts of a select
 
@@ -51,7 +51,7 @@ joined_row_data f j n r =
 joined_data : (schema : Catalog) (f : Frame) (n : ℕ) (js : List Joined) (rows : List Row) → OnlyData (joined_all schema f n js rows)
 joined_data schema f n [] rows = tt
 joined_data schema f n (j ∷ js) rows =
-    bind_data (joined schema (wider f n) j rows) (λ more. joined_all schema (wider f n) (n + width schema j.origin) js more)
+    bind_data (rows_of_join schema (wider f n) j rows) (λ more. joined_all schema (wider f n) (n + width schema j.origin) js more)
     (each_data (joined_row (wider f n) j (width schema j.origin)) (joined_row_data (wider f n) j (width schema j.origin)) [] rows)
     (λ more. joined_data schema (wider f n) (n + width schema j.origin) js more)
 
@@ -59,31 +59,31 @@ sources_data : (schema : Catalog) (tables : Tables) (s : Select) → OnlyData (s
 unfolding sources
 sources_data schema tables s = joined_data schema (record { starts = 0 ∷ []; tables = tables }) (width schema s.first) s.joins (rows_in tables s.first.table.0)
 
-passed_data : (f : Frame) (o : Option Expr) (rows : List Row) → OnlyData (passed f o rows)
+passed_data : (f : Frame) (o : Option Expr) (rows : List Row) → OnlyData (rows_where f o rows)
 passed_data f None rows = tt
 passed_data f (Some e) rows = kept_data (condition f e) (λ x. evaluated_data e (at f x)) [] rows
 
-keyed_data : (f : Frame) (es : List Expr) (r : Row) → OnlyData (keyed f es r)
-keyed_data f es r = bind_data (all_from (at f r) [] (map evaluated es)) (λ vs. Ok (vs, r)) (all_data (λ e. e) (at f r) [] es) (λ vs. tt)
+keyed_data : (f : Frame) (es : List Expr) (r : Row) → OnlyData (row_with_key f es r)
+keyed_data f es r = bind_data (all_from (at f r) [] (map meaning_of es)) (λ vs. Ok (vs, r)) (all_data (λ e. e) (at f r) [] es) (λ vs. tt)
 
-grouped_data : (f : Frame) (es : List Expr) (rows : List Row) → OnlyData (grouped f es rows)
+grouped_data : (f : Frame) (es : List Expr) (rows : List Row) → OnlyData (group_bases f es rows)
 grouped_data f [] rows = tt
-grouped_data f (e ∷ es) rows = bind_data (mapped_from (keyed f (e ∷ es)) [] rows) (λ all. Ok (groups all)) (mapped_data (keyed f (e ∷ es)) (keyed_data f (e ∷ es)) [] rows) (λ all. tt)
+grouped_data f (e ∷ es) rows = bind_data (mapped_from (row_with_key f (e ∷ es)) [] rows) (λ all. Ok (groups all)) (mapped_data (row_with_key f (e ∷ es)) (keyed_data f (e ∷ es)) [] rows) (λ all. tt)
 
 either_data : {A : Type 0} (b : Bool) (r : Checked A) (x : A) → OnlyData r → OnlyData (if b then r else Ok x)
 either_data true r x h = h
 either_data false r x h = tt
 
 bases_data : (f : Frame) (s : Select) (rows : List Row) → OnlyData (bases f s rows)
-bases_data f s rows = either_data (is_grouped s) (grouped f s.groups rows) (map (λ r. basis.Row r) rows) (grouped_data f s.groups rows)
+bases_data f s rows = either_data (is_grouped s) (group_bases f s.groups rows) (map (λ r. basis.Row r) rows) (grouped_data f s.groups rows)
 
-having_data : (f : Frame) (o : Option Expr) (bs : List Basis) → OnlyData (having f o bs)
+having_data : (f : Frame) (o : Option Expr) (bs : List Basis) → OnlyData (groups_having f o bs)
 having_data f None bs = tt
-having_data f (Some e) bs = kept_data (λ b. evaluated e (at_basis f b)) (λ b. evaluated_data e (at_basis f b)) [] bs
+having_data f (Some e) bs = kept_data (λ b. meaning_of e (at_basis f b)) (λ b. evaluated_data e (at_basis f b)) [] bs
 
 keys_data : (p : Place) (done : List SortKey) (ks : List (Expr × Bool)) → OnlyData (keys_from p done ks)
 keys_data p done [] = tt
-keys_data p done (k ∷ ks) = bind_data (evaluated k.0 p) (λ v. keys_from p (done ++ key_of k.1 v ∷ []) ks) (evaluated_data k.0 p) (λ v. keys_data p (done ++ key_of k.1 v ∷ []) ks)
+keys_data p done (k ∷ ks) = bind_data (meaning_of k.0 p) (λ v. keys_from p (done ++ key_of k.1 v ∷ []) ks) (evaluated_data k.0 p) (λ v. keys_data p (done ++ key_of k.1 v ∷ []) ks)
 
 output_data : (f : Frame) (s : Select) (b : Basis) → OnlyData (output f s b)
 output_data f s b =
@@ -92,9 +92,9 @@ output_data f s b =
 
 of_rows_data : (f : Frame) (s : Select) (rows : List Row) → OnlyData (of_rows f s rows)
 of_rows_data f s rows =
-    bind_data (bases f s rows) (λ all. having f s.having all >>= λ left. mapped_from (output f s) [] left >>= λ outs. Ok (answered s outs)) (bases_data f s rows)
-    (λ all. bind_data (having f s.having all) (λ left. mapped_from (output f s) [] left >>= λ outs. Ok (answered s outs)) (having_data f s.having all)
-    (λ left. bind_data (mapped_from (output f s) [] left) (λ outs. Ok (answered s outs)) (mapped_data (output f s) (output_data f s) [] left) (λ outs. tt)))
+    bind_data (bases f s rows) (λ all. groups_having f s.having all >>= λ left. mapped_from (output f s) [] left >>= λ outs. Ok (answer_rows s outs)) (bases_data f s rows)
+    (λ all. bind_data (groups_having f s.having all) (λ left. mapped_from (output f s) [] left >>= λ outs. Ok (answer_rows s outs)) (having_data f s.having all)
+    (λ left. bind_data (mapped_from (output f s) [] left) (λ outs. Ok (answer_rows s outs)) (mapped_data (output f s) (output_data f s) [] left) (λ outs. tt)))
 
 -- ---- tables that were not created
 
@@ -116,9 +116,9 @@ created_by : (b : Bool) (t : ℕ) (ts : List ℕ) (r : Checked (Unit {0})) → O
 created_by true t ts r h = more_misses t ts r h
 created_by false t ts r h = or_first (t == t) (list_any (λ x. x == t) ts) (nat_eq_equiv.refl t)
 
-pub created_misses : (tables : Tables) (ts : List ℕ) → OnlyMisses ts (created tables ts)
+pub created_misses : (tables : Tables) (ts : List ℕ) → OnlyMisses ts (require_created tables ts)
 created_misses tables [] = tt
-created_misses tables (t ∷ ts) = created_by (is_created tables t) t ts (created tables ts) (created_misses tables ts)
+created_misses tables (t ∷ ts) = created_by (is_created tables t) t ts (require_created tables ts) (created_misses tables ts)
 
 -- ---- the whole
 
@@ -143,10 +143,10 @@ bind_of s (Err e) f h g = h
 answer_of : (schema : Catalog) (tables : Tables) (s : Select) → OnlyOf s (answer schema tables s)
 unfolding answer
 answer_of schema tables s =
-    bind_of s (created tables (tables_of s)) (λ _. sources schema tables s >>= λ from. passed from.0 s.filter from.1 >>= λ rows. of_rows from.0 s rows) (of_misses s (created tables (tables_of s)) (created_misses tables (tables_of s)))
-    (λ _. of_data s (sources schema tables s >>= λ from. passed from.0 s.filter from.1 >>= λ rows. of_rows from.0 s rows)
-    (bind_data (sources schema tables s) (λ from. passed from.0 s.filter from.1 >>= λ rows. of_rows from.0 s rows) (sources_data schema tables s)
-    (λ from. bind_data (passed from.0 s.filter from.1) (λ rows. of_rows from.0 s rows) (passed_data from.0 s.filter from.1) (λ rows. of_rows_data from.0 s rows))))
+    bind_of s (require_created tables (tables_of s)) (λ _. sources schema tables s >>= λ from. rows_where from.0 s.filter from.1 >>= λ rows. of_rows from.0 s rows) (of_misses s (require_created tables (tables_of s)) (created_misses tables (tables_of s)))
+    (λ _. of_data s (sources schema tables s >>= λ from. rows_where from.0 s.filter from.1 >>= λ rows. of_rows from.0 s rows)
+    (bind_data (sources schema tables s) (λ from. rows_where from.0 s.filter from.1 >>= λ rows. of_rows from.0 s rows) (sources_data schema tables s)
+    (λ from. bind_data (rows_where from.0 s.filter from.1) (λ rows. of_rows from.0 s rows) (passed_data from.0 s.filter from.1) (λ rows. of_rows_data from.0 s rows))))
 
 told_of : {A X : Type 0} (view : X → A) (s : Select) (r : Result X Refusal) (told : Checked A) → Gives view r told → OnlyOf s told → IfErr r (λ e. CanRefuse s e)
 told_of view s (Ok x) told g h = tt

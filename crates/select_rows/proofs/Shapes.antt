@@ -14,7 +14,7 @@ use Rattle.expr_types.specs.declared.select.Select.{Select}
 use Rattle.sql_semantics.specs.Plain.{is_grouped}
 use Rattle.base_core.specs.Answers.{Gives}
 use Rattle.sql_semantics.specs.Checked.{Checked, ◌>>=◌}
-use Rattle.sql_semantics.specs.Eval.{Row, Tables, Place, evaluated, all_from}
+use Rattle.sql_semantics.specs.Eval.{Row, Tables, Place, meaning_of, all_from}
 use Rattle.sql_semantics.specs.declared.basis.Basis.{Basis}
 use Rattle.sql_semantics.specs.declared.basis.Basis.TheVariants as basis
 use Rattle.sql_semantics.specs.declared.sort_key.SortKey.{SortKey}
@@ -22,7 +22,7 @@ use Rattle.sql_semantics.specs.Order.{Rank, rank_cmp, ranked_from, in_order, sam
 use Rattle.sql_semantics.specs.Shapes.{AreWide}
 use Rattle.select_sources.proofs.Sure.{Sure, always, bind_sure, every_more, kept_sure, mapped_sure}
 use Rattle.select_rows.proofs.Firsts.{same_row_equiv}
-use Rattle.sql_semantics.specs.Rows.{Frame, Keyed, mapped_from, at, at_basis, sources, passed, keyed, groups, first_row, grouped, bases, having, firsts_from, rows_with, keys_from, values, output, distinct, cut_off, limited, answered, of_rows, tables_of, created, answer}
+use Rattle.sql_semantics.specs.Rows.{Frame, Keyed, mapped_from, at, at_basis, sources, rows_where, row_with_key, groups, first_row, group_bases, bases, groups_having, firsts_from, rows_with, keys_from, values, output, distinct, cut_off, within_limit, answer_rows, of_rows, tables_of, require_created, answer}
 
 -- ---- lists
 
@@ -84,11 +84,11 @@ off_every : (P : Row → Type 0) (o : Option ℕ) (rows : List Row) → AllByRec
 off_every P None rows h = h
 off_every P (Some n) rows h = every_drop P n rows h
 
-limited_every : (P : Row → Type 0) (o : Option ℕ) (rows : List Row) → AllByRecursion P rows → AllByRecursion P (limited o rows)
+limited_every : (P : Row → Type 0) (o : Option ℕ) (rows : List Row) → AllByRecursion P rows → AllByRecursion P (within_limit o rows)
 limited_every P None rows h = h
 limited_every P (Some n) rows h = every_take P n rows h
 
-answered_every : (P : Row → Type 0) (s : Select) (outs : List (List SortKey × Row)) → AllByRecursion (λ o. P o.1) outs → AllByRecursion P (answered s outs)
+answered_every : (P : Row → Type 0) (s : Select) (outs : List (List SortKey × Row)) → AllByRecursion (λ o. P o.1) outs → AllByRecursion P (answer_rows s outs)
 answered_every P s outs h =
     limited_every P s.limit (cut_off s.offset (distinct s.distinct (in_order outs)))
     (off_every P s.offset (distinct s.distinct (in_order outs)) (distinct_every P s.distinct (in_order outs) (ordered_every P outs h)))
@@ -105,8 +105,8 @@ abbrev pub OfBasis : (Row → Type 0) → Bool → List Expr → Basis → Type 
 OfBasis P grouped es (basis.Row r) = P r
 OfBasis P grouped es (basis.Group rows) = (grouped ≡ true) × AllByRecursion P rows × FirstRow P es rows
 
-keyed_sure : (P : Row → Type 0) (f : Frame) (es : List Expr) (r : Row) → P r → Sure (λ (k : Keyed). P k.1) (keyed f es r)
-keyed_sure P f es r p = bind_sure (λ _. Unit {0}) (λ (k : Keyed). P k.1) (all_from (at f r) [] (map evaluated es)) (λ vs. Ok (vs, r)) (always (all_from (at f r) [] (map evaluated es))) (λ vs _. p)
+keyed_sure : (P : Row → Type 0) (f : Frame) (es : List Expr) (r : Row) → P r → Sure (λ (k : Keyed). P k.1) (row_with_key f es r)
+keyed_sure P f es r p = bind_sure (λ _. Unit {0}) (λ (k : Keyed). P k.1) (all_from (at f r) [] (map meaning_of es)) (λ vs. Ok (vs, r)) (always (all_from (at f r) [] (map meaning_of es))) (λ vs _. p)
 
 -- a row has the key
 abbrev IsKey : List Keyed → List Value → Type 0
@@ -136,11 +136,11 @@ groups_every P b e es all [] is h g = tt
 groups_every P b e es all (key ∷ keys) is h g =
     ((is, every_map (λ (k : Keyed). k.1) P (filter (λ k. same_row key k.0) all) (every_filter (λ (k : Keyed). P k.1) (λ k. same_row key k.0) all h), first_found P all key h g.0), groups_every P b e es all keys is h g.1)
 
-grouped_sure : (P : Row → Type 0) (b : Bool) (f : Frame) (es : List Expr) (rows : List Row) → b ≡ true → AllByRecursion P rows → Sure (AllByRecursion (OfBasis P b es)) (grouped f es rows)
+grouped_sure : (P : Row → Type 0) (b : Bool) (f : Frame) (es : List Expr) (rows : List Row) → b ≡ true → AllByRecursion P rows → Sure (AllByRecursion (OfBasis P b es)) (group_bases f es rows)
 grouped_sure P b f [] rows is h = ((is, h, tt), tt)
 grouped_sure P b f (e ∷ es) rows is h =
-    bind_sure (AllByRecursion (λ (k : Keyed). P k.1)) (AllByRecursion (OfBasis P b (e ∷ es))) (mapped_from (keyed f (e ∷ es)) [] rows) (λ all. Ok (groups all))
-    (mapped_sure P (λ (k : Keyed). P k.1) (keyed f (e ∷ es)) (keyed_sure P f (e ∷ es)) [] rows tt h)
+    bind_sure (AllByRecursion (λ (k : Keyed). P k.1)) (AllByRecursion (OfBasis P b (e ∷ es))) (mapped_from (row_with_key f (e ∷ es)) [] rows) (λ all. Ok (groups all))
+    (mapped_sure P (λ (k : Keyed). P k.1) (row_with_key f (e ∷ es)) (keyed_sure P f (e ∷ es)) [] rows tt h)
     (λ all g. groups_every P b e es all (firsts_from [] (map (λ (k : Keyed). k.0) all)) is g (firsts_every (IsKey all) [] (map (λ (k : Keyed). k.0) all) tt (own_keys all)))
 
 rows_every : (P : Row → Type 0) (b : Bool) (es : List Expr) (rows : List Row) → AllByRecursion P rows → AllByRecursion (OfBasis P b es) (map (λ r. basis.Row r) rows)
@@ -153,12 +153,12 @@ bases_by P false r bs h g = g
 
 pub bases_sure : (P : Row → Type 0) (f : Frame) (s : Select) (rows : List Row) → AllByRecursion P rows → Sure (AllByRecursion (OfBasis P (is_grouped s) s.groups)) (bases f s rows)
 bases_sure P f s rows h =
-    bases_by (OfBasis P (is_grouped s) s.groups) (is_grouped s) (grouped f s.groups rows) (map (λ r. basis.Row r) rows) (λ is. grouped_sure P (is_grouped s) f s.groups rows is h)
+    bases_by (OfBasis P (is_grouped s) s.groups) (is_grouped s) (group_bases f s.groups rows) (map (λ r. basis.Row r) rows) (λ is. grouped_sure P (is_grouped s) f s.groups rows is h)
     (rows_every P (is_grouped s) s.groups rows h)
 
-pub having_sure : (P : Basis → Type 0) (f : Frame) (o : Option Expr) (bs : List Basis) → AllByRecursion P bs → Sure (AllByRecursion P) (having f o bs)
+pub having_sure : (P : Basis → Type 0) (f : Frame) (o : Option Expr) (bs : List Basis) → AllByRecursion P bs → Sure (AllByRecursion P) (groups_having f o bs)
 having_sure P f None bs h = h
-having_sure P f (Some e) bs h = kept_sure P (λ b. evaluated e (at_basis f b)) [] bs tt h
+having_sure P f (Some e) bs h = kept_sure P (λ b. meaning_of e (at_basis f b)) [] bs tt h
 
 output_sure : (P : Row → Type 0) (f : Frame) (s : Select) (b : Basis) → Sure P (values (at_basis f b) s) → Sure (λ (o : List SortKey × Row). P o.1) (output f s b)
 output_sure P f s b h =
@@ -168,9 +168,9 @@ output_sure P f s b h =
 -- the rows of a select have what the values of its items have at each basis
 pub of_rows_sure : (Q P : Row → Type 0) (f : Frame) (s : Select) (rows : List Row) → AllByRecursion Q rows → ((b : Basis) → OfBasis Q (is_grouped s) s.groups b → Sure P (values (at_basis f b) s)) → Sure (AllByRecursion P) (of_rows f s rows)
 of_rows_sure Q P f s rows h g =
-    bind_sure (AllByRecursion (OfBasis Q (is_grouped s) s.groups)) (AllByRecursion P) (bases f s rows) (λ all. having f s.having all >>= λ left. mapped_from (output f s) [] left >>= λ outs. Ok (answered s outs)) (bases_sure Q f s rows h)
-    (λ all a. bind_sure (AllByRecursion (OfBasis Q (is_grouped s) s.groups)) (AllByRecursion P) (having f s.having all) (λ left. mapped_from (output f s) [] left >>= λ outs. Ok (answered s outs)) (having_sure (OfBasis Q (is_grouped s) s.groups) f s.having all a)
-    (λ left l. bind_sure (AllByRecursion (λ (o : List SortKey × Row). P o.1)) (AllByRecursion P) (mapped_from (output f s) [] left) (λ outs. Ok (answered s outs))
+    bind_sure (AllByRecursion (OfBasis Q (is_grouped s) s.groups)) (AllByRecursion P) (bases f s rows) (λ all. groups_having f s.having all >>= λ left. mapped_from (output f s) [] left >>= λ outs. Ok (answer_rows s outs)) (bases_sure Q f s rows h)
+    (λ all a. bind_sure (AllByRecursion (OfBasis Q (is_grouped s) s.groups)) (AllByRecursion P) (groups_having f s.having all) (λ left. mapped_from (output f s) [] left >>= λ outs. Ok (answer_rows s outs)) (having_sure (OfBasis Q (is_grouped s) s.groups) f s.having all a)
+    (λ left l. bind_sure (AllByRecursion (λ (o : List SortKey × Row). P o.1)) (AllByRecursion P) (mapped_from (output f s) [] left) (λ outs. Ok (answer_rows s outs))
     (mapped_sure (OfBasis Q (is_grouped s) s.groups) (λ (o : List SortKey × Row). P o.1) (output f s) (λ b p. output_sure P f s b (g b p)) [] left tt l) (λ outs o. answered_every P s outs o)))
 
 -- ---- one value for each item
@@ -178,11 +178,11 @@ of_rows_sure Q P f s rows h g =
 abbrev IsLong : ℕ → Row → Type 0
 IsLong n vs = length vs ≡ n
 
-values_long : {A : Type 0} (e : A → Expr) (p : Place) (done : Row) (xs : List A) → Sure (IsLong (length done + length xs)) (all_from p done (map (λ x. evaluated (e x)) xs))
+values_long : {A : Type 0} (e : A → Expr) (p : Place) (done : Row) (xs : List A) → Sure (IsLong (length done + length xs)) (all_from p done (map (λ x. meaning_of (e x)) xs))
 values_long e p done [] = omega arith
 values_long e p done (x ∷ xs) =
-    bind_sure (λ _. Unit {0}) (IsLong (length done + length (x ∷ xs))) (evaluated (e x) p) (λ v. all_from p (done ++ v ∷ []) (map (λ y. evaluated (e y)) xs)) (always (evaluated (e x) p))
-    (λ v _. subst (λ n. Sure (IsLong n) (all_from p (done ++ v ∷ []) (map (λ y. evaluated (e y)) xs))) (omega (arith, length-append {A = Value})) (values_long e p (done ++ v ∷ []) xs))
+    bind_sure (λ _. Unit {0}) (IsLong (length done + length (x ∷ xs))) (meaning_of (e x) p) (λ v. all_from p (done ++ v ∷ []) (map (λ y. meaning_of (e y)) xs)) (always (meaning_of (e x) p))
+    (λ v _. subst (λ n. Sure (IsLong n) (all_from p (done ++ v ∷ []) (map (λ y. meaning_of (e y)) xs))) (omega (arith, length-append {A = Value})) (values_long e p (done ++ v ∷ []) xs))
 
 values_wide : (s : Select) (p : Place) → Sure (IsLong (length s.items)) (values p s)
 values_wide s p = subst (λ n. Sure (IsLong n) (values p s)) (omega arith) (values_long (λ (i : Expr × Option (List ℕ)). i.0) p [] s.items)
@@ -194,9 +194,9 @@ trivial (x ∷ xs) = (tt, trivial xs)
 answer_wide : (schema : Catalog) (tables : Tables) (s : Select) → Sure (AreWide s) (answer schema tables s)
 unfolding answer
 answer_wide schema tables s =
-    bind_sure (λ _. Unit {0}) (AreWide s) (created tables (tables_of s)) (λ _. sources schema tables s >>= λ from. passed from.0 s.filter from.1 >>= λ rows. of_rows from.0 s rows) (always (created tables (tables_of s)))
-    (λ _ _. bind_sure (λ _. Unit {0}) (AreWide s) (sources schema tables s) (λ from. passed from.0 s.filter from.1 >>= λ rows. of_rows from.0 s rows) (always (sources schema tables s))
-    (λ from _. bind_sure (λ _. Unit {0}) (AreWide s) (passed from.0 s.filter from.1) (λ rows. of_rows from.0 s rows) (always (passed from.0 s.filter from.1))
+    bind_sure (λ _. Unit {0}) (AreWide s) (require_created tables (tables_of s)) (λ _. sources schema tables s >>= λ from. rows_where from.0 s.filter from.1 >>= λ rows. of_rows from.0 s rows) (always (require_created tables (tables_of s)))
+    (λ _ _. bind_sure (λ _. Unit {0}) (AreWide s) (sources schema tables s) (λ from. rows_where from.0 s.filter from.1 >>= λ rows. of_rows from.0 s rows) (always (sources schema tables s))
+    (λ from _. bind_sure (λ _. Unit {0}) (AreWide s) (rows_where from.0 s.filter from.1) (λ rows. of_rows from.0 s rows) (always (rows_where from.0 s.filter from.1))
     (λ rows _. of_rows_sure (λ _. Unit {0}) (IsLong (length s.items)) from.0 s rows (trivial rows) (λ b _. values_wide s (at_basis from.0 b)))))
 
 pub sure_told : {A X : Type 0} (view : X → A) (P : A → Type 0) (r : Result X Refusal) (told : Checked A) → Gives view r told → Sure P told → IfOk r (λ x. P (view x))

@@ -16,7 +16,7 @@ pub(crate) fn distinct_and_cut(
     rows: Vec<RowValues>,
 ) -> Result<RowList, AllocError>
     ensures { IfOk result (λ left. left
-        ≡ spec.cut select.now (spec.distinct select.now.distinct rows.items)) }
+        ≡ spec.page_of select.now (spec.distinct select.now.distinct rows.items)) }
 {
     let rows = distinct(alloc, select.distinct, rows)?;
     Ok(ListOf::from_vec(cut(rows, select.offset, select.limit)))
@@ -43,7 +43,7 @@ fn distinct(
 
 /// The rows behind so many, and no more than so many of them.
 fn cut(rows: Vec<RowValues>, offset: Option<u64>, limit: Option<u64>) -> Vec<RowValues>
-    ensures { result.items ≡ spec.limited limit (spec.cut_off offset rows.items) }
+    ensures { result.items ≡ spec.within_limit limit (spec.cut_off offset rows.items) }
 {
     let mut rows = rows;
     if let Some(n) = offset {

@@ -90,7 +90,7 @@ fn grouped(
     rows: Vec<RowValues>,
 ) -> Result<Vec<Basis>, Refusal>
     ensures { Gives (λ v. v.items) result
-        (spec.grouped (frame_of frame.now) expressions.now rows.items) }
+        (spec.group_bases (frame_of frame.now) expressions.now rows.items) }
 {
     if expressions.is_empty() {
         return Ok(one_group(alloc, rows)?);
@@ -114,7 +114,7 @@ fn keyed(
     rows: Vec<RowValues>,
 ) -> Result<Vec<Keyed>, Refusal>
     ensures { Gives (λ v. v.items) result
-        (spec.mapped_from (spec.keyed (frame_of frame.now) expressions.now) [] rows.items) }
+        (spec.mapped_from (spec.row_with_key (frame_of frame.now) expressions.now) [] rows.items) }
 {
     let mut all = Vec::with_capacity(alloc, rows.len())?;
     for row in rows {
@@ -127,7 +127,7 @@ fn keyed(
 
 fn values(alloc: Global, expressions: &ExprList, scope: &Scope<'_>) -> Result<RowValues, Refusal>
     ensures { Gives (λ v. v) result
-        (eval.all_from (place_of scope.now) [] (map eval.evaluated expressions.now)) }
+        (eval.all_from (place_of scope.now) [] (map eval.meaning_of expressions.now)) }
 {
     let mut values = Vec::with_capacity(alloc, expressions.len())?;
     for e in expressions.as_slice() {

@@ -2,7 +2,7 @@
 
 ghost use Rattle.std.specs.Prelude.{◌≡◌, []};
 ghost use Rattle.base_core.specs.Answers.{Gives};
-ghost use Rattle.sql_semantics.specs.Eval.{evaluated};
+ghost use Rattle.sql_semantics.specs.Eval.{meaning_of};
 ghost use Rattle.select_sources.specs.Frames.{frame_of};
 ghost use Rattle.sql_semantics.specs.Rows as spec;
 
@@ -22,7 +22,7 @@ pub(crate) fn having(
     bases: Vec<Basis>,
 ) -> Result<Vec<Basis>, Refusal>
     ensures { Gives (λ v. v.items) result
-        (spec.having (frame_of frame.now) condition.now bases.items) }
+        (spec.groups_having (frame_of frame.now) condition.now bases.items) }
 {
     match condition {
         Some(e) => kept_bases(alloc, frame, e, bases),
@@ -37,7 +37,7 @@ fn kept_bases(
     bases: Vec<Basis>,
 ) -> Result<Vec<Basis>, Refusal>
     ensures { Gives (λ v. v.items) result
-        (spec.kept_from (λ b. evaluated condition.now
+        (spec.kept_from (λ b. meaning_of condition.now
         (spec.at_basis (frame_of frame.now) b)) [] bases.items) }
 {
     let mut kept = Vec::new(alloc);

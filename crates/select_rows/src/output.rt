@@ -48,7 +48,7 @@ fn values(
     scope: &Scope<'_>,
 ) -> Result<RowValues, Refusal>
     ensures { Gives (λ x. x) result
-        (eval.all_from (place_of scope.now) [] (map (λ i. eval.evaluated i.0) items.now)) }
+        (eval.all_from (place_of scope.now) [] (map (λ i. eval.meaning_of i.0) items.now)) }
 {
     let mut values = Vec::with_capacity(alloc, items.len())?;
     for item in items.as_slice() {

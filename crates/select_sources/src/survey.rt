@@ -8,10 +8,10 @@ use sqlite_items::Items;
 use std::alloc::AllocError;
 
 /// Appends the numbers of the tables of each `exists`, in reading order. The only error is that memory ran out.
-#[tactic(auto, unfolding(sql_semantics::specs::Rows::named), using(crate::proofs::Surveys::all_named))]
+#[tactic(auto, unfolding(sql_semantics::specs::Rows::exists_tables), using(crate::proofs::Surveys::all_named))]
 #[cycle(named)]
 pub fn named(e: &Expr, found: &mut Vec<u32>) -> Result<(), AllocError>
-    ensures { OnOk result (found.new.items ≡ found.old.items ++ spec.named e.now) }
+    ensures { OnOk result (found.new.items ≡ found.old.items ++ spec.exists_tables e.now) }
 {
     match e {
         Expr::Column(_, _) | Expr::Lit(_) | Expr::CountAll => Ok(()),
@@ -43,7 +43,7 @@ pub fn named(e: &Expr, found: &mut Vec<u32>) -> Result<(), AllocError>
 #[cycle(named)]
 pub(crate) fn named_all(parts: &Items<Expr>, found: &mut Vec<u32>) -> Result<(), AllocError>
     ensures { OnOk result (found.new.items
-        ≡ found.old.items ++ spec.flat (map spec.named parts.now)) }
+        ≡ found.old.items ++ spec.flat (map spec.exists_tables parts.now)) }
 {
     for part in parts.as_slice() {
         named(part, found)?;

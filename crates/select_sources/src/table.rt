@@ -15,7 +15,7 @@ pub fn all_created(
     tables: &[(TableId, RowList)],
     select: &Select,
 ) -> Result<(), Refusal>
-    ensures { Gives (λ x. x) result (spec.created tables.now (spec.tables_of select.now)) }
+    ensures { Gives (λ x. x) result (spec.require_created tables.now (spec.tables_of select.now)) }
 {
     let named = tables_of(alloc, select)?;
     created(tables, &named)
@@ -26,7 +26,7 @@ pub fn all_created(
 /// # Errors
 /// `OperationalError` with that table.
 pub fn created(tables: &[(TableId, RowList)], named: &[u32]) -> Result<(), Refusal>
-    ensures { result ≡ spec.created tables.now named.now }
+    ensures { result ≡ spec.require_created tables.now named.now }
 {
     for table in named {
         if !is_created(tables, *table) {
@@ -65,7 +65,7 @@ fn tables_of(alloc: Global, select: &Select) -> Result<Vec<u32>, AllocError>
 #[tactic(auto, using(crate::proofs::Surveys::all_named))]
 fn of_items(items: &ListOf<(Expr, Option<Name>)>, found: &mut Vec<u32>) -> Result<(), AllocError>
     ensures { OnOk result (found.new.items
-        ≡ found.old.items ++ spec.flat (map (λ i. spec.named i.0) items.now)) }
+        ≡ found.old.items ++ spec.flat (map (λ i. spec.exists_tables i.0) items.now)) }
 {
     for item in items.as_slice() {
         named(&item.0, found)?;
@@ -76,7 +76,7 @@ fn of_items(items: &ListOf<(Expr, Option<Name>)>, found: &mut Vec<u32>) -> Resul
 #[tactic(auto, using(crate::proofs::Surveys::all_named))]
 fn of_order(keys: &ListOf<(Expr, bool)>, found: &mut Vec<u32>) -> Result<(), AllocError>
     ensures { OnOk result (found.new.items
-        ≡ found.old.items ++ spec.flat (map (λ k. spec.named k.0) keys.now)) }
+        ≡ found.old.items ++ spec.flat (map (λ k. spec.exists_tables k.0) keys.now)) }
 {
     for key in keys.as_slice() {
         named(&key.0, found)?;
@@ -87,7 +87,7 @@ fn of_order(keys: &ListOf<(Expr, bool)>, found: &mut Vec<u32>) -> Result<(), All
 #[tactic(auto, using(crate::proofs::Surveys::all_named))]
 fn of_joins(joins: &ListOf<Joined>, found: &mut Vec<u32>) -> Result<(), AllocError>
     ensures { OnOk result (found.new.items
-        ≡ found.old.items ++ spec.flat (map (λ j. j.origin.table.0 ∷ spec.named j.on) joins.now)) }
+        ≡ found.old.items ++ spec.flat (map (λ j. j.origin.table.0 ∷ spec.exists_tables j.on) joins.now)) }
 {
     for join in joins.as_slice() {
         found.push(join.origin.table.0)?;

@@ -8,7 +8,7 @@ use Rattle.base_core.specs.declared.value.Kind.TheVariants as kinds
 use Rattle.base_core.specs.declared.refusal.Refusal.{Refusal}
 use Rattle.schema_core.specs.Catalog.{Catalog, same_kind}
 use Rattle.expr_types.specs.declared.expr.Expr.{Expr}
-use Rattle.sql_semantics.specs.Kinds.{Scope, Judged, judged, then_judge, expected, all_of, all_alike, gives, in_scope}
+use Rattle.sql_semantics.specs.Kinds.{Scope, Judged, expression_kind, then_judge, kind_or_mismatch, all_of, all_alike, gives, in_scope}
 use Rattle.sql_semantics.specs.Plain.{fits}
 
 pub has_kind : (r : Judged) → is_ok r ≡ true → (k : Kind) × (r ≡ Ok k)
@@ -33,8 +33,8 @@ same_kind_is a b e = absurd (cc)
 pub all_of_each : (wanted k : Kind) (js : List Judged) → all_of wanted js ≡ Ok k → (k ≡ wanted) × AllByRecursion (λ j. j ≡ Ok wanted) js
 all_of_each wanted k [] e = (cc, tt)
 all_of_each wanted k (j ∷ js) e =
-    let one = then_ok j (λ found. then_judge (expected wanted found) (λ kind. all_of wanted js)) k e in
-    let two = then_ok (expected wanted one.0) (λ kind. all_of wanted js) k one.2 in
+    let one = then_ok j (λ found. then_judge (kind_or_mismatch wanted found) (λ kind. all_of wanted js)) k e in
+    let two = then_ok (kind_or_mismatch wanted one.0) (λ kind. all_of wanted js) k one.2 in
     let found : one.0 ≡ wanted = same_kind_is one.0 wanted (expected_by (same_kind one.0 wanted) wanted two.0 _ two.1) in
     let rest = all_of_each wanted k js two.2 in
     (rest.0, (one.1 ∙ ap Ok found, rest.1))
@@ -54,12 +54,12 @@ all_fits schema scope [] h = tt
 all_fits schema scope (e ∷ es) h =
     let both = and_parts (fits schema e scope) (list_all (λ (holds : Scope → Bool). holds scope) (map (fits schema) es)) h in (both.0, all_fits schema scope es both.1)
 
-pub all_judged : (schema : Catalog) (scope : Scope) (k : Kind) (es : List Expr) → AllByRecursion (λ j. j ≡ Ok k) (in_scope scope (map (judged schema) es)) → AllByRecursion (λ e. judged schema e scope ≡ Ok k) es
+pub all_judged : (schema : Catalog) (scope : Scope) (k : Kind) (es : List Expr) → AllByRecursion (λ j. j ≡ Ok k) (in_scope scope (map (expression_kind schema) es)) → AllByRecursion (λ e. expression_kind schema e scope ≡ Ok k) es
 all_judged schema scope k [] h = tt
 all_judged schema scope k (e ∷ es) h = (h.0, all_judged schema scope k es h.1)
 
-pub alike_list : (schema : Catalog) (scope : Scope) (k : Kind) (es : List Expr) → all_alike (in_scope scope (map (judged schema) es)) ≡ Ok k → AllByRecursion (λ e. judged schema e scope ≡ Ok k) es
-alike_list schema scope k es h = all_judged schema scope k es (alike_each k (in_scope scope (map (judged schema) es)) h)
+pub alike_list : (schema : Catalog) (scope : Scope) (k : Kind) (es : List Expr) → all_alike (in_scope scope (map (expression_kind schema) es)) ≡ Ok k → AllByRecursion (λ e. expression_kind schema e scope ≡ Ok k) es
+alike_list schema scope k es h = all_judged schema scope k es (alike_each k (in_scope scope (map (expression_kind schema) es)) h)
 
-pub of_list : (schema : Catalog) (scope : Scope) (wanted k : Kind) (es : List Expr) → all_of wanted (in_scope scope (map (judged schema) es)) ≡ Ok k → AllByRecursion (λ e. judged schema e scope ≡ Ok wanted) es
-of_list schema scope wanted k es h = all_judged schema scope wanted es (all_of_each wanted k (in_scope scope (map (judged schema) es)) h).1
+pub of_list : (schema : Catalog) (scope : Scope) (wanted k : Kind) (es : List Expr) → all_of wanted (in_scope scope (map (expression_kind schema) es)) ≡ Ok k → AllByRecursion (λ e. expression_kind schema e scope ≡ Ok wanted) es
+of_list schema scope wanted k es h = all_judged schema scope wanted es (all_of_each wanted k (in_scope scope (map (expression_kind schema) es)) h).1

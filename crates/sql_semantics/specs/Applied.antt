@@ -15,8 +15,8 @@ use Rattle.expr_types.specs.declared.select.Bulk.{Bulk}
 use Rattle.expr_types.specs.declared.select.Bulk.TheVariants as bulk
 use Rattle.sql_semantics.specs.Checked.{Checked, ◌>>=◌}
 use Rattle.sql_semantics.specs.Created.{bare}
-use Rattle.sql_semantics.specs.Rows.{created, flat, named_where}
-use Rattle.sql_semantics.specs.Taken.{deleted_from, inserted, updated_from}
+use Rattle.sql_semantics.specs.Rows.{require_created, flat, named_where}
+use Rattle.sql_semantics.specs.Taken.{deleted_from, inserted_row, updated_from}
 
 -- the number of rows and the tables then, or the first refusal
 abbrev pub Outcome : Type 0
@@ -31,9 +31,9 @@ table_of (bulk.Delete table filter) = table
 -- ---- tables that are not there
 
 -- the rows of the written table, which stands first in the text
-abbrev pub found : TableId → Option Rows → Checked Rows
-found table None = Err (refusals.OperationalError table)
-found table (Some rows) = Ok rows
+abbrev pub rows_or_refusal : TableId → Option Rows → Checked Rows
+rows_or_refusal table None = Err (refusals.OperationalError table)
+rows_or_refusal table (Some rows) = Ok rows
 
 -- the tables of each `exists`, in reading order
 abbrev pub named_in : List (ColumnNo × Option Expr) → Option Expr → List ℕ
@@ -66,20 +66,20 @@ of_row table done = of_judged table done >>= λ answer. Ok (1, answer.1)
 
 -- an INSERT into a table that has these rows
 abbrev pub insert : Catalog → Tables → TableId → List ColumnNo → List Value → Rows → Outcome
-insert schema tables table columns values rows = of_row table (row.insert_rows schema tables table rows (inserted (length (spec_of schema table).columns) columns values ∷ []))
+insert schema tables table columns values rows = of_row table (row.insert_rows schema tables table rows (inserted_row (length (spec_of schema table).columns) columns values ∷ []))
 
 -- an UPDATE of a table that has these rows
 abbrev pub update : Catalog → Tables → TableId → List (ColumnNo × Option Expr) → Option Expr → Rows → Outcome
 update schema tables table cells filter rows =
-    created (bare tables) (named_in cells filter) >>= λ _. updated_from (bare tables) cells filter [] rows >>= λ entries. update_entries schema tables table rows entries
+    require_created (bare tables) (named_in cells filter) >>= λ _. updated_from (bare tables) cells filter [] rows >>= λ entries. update_entries schema tables table rows entries
 
 -- a DELETE of a table that has these rows
 abbrev pub delete : Catalog → Tables → TableId → Option Expr → Rows → Outcome
 delete schema tables table filter rows =
-    created (bare tables) (named_in [] filter) >>= λ _. deleted_from (bare tables) filter [] rows >>= λ keys. delete_keys schema tables table rows keys
+    require_created (bare tables) (named_in [] filter) >>= λ _. deleted_from (bare tables) filter [] rows >>= λ keys. delete_keys schema tables table rows keys
 
 -- a bulk statement, done in one step and judged on the tables that it leaves
-unfoldable pub applied : Catalog → Tables → Bulk → Outcome
-applied schema tables (bulk.Insert table columns values) = found table (rows_in tables table) >>= insert schema tables table columns values
-applied schema tables (bulk.Update table cells filter) = found table (rows_in tables table) >>= update schema tables table cells filter
-applied schema tables (bulk.Delete table filter) = found table (rows_in tables table) >>= delete schema tables table filter
+unfoldable pub bulk_outcome : Catalog → Tables → Bulk → Outcome
+bulk_outcome schema tables (bulk.Insert table columns values) = rows_or_refusal table (rows_in tables table) >>= insert schema tables table columns values
+bulk_outcome schema tables (bulk.Update table cells filter) = rows_or_refusal table (rows_in tables table) >>= update schema tables table cells filter
+bulk_outcome schema tables (bulk.Delete table filter) = rows_or_refusal table (rows_in tables table) >>= delete schema tables table filter

@@ -30,13 +30,13 @@ abbrev pub then_judge : Judged → (Kind → Judged) → Judged
 then_judge (Ok kind) next = next kind
 then_judge (Err mismatch) next = Err mismatch
 
-abbrev pub expected : Kind → Kind → Judged
-expected wanted found = if same_kind found wanted then Ok wanted else Err (TypeMismatch wanted found)
+abbrev pub kind_or_mismatch : Kind → Kind → Judged
+kind_or_mismatch wanted found = if same_kind found wanted then Ok wanted else Err (TypeMismatch wanted found)
 
 -- each operand is of the kind wanted, from left to right
 abbrev pub all_of : Kind → List Judged → Judged
 all_of wanted [] = Ok wanted
-all_of wanted (operand ∷ operands) = then_judge operand (λ found. then_judge (expected wanted found) (λ kind. all_of wanted operands))
+all_of wanted (operand ∷ operands) = then_judge operand (λ found. then_judge (kind_or_mismatch wanted found) (λ kind. all_of wanted operands))
 
 -- each operand is of the first one's kind
 abbrev pub all_alike : List Judged → Judged
@@ -68,15 +68,15 @@ abbrev pub column_kind : Catalog → Scope → ℕ → ColumnNo → Kind
 column_kind schema scope source column = kind_where (column_in schema scope source column)
 
 -- the kind of a function's value, by its operands
-abbrev pub called : Func → List Judged → Judged
-called Count operands = gives Integer (all_alike operands)
-called Sum operands = all_of Integer operands
-called Min operands = all_alike operands
-called Max operands = all_alike operands
-called Lower operands = all_of Text operands
-called Upper operands = all_of Text operands
-called Length operands = gives Integer (all_of Text operands)
-called Coalesce operands = all_alike operands
+abbrev pub call_kind : Func → List Judged → Judged
+call_kind Count operands = gives Integer (all_alike operands)
+call_kind Sum operands = all_of Integer operands
+call_kind Min operands = all_alike operands
+call_kind Max operands = all_alike operands
+call_kind Lower operands = all_of Text operands
+call_kind Upper operands = all_of Text operands
+call_kind Length operands = gives Integer (all_of Text operands)
+call_kind Coalesce operands = all_alike operands
 
 -- the judgements of the operands in one scope
 abbrev pub in_scope : Scope → List (Scope → Judged) → List Judged
@@ -99,10 +99,10 @@ judged_level schema (Expr-F.Ilike negated a b) scope = gives Boolean (all_of Tex
 judged_level schema (Expr-F.InList negated a values) scope = gives Boolean (all_alike (a scope ∷ map (λ v. Ok (value_kind v)) values))
 judged_level schema (Expr-F.Between negated a low high) scope = gives Boolean (all_alike (a scope ∷ low scope ∷ high scope ∷ []))
 judged_level schema (Expr-F.Distinct negated a b) scope = gives Boolean (all_alike (a scope ∷ b scope ∷ []))
-judged_level schema (Expr-F.Call function operands) scope = called function (in_scope scope operands)
+judged_level schema (Expr-F.Call function operands) scope = call_kind function (in_scope scope operands)
 judged_level schema Expr-F.CountAll scope = Ok Integer
 judged_level schema (Expr-F.Exists negated origin condition) scope = all_of Boolean (condition (scope ++ origin.table ∷ []) ∷ [])
 
 -- the kind of an expression in a scope, or its first mismatch
-unfoldable pub judged : Catalog → Expr → Scope → Judged
-judged schema = fold-Expr (Scope → Judged) (judged_level schema)
+unfoldable pub expression_kind : Catalog → Expr → Scope → Judged
+expression_kind schema = fold-Expr (Scope → Judged) (judged_level schema)

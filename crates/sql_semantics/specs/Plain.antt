@@ -22,7 +22,7 @@ use Rattle.expr_types.specs.declared.select.Bulk.TheVariants as bulk
 use Rattle.expr_types.specs.Level.{everywhere, has_aggregate, is_aggregate, operands}
 use Rattle.expr_types.specs.Normal.{normal}
 use Rattle.expr_types.specs.Same.{same}
-use Rattle.sql_semantics.specs.Kinds.{Scope, column_in, judged, value_kind}
+use Rattle.sql_semantics.specs.Kinds.{Scope, column_in, expression_kind, value_kind}
 
 -- ---- expressions
 
@@ -79,7 +79,7 @@ names_apart schema = everywhere (λ names origin. names ++ name_of schema origin
 -- the parts of an expression that stands under these sources
 pub record StandsIn (schema : Catalog) (sources : List Origin) (e : Expr) : Type 0 where
   pub fitting : IsTrue (fits schema e (map (λ origin. origin.table) sources))
-  pub typed : IsTrue (is_ok (judged schema e (map (λ origin. origin.table) sources)))
+  pub typed : IsTrue (is_ok (expression_kind schema e (map (λ origin. origin.table) sources)))
   pub in_normal_form : normal e ≡ e
   pub full_lists : IsTrue (has_full_lists e)
   pub apart : IsTrue (names_apart schema e (map (name_of schema) sources))
@@ -87,7 +87,7 @@ pub record StandsIn (schema : Catalog) (sources : List Origin) (e : Expr) : Type
 -- a condition is true or false
 pub record IsCondition (schema : Catalog) (sources : List Origin) (e : Expr) : Type 0 where
   pub stands : StandsIn schema sources e
-  pub boolean : judged schema e (map (λ origin. origin.table) sources) ≡ Ok Boolean
+  pub boolean : expression_kind schema e (map (λ origin. origin.table) sources) ≡ Ok Boolean
 
 abbrev pub IfSet : (Expr → Type 0) → Option Expr → Type 0
 IfSet P (Some e) = P e
@@ -118,14 +118,14 @@ is_exists (Expr-F.Exists negated origin condition) = true
 is_exists level = false
 
 -- what stands outside the group expressions: an aggregate over operands without one, or no column of the query's sources
-abbrev pub settled_level : Bool → ℕ → Expr-F Found → Bool
-settled_level grouped own level =
+abbrev pub is_well_grouped_level : Bool → ℕ → Expr-F Found → Bool
+is_well_grouped_level grouped own level =
     if is_aggregate level then operands_lack level
     else (not (grouped && is_own_column own level) && (not (is_exists level) || operands_lack level) && list_all (λ found. found.1) (operands level))
 
 -- aggregates stand in no other one and in no `exists`; in a grouped query the columns of its sources stand in aggregates and in occurrences of its group expressions alone
-unfoldable pub settled : Bool → List Expr → ℕ → Expr → Bool
-settled grouped groups own = para-Expr Bool (λ level. (grouped && list_any (λ g. same g (whole level)) groups) || settled_level grouped own level)
+unfoldable pub is_well_grouped : Bool → List Expr → ℕ → Expr → Bool
+is_well_grouped grouped groups own = para-Expr Bool (λ level. (grouped && list_any (λ g. same g (whole level)) groups) || is_well_grouped_level grouped own level)
 
 -- ---- selects
 
@@ -178,7 +178,7 @@ pub record IsPlainSelect (schema : Catalog) (s : Select) : Type 0 where
   pub groups_plain : IsTrue (list_all lacks_aggregate s.groups)
   pub having_stands : IfSet (IsCondition schema (sources_of s)) s.having
   pub order_stands : AllByRecursion (λ key. StandsIn schema (sources_of s) key.0) s.order
-  pub grouped_columns : IsTrue (list_all (settled (is_grouped s) s.groups (length (sources_of s))) (and_having s.having (outputs s)))
+  pub grouped_columns : IsTrue (list_all (is_well_grouped (is_grouped s) s.groups (length (sources_of s))) (and_having s.having (outputs s)))
   pub fits_limit : IsTrue (is_limit s.limit)
   pub fits_offset : IsTrue (is_limit s.offset)
 
@@ -226,7 +226,7 @@ is_kind_where None kind = ⊥
 pub record IsWritten (schema : Catalog) (table : TableId) (column : ColumnNo) (e : Expr) : Type 0 where
   pub stands : StandsIn schema (alone table) e
   pub no_aggregate : IsTrue (lacks_aggregate e)
-  pub of_kind : (kind : Kind) × (judged schema e (table ∷ []) ≡ Ok kind) × is_kind_where (column_in schema (table ∷ []) 0 column) kind
+  pub of_kind : (kind : Kind) × (expression_kind schema e (table ∷ []) ≡ Ok kind) × is_kind_where (column_in schema (table ∷ []) 0 column) kind
 
 -- what a keeper may be sent of bulk statements: the parts fit the table, no column is named twice, and an UPDATE spares the key
 abbrev pub IsPlainBulk : Catalog → Bulk → Type 0

@@ -12,7 +12,7 @@ use Rattle.expr_types.specs.declared.expr.Expr.TheOpen.{Expr-F}
 use Rattle.expr_types.specs.declared.expr.Expr.TheFolds.{fold-Expr}
 use Rattle.expr_types.specs.declared.select.Joined.{Joined}
 use Rattle.expr_types.specs.declared.select.Select.{Select}
-use Rattle.sql_semantics.specs.Kinds.{Scope, column_in, judged}
+use Rattle.sql_semantics.specs.Kinds.{Scope, column_in, expression_kind}
 use Rattle.sql_semantics.specs.Plain.{is_of_kind, sources_of}
 use Rattle.sql_semantics.specs.Eval.{Row, Tables}
 
@@ -42,7 +42,7 @@ EachItem P items row = ⊥
 
 -- a value is NULL or of the expression's kind
 abbrev pub IsOfItsKind : Catalog → Scope → Expr → Value → Type 0
-IsOfItsKind schema scope e v = (kind : Kind) → judged schema e scope ≡ Ok kind → is_of_kind kind v ≡ true
+IsOfItsKind schema scope e v = (kind : Kind) → expression_kind schema e scope ≡ Ok kind → is_of_kind kind v ≡ true
 
 -- each row of the select has one value for each item, NULL or of the item's kind
 abbrev pub AreOfItems : Catalog → Select → List Row → Type 0

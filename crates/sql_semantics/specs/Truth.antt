@@ -44,6 +44,6 @@ all3 [] = Some true
 all3 (t ∷ ts) = and3 t (all3 ts)
 
 -- the truth, or its opposite in a negated form
-abbrev pub signed : Bool → Option Bool → Option Bool
-signed true t = not3 t
-signed false t = t
+abbrev pub truth_or_opposite : Bool → Option Bool → Option Bool
+truth_or_opposite true t = not3 t
+truth_or_opposite false t = t

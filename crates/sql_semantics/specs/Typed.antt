@@ -9,20 +9,20 @@ use Rattle.expr_types.specs.declared.select.Joined.{Joined}
 use Rattle.expr_types.specs.declared.select.Select.{Select}
 use Rattle.expr_types.specs.Normal.{normal}
 use Rattle.expr_types.specs.NormalSelect.{normal_select, normal_where}
-use Rattle.sql_semantics.specs.Kinds.{judged}
-use Rattle.sql_semantics.specs.Plain.{IfSet, and_having, are_distinct, fits, has_full_lists, is_declared, is_grouped, is_limit, lacks_aggregate, name_of, names_apart, outputs, settled, sources_of}
+use Rattle.sql_semantics.specs.Kinds.{expression_kind}
+use Rattle.sql_semantics.specs.Plain.{IfSet, and_having, are_distinct, fits, has_full_lists, is_declared, is_grouped, is_limit, lacks_aggregate, name_of, names_apart, outputs, is_well_grouped, sources_of}
 
 -- the parts of an expression that stands under these sources, whatever its form
 pub record IsTyped (schema : Catalog) (sources : List Origin) (e : Expr) : Type 0 where
   pub fitting : IsTrue (fits schema e (map (λ origin. origin.table) sources))
-  pub typed : IsTrue (is_ok (judged schema e (map (λ origin. origin.table) sources)))
+  pub typed : IsTrue (is_ok (expression_kind schema e (map (λ origin. origin.table) sources)))
   pub full_lists : IsTrue (has_full_lists e)
   pub apart : IsTrue (names_apart schema e (map (name_of schema) sources))
 
 -- a condition is true or false
 pub record IsTypedCondition (schema : Catalog) (sources : List Origin) (e : Expr) : Type 0 where
   pub stands : IsTyped schema sources e
-  pub boolean : judged schema e (map (λ origin. origin.table) sources) ≡ Ok Boolean
+  pub boolean : expression_kind schema e (map (λ origin. origin.table) sources) ≡ Ok Boolean
 
 -- a condition on rows, which has no aggregate
 pub record IsTypedFilter (schema : Catalog) (sources : List Origin) (e : Expr) : Type 0 where
@@ -45,6 +45,6 @@ pub record IsTypedSelect (schema : Catalog) (s : Select) : Type 0 where
   pub groups_plain : IsTrue (list_all lacks_aggregate s.groups)
   pub having_typed : IfSet (IsTypedCondition schema (sources_of s)) s.having
   pub order_typed : AllByRecursion (λ key. IsTyped schema (sources_of s) key.0) s.order
-  pub grouped_columns : IsTrue (list_all (settled (is_grouped s) (map normal s.groups) (length (sources_of s))) (and_having (normal_where s.having) (outputs (normal_select s))))
+  pub grouped_columns : IsTrue (list_all (is_well_grouped (is_grouped s) (map normal s.groups) (length (sources_of s))) (and_having (normal_where s.having) (outputs (normal_select s))))
   pub fits_limit : IsTrue (is_limit s.limit)
   pub fits_offset : IsTrue (is_limit s.offset)

@@ -24,8 +24,8 @@ use Rattle.sql_semantics.specs.Kinds.{column_in}
 use Rattle.sql_semantics.specs.Plain.{IsPlainBulk, are_for, has_kind}
 use Rattle.sql_semantics.specs.Applied as spec
 use Rattle.sql_semantics.specs.Created.{bare}
-use Rattle.sql_semantics.specs.Rows.{created}
-use Rattle.sql_semantics.specs.Taken.{deleted_from, inserted, updated_from}
+use Rattle.sql_semantics.specs.Rows.{require_created}
+use Rattle.sql_semantics.specs.Taken.{deleted_from, inserted_row, updated_from}
 use Rattle.keeper_core.specs.declared.keeper.WriteRefusal.{WriteRefusal}
 use Rattle.keeper_core.specs.Calls.{write_refusal}
 use Rattle.table_rows.specs.Rows.{rows_at}
@@ -157,27 +157,27 @@ first_refused first next e told = ap (λ r. r >>= next) told
 pub updated_rows : (schema : Catalog) (tables : Tables) (table : TableId) (cells : List (ColumnNo × Option Expr)) (filter : Option Expr) (rows entries : Rows) → updated tables cells filter rows ≡ Ok entries
     → spec.update schema tables table cells filter rows ≡ spec.update_entries schema tables table rows entries
 updated_rows schema tables table cells filter rows entries is =
-    then_next (created (bare tables) (spec.named_in cells filter)) (updated_from (bare tables) cells filter [] rows) (spec.update_entries schema tables table rows)
+    then_next (require_created (bare tables) (spec.named_in cells filter)) (updated_from (bare tables) cells filter [] rows) (spec.update_entries schema tables table rows)
     ∙ ap (λ r. r >>= spec.update_entries schema tables table rows) is
 
 pub update_refused : (schema : Catalog) (tables : Tables) (table : TableId) (cells : List (ColumnNo × Option Expr)) (filter : Option Expr) (rows : Rows) (e : Refusal) (r : WriteRefusal) → Refuses e (updated tables cells filter rows)
     → write_refusal table r ≡ e → Refuses (write_refusal table r) (spec.update schema tables table cells filter rows)
 update_refused schema tables table cells filter rows e r told is =
     subst (λ (d : Refusal). Refuses d (spec.update schema tables table cells filter rows)) (sym is)
-    (subst (Refuses e) (sym (then_next (created (bare tables) (spec.named_in cells filter)) (updated_from (bare tables) cells filter [] rows) (spec.update_entries schema tables table rows)))
+    (subst (Refuses e) (sym (then_next (require_created (bare tables) (spec.named_in cells filter)) (updated_from (bare tables) cells filter [] rows) (spec.update_entries schema tables table rows)))
     (first_refused (updated tables cells filter rows) (spec.update_entries schema tables table rows) e told))
 
 pub deleted_rows : (schema : Catalog) (tables : Tables) (table : TableId) (filter : Option Expr) (rows : Rows) (keys : List (List Value)) → deleted tables filter rows ≡ Ok keys
     → spec.delete schema tables table filter rows ≡ spec.delete_keys schema tables table rows keys
 deleted_rows schema tables table filter rows keys is =
-    then_next (created (bare tables) (spec.named_in [] filter)) (deleted_from (bare tables) filter [] rows) (spec.delete_keys schema tables table rows)
+    then_next (require_created (bare tables) (spec.named_in [] filter)) (deleted_from (bare tables) filter [] rows) (spec.delete_keys schema tables table rows)
     ∙ ap (λ r. r >>= spec.delete_keys schema tables table rows) is
 
 pub delete_refused : (schema : Catalog) (tables : Tables) (table : TableId) (filter : Option Expr) (rows : Rows) (e : Refusal) (r : WriteRefusal) → Refuses e (deleted tables filter rows)
     → write_refusal table r ≡ e → Refuses (write_refusal table r) (spec.delete schema tables table filter rows)
 delete_refused schema tables table filter rows e r told is =
     subst (λ (d : Refusal). Refuses d (spec.delete schema tables table filter rows)) (sym is)
-    (subst (Refuses e) (sym (then_next (created (bare tables) (spec.named_in [] filter)) (deleted_from (bare tables) filter [] rows) (spec.delete_keys schema tables table rows)))
+    (subst (Refuses e) (sym (then_next (require_created (bare tables) (spec.named_in [] filter)) (deleted_from (bare tables) filter [] rows) (spec.delete_keys schema tables table rows)))
     (first_refused (deleted tables filter rows) (spec.delete_keys schema tables table rows) e told))
 
 pub ruleset taking_steps = (updates_evaluated, updated_rows, update_refused, deletes_evaluated, deleted_rows, delete_refused)
@@ -201,28 +201,28 @@ of_table schema (bulk.Insert table columns values) plain = plain.0
 of_table schema (bulk.Update table cells filter) plain = plain.0
 of_table schema (bulk.Delete table filter) plain = plain.0
 
-pub nowhere : (schema : Catalog) (tables : Tables) (statement : Bulk) → rows_in tables (spec.table_of statement) ≡ None → spec.applied schema tables statement ≡ Err (refusals.OperationalError (spec.table_of statement))
-unfolding spec.applied
+pub nowhere : (schema : Catalog) (tables : Tables) (statement : Bulk) → rows_in tables (spec.table_of statement) ≡ None → spec.bulk_outcome schema tables statement ≡ Err (refusals.OperationalError (spec.table_of statement))
+unfolding spec.bulk_outcome
 nowhere schema tables (bulk.Insert table columns values) is = rw is refl
 nowhere schema tables (bulk.Update table cells filter) is = rw is refl
 nowhere schema tables (bulk.Delete table filter) is = rw is refl
 
 pub inserts : (schema : Catalog) (tables : Tables) (table : TableId) (columns : List ColumnNo) (values : List Value) (rows : Rows) → rows_in tables table ≡ Some rows
-    → spec.applied schema tables (bulk.Insert table columns values)
-    ≡ spec.of_row table (row.insert_rows schema tables table (rows_at tables table) (inserted (length (spec_of schema table).columns) columns values ∷ []))
-unfolding spec.applied
+    → spec.bulk_outcome schema tables (bulk.Insert table columns values)
+    ≡ spec.of_row table (row.insert_rows schema tables table (rows_at tables table) (inserted_row (length (spec_of schema table).columns) columns values ∷ []))
+unfolding spec.bulk_outcome
 inserts schema tables table columns values rows is = rw is refl
 
 pub updates : (schema : Catalog) (tables : Tables) (table : TableId) (cells : List (ColumnNo × Option Expr)) (filter : Option Expr) (rows : Rows) → rows_in tables table ≡ Some rows
-    → spec.applied schema tables (bulk.Update table cells filter)
+    → spec.bulk_outcome schema tables (bulk.Update table cells filter)
     ≡ spec.update schema tables table cells filter rows
-unfolding spec.applied
+unfolding spec.bulk_outcome
 updates schema tables table cells filter rows is = rw is refl
 
 pub deletes : (schema : Catalog) (tables : Tables) (table : TableId) (filter : Option Expr) (rows : Rows) → rows_in tables table ≡ Some rows
-    → spec.applied schema tables (bulk.Delete table filter)
+    → spec.bulk_outcome schema tables (bulk.Delete table filter)
     ≡ spec.delete schema tables table filter rows
-unfolding spec.applied
+unfolding spec.bulk_outcome
 deletes schema tables table filter rows is = rw is refl
 
 -- the tables of an answer took the place of those that were there

@@ -8,7 +8,7 @@ use Rattle.expr_types.specs.declared.expr.Expr.{Expr}
 use Rattle.sql_semantics.specs.Applied.{named_in}
 use Rattle.sql_semantics.specs.Checked.{Checked, ◌>>=◌, Refuses}
 use Rattle.sql_semantics.specs.Created.{bare}
-use Rattle.sql_semantics.specs.Rows.{created}
+use Rattle.sql_semantics.specs.Rows.{require_created}
 use Rattle.sql_semantics.specs.Taken.{deleted_from, updated_from}
 use Rattle.expr_eval.proofs.Refused.{OnlyData}
 use Rattle.select_rows.proofs.Refused.{OnlyMisses, created_misses}
@@ -40,11 +40,11 @@ told_only r e h told = subst OnlyEvaluated told h
 pub updates_evaluated : (tables : Tables) (cells : List (ColumnNo × Option Expr)) (filter : Option Expr) (rows : Rows) (e : Refusal) → Refuses e (updated tables cells filter rows) → IsOfEvaluation e
 updates_evaluated tables cells filter rows e told =
     told_only (updated tables cells filter rows) e
-    (both_only (created (bare tables) (named_in cells filter)) (updated_from (bare tables) cells filter [] rows) (misses_only (named_in cells filter) (created (bare tables) (named_in cells filter)) (created_misses (bare tables) (named_in cells filter)))
+    (both_only (require_created (bare tables) (named_in cells filter)) (updated_from (bare tables) cells filter [] rows) (misses_only (named_in cells filter) (require_created (bare tables) (named_in cells filter)) (created_misses (bare tables) (named_in cells filter)))
     (data_only (updated_from (bare tables) cells filter [] rows) (updated_data (bare tables) cells filter [] rows))) told
 
 pub deletes_evaluated : (tables : Tables) (filter : Option Expr) (rows : Rows) (e : Refusal) → Refuses e (deleted tables filter rows) → IsOfEvaluation e
 deletes_evaluated tables filter rows e told =
     told_only (deleted tables filter rows) e
-    (both_only (created (bare tables) (named_in [] filter)) (deleted_from (bare tables) filter [] rows) (misses_only (named_in [] filter) (created (bare tables) (named_in [] filter)) (created_misses (bare tables) (named_in [] filter)))
+    (both_only (require_created (bare tables) (named_in [] filter)) (deleted_from (bare tables) filter [] rows) (misses_only (named_in [] filter) (require_created (bare tables) (named_in [] filter)) (created_misses (bare tables) (named_in [] filter)))
     (data_only (deleted_from (bare tables) filter [] rows) (deleted_data (bare tables) filter [] rows))) told

@@ -102,12 +102,12 @@ pub ruleset rows = (stored_row, stored_violation, gone_back, violation_refuses, 
 
 -- ---- a bulk statement
 
-stored_bulk : (schema : Catalog) (s : Bulk) (count : ℕ) (old new : Store) → spec.applied schema old.tables s ≡ Ok (count, new.tables) → new.scopes ≡ old.scopes → Stores (call.bulk schema s) (sent.Bulk s) old (Ok count) new
+stored_bulk : (schema : Catalog) (s : Bulk) (count : ℕ) (old new : Store) → spec.bulk_outcome schema old.tables s ≡ Ok (count, new.tables) → new.scopes ≡ old.scopes → Stores (call.bulk schema s) (sent.Bulk s) old (Ok count) new
 unfolding call.bulk
 stored_bulk schema s count old new did same =
     (ap (λ outcome. bulked s outcome old) did ∙ ap (λ scopes. sends (sent.Bulk s) (record { tables = new.tables; scopes = scopes }) (Ok count)) (sym same), same)
 
-bulk_stops : (schema : Catalog) (s : Bulk) (e : Refusal) (old new : Store) → bulk.CanRefuse s e → Refuses e (spec.applied schema old.tables s) → new ≡ old → Stores (call.bulk schema s) (sent.Bulk s) old (Err e) new
+bulk_stops : (schema : Catalog) (s : Bulk) (e : Refusal) (old new : Store) → bulk.CanRefuse s e → Refuses e (spec.bulk_outcome schema old.tables s) → new ≡ old → Stores (call.bulk schema s) (sent.Bulk s) old (Err e) new
 unfolding call.bulk
 bulk_stops schema s refusal.Memory old new can told same = (refl, ap given_up same)
 bulk_stops schema s (refusal.OperationalError absent) old new can told same = (ap (λ outcome. bulked s outcome old) told, same)
@@ -116,24 +116,24 @@ bulk_stops schema s (refusal.KeysSpent table) old new can told same = (ap (λ ou
 bulk_stops schema s (refusal.IntegrityError kind table) old new can told same = (ap (λ outcome. bulked s outcome old) told, same)
 bulk_stops schema s e old new can told same = absurd can
 
-stored_bulk_err : (schema : Catalog) (s : Bulk) (e : Refusal) (old new : Store) → Refuses e (spec.applied schema old.tables s) → new ≡ old → Stores (call.bulk schema s) (sent.Bulk s) old (Err e) new
+stored_bulk_err : (schema : Catalog) (s : Bulk) (e : Refusal) (old new : Store) → Refuses e (spec.bulk_outcome schema old.tables s) → new ≡ old → Stores (call.bulk schema s) (sent.Bulk s) old (Err e) new
 stored_bulk_err schema s e old new told same = bulk_stops schema s e old new (refused schema old.tables s e told) told same
 
 bulk_may : (schema : Catalog) (s : Bulk) (e : Refusal) → IsPlainBulk schema s → bulk.CanRefuse s e → RefusesBulk schema s e
 bulk_may schema s refusal.KeeperFault plain can = absurd can
 bulk_may schema s e plain can = (can, declared_bulk schema s e plain can)
 
-bulk_refuses : (schema : Catalog) (tables : Tables) (s : Bulk) (e : Refusal) → IsPlainBulk schema s → Refuses e (spec.applied schema tables s) → RefusesBulk schema s e
+bulk_refuses : (schema : Catalog) (tables : Tables) (s : Bulk) (e : Refusal) → IsPlainBulk schema s → Refuses e (spec.bulk_outcome schema tables s) → RefusesBulk schema s e
 bulk_refuses schema tables s e plain told = bulk_may schema s e plain (refused schema tables s e told)
 
 -- what was done to the tables is what the statement's program does to the store, in the same scopes
-pub stored_left : (schema : Catalog) (s : Bulk) (result : Result ℕ WriteRefusal) (old new : Store) → Leaves (spec.table_of s) (spec.applied schema old.tables s) old.tables result new.tables → new.scopes ≡ old.scopes
+pub stored_left : (schema : Catalog) (s : Bulk) (result : Result ℕ WriteRefusal) (old new : Store) → Leaves (spec.table_of s) (spec.bulk_outcome schema old.tables s) old.tables result new.tables → new.scopes ≡ old.scopes
     → Stores (call.bulk schema s) (sent.Bulk s) old (as_refusal (write_refusal (spec.table_of s)) result) new
 stored_left schema s (Ok count) old new left same = stored_bulk schema s count old new left same
 stored_left schema s (Err r) old new left same =
     stored_bulk_err schema s (write_refusal (spec.table_of s) r) old new left.0 (λ i. record { tables = left.1 i; scopes = same i })
 
-pub left_refuses : (schema : Catalog) (tables after : Tables) (s : Bulk) (result : Result ℕ WriteRefusal) → IsPlainBulk schema s → Leaves (spec.table_of s) (spec.applied schema tables s) tables result after
+pub left_refuses : (schema : Catalog) (tables after : Tables) (s : Bulk) (result : Result ℕ WriteRefusal) → IsPlainBulk schema s → Leaves (spec.table_of s) (spec.bulk_outcome schema tables s) tables result after
     → IfErr (as_refusal (write_refusal (spec.table_of s)) result) (RefusesBulk schema s)
 left_refuses schema tables after s (Ok count) plain left = tt
 left_refuses schema tables after s (Err r) plain left = bulk_refuses schema tables s (write_refusal (spec.table_of s) r) plain left.0

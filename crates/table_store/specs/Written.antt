@@ -12,7 +12,7 @@ use Rattle.expr_types.specs.declared.expr.Expr.{Expr}
 use Rattle.sql_semantics.specs.Applied.{named_in}
 use Rattle.sql_semantics.specs.Checked.{Checked, Gives, Refuses, ◌>>=◌}
 use Rattle.sql_semantics.specs.Created.{bare}
-use Rattle.sql_semantics.specs.Rows.{created}
+use Rattle.sql_semantics.specs.Rows.{require_created}
 use Rattle.sql_semantics.specs.Taken.{deleted_from, updated_from}
 use Rattle.programs.specs.declared.sent.Sent.{Sent}
 use Rattle.programs.specs.Programs.{Run, as_refusal, ends_early}
@@ -64,8 +64,8 @@ Replaces (Err r) old result new = (result ≡ Err r) × (new ≡ old)
 
 -- the rows that an UPDATE writes, each under its key
 abbrev pub updated : Tables → List (ColumnNo × Option Expr) → Option Expr → Rows → Checked Rows
-updated tables cells filter rows = created (bare tables) (named_in cells filter) >>= λ _. updated_from (bare tables) cells filter [] rows
+updated tables cells filter rows = require_created (bare tables) (named_in cells filter) >>= λ _. updated_from (bare tables) cells filter [] rows
 
 -- the keys of the rows that a DELETE takes out
 abbrev pub deleted : Tables → Option Expr → Rows → Checked (List (List Value))
-deleted tables filter rows = created (bare tables) (named_in [] filter) >>= λ _. deleted_from (bare tables) filter [] rows
+deleted tables filter rows = require_created (bare tables) (named_in [] filter) >>= λ _. deleted_from (bare tables) filter [] rows

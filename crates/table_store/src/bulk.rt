@@ -265,7 +265,7 @@ pub(crate) fn applied(
 ) -> Result<u64, WriteRefusal>
     requires { IsPlainBulk schema.now statement.now }
     ensures { Leaves (spec.table_of statement.now)
-        (spec.applied schema.now tables.old statement.now) tables.old result tables.new }
+        (spec.bulk_outcome schema.now tables.old statement.now) tables.old result tables.new }
 {
     let table = table_of_bulk(statement);
     let Some(rows) = tables.get(table) else {

@@ -3,4 +3,4 @@ use Rattle.sql_semantics.specs.Eval as spec
 use Rattle.expr_eval.proofs.aggregate.total.Given as goal
 
 abbrev pub invariant-loop-value : goal.invariant-loop-value
-invariant-loop-value l = spec.added l.sum (drop l.value-index l.values) ≡ spec.total l.values
+invariant-loop-value l = spec.sum_from l.sum (drop l.value-index l.values) ≡ spec.total l.values

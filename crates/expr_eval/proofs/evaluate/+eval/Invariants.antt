@@ -1,18 +1,18 @@
 use Rattle.std.proofs.Common.{◌≡◌, [], ◌∷◌, ◌++◌, false, length, map, drop, ◌+◌, ◌*◌, max}
 use Rattle.expr_types.specs.declared.expr.Expr.{size-Expr}
 use Rattle.sql_semantics.specs.Eval as spec
-use Rattle.sql_semantics.specs.Eval.{evaluated}
+use Rattle.sql_semantics.specs.Eval.{meaning_of}
 use Rattle.expr_eval.specs.Place.{place_of}
 use Rattle.expr_eval.proofs.evaluate.+eval.Given as goal
 
 abbrev pub invariant-several-loop-part : goal.invariant-several-loop-part
-invariant-several-loop-part l = spec.all_from (place_of l.scope) l.values.items (map evaluated (drop l.part-index l.part-items)) ≡ spec.all_from (place_of l.scope) [] (map evaluated l.parts)
+invariant-several-loop-part l = spec.all_from (place_of l.scope) l.values.items (map meaning_of (drop l.part-index l.part-items)) ≡ spec.all_from (place_of l.scope) [] (map meaning_of l.parts)
 
 abbrev pub invariant-along-loop-row : goal.invariant-along-loop-row
-invariant-along-loop-row l = spec.along_from (spec.ungrouped (place_of l.scope)) (evaluated l.operand) l.values.items (drop l.row-index l.rows) ≡ spec.along_from (spec.ungrouped (place_of l.scope)) (evaluated l.operand) [] l.rows
+invariant-along-loop-row l = spec.along_from (spec.without_group (place_of l.scope)) (meaning_of l.operand) l.values.items (drop l.row-index l.rows) ≡ spec.along_from (spec.without_group (place_of l.scope)) (meaning_of l.operand) [] l.rows
 
 abbrev pub invariant-some_row-loop-row : goal.invariant-some_row-loop-row
-invariant-some_row-loop-row l = (spec.some_from (place_of l.scope) (evaluated l.condition) l.found (drop l.row-index l.rows) ≡ spec.some_from (place_of l.scope) (evaluated l.condition) false l.rows) × (l.starts.items ≡ l.scope.starts.now ++ length l.scope.row.now ∷ [])
+invariant-some_row-loop-row l = (spec.some_from (place_of l.scope) (meaning_of l.condition) l.found (drop l.row-index l.rows) ≡ spec.some_from (place_of l.scope) (meaning_of l.condition) false l.rows) × (l.starts.items ≡ l.scope.starts.now ++ length l.scope.row.now ∷ [])
 
 abbrev pub decreases-value_in : goal.decreases-value_in
 decreases-value_in l = 5 * goal.size-value_in l

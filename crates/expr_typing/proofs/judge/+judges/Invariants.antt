@@ -1,11 +1,11 @@
 use Rattle.std.proofs.Common.{◌≡◌, ◌+◌, ◌*◌, max, map, drop}
 use Rattle.expr_types.specs.declared.expr.Expr.{size-Expr}
-use Rattle.sql_semantics.specs.Kinds.{judged, in_scope, all_of}
+use Rattle.sql_semantics.specs.Kinds.{expression_kind, in_scope, all_of}
 use Rattle.expr_typing.proofs.judge.+judges.Given as goal
 
 abbrev pub invariant-all-loop-operand : goal.invariant-all-loop-operand
 invariant-all-loop-operand l =
-    all_of l.wanted (in_scope l.scope (map (judged l.schema) (drop l.operand-index l.operands))) ≡ all_of l.wanted (in_scope l.scope (map (judged l.schema) l.operands))
+    all_of l.wanted (in_scope l.scope (map (expression_kind l.schema) (drop l.operand-index l.operands))) ≡ all_of l.wanted (in_scope l.scope (map (expression_kind l.schema) l.operands))
 
 abbrev pub decreases-judge : goal.decreases-judge
 decreases-judge l = 4 * goal.size-judge l

@@ -7,4 +7,4 @@ use Rattle.select_rows.proofs.group.keyed.Given as goal
 abbrev pub invariant-loop-row : goal.invariant-loop-row
 invariant-loop-row l =
     (goal.iterator-loop-row).can_next l.row-iterator × (goal.iterator-loop-row).is_finite l.row-iterator
-    × (spec.mapped_from (spec.keyed (frame_of l.frame) l.expressions) l.all.items (into_iter_items l.row-iterator) ≡ spec.mapped_from (spec.keyed (frame_of l.frame) l.expressions) [] l.fn.rows.items)
+    × (spec.mapped_from (spec.row_with_key (frame_of l.frame) l.expressions) l.all.items (into_iter_items l.row-iterator) ≡ spec.mapped_from (spec.row_with_key (frame_of l.frame) l.expressions) [] l.fn.rows.items)

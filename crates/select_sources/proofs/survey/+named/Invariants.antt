@@ -3,4 +3,4 @@ use Rattle.sql_semantics.specs.Rows as spec
 use Rattle.select_sources.proofs.survey.+named.Given as goal
 
 abbrev pub invariant-named_all-loop-part : goal.invariant-named_all-loop-part
-invariant-named_all-loop-part l = l.found.items ++ spec.flat (map spec.named (drop l.part-index l.part-items)) ≡ l.initial.found.items ++ spec.flat (map spec.named l.parts)
+invariant-named_all-loop-part l = l.found.items ++ spec.flat (map spec.exists_tables (drop l.part-index l.part-items)) ≡ l.initial.found.items ++ spec.flat (map spec.exists_tables l.parts)

@@ -3,4 +3,4 @@ use Rattle.sql_semantics.specs.Rows as spec
 use Rattle.select_sources.proofs.table.created.Given as goal
 
 abbrev pub invariant-loop-table : goal.invariant-loop-table
-invariant-loop-table l = spec.created l.tables (drop l.table-index l.named) ≡ spec.created l.tables l.named
+invariant-loop-table l = spec.require_created l.tables (drop l.table-index l.named) ≡ spec.require_created l.tables l.named
