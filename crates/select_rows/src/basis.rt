@@ -2,7 +2,7 @@
 
 ghost use Rattle.std.specs.Prelude.{◌≡◌};
 ghost use Rattle.expr_eval.specs.Place.{place_of};
-ghost use Rattle.select_sources.specs.Frames.{framed};
+ghost use Rattle.select_sources.specs.Frames.{frame_at};
 ghost use Rattle.sql_semantics.specs.Rows as spec;
 
 use base_core::{RowList, TableId, Value};
@@ -16,7 +16,7 @@ pub(crate) fn scope_of<'x>(
     tables: &'x [(TableId, RowList)],
     basis: &'x Basis,
 ) -> Scope<'x>
-    ensures { place_of result ≡ spec.at_basis (framed starts.now tables.now) basis.now }
+    ensures { place_of result ≡ spec.at_basis (frame_at starts.now tables.now) basis.now }
 {
     match basis {
         Basis::Row(row) => scope_at(starts, tables, row.as_slice()),

@@ -2,7 +2,7 @@
 
 ghost use Rattle.std.specs.Prelude.{◌≡◌};
 ghost use Rattle.expr_eval.specs.Place.{place_of};
-ghost use Rattle.select_sources.specs.Frames.{framed};
+ghost use Rattle.select_sources.specs.Frames.{frame_at};
 ghost use Rattle.sql_semantics.specs.Rows as spec;
 
 use base_core::{RowList, TableId, Value};
@@ -21,7 +21,7 @@ pub fn scope_at<'x>(
     tables: &'x [(TableId, RowList)],
     row: &'x [Value],
 ) -> Scope<'x>
-    ensures { place_of result ≡ spec.at (framed starts.now tables.now) row.now }
+    ensures { place_of result ≡ spec.at (frame_at starts.now tables.now) row.now }
 {
     Scope {
         row,
