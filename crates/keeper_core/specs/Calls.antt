@@ -102,21 +102,21 @@ commit w = sends sent.Commit (record { tables = w.tables; scopes = [] }) (Ok tt)
 unfoldable pub scan : TableId → Store → Run Store (Option (List (List Value)))
 scan table w = give (option_map (λ rows. map (λ entry. entry.1) rows) (rows_in w.tables table)) w
 
-abbrev pub written : RowStmt → Outcome → Store → Run Store (List (List Value))
-written statement (Ok done) w = sends (sent.Write statement) (record { tables = done.1; scopes = w.scopes }) (Ok done.0)
-written statement (Err violation) w = sends (sent.Write statement) w (Err (violation_refusal (table_of statement) violation))
+abbrev pub run_of_write : RowStmt → Outcome → Store → Run Store (List (List Value))
+run_of_write statement (Ok done) w = sends (sent.Write statement) (record { tables = done.1; scopes = w.scopes }) (Ok done.0)
+run_of_write statement (Err violation) w = sends (sent.Write statement) w (Err (violation_refusal (table_of statement) violation))
 
 -- a statement on rows, which answers their keys; a refused one changes nothing, and is sent too
 unfoldable pub write : Catalog → RowStmt → Store → Run Store (List (List Value))
-write schema statement w = written statement (apply schema w.tables statement) w
+write schema statement w = run_of_write statement (apply schema w.tables statement) w
 
-abbrev pub bulked : Bulk → bulks.Outcome → Store → Run Store ℕ
-bulked statement (Ok done) w = sends (sent.Bulk statement) (record { tables = done.1; scopes = w.scopes }) (Ok done.0)
-bulked statement (Err refusal) w = sends (sent.Bulk statement) w (Err refusal)
+abbrev pub run_of_bulk : Bulk → bulks.Outcome → Store → Run Store ℕ
+run_of_bulk statement (Ok done) w = sends (sent.Bulk statement) (record { tables = done.1; scopes = w.scopes }) (Ok done.0)
+run_of_bulk statement (Err refusal) w = sends (sent.Bulk statement) w (Err refusal)
 
 -- a bulk statement, which answers the number of its rows; a refused one changes nothing, and is sent too
 unfoldable pub bulk : Catalog → Bulk → Store → Run Store ℕ
-bulk schema statement w = bulked statement (bulk_outcome schema w.tables statement) w
+bulk schema statement w = run_of_bulk statement (bulk_outcome schema w.tables statement) w
 
 -- the rows of a select over the tables now; it changes nothing, and a refused one is sent too
 unfoldable pub query : Catalog → Select → Store → Run Store (List (List Value))

@@ -151,7 +151,7 @@ bulk_has : (P : Tables → Type 0) (schema : Catalog) (statement : Bulk) → ((t
 unfolding call.bulk
 bulk_has P schema statement stays = record { kept = λ w all. by w (bulk_outcome schema w.tables statement) refl all }
   where
-    by : (w : Store) (outcome : Outcome) → bulk_outcome schema w.tables statement ≡ outcome → Throughout P w → Throughout P (call.bulked statement outcome w).after
+    by : (w : Store) (outcome : Outcome) → bulk_outcome schema w.tables statement ≡ outcome → Throughout P w → Throughout P (call.run_of_bulk statement outcome w).after
     by w (Ok done) is all = record { tables = stays w.tables done.1 done.0 all.tables is; scopes = all.scopes }
     by w (Err refusal) is all = all
 

@@ -182,7 +182,7 @@ write_has : (P : Tables → Type 0) (schema : Catalog) (statement : RowStmt) →
 unfolding call.write
 write_has P schema statement stays = record { kept = λ w all. by w (row.apply schema w.tables statement) refl all }
   where
-    by : (w : Store) (outcome : row.Outcome) → row.apply schema w.tables statement ≡ outcome → Throughout P w → Throughout P (call.written statement outcome w).after
+    by : (w : Store) (outcome : row.Outcome) → row.apply schema w.tables statement ≡ outcome → Throughout P w → Throughout P (call.run_of_write statement outcome w).after
     by w (Ok done) is all = with_tables P done.1 w (stays w.tables done.1 done.0 all.tables is) all
     by w (Err violation) is all = all
 

@@ -28,7 +28,7 @@ write_stays : (schema : Catalog) (statement : RowStmt) (w : Store) → (call.wri
 unfolding call.write
 write_stays schema statement w = by (row.apply schema w.tables statement)
   where
-    by : (outcome : row.Outcome) → (call.written statement outcome w).after.scopes ≡ w.scopes
+    by : (outcome : row.Outcome) → (call.run_of_write statement outcome w).after.scopes ≡ w.scopes
     by (Ok done) = refl
     by (Err violation) = refl
 
@@ -36,7 +36,7 @@ bulk_stays : (schema : Catalog) (statement : Bulk) (w : Store) → (call.bulk sc
 unfolding call.bulk
 bulk_stays schema statement w = by (bulk.bulk_outcome schema w.tables statement)
   where
-    by : (outcome : bulk.Outcome) → (call.bulked statement outcome w).after.scopes ≡ w.scopes
+    by : (outcome : bulk.Outcome) → (call.run_of_bulk statement outcome w).after.scopes ≡ w.scopes
     by (Ok done) = refl
     by (Err refusal) = refl
 

@@ -33,7 +33,7 @@ use Rattle.programs.specs.Store.{Store, outermost}
 use Rattle.keeper_core.specs.declared.keeper.WriteRefusal.{WriteRefusal}
 use Rattle.keeper_core.specs.declared.keeper.QueryRefusal.{QueryRefusal}
 use Rattle.keeper_core.specs.Calls as call
-use Rattle.keeper_core.specs.Calls.{bulked, query_refusal, refusal_by, sends, write_refusal, written}
+use Rattle.keeper_core.specs.Calls.{run_of_bulk, query_refusal, refusal_by, sends, write_refusal, run_of_write}
 use Rattle.keeper_core.specs.Keeping.{RefusesBulk, RefusesRow, RefusesSelect}
 use Rattle.table_store.specs.Written.{IsOfEvaluation, Leaves, Stores, given_up}
 
@@ -42,7 +42,7 @@ use Rattle.table_store.specs.Written.{IsOfEvaluation, Leaves, Stores, given_up}
 pub stored_row : (schema : Catalog) (s : RowStmt) (keys : List (List Value)) (old new : Store) → apply schema old.tables s ≡ Ok (keys, new.tables) → new.scopes ≡ old.scopes → Stores (call.write schema s) (sent.Write s) old (Ok keys) new
 unfolding call.write
 stored_row schema s keys old new did same =
-    (ap (λ outcome. written s outcome old) did ∙ ap (λ scopes. sends (sent.Write s) (record { tables = new.tables; scopes = scopes }) (Ok keys)) (sym same), same)
+    (ap (λ outcome. run_of_write s outcome old) did ∙ ap (λ scopes. sends (sent.Write s) (record { tables = new.tables; scopes = scopes }) (Ok keys)) (sym same), same)
 
 refusal_is : (table : TableId) (violation : Violation) → violation_refusal table violation ≡ write_refusal table (refusal_by violation)
 refusal_is table (violations.NoTable absent) = refl
@@ -74,7 +74,7 @@ unfolding call.write
 stored_violation schema s violation r old new did same is =
     subst (λ (q : WriteRefusal). Stores (call.write schema s) (sent.Write s) old (Err (write_refusal (table_of s) q)) new) (sym is)
     (stored_own (call.write schema s) (sent.Write s) (write_refusal (table_of s) (refusal_by violation)) old new (own_violation (table_of s) violation)
-    (ap (λ outcome. written s outcome old) did ∙ ap (λ e. sends (sent.Write s) old (Err e)) (refusal_is (table_of s) violation)) same)
+    (ap (λ outcome. run_of_write s outcome old) did ∙ ap (λ e. sends (sent.Write s) old (Err e)) (refusal_is (table_of s) violation)) same)
 
 -- whatever became of the tables, the outermost scope has those that were there at its start
 outermost_any : (a b : Tables) (scopes : List Tables) → 0 < length scopes → outermost a scopes ≡ outermost b scopes
@@ -105,15 +105,15 @@ pub ruleset rows = (stored_row, stored_violation, gone_back, violation_refuses, 
 stored_bulk : (schema : Catalog) (s : Bulk) (count : ℕ) (old new : Store) → spec.bulk_outcome schema old.tables s ≡ Ok (count, new.tables) → new.scopes ≡ old.scopes → Stores (call.bulk schema s) (sent.Bulk s) old (Ok count) new
 unfolding call.bulk
 stored_bulk schema s count old new did same =
-    (ap (λ outcome. bulked s outcome old) did ∙ ap (λ scopes. sends (sent.Bulk s) (record { tables = new.tables; scopes = scopes }) (Ok count)) (sym same), same)
+    (ap (λ outcome. run_of_bulk s outcome old) did ∙ ap (λ scopes. sends (sent.Bulk s) (record { tables = new.tables; scopes = scopes }) (Ok count)) (sym same), same)
 
 bulk_stops : (schema : Catalog) (s : Bulk) (e : Refusal) (old new : Store) → bulk.CanRefuse s e → Refuses e (spec.bulk_outcome schema old.tables s) → new ≡ old → Stores (call.bulk schema s) (sent.Bulk s) old (Err e) new
 unfolding call.bulk
 bulk_stops schema s refusal.Memory old new can told same = (refl, ap given_up same)
-bulk_stops schema s (refusal.OperationalError absent) old new can told same = (ap (λ outcome. bulked s outcome old) told, same)
-bulk_stops schema s (refusal.DataError op a b) old new can told same = (ap (λ outcome. bulked s outcome old) told, same)
-bulk_stops schema s (refusal.KeysSpent table) old new can told same = (ap (λ outcome. bulked s outcome old) told, same)
-bulk_stops schema s (refusal.IntegrityError kind table) old new can told same = (ap (λ outcome. bulked s outcome old) told, same)
+bulk_stops schema s (refusal.OperationalError absent) old new can told same = (ap (λ outcome. run_of_bulk s outcome old) told, same)
+bulk_stops schema s (refusal.DataError op a b) old new can told same = (ap (λ outcome. run_of_bulk s outcome old) told, same)
+bulk_stops schema s (refusal.KeysSpent table) old new can told same = (ap (λ outcome. run_of_bulk s outcome old) told, same)
+bulk_stops schema s (refusal.IntegrityError kind table) old new can told same = (ap (λ outcome. run_of_bulk s outcome old) told, same)
 bulk_stops schema s e old new can told same = absurd can
 
 stored_bulk_err : (schema : Catalog) (s : Bulk) (e : Refusal) (old new : Store) → Refuses e (spec.bulk_outcome schema old.tables s) → new ≡ old → Stores (call.bulk schema s) (sent.Bulk s) old (Err e) new
