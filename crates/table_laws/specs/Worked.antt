@@ -54,11 +54,11 @@ abbrev pub node : Value → List ℕ → Value → List Value
 node id tag next = id ∷ value.Text tag ∷ next ∷ []
 
 -- a node as it stands in its table
-abbrev pub kept : ℕ → List ℕ → Value → List Value × List Value
-kept id tag next = (int id ∷ [], node (int id) tag next)
+abbrev pub node_entry : ℕ → List ℕ → Value → List Value × List Value
+node_entry id tag next = (int id ∷ [], node (int id) tag next)
 
-abbrev pub placed : ℕ → List ℕ → ℕ → List Value × List Value
-placed row side to = (int row ∷ value.Text side ∷ [], int row ∷ value.Text side ∷ int to ∷ [])
+abbrev pub place_entry : ℕ → List ℕ → ℕ → List Value × List Value
+place_entry row side to = (int row ∷ value.Text side ∷ [], int row ∷ value.Text side ∷ int to ∷ [])
 
 -- both tables with these rows
 abbrev pub both : Rows → Rows → Tables
@@ -71,7 +71,7 @@ abbrev pub insert_nodes : List (List Value) → RowStmt
 insert_nodes rows = statement.Insert nodes_id rows
 
 abbrev pub insert_place : ℕ → List ℕ → ℕ → RowStmt
-insert_place row side to = statement.Insert places_id ((placed row side to).1 ∷ [])
+insert_place row side to = statement.Insert places_id ((place_entry row side to).1 ∷ [])
 
 abbrev pub delete_node : ℕ → RowStmt
 delete_node id = statement.Delete nodes_id (int id ∷ [])
@@ -84,5 +84,5 @@ point_node id next = statement.Update nodes_id (int id ∷ []) ((record { 0 = 2 
 abbrev pub Gives : Tables → RowStmt → Outcome → Type 0
 Gives tables sent outcome = apply schema tables sent ≡ outcome
 
-abbrev pub spent : Tables
-spent = both (kept 9223372036854775807 (codes "z") value.Null ∷ []) []
+abbrev pub tables_at_last_key : Tables
+tables_at_last_key = both (node_entry 9223372036854775807 (codes "z") value.Null ∷ []) []
