@@ -5,5 +5,5 @@ use Rattle.base_core.specs.declared.value.Value.{Value}
 use Rattle.base_core.specs.declared.value.Value.TheVariants.{Null}
 
 -- what stands in a cell: NULL where the row has none
-abbrev pub held : Option Value → Value
-held cell = unwrap_or cell Null
+abbrev pub cell_or_null : Option Value → Value
+cell_or_null cell = unwrap_or cell Null

@@ -4,7 +4,7 @@ ghost use Rattle.std.specs.Prelude.{◌≡◌, ◌&&◌, ◌++◌, [], ◌∷◌
 ghost use Rattle.std.specs.Option.{option_copied};
 ghost use Rattle.std.specs.Ordering.{is_eq};
 ghost use Rattle.base_core.specs.Order.{value_cmp};
-ghost use Rattle.plain_tables.specs.Cells.{held};
+ghost use Rattle.plain_tables.specs.Cells.{cell_or_null};
 ghost use Rattle.schema_core.specs.Apply.{with_cells, with_key};
 ghost use Rattle.schema_core.specs.Judged.{lacks_value, some_lacks};
 ghost use Rattle.schema_core.specs.Catalog.{is_required};
@@ -16,7 +16,7 @@ use std::alloc::{AllocError, Global};
 
 /// Whether a cell is NULL, as one that is not there is.
 fn is_null(cell: Option<&Value>) -> bool
-    ensures { result ≡ is_null (held (option_copied cell.entry)) }
+    ensures { result ≡ is_null (cell_or_null (option_copied cell.entry)) }
 {
     matches!(cell, None | Some(Value::Null))
 }
@@ -33,8 +33,8 @@ pub fn has_null(values: &[Value]) -> bool
 
 /// Whether two cells are the same; one that is not there is NULL.
 fn are_same(one: Option<&Value>, other: Option<&Value>) -> bool
-    ensures { result ≡ is_eq (value_cmp (held (option_copied one.entry))
-        (held (option_copied other.entry))) }
+    ensures { result ≡ is_eq (value_cmp (cell_or_null (option_copied one.entry))
+        (cell_or_null (option_copied other.entry))) }
 {
     match (one, other) {
         (Some(one), Some(other)) => compare(one, other).is_eq(),
@@ -44,7 +44,7 @@ fn are_same(one: Option<&Value>, other: Option<&Value>) -> bool
 
 /// The cell in the column of a name; none where the row has none.
 fn cell_of<'a>(columns: &[ColumnSpec], row: &'a [Value], name: &Name) -> Option<&'a Value>
-    ensures { held (option_copied result) ≡ cell_of columns.now row.now name.now }
+    ensures { cell_or_null (option_copied result) ≡ cell_of columns.now row.now name.now }
 {
     let (column, columns) = columns.split_first()?;
     let (cell, row) = row.split_first()?;
