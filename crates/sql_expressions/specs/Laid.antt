@@ -143,12 +143,12 @@ abbrev pub beside_two : List Origin → Laid → Laid → List ℕ
 beside_two scope a b = name_or (beside scope b) (a.plain scope)
 
 -- text between an opening word and its closing parenthesis
-abbrev pub enclosed : List ℕ → List Piece → List Piece
-enclosed opening inner = words opening ∷ inner ++ words (codes ")") ∷ []
+abbrev pub with_closing_parenthesis : List ℕ → List Piece → List Piece
+with_closing_parenthesis opening inner = words opening ∷ inner ++ words (codes ")") ∷ []
 
 -- an operand, in parentheses where its level is below the least one
 abbrev pub under : ℕ → Laid → List Origin → List ℕ → List Piece
-under least a scope base = if nat_lt a.level least then enclosed (codes "(") (a.pieces scope base) else a.pieces scope base
+under least a scope base = if nat_lt a.level least then with_closing_parenthesis (codes "(") (a.pieces scope base) else a.pieces scope base
 
 -- two operands side by side, each named by the other
 abbrev pub two : ℕ → ℕ → List ℕ → Laid → Laid → List Origin → List Piece
@@ -162,8 +162,8 @@ abbrev pub parts : ℕ → List ℕ → List Laid → List Origin → List Piece
 parts least word operands scope = with_separators word (part least scope) operands
 
 -- a value of a list
-unfoldable pub listed : List ℕ → Value → List Piece
-listed base v = value base v ∷ []
+unfoldable pub value_pieces : List ℕ → Value → List Piece
+value_pieces base v = value base v ∷ []
 
 abbrev pub arith_pieces : ArithOp → Laid → Laid → List Origin → List Piece
 arith_pieces Add a b scope = two 5 6 (arith_word Add) a b scope
@@ -173,13 +173,13 @@ arith_pieces Mul a b scope = two 6 7 (arith_word Mul) a b scope
 abbrev pub concat_pieces : Quoting → Laid → Laid → List Origin → List Piece
 concat_pieces Sqlite a b scope = two 5 6 (codes " || ") a b scope
 concat_pieces Postgresql a b scope = two 5 6 (codes " || ") a b scope
-concat_pieces Mysql a b scope = enclosed (codes "concat(") (two 5 6 (codes ", ") a b scope)
+concat_pieces Mysql a b scope = with_closing_parenthesis (codes "concat(") (two 5 6 (codes ", ") a b scope)
 
 abbrev pub lower_like_word : Bool → List ℕ
 lower_like_word negated = codes ")" ++ (like_word negated ++ codes "lower(")
 
 abbrev pub lower_like : Bool → Laid → Laid → List Origin → List Piece
-lower_like negated a b scope = enclosed (codes "lower(") (two 5 5 (lower_like_word negated) a b scope)
+lower_like negated a b scope = with_closing_parenthesis (codes "lower(") (two 5 5 (lower_like_word negated) a b scope)
 
 abbrev pub ilike_pieces : Quoting → Bool → Laid → Laid → List Origin → List Piece
 ilike_pieces Sqlite negated a b scope = lower_like negated a b scope
@@ -191,7 +191,7 @@ no_list negated a scope = words (codes "(") ∷ under 5 a scope param ++ words (
 
 abbrev pub full_list : Bool → Laid → List Value → List Origin → List Piece
 full_list negated a values scope =
-    under 5 a scope param ++ words (in_word negated) ∷ with_separators (codes ", ") (listed (beside scope a)) values ++ words (codes ")") ∷ []
+    under 5 a scope param ++ words (in_word negated) ∷ with_separators (codes ", ") (value_pieces (beside scope a)) values ++ words (codes ")") ∷ []
 
 abbrev pub in_pieces : Bool → Laid → List Value → List Origin → List Piece
 in_pieces negated a [] scope = no_list negated a scope
@@ -211,11 +211,11 @@ between_pieces negated a low high scope =
 abbrev pub distinct_pieces : Quoting → Bool → Laid → Laid → List Origin → List Piece
 distinct_pieces Sqlite negated a b scope = two 5 5 (sqlite_distinct_word negated) a b scope
 distinct_pieces Postgresql negated a b scope = two 5 5 (distinct_word negated) a b scope
-distinct_pieces Mysql false a b scope = enclosed (codes "NOT (") (two 5 5 (codes " <=> ") a b scope)
+distinct_pieces Mysql false a b scope = with_closing_parenthesis (codes "NOT (") (two 5 5 (codes " <=> ") a b scope)
 distinct_pieces Mysql true a b scope = two 5 5 (codes " <=> ") a b scope
 
 abbrev pub call_pieces : Func → List Laid → List Origin → List Piece
-call_pieces function operands scope = enclosed (function_word function) (parts 1 (codes ", ") operands scope)
+call_pieces function operands scope = with_closing_parenthesis (function_word function) (parts 1 (codes ", ") operands scope)
 
 abbrev pub exists_pieces : Catalog → Bool → Origin → Laid → List Origin → List Piece
 exists_pieces schema negated origin condition scope =

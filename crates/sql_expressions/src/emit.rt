@@ -85,9 +85,9 @@ pub fn source(writer: &mut Writer, schema: &Schema, origin: &Origin) -> Result<(
 }
 
 /// The values of a list.
-#[tactic(auto, unfolding(crate::specs::Laid::listed, sql_text::specs::Written::put_all), using(sql_text::proofs::Steps::steps))]
+#[tactic(auto, unfolding(crate::specs::Laid::value_pieces, sql_text::specs::Written::put_all), using(sql_text::proofs::Steps::steps))]
 fn more_values(writer: &mut Writer, base: &str, values: &[Value]) -> Result<(), Refusal>
-    ensures { Wrote (with_leading_separators (codes ", ") (spec.listed base.now) values.now)
+    ensures { Wrote (with_leading_separators (codes ", ") (spec.value_pieces base.now) values.now)
         result writer.old writer.new }
 {
     for value in values {
@@ -97,9 +97,9 @@ fn more_values(writer: &mut Writer, base: &str, values: &[Value]) -> Result<(), 
     Ok(())
 }
 
-#[tactic(auto, unfolding(crate::specs::Laid::listed), using(sql_text::proofs::Steps::steps))]
+#[tactic(auto, unfolding(crate::specs::Laid::value_pieces), using(sql_text::proofs::Steps::steps))]
 fn values_of(writer: &mut Writer, base: &str, values: &[Value]) -> Result<(), Refusal>
-    ensures { Wrote (with_separators (codes ", ") (spec.listed base.now) values.now)
+    ensures { Wrote (with_separators (codes ", ") (spec.value_pieces base.now) values.now)
         result writer.old writer.new }
 {
     let Some((first, others)) = values.split_first() else {
@@ -179,7 +179,7 @@ fn enclosed(
     a: &Expr,
     b: &Expr,
 ) -> Result<(), Refusal>
-    ensures { Wrote (spec.enclosed opening.now (spec.two least.0 least.1 word.now
+    ensures { Wrote (spec.with_closing_parenthesis opening.now (spec.two least.0 least.1 word.now
         (laid writer.old.quoting schema.now a.now) (laid writer.old.quoting schema.now b.now)
         scope.now)) result writer.old writer.new }
 {

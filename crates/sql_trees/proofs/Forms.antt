@@ -9,7 +9,7 @@ use Rattle.sql_text.specs.declared.names.Quoting.{Quoting}
 use Rattle.sql_text.specs.Words.{like_word, empty_word}
 use Rattle.sql_text.specs.Written.{words, name, with_separators}
 use Rattle.sql_expressions.specs.Laid as l
-use Rattle.sql_expressions.specs.Laid.{Laid, under, enclosed, two, part, parts, listed, beside, source_pieces, alias_pieces}
+use Rattle.sql_expressions.specs.Laid.{Laid, under, with_closing_parenthesis, two, part, parts, value_pieces, beside, source_pieces, alias_pieces}
 use Rattle.sql_grammar.specs.Trees.{Sql, none, more, Like, Lower, call, in_list}
 use Rattle.sql_grammar.specs.Reads.{IsName, AreMarks, one_mark, more_marks, IsSource, named, aliased, Reads, tested, called, in_parentheses, in_nothing, one_part, Tested, Added, Operand}
 use Rattle.sql_trees.specs.Tree.{lower_like, source_tree}
@@ -24,7 +24,7 @@ module _ (q : Quoting) where
   -- ---- operands
 
   under_by : (least : ℕ) (a : Laid) (s : List Origin → Sql) → Ready q a s → least ≤ 8 → (scope : List Origin) (base : List ℕ) (t : List ℕ) (v : List Value) (b : Bool) → nat_lt a.level least ≡ b
-      → Writes q (cond b (enclosed (codes "(") (a.pieces scope base)) (a.pieces scope base)) t v → At q least t v (s scope)
+      → Writes q (cond b (with_closing_parenthesis (codes "(") (a.pieces scope base)) (a.pieces scope base)) t v → At q least t v (s scope)
   under_by least a s ready h scope base t v true is w =
       after_words (λ r u. At q least r u (s scope)) w
       (λ r rest. before_words (λ p u. At q least (codes "(" ++ p) u (s scope)) (a.pieces scope base) (codes ")") rest
@@ -45,9 +45,9 @@ module _ (q : Quoting) where
 
   -- ---- marks
 
-  pub marks_written : (G : OfText) (base : List ℕ) (x : Value) (xs : List Value) (t : List ℕ) (v : List Value) → Writes q (with_separators (codes ", ") (listed base) (x ∷ xs)) t v
+  pub marks_written : (G : OfText) (base : List ℕ) (x : Value) (xs : List Value) (t : List ℕ) (v : List Value) → Writes q (with_separators (codes ", ") (value_pieces base) (x ∷ xs)) t v
       → ((m : List ℕ) → AreMarks q m (x ∷ xs) → G m (x ∷ xs)) → G t v
-  unfolding listed
+  unfolding value_pieces
   marks_written G base x [] t v w go =
       after_value G w (λ m r u is rest. at_end (λ p y. G (m ++ p) (x ∷ y)) rest (subst (λ p. G p (x ∷ [])) (sym (append-nil m)) (go m (one_mark is))))
   marks_written G base x (y ∷ ys) t v w go =

@@ -9,7 +9,7 @@ use Rattle.sql_text.specs.declared.names.Quoting.{Quoting}
 use Rattle.sql_text.specs.Words.{in_word, between_word}
 use Rattle.sql_text.specs.Written.{words, with_leading_separators, with_separators}
 use Rattle.sql_expressions.specs.Laid as l
-use Rattle.sql_expressions.specs.Laid.{Laid, under, enclosed, part, parts, listed, beside, beside_two, source_pieces}
+use Rattle.sql_expressions.specs.Laid.{Laid, under, with_closing_parenthesis, part, parts, value_pieces, beside, beside_two, source_pieces}
 use Rattle.sql_grammar.specs.Trees.{Sql, Sqls, none, more, call, opposite, exists, in_list, between}
 use Rattle.sql_grammar.specs.Words.{function_word}
 use Rattle.sql_grammar.specs.Reads as g
@@ -84,8 +84,8 @@ module _ (q : Quoting) where
   pub list_read : (n : Bool) (a : Laid) (s : List Origin → Sql) → Ready q a s → (x : Value) (xs : List Value) (scope : List Origin) (t : List ℕ) (v : List Value)
       → Writes q (l.full_list n a (x ∷ xs) scope) t v → Reads q Tested t v (in_list n (s scope) (x ∷ xs))
   list_read n a s ra x xs scope t v w =
-      before_words (λ p y. Reads q Tested p y (in_list n (s scope) (x ∷ xs))) (under 5 a scope l.param ++ words (in_word n) ∷ with_separators (codes ", ") (listed (beside scope a)) (x ∷ xs)) (codes ")") w
-      (λ p y rest. split (λ p y. Reads q Tested (p ++ codes ")") y (in_list n (s scope) (x ∷ xs))) (under 5 a scope l.param) (words (in_word n) ∷ with_separators (codes ", ") (listed (beside scope a)) (x ∷ xs)) rest
+      before_words (λ p y. Reads q Tested p y (in_list n (s scope) (x ∷ xs))) (under 5 a scope l.param ++ words (in_word n) ∷ with_separators (codes ", ") (value_pieces (beside scope a)) (x ∷ xs)) (codes ")") w
+      (λ p y rest. split (λ p y. Reads q Tested (p ++ codes ")") y (in_list n (s scope) (x ∷ xs))) (under 5 a scope l.param) (words (in_word n) ∷ with_separators (codes ", ") (value_pieces (beside scope a)) (x ∷ xs)) rest
       (λ c d u z one past. after_words (λ p y. Reads q Tested ((c ++ p) ++ codes ")") (u ++ y) (in_list n (s scope) (x ∷ xs))) past
       (λ p others. marks_written q (λ p y. Reads q Tested ((c ++ (in_word n ++ p)) ++ codes ")") (u ++ y) (in_list n (s scope) (x ∷ xs))) (beside scope a) x xs p z others
       (λ m are. subst (λ p. Reads q Tested p (u ++ x ∷ xs) (in_list n (s scope) (x ∷ xs))) (sym (list_text n c m))

@@ -17,7 +17,7 @@ use Rattle.sql_text.specs.declared.names.Quoting.TheVariants.{Sqlite, Postgresql
 use Rattle.sql_text.specs.Words.{null_word, like_word, ilike_word, in_word, between_word, distinct_word, sqlite_distinct_word}
 use Rattle.sql_text.specs.Written.{Piece, words, value, with_leading_separators, with_separators}
 use Rattle.sql_expressions.specs.Laid as l
-use Rattle.sql_expressions.specs.Laid.{Laid, laid, laid_level, under, enclosed, two, part, parts, listed, beside, beside_two, before, source_pieces}
+use Rattle.sql_expressions.specs.Laid.{Laid, laid, laid_level, under, with_closing_parenthesis, two, part, parts, value_pieces, beside, beside_two, before, source_pieces}
 use Rattle.text_laws.specs.Values.{without, without_level, no_values}
 use Rattle.text_laws.proofs.Pieces.{Alike, both, behind, bare}
 
@@ -40,17 +40,17 @@ beside_two_is : {a b c d : Laid} → Like a b → Like c d → (scope : List Ori
 beside_two_is {a} {b} {c} {d} s r scope =
     ap (λ (m : Option (List ℕ)). name_or (name_or l.param (c.plain scope)) m) (s.plain scope) ∙ ap (λ (n : Option (List ℕ)). name_or (name_or l.param n) (b.plain scope)) (r.plain scope)
 
-enclosed_alike : (opening : List ℕ) (ps qs : List Piece) → Alike ps qs → Alike (enclosed opening ps) (enclosed opening qs)
+enclosed_alike : (opening : List ℕ) (ps qs : List Piece) → Alike ps qs → Alike (with_closing_parenthesis opening ps) (with_closing_parenthesis opening qs)
 enclosed_alike opening ps qs s = both (words opening ∷ ps) (words opening ∷ qs) (words (codes ")") ∷ []) (words (codes ")") ∷ []) (behind (words opening) ps qs s) refl
 
-under_by : (b : Bool) (ps qs : List Piece) → Alike ps qs → Alike (cond b (enclosed (codes "(") ps) ps) (cond b (enclosed (codes "(") qs) qs)
+under_by : (b : Bool) (ps qs : List Piece) → Alike ps qs → Alike (cond b (with_closing_parenthesis (codes "(") ps) ps) (cond b (with_closing_parenthesis (codes "(") qs) qs)
 under_by true ps qs s = enclosed_alike (codes "(") ps qs s
 under_by false ps qs s = s
 
 pub under_alike : (least : ℕ) {a b : Laid} → Like a b → (scope : List Origin) (base other : List ℕ) → base ≡ other → Alike (under least a scope base) (under least b scope other)
 under_alike least {a} {b} s scope base other is =
     under_by (nat_lt a.level least) (a.pieces scope base) (b.pieces scope base) (s.pieces scope base)
-    ∙ (ap (λ (n : ℕ). map bare (cond (nat_lt n least) (enclosed (codes "(") (b.pieces scope base)) (b.pieces scope base))) s.level ∙ ap (λ (n : List ℕ). map bare (under least b scope n)) is)
+    ∙ (ap (λ (n : ℕ). map bare (cond (nat_lt n least) (with_closing_parenthesis (codes "(") (b.pieces scope base)) (b.pieces scope base))) s.level ∙ ap (λ (n : List ℕ). map bare (under least b scope n)) is)
 
 two_alike : (left right : ℕ) (word : List ℕ) {a b c d : Laid} → Like a b → Like c d → (scope : List Origin) → Alike (two left right word a c scope) (two left right word b d scope)
 two_alike left right word {a} {b} {c} {d} s r scope =
@@ -85,13 +85,13 @@ module _ (q : Quoting) (schema : Catalog) where
 
 -- ---- lists of values
 
-led_values : (base : List ℕ) (vs : List Value) → Alike (with_leading_separators (codes ", ") (listed base) vs) (with_leading_separators (codes ", ") (listed base) (no_values vs))
-unfolding listed
+led_values : (base : List ℕ) (vs : List Value) → Alike (with_leading_separators (codes ", ") (value_pieces base) vs) (with_leading_separators (codes ", ") (value_pieces base) (no_values vs))
+unfolding value_pieces
 led_values base [] = refl
 led_values base (v ∷ vs) = ap (λ (ps : List Piece). words (codes ", ") ∷ value base cell.Null ∷ ps) (led_values base vs)
 
-list_alike : (base : List ℕ) (vs : List Value) → Alike (with_separators (codes ", ") (listed base) vs) (with_separators (codes ", ") (listed base) (no_values vs))
-unfolding listed
+list_alike : (base : List ℕ) (vs : List Value) → Alike (with_separators (codes ", ") (value_pieces base) vs) (with_separators (codes ", ") (value_pieces base) (no_values vs))
+unfolding value_pieces
 list_alike base [] = refl
 list_alike base (v ∷ vs) = ap (λ (ps : List Piece). value base cell.Null ∷ ps) (led_values base vs)
 
@@ -100,9 +100,9 @@ in_alike n {a} {b} s [] scope =
     behind (words (codes "(")) (under 5 a scope l.param ++ words (l.no_in_word n) ∷ []) (under 5 b scope l.param ++ words (l.no_in_word n) ∷ [])
     (both (under 5 a scope l.param) (under 5 b scope l.param) (words (l.no_in_word n) ∷ []) (words (l.no_in_word n) ∷ []) (under_alike 5 s scope l.param l.param refl) refl)
 in_alike n {a} {b} s (v ∷ vs) scope =
-    let one = with_separators (codes ", ") (listed (beside scope a)) (v ∷ vs) in
-    let other = with_separators (codes ", ") (listed (beside scope b)) (no_values (v ∷ vs)) in
-    let same : Alike one other = list_alike (beside scope a) (v ∷ vs) ∙ ap (λ (base : List ℕ). map bare (with_separators (codes ", ") (listed base) (no_values (v ∷ vs)))) (beside_is s scope) in
+    let one = with_separators (codes ", ") (value_pieces (beside scope a)) (v ∷ vs) in
+    let other = with_separators (codes ", ") (value_pieces (beside scope b)) (no_values (v ∷ vs)) in
+    let same : Alike one other = list_alike (beside scope a) (v ∷ vs) ∙ ap (λ (base : List ℕ). map bare (with_separators (codes ", ") (value_pieces base) (no_values (v ∷ vs)))) (beside_is s scope) in
     both (under 5 a scope l.param ++ words (in_word n) ∷ one) (under 5 b scope l.param ++ words (in_word n) ∷ other) (words (codes ")") ∷ []) (words (codes ")") ∷ [])
     (both (under 5 a scope l.param) (under 5 b scope l.param) (words (in_word n) ∷ one) (words (in_word n) ∷ other) (under_alike 5 s scope l.param l.param refl) (behind (words (in_word n)) one other same))
     refl
