@@ -14,7 +14,7 @@ use Rattle.script_tokens.specs.Literals as l
 use Rattle.script_expr.specs.declared.grammar.Level.{Level}
 use Rattle.script_expr.specs.declared.grammar.Level.TheVariants as level
 use Rattle.script_expr.specs.Expr as r
-use Rattle.script_forms.specs.Form.{Form, sequence, says, word, maybe, separated, ◌or◌}
+use Rattle.script_forms.specs.Form.{Form, sequence, says, word, maybe, separated_list, ◌or◌}
 use Rattle.script_forms.specs.Basics as basic
 use Rattle.script_forms.specs.Expressions as form
 use Rattle.script_forms.specs.Expressions.{Place, Anywhere, BehindMinus}
@@ -124,7 +124,7 @@ taken_as c q b kd i j first took is up =
 
 -- what stands in the parentheses behind a function
 arguments : Form Syn → Func → Form Syn
-arguments argument f = sequence (separated k.Comma argument) (λ found. sequence (word k.RParen) (λ _. says (e.Call f found)))
+arguments argument f = sequence (separated_list k.Comma argument) (λ found. sequence (word k.RParen) (λ _. says (e.Call f found)))
 
 star : Form Syn
 star = sequence (word k.Star) (λ _. sequence (word k.RParen) (λ _. says e.CountAll))
@@ -166,7 +166,7 @@ module _ (depth : ℕ) (inner : Place → Form Syn) where
       (either_second (form.free_word k.Count) (λ _. nested_form depth k.LParen star) (λ _. nested_form depth k.LParen (arguments (inner Anywhere) func.Count)) ts m a
       (then_within (form.free_word k.Count) (λ _. nested_form depth k.LParen (star or arguments (inner Anywhere) func.Count))
       (λ _. nested_form depth k.LParen star or nested_form depth k.LParen (arguments (inner Anywhere) func.Count))
-      (λ _. either_second (form.nesting depth k.LParen) (λ _. star) (λ _. arguments (inner Anywhere) func.Count)) ts m a s))
+      (λ _. either_second (form.nesting_token depth k.LParen) (λ _. star) (λ _. arguments (inner Anywhere) func.Count)) ts m a s))
 
   existence_up : Within (sequence (word k.Exists) (λ _. nested_form depth k.LParen (sequence form.source (λ from. sequence (word k.Where) (λ _. sequence (inner Anywhere) (λ found.
       sequence (word k.RParen) (λ _. says (e.Exists from found)))))))) (form.atom depth inner)

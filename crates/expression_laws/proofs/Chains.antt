@@ -8,7 +8,7 @@ use Rattle.script_tokens.specs.declared.fault.Fault.TheVariants.{At}
 use Rattle.script_tokens.specs.Input.{Input, Reader, ◌>>=◌, and_then, pure, eat, head, kind, first_of, operator, separated_from}
 use Rattle.script_expr.specs.declared.expression.Joint.{Joint}
 use Rattle.script_expr.specs.Expr as r
-use Rattle.script_forms.specs.Form.{Form, sequence, says, word, separated, ◌or◌}
+use Rattle.script_forms.specs.Form.{Form, sequence, says, word, separated_list, ◌or◌}
 use Rattle.script_forms.specs.Expressions as form
 use Rattle.script_forms.specs.Expressions.{many, one_or_list}
 use Rattle.grammar_laws.proofs.Taking.{Inside, Took, Kept, Whole, Sound, Inhabited}
@@ -28,7 +28,7 @@ pub record Joins (joint : Form form.Joint) (kd : Kind) (j : Joint) : Type 0 wher
   pub by : form.Joint
   pub not_end : is_end kd ≡ false
   pub said : (t : Token) → t.kind ≡ kd → joint (t ∷ []) 1 by
-  pub joined : (left right : Syn) → r.joined j left right ≡ form.joined by left right
+  pub joined : (left right : Syn) → r.joined j left right ≡ form.operation_of by left right
 
 abbrev pub JoinsBy : Form form.Joint → Kind → Option Joint → Type 0
 JoinsBy joint kd None = Unit {0}
@@ -40,16 +40,16 @@ step joint operand = sequence joint (λ by. sequence operand (λ right. says (by
 
 -- what stands behind an operand
 abbrev pub rest : Form form.Joint → Form Syn → Syn → Form Syn
-rest joint operand left = sequence (many (step joint operand)) (λ more. says (form.grouped left more))
+rest joint operand left = sequence (many (step joint operand)) (λ more. says (form.left_association left more))
 
 some_rest : (joint : Form form.Joint) (operand : Form Syn) (left : Syn) → Inhabited (rest joint operand left)
-some_rest joint operand left = some_both (some_many (step joint operand)) (λ more. some_made (form.grouped left more))
+some_rest joint operand left = some_both (some_many (step joint operand)) (λ more. some_made (form.left_association left more))
 
 no_more : (joint : Form form.Joint) (operand : Form Syn) (left : Syn) → Within (says left) (rest joint operand left)
-no_more joint operand left ts n a s = none_before (many (step joint operand)) (λ more. says (form.grouped left more)) [] (refl, refl) ts n a s
+no_more joint operand left ts n a s = none_before (many (step joint operand)) (λ more. says (form.left_association left more)) [] (refl, refl) ts n a s
 
 one_more : (joint : Form form.Joint) (operand : Form Syn) (left : Syn)
-    → Within (sequence joint (λ by. sequence operand (λ right. rest joint operand (form.joined by left right)))) (rest joint operand left)
+    → Within (sequence joint (λ by. sequence operand (λ right. rest joint operand (form.operation_of by left right)))) (rest joint operand left)
 one_more joint operand left ts n b s =
     let one = s.1 in
     let two = one.second.1 in
@@ -93,12 +93,12 @@ module _ (depth : ℕ) (joints : Kind → Option Joint) (joint : Form form.Joint
       let m : Input = record { ahead = ts; operators = o - 1 } in
       let out = and_then (p m) (λ right. more (r.joined j left right)) in
       let took : Took (Inside depth) joint i joins.by m = record { prefix = t ∷ []; count = 1; joined = refl; budget = omega (arith, some); said = joins.said t is } in
-      let turn : Sound (Inside depth) (p >>= (λ right. more (r.joined j left right))) (sequence operand (λ right. rest joint operand (form.joined joins.by left right))) =
+      let turn : Sound (Inside depth) (p >>= (λ right. more (r.joined j left right))) (sequence operand (λ right. rest joint operand (form.operation_of joins.by left right))) =
       both operand_read (λ right. subst (λ x. Sound (Inside depth) (more (r.joined j left right)) (rest joint operand x)) (joins.joined left right) (rec (r.joined j left right)))
-      (λ right. some_rest joint operand (form.joined joins.by left right)) in
-      within_out (Inside depth) (sequence joint (λ by. sequence operand (λ right. rest joint operand (form.joined by left right)))) (rest joint operand left) i
+      (λ right. some_rest joint operand (form.operation_of joins.by left right)) in
+      within_out (Inside depth) (sequence joint (λ by. sequence operand (λ right. rest joint operand (form.operation_of by left right)))) (rest joint operand left) i
       (one_more joint operand left) out
-      (both_taken (Inside depth) joint (λ by. sequence operand (λ right. rest joint operand (form.joined by left right))) i joins.by m took out (turn.run m (whole_next (t ∷ ts) whole)))
+      (both_taken (Inside depth) joint (λ by. sequence operand (λ right. rest joint operand (form.operation_of by left right))) i joins.by m took out (turn.run m (whole_next (t ∷ ts) whole)))
 
   counted_by : (left : Syn) (j : Joint) (kd : Kind) → Joins joint kd j → (more : Syn → Reader Syn) → ((left : Syn) → Sound (Inside depth) (more left) (rest joint operand left))
       → (xs : List Token) (o : ℕ) → (first_of xs).kind ≡ kd → Whole xs → (b : Bool) → (o == 0) ≡ b
@@ -140,12 +140,12 @@ some_chain joint {operand = operand} any = some_both any (λ first. some_rest jo
 
 -- what stands behind the first operand
 abbrev pub behind_first : Kind → (List Syn → Syn) → Form Syn → Syn → Form Syn
-behind_first mark list g first = sequence (word mark) (λ _. sequence (sequence (separated mark g) (λ more. says (first ∷ more))) (λ all. says (list all))) or says first
+behind_first mark list g first = sequence (word mark) (λ _. sequence (sequence (separated_list mark g) (λ more. says (first ∷ more))) (λ all. says (list all))) or says first
 
 list_by : (mark : Kind) (list : List Syn → Syn) (g : Form Syn) (first : Syn) (ts prefix rest : List Token) (n m l : ℕ) (a : Syn) → ts ≡ prefix ++ rest → n ≡ m + l → g prefix m first
     → behind_first mark list g first rest l a → one_or_list mark list g ts n a
 list_by mark list g first ts prefix rest n m l a joined counted said (inl more) =
-    let items : Syn → Form (List Syn) = λ x. sequence (separated mark g) (λ xs. says (x ∷ xs)) in
+    let items : Syn → Form (List Syn) = λ x. sequence (separated_list mark g) (λ xs. says (x ∷ xs)) in
     let made_of : List Syn → Form Syn = λ all. says (list all) in
     inr (grouped_left g (λ x. sequence (word mark) (λ _. items x)) made_of ts n a (
       first,

@@ -20,7 +20,7 @@ use Rattle.script_expr.specs.declared.grammar.Level.TheVariants as level
 use Rattle.script_expr.specs.declared.expression.Joint.{Joint}
 use Rattle.script_expr.specs.declared.expression.Joint.TheVariants as joint
 use Rattle.script_expr.specs.Expr as r
-use Rattle.script_forms.specs.Form.{Form, sequence, says, word, separated}
+use Rattle.script_forms.specs.Form.{Form, sequence, says, word, separated_list}
 use Rattle.script_forms.specs.Basics as basic
 use Rattle.script_forms.specs.Expressions as form
 use Rattle.grammar_laws.proofs.Taking.{Enough}
@@ -40,16 +40,16 @@ deeper_by : (depth : ℕ) → depth ≢ 0 → (depth == 0) ≡ false
 deeper_by zero some = absurd (some refl)
 deeper_by (suc depth) some = eqb-suc-zero depth
 
-pub nesting_begun : (depth : ℕ) (kd : Kind) (tokens : List Token) (count : ℕ) (u : Unit {0}) → form.nesting depth kd tokens count u → Begun kd tokens
+pub nesting_begun : (depth : ℕ) (kd : Kind) (tokens : List Token) (count : ℕ) (u : Unit {0}) → form.nesting_token depth kd tokens count u → Begun kd tokens
 nesting_begun depth kd tokens count u said = record { first = said.0; more = []; joined = said.1; is = said.2 }
 
-nesting_up : (depth : ℕ) (kd : Kind) (tokens : List Token) (count : ℕ) (u : Unit {0}) → form.nesting depth kd tokens count u → word kd tokens count u
+nesting_up : (depth : ℕ) (kd : Kind) (tokens : List Token) (count : ℕ) (u : Unit {0}) → form.nesting_token depth kd tokens count u → word kd tokens count u
 nesting_up depth kd tokens count u said = (said.0, said.1, said.2, said.4)
 
-pub nesting_opens : (depth : ℕ) (kd : Kind) {next these : Kind → Bool} → these kd ≡ true → Opens (form.nesting depth kd) next these
+pub nesting_opens : (depth : ℕ) (kd : Kind) {next these : Kind → Bool} → these kd ≡ true → Opens (form.nesting_token depth kd) next these
 nesting_opens depth kd is = opens_onto (nesting_up depth kd) (word_opens kd is)
 
-deeper_run : (depth : ℕ) (expr : Level → Reader Syn) (kd : Kind) (prefix rest : List Token) (count o : ℕ) (u : Unit {0}) → form.nesting depth kd prefix count u → Enough inside count o
+deeper_run : (depth : ℕ) (expr : Level → Reader Syn) (kd : Kind) (prefix rest : List Token) (count o : ℕ) (u : Unit {0}) → form.nesting_token depth kd prefix count u → Enough inside count o
     → Read inside (r.deeper depth expr kd) (prefix ++ rest) rest count o u
 unfolding r.deeper
 deeper_run depth expr kd prefix rest count o u said enough =
@@ -57,7 +57,7 @@ deeper_run depth expr kd prefix rest count o u said enough =
     let read = (expected {mode = inside} kd).run prefix rest count o u (nesting_up depth kd prefix count u said) enough refl in
     record { left = read.left; budget = read.budget; is = ap (λ b. if b then refuse i else expect kd i) (deeper_by depth said.3) ∙ read.is }
 
-pub deeper_read : (depth : ℕ) (expr : Level → Reader Syn) (kd : Kind) → Complete inside always (r.deeper depth expr kd) (form.nesting depth kd)
+pub deeper_read : (depth : ℕ) (expr : Level → Reader Syn) (kd : Kind) → Complete inside always (r.deeper depth expr kd) (form.nesting_token depth kd)
 deeper_read depth expr kd = record { run = λ prefix rest count o u said enough stop. deeper_run depth expr kd prefix rest count o u said enough }
 
 -- ---- the functions
@@ -110,7 +110,7 @@ reader_joint form.Minus = joint.Arith op.Sub
 reader_joint form.Times = joint.Arith op.Mul
 reader_joint form.Beside = joint.Concat
 
-joined_alike : (by : form.Joint) (left right : Syn) → r.joined (reader_joint by) left right ≡ form.joined by left right
+joined_alike : (by : form.Joint) (left right : Syn) → r.joined (reader_joint by) left right ≡ form.operation_of by left right
 unfolding reader_joint
 joined_alike form.Plus left right = refl
 joined_alike form.Minus left right = refl
@@ -162,7 +162,7 @@ module _ (depth : ℕ) (inner : form.Place → Form Syn) (expr : Level → Reade
   -- behind `exists`
   abbrev such : Form Syn
   such =
-      sequence (form.nesting depth k.LParen) (λ _. sequence form.source (λ from. sequence (word k.Where) (λ _. sequence (inner form.Anywhere) (λ found.
+      sequence (form.nesting_token depth k.LParen) (λ _. sequence form.source (λ from. sequence (word k.Where) (λ _. sequence (inner form.Anywhere) (λ found.
       sequence (word k.RParen) (λ _. says (e.Exists from found))))))
 
   such_read : Complete inside always (r.exists depth expr) such
@@ -174,10 +174,10 @@ module _ (depth : ℕ) (inner : form.Place → Form Syn) (expr : Level → Reade
   -- ---- calls
 
   abbrev operands : Func → Form Syn
-  operands f = sequence (separated k.Comma (inner form.Anywhere)) (λ found. sequence (word k.RParen) (λ _. says (e.Call f found)))
+  operands f = sequence (separated_list k.Comma (inner form.Anywhere)) (λ found. sequence (word k.RParen) (λ _. says (e.Call f found)))
 
   abbrev all_rows : Form Syn
-  all_rows = sequence (form.nesting depth k.LParen) (λ _. sequence (word k.Star) (λ _. sequence (word k.RParen) (λ _. says e.CountAll)))
+  all_rows = sequence (form.nesting_token depth k.LParen) (λ _. sequence (word k.Star) (λ _. sequence (word k.RParen) (λ _. says e.CountAll)))
 
   inner_solid : Solid (inner form.Anywhere)
   unfolding is_no_name
@@ -206,7 +206,7 @@ module _ (depth : ℕ) (inner : form.Place → Form Syn) (expr : Level → Reade
   inside_read func.Length = operands_read func.Length
   inside_read func.Coalesce = operands_read func.Coalesce
 
-  operands_called : (f : Func) → Complete inside always (r.call depth expr f) (sequence (form.nesting depth k.LParen) (λ _. operands f))
+  operands_called : (f : Func) → Complete inside always (r.call depth expr f) (sequence (form.nesting_token depth k.LParen) (λ _. operands f))
   unfolding r.call
   operands_called f = then_any (deeper_read depth expr k.LParen) (λ _. inside_read f)
 
@@ -244,10 +244,10 @@ module _ (depth : ℕ) (inner : form.Place → Form Syn) (expr : Level → Reade
       (onto (first_onto (form.free_word k.Count) basic.name all_rows (λ ts m u said. said.1))
       (then_any named (λ first. called_read func.Count first all_rows (first_opens (nesting_opens depth k.LParen refl)) all_called)))
 
-  call_by : (f : Func) → Complete inside always (n.name >>= (λ first. r.called depth expr f first)) (sequence basic.name (λ _. sequence (form.nesting depth k.LParen) (λ _. operands f)))
+  call_by : (f : Func) → Complete inside always (n.name >>= (λ first. r.called depth expr f first)) (sequence basic.name (λ _. sequence (form.nesting_token depth k.LParen) (λ _. operands f)))
   unfolding same_kind
   call_by f =
-      then_any named (λ first. called_read f first (sequence (form.nesting depth k.LParen) (λ _. operands f)) (first_opens (nesting_opens depth k.LParen refl)) (operands_called f))
+      then_any named (λ first. called_read f first (sequence (form.nesting_token depth k.LParen) (λ _. operands f)) (first_opens (nesting_opens depth k.LParen refl)) (operands_called f))
 
   call_run : (prefix rest : List Token) (count o : ℕ) (a : Syn) → form.call depth inner prefix count a → Enough inside count o
       → Read inside (peek >>= named_at) (prefix ++ rest) rest count o a
@@ -256,7 +256,7 @@ module _ (depth : ℕ) (inner : form.Place → Form Syn) (expr : Level → Reade
       let w = said.1 in
       let c = function_called w.prefix w.prefix_count f w.first in
       let tokens : prefix ≡ c.first ∷ w.rest = w.joined ∙ ap (λ ts. ts ++ w.rest) c.joined in
-      let found : sequence basic.name (λ _. sequence (form.nesting depth k.LParen) (λ _. operands f)) prefix count a =
+      let found : sequence basic.name (λ _. sequence (form.nesting_token depth k.LParen) (λ _. operands f)) prefix count a =
       (c.bytes, record { prefix = w.prefix; rest = w.rest; prefix_count = w.prefix_count; rest_count = w.rest_count; joined = w.joined; counted = w.counted; first = c.named; second = w.second }) in
       let known : Read inside (n.name >>= (λ first. r.called depth expr f first)) (prefix ++ rest) rest count o a = (call_by f).run prefix rest count o a found enough refl in
       let read : Read inside (named_at c.first.kind) (prefix ++ rest) rest count o a =
@@ -302,7 +302,7 @@ module _ (depth : ℕ) (inner : form.Place → Form Syn) (expr : Level → Reade
       (either (on_opening is_name (r.atom_by depth expr) (first_opens (free_opens k.Count)) name_kinds count_all_read)
       (either (on_opening is_name (r.atom_by depth expr) (first_opens function_opens) name_kinds call_read)
       (either (on_word (r.atom_by depth expr) k.Exists existence_read)
-      (on_first (r.atom_by depth expr) k.LParen (then_begun k.LParen (form.nesting depth k.LParen) _ (nesting_begun depth k.LParen)) parenthesized_read)))))
+      (on_first (r.atom_by depth expr) k.LParen (then_begun k.LParen (form.nesting_token depth k.LParen) _ (nesting_begun depth k.LParen)) parenthesized_read)))))
 
   -- ---- UN, PROD, SUM
 
@@ -314,7 +314,7 @@ module _ (depth : ℕ) (inner : form.Place → Form Syn) (expr : Level → Reade
   pub unary_read : Complete inside always (r.unary depth expr) (form.unary depth inner)
   unfolding r.unary
   unary_read =
-      either (on_first (r.unary_by depth expr) k.Minus (then_begun k.Minus (form.nesting depth k.Minus) _ (nesting_begun depth k.Minus))
+      either (on_first (r.unary_by depth expr) k.Minus (then_begun k.Minus (form.nesting_token depth k.Minus) _ (nesting_begun depth k.Minus))
       (then_any (deeper_read depth expr k.Minus) (λ _. then_any unaries (λ x. made (e.Neg x)))))
       (on_opening begins_atom (r.unary_by depth expr) (atom_opens depth inner) atom_kinds atom_read)
 

@@ -22,7 +22,7 @@ linked joint operand = sequence joint (λ by. sequence operand (λ right. says (
 module _ (joint : Kind → Option Joint) (marks : Form form.Joint) (named : form.Joint → Joint) (operand : Reader Syn) (operands : Form Syn) (s t : Kind → Bool)
     (cp : Complete inside s operand operands) (sg : Sign marks (λ kd by. joint kd ≡ Some (named by)) 1) (before : (kd : Kind) (j : Joint) → joint kd ≡ Some j → s kd ≡ true)
     (within : (y : Kind) → t y ≡ true → s y ≡ true) (ends : (y : Kind) → t y ≡ true → joint y ≡ None)
-    (alike : (by : form.Joint) (left right : Syn) → r.joined (named by) left right ≡ form.joined by left right) where
+    (alike : (by : form.Joint) (left right : Syn) → r.joined (named by) left right ≡ form.operation_of by left right) where
   last_read : (n : ℕ) (left : Syn) (rest : List Token) (o : ℕ) → joint (first_of rest).kind ≡ None → Read inside (chained_from joint operand n left) rest rest 0 o left
   unfolding chained_from head
   last_read zero left rest o none = record { left = o; budget = omega arith; is = refl }
@@ -75,7 +75,7 @@ module _ (joint : Kind → Option Joint) (marks : Form form.Joint) (named : form
       subst (λ ts. s (first_of (ts ++ rest)).kind ≡ true) (sym split) (before one.token.kind (named said.first.0) one.is)
 
   links_read : (n : ℕ) (all : List (form.Joint × Syn)) (left : Syn) (prefix rest : List Token) (count o : ℕ) → length all ≤ n → many (linked marks operands) prefix count all → count ≤ o
-      → t (first_of rest).kind ≡ true → Read inside (chained_from joint operand n left) (prefix ++ rest) rest count o (form.grouped left all)
+      → t (first_of rest).kind ≡ true → Read inside (chained_from joint operand n left) (prefix ++ rest) rest count o (form.left_association left all)
   links_read n [] left prefix rest count o fits said enough stop =
       subst (λ ts. Read inside (chained_from joint operand n left) (ts ++ rest) rest count o left) (sym said.0)
       (subst (λ m. Read inside (chained_from joint operand n left) rest rest m o left) (sym said.1) (last_read n left rest o (ends (first_of rest).kind stop)))
@@ -100,18 +100,18 @@ module _ (joint : Kind → Option Joint) (marks : Form form.Joint) (named : form
       let first : Read inside operand (w.prefix ++ (said.rest ++ rest)) (said.rest ++ rest) w.prefix_count o right =
       cp.run w.prefix (said.rest ++ rest) w.prefix_count o right w.first (omega (arith, counts)) (links_open more said.rest rest said.rest_count said.second stop) in
       let second : Read inside (chained_from joint operand n (r.joined (named by) left right)) (said.rest ++ rest) rest said.rest_count first.left
-      (form.grouped (r.joined (named by) left right) more) =
+      (form.left_association (r.joined (named by) left right) more) =
       links_read n more (r.joined (named by) left right) said.rest rest said.rest_count first.left (omega arith) said.second (omega (arith, counts, first.budget)) stop in
-      let read = next_read n left right (form.grouped (r.joined (named by) left right) more) (named by) one.token (w.prefix ++ (said.rest ++ rest)) (said.rest ++ rest) rest
+      let read = next_read n left right (form.left_association (r.joined (named by) left right) more) (named by) one.token (w.prefix ++ (said.rest ++ rest)) (said.rest ++ rest) rest
       w.prefix_count said.rest_count o one.is first second in
-      let said_so : form.grouped (r.joined (named by) left right) more ≡ form.grouped left (a ∷ more) =
-      ap (λ x. form.grouped x more) (alike by left right) ∙ ap (λ x. form.grouped left (x ∷ more)) (sym pair) in
-      subst (λ ts. Read inside (chained_from joint operand (suc n) left) ts rest count (suc o) (form.grouped left (a ∷ more))) tokens
-      (subst (λ m. Read inside (chained_from joint operand (suc n) left) (one.token ∷ (w.prefix ++ (said.rest ++ rest))) rest m (suc o) (form.grouped left (a ∷ more))) counts
+      let said_so : form.left_association (r.joined (named by) left right) more ≡ form.left_association left (a ∷ more) =
+      ap (λ x. form.left_association x more) (alike by left right) ∙ ap (λ x. form.left_association left (x ∷ more)) (sym pair) in
+      subst (λ ts. Read inside (chained_from joint operand (suc n) left) ts rest count (suc o) (form.left_association left (a ∷ more))) tokens
+      (subst (λ m. Read inside (chained_from joint operand (suc n) left) (one.token ∷ (w.prefix ++ (said.rest ++ rest))) rest m (suc o) (form.left_association left (a ∷ more))) counts
       (subst (λ x. Read inside (chained_from joint operand (suc n) left) (one.token ∷ (w.prefix ++ (said.rest ++ rest))) rest (1 + (w.prefix_count + said.rest_count)) (suc o) x) said_so read))
 
   abbrev links : Syn → Form Syn
-  links first = sequence (many (linked marks operands)) (λ more. says (form.grouped first more))
+  links first = sequence (many (linked marks operands)) (λ more. says (form.left_association first more))
 
   behind_by : (first : Syn) (prefix rest : List Token) (count o : ℕ) (a : Syn) → links first prefix count a → count ≤ o → t (first_of rest).kind ≡ true
       → Read inside (λ i. chained_from joint operand (length i.ahead) first i) (prefix ++ rest) rest count o a

@@ -67,7 +67,7 @@ module _ (depth : ℕ) (inner : form.Place → Form Syn) (expr : Level → Reade
   negation_read : Complete inside ends_comparison (r.negation depth expr) (form.negation depth inner)
   unfolding r.negation
   negation_read =
-      either (on_first (r.negation_by depth expr) k.Not (then_begun k.Not (form.nesting depth k.Not) _ (nesting_begun depth k.Not))
+      either (on_first (r.negation_by depth expr) k.Not (then_begun k.Not (form.nesting_token depth k.Not) _ (nesting_begun depth k.Not))
       (then_any (deeper_read depth expr k.Not) (λ _. both (cp form.BehindNot) (λ x. less (made (e.Not x)) (λ y e. refl)) (λ x. made_opens (e.Not x) (λ y e. e)))))
       (on_opening begins_sum (r.negation_by depth expr) (comparison_opens depth inner) sum_kinds
       (comparison_read depth inner expr (cp form.Anywhere) (cp form.BehindMinus) (cp form.BehindNot) opens))
@@ -91,19 +91,19 @@ module _ (depth : ℕ) (inner : form.Place → Form Syn) (expr : Level → Reade
 
 -- ---- expressions in which parentheses, `not` and unary minus nest
 
-nested_opens : (depth : ℕ) → Opens (form.nested depth form.Anywhere) always begins_expression
-unfolding form.nested
+nested_opens : (depth : ℕ) → Opens (form.nested_expression depth form.Anywhere) always begins_expression
+unfolding form.nested_expression
 nested_opens zero = record { run = λ tokens rest count a said stop. absurd said }
-nested_opens (suc depth) = disjunction_opens depth (form.nested depth)
+nested_opens (suc depth) = disjunction_opens depth (form.nested_expression depth)
 
-nested_read : (depth : ℕ) (place : form.Place) → Complete inside (ends place) (r.expr depth (level_of place)) (form.nested depth place)
-unfolding r.expr form.nested
+nested_read : (depth : ℕ) (place : form.Place) → Complete inside (ends place) (r.expr depth (level_of place)) (form.nested_expression depth place)
+unfolding r.expr form.nested_expression
 nested_read zero place = record { run = λ prefix rest count o a said enough stop. absurd said }
-nested_read (suc depth) place = at_read depth (form.nested depth) (r.expr depth) (nested_read depth) (nested_opens depth) place
+nested_read (suc depth) place = at_read depth (form.nested_expression depth) (r.expr depth) (nested_read depth) (nested_opens depth) place
 
 -- ---- whole expressions
 
-whole_by : (prefix rest : List Token) (operators : ℕ) (o : ℕ) (a : Syn) → form.nested 101 form.Anywhere prefix operators a → operators ≤ 1000
+whole_by : (prefix rest : List Token) (operators : ℕ) (o : ℕ) (a : Syn) → form.nested_expression 101 form.Anywhere prefix operators a → operators ≤ 1000
     → ends_expression (first_of rest).kind ≡ true → Read Plain r.whole (prefix ++ rest) rest 0 o a
 unfolding r.whole
 whole_by prefix rest operators o a said few stop =

@@ -6,7 +6,7 @@ use Rattle.script_lex.specs.declared.token.Token.{Token}
 use Rattle.script_lex.specs.Lex.{same_kind}
 use Rattle.script_tokens.proofs.Alike.{same, alike}
 use Rattle.script_tokens.specs.Input.{Input, Reader, ◌>>=◌, pure, eat, peek, take_token, head, next, sees, after, first_of, separated_from}
-use Rattle.script_forms.specs.Form.{Form, Both, sequence, says, word, whether, separated, ◌or◌}
+use Rattle.script_forms.specs.Form.{Form, Both, sequence, says, word, whether, separated_list, ◌or◌}
 use Rattle.script_forms.specs.Expressions.{several}
 use Rattle.grammar_laws.proofs.Taking.{Mode, Inside, Enough}
 use Rattle.grammar_laws.proofs.Sequences.{then_to, regrouped}
@@ -56,7 +56,7 @@ pub solid_of : {A : Type 0} {g : Form A} (these : Kind → Bool) → Opens g alw
 solid_of {g = g} these og out = record { run = λ tokens count a said. solid_by g these og out tokens count a said }
 
 separated_opens_by : {A : Type 0} (mark : Kind) (g : Form A) (these : Kind → Bool) → Opens g always these → (all : List A) (tokens rest : List Token) (count : ℕ)
-    → separated mark g tokens count all → these (first_of (tokens ++ rest)).kind ≡ true
+    → separated_list mark g tokens count all → these (first_of (tokens ++ rest)).kind ≡ true
 separated_opens_by mark g these og [] tokens rest count said = absurd said
 separated_opens_by mark g these og (a ∷ []) tokens rest count said = og.run tokens rest count a said refl
 separated_opens_by mark g these og (a ∷ b ∷ more) tokens rest count said =
@@ -65,7 +65,7 @@ separated_opens_by mark g these og (a ∷ b ∷ more) tokens rest count said =
     subst (λ ts. these (first_of ts).kind ≡ true) split (og.run w.prefix (w.rest ++ rest) w.prefix_count a w.first refl)
 
 -- items begin as the first does
-pub separated_opens : {A : Type 0} (mark : Kind) {g : Form A} {next these : Kind → Bool} → Opens g always these → Opens (separated mark g) next these
+pub separated_opens : {A : Type 0} (mark : Kind) {g : Form A} {next these : Kind → Bool} → Opens g always these → Opens (separated_list mark g) next these
 separated_opens mark {g = g} {these = these} og =
     record { run = λ tokens rest count all said stop. separated_opens_by mark g these og all tokens rest count said }
 
@@ -292,7 +292,7 @@ module _ {A : Type 0} (mode : Mode) (mark : Kind) (item : Reader A) (form : Form
     (marks : s mark ≡ true) (within : (y : Kind) → t y ≡ true → s y ≡ true) (other : t mark ≡ false) where
   -- the items behind the first
   abbrev behind : A → Form (List A)
-  behind first = sequence (separated mark form) (λ more. says (first ∷ more))
+  behind first = sequence (separated_list mark form) (λ more. says (first ∷ more))
 
   behind_by : (first : A) (prefix rest : List Token) (count o : ℕ) (all : List A) → behind first prefix count all → Enough mode count o → t (first_of rest).kind ≡ true
       → Read mode (λ i. separated_from mark item (length i.ahead) (first ∷ []) i) (prefix ++ rest) rest count o all
@@ -300,7 +300,7 @@ module _ {A : Type 0} (mode : Mode) (mark : Kind) (item : Reader A) (form : Form
       let w = said.1 in
       let tokens : w.prefix ≡ prefix = sym (w.joined ∙ ap (λ ts. w.prefix ++ ts) w.second.0 ∙ append-nil w.prefix) in
       let counts : w.prefix_count ≡ count = omega (arith, w.counted, w.second.1) in
-      let items : separated mark form prefix count said.0 = subst (λ ts. separated mark form ts count said.0) tokens (subst (λ n. separated mark form w.prefix n said.0) counts w.first) in
+      let items : separated_list mark form prefix count said.0 = subst (λ ts. separated_list mark form ts count said.0) tokens (subst (λ n. separated_list mark form w.prefix n said.0) counts w.first) in
       let fits = items_fit mark form solid said.0 prefix count items in
       let long = length-append prefix rest in
       let r = all_read mode mark item form s t cp marks within (λ y e. unlike t mark other y e) (length (prefix ++ rest)) said.0 (first ∷ []) prefix rest count o (omega arith) items enough stop in

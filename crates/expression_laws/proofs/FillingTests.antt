@@ -16,7 +16,7 @@ use Rattle.script_expr.specs.declared.grammar.Level.{Level}
 use Rattle.script_expr.specs.declared.grammar.Level.TheVariants as level
 use Rattle.script_expr.specs.declared.expression.Test.TheVariants as test
 use Rattle.script_expr.specs.Expr as r
-use Rattle.script_forms.specs.Form.{Form, sequence, says, word, whether, separated, ◌or◌}
+use Rattle.script_forms.specs.Form.{Form, sequence, says, word, whether, separated_list, ◌or◌}
 use Rattle.script_forms.specs.Basics as basic
 use Rattle.script_forms.specs.Expressions as form
 use Rattle.grammar_laws.proofs.Sequences.{regrouped}
@@ -54,7 +54,7 @@ tests_end_sum _ by e = refl
 
 -- no list, or one
 abbrev literals_or_none : Form (List Value)
-literals_or_none = separated k.Comma basic.literal or says []
+literals_or_none = separated_list k.Comma basic.literal or says []
 
 module _ (depth : ℕ) (inner : form.Place → Form Syn) where
   pub comparison_opens : {next : Kind → Bool} → Opens (form.comparison depth inner) next begins_sum
@@ -149,7 +149,7 @@ module _ (depth : ℕ) (inner : form.Place → Form Syn) (expr : Level → Reade
   literals_and_close = sequence literals_or_none (λ found. sequence (word k.RParen) (λ _. says found))
 
   list_read : Complete inside always (l.literals >>= (λ found. expect k.RParen >> pure found))
-      (sequence (separated k.Comma basic.literal) (λ found. sequence (word k.RParen) (λ _. says found)))
+      (sequence (separated_list k.Comma basic.literal) (λ found. sequence (word k.RParen) (λ _. says found)))
   unfolding l.literals
   list_read =
       both (listed k.Comma always closes literal_read literal_solid refl (λ y e. refl) (λ y e. unlike closes k.Comma refl y e)) (λ found. then_any (expected k.RParen) (λ _. made found))
@@ -160,7 +160,7 @@ module _ (depth : ℕ) (inner : form.Place → Form Syn) (expr : Level → Reade
 
   list_or_none_read : Complete inside always (eat k.RParen >>= none_or_list) literals_and_close
   list_or_none_read =
-      onto (either_then (separated k.Comma basic.literal) (says []) (λ found. sequence (word k.RParen) (λ _. says found)))
+      onto (either_then (separated_list k.Comma basic.literal) (says []) (λ found. sequence (word k.RParen) (λ _. says found)))
       (either (uneaten begins_literal k.RParen none_or_list (first_opens (separated_opens k.Comma literal_opens)) refl list_read)
       (onto (says_then [] (λ found. sequence (word k.RParen) (λ _. says found))) (eaten_then k.RParen none_or_list (made []))))
 

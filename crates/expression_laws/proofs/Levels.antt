@@ -75,20 +75,20 @@ module _ (depth room outer lower : ℕ) (fits : Fits depth room outer lower) (ex
 
 -- ---- to every depth
 
-pub some_nested : (depth : ℕ) (stands : Place) → Inhabited (form.nested (suc depth) stands)
-unfolding form.nested
-some_nested depth stands = some_at depth (form.nested depth) stands
+pub some_nested : (depth : ℕ) (stands : Place) → Inhabited (form.nested_expression (suc depth) stands)
+unfolding form.nested_expression
+some_nested depth stands = some_at depth (form.nested_expression depth) stands
 
 -- compared with a form in which as many may nest
 fits_itself : (depth lower : ℕ) → depth ≤ lower + 1 → Fits depth depth depth lower
 fits_itself depth lower near = record { near = near; roomy = λ some. some; full = λ none. inl none }
 
-pub nested_read : (depth : ℕ) (l : Level) → Sound (Inside depth) (r.expr (suc depth) l) (form.nested (suc depth) (place l))
-unfolding r.expr form.nested
+pub nested_read : (depth : ℕ) (l : Level) → Sound (Inside depth) (r.expr (suc depth) l) (form.nested_expression (suc depth) (place l))
+unfolding r.expr form.nested_expression
 nested_read zero l =
-    level_read zero zero zero zero (fits_itself zero zero (omega arith)) (r.expr zero) (form.nested zero) (λ some. absurd (some refl)) (λ some. absurd (some refl)) l
+    level_read zero zero zero zero (fits_itself zero zero (omega arith)) (r.expr zero) (form.nested_expression zero) (λ some. absurd (some refl)) (λ some. absurd (some refl)) l
 nested_read (suc depth) l =
-    level_read (suc depth) (suc depth) (suc depth) depth (fits_itself (suc depth) depth (omega arith)) (r.expr (suc depth)) (form.nested (suc depth))
+    level_read (suc depth) (suc depth) (suc depth) depth (fits_itself (suc depth) depth (omega arith)) (r.expr (suc depth)) (form.nested_expression (suc depth))
     (λ some. nested_read depth) (λ some. some_nested depth) l
 
 -- compared with a form in which one more may nest
@@ -98,11 +98,11 @@ has_room depth = omega arith
 fits_wider : (depth outer lower : ℕ) → outer ≤ lower + 1 → Fits depth (suc depth) outer lower
 fits_wider depth outer lower near = record { near = near; roomy = λ some. has_room depth; full = λ none. inr (has_room depth) }
 
-pub wider_read : (more depth : ℕ) (l : Level) → Sound (Inside (more + depth)) (r.expr (suc depth) l) (form.nested (suc (suc depth)) (place l))
-unfolding r.expr form.nested
+pub wider_read : (more depth : ℕ) (l : Level) → Sound (Inside (more + depth)) (r.expr (suc depth) l) (form.nested_expression (suc (suc depth)) (place l))
+unfolding r.expr form.nested_expression
 wider_read more zero l =
-    level_read zero 1 (more + 0) (more + 0) (fits_wider zero (more + 0) (more + 0) (omega arith)) (r.expr zero) (form.nested 1) (λ some. absurd (some refl))
+    level_read zero 1 (more + 0) (more + 0) (fits_wider zero (more + 0) (more + 0) (omega arith)) (r.expr zero) (form.nested_expression 1) (λ some. absurd (some refl))
     (λ some. some_nested 0) l
 wider_read more (suc depth) l =
     level_read (suc depth) (suc (suc depth)) (more + suc depth) (more + depth) (fits_wider (suc depth) (more + suc depth) (more + depth) (omega arith)) (r.expr (suc depth))
-    (form.nested (suc (suc depth))) (λ some. wider_read more depth) (λ some. some_nested (suc depth)) l
+    (form.nested_expression (suc (suc depth))) (λ some. wider_read more depth) (λ some. some_nested (suc depth)) l

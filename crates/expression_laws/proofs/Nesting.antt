@@ -13,7 +13,7 @@ use Rattle.script_expr.specs.declared.grammar.Level.{Level}
 use Rattle.script_expr.specs.declared.grammar.Level.TheVariants as level
 use Rattle.script_expr.specs.Expr as r
 use Rattle.script_forms.specs.Form.{Form, sequence, word}
-use Rattle.script_forms.specs.Expressions.{nesting, Place, Anywhere, BehindNot, BehindMinus}
+use Rattle.script_forms.specs.Expressions.{nesting_token, Place, Anywhere, BehindNot, BehindMinus}
 use Rattle.grammar_laws.specs.Nesting.{opens, nests}
 use Rattle.grammar_laws.proofs.Taking.{Inside, Took, Refused, Behind, TooDeep, Kept, Out, Whole, Sound, Inhabited}
 use Rattle.grammar_laws.proofs.Steps.{is_end, token_of, taken_by, whole_next, both_taken, within_out, refused_here}
@@ -33,7 +33,7 @@ pub record Fits (depth room outer lower : ℕ) : Type 0 where
   pub full : depth ≡ 0 → (outer ≡ 0) ⊎ (room ≢ 0)
 
 abbrev pub nested_form : {A : Type 0} → ℕ → Kind → Form A → Form A
-nested_form depth kd g = sequence (nesting depth kd) (λ _. g)
+nested_form depth kd g = sequence (nesting_token depth kd) (λ _. g)
 
 -- behind the token that nests
 behind : {A : Type 0} (room outer lower : ℕ) → outer ≤ lower + 1 → (kd : Kind) → opens kd ≡ 1 → room ≢ 0 → (g : Form A) (t : Token) (ts : List Token) (o : ℕ) → t.kind ≡ kd

@@ -12,7 +12,7 @@ use Rattle.script_tokens.specs.Input.{Input, Reader, ◌>>=◌, ◌>>◌, and_th
 use Rattle.script_tokens.specs.Literals as l
 use Rattle.script_expr.specs.declared.grammar.Level.{Level}
 use Rattle.script_expr.specs.Expr as r
-use Rattle.script_forms.specs.Form.{Form, sequence, says, word, whether, separated, ◌or◌}
+use Rattle.script_forms.specs.Form.{Form, sequence, says, word, whether, separated_list, ◌or◌}
 use Rattle.script_forms.specs.Basics.{literal}
 use Rattle.script_forms.specs.Expressions as form
 use Rattle.script_forms.specs.Expressions.{Place}
@@ -30,7 +30,7 @@ use Rattle.expression_laws.proofs.Sums.{sum_read, some_sum}
 
 -- what stands in the parentheses behind `in`
 listing : Form (List Value)
-listing = sequence (separated k.Comma literal or says []) (λ found. sequence (word k.RParen) (λ _. says found))
+listing = sequence (separated_list k.Comma literal or says []) (λ found. sequence (word k.RParen) (λ _. says found))
 
 some_listing : Inhabited listing
 unfolding listing
@@ -157,16 +157,16 @@ module _ (depth : ℕ) (inner : Place → Form Syn) where
 -- after the parenthesis behind `in`
 no_members : Within (sequence (word k.RParen) (λ _. says [])) listing
 unfolding listing
-no_members = none_before (separated k.Comma literal or says []) (λ found. sequence (word k.RParen) (λ _. says found)) [] (inr (refl, refl, refl))
+no_members = none_before (separated_list k.Comma literal or says []) (λ found. sequence (word k.RParen) (λ _. says found)) [] (inr (refl, refl, refl))
 
-some_members : Within (sequence (separated k.Comma literal) (λ found. sequence (word k.RParen) (λ _. says found))) listing
+some_members : Within (sequence (separated_list k.Comma literal) (λ found. sequence (word k.RParen) (λ _. says found))) listing
 unfolding listing
 some_members =
-    first_within (separated k.Comma literal) (separated k.Comma literal or says []) (λ found. sequence (word k.RParen) (λ _. says found)) (λ ts n a s. inl s)
+    first_within (separated_list k.Comma literal) (separated_list k.Comma literal or says []) (λ found. sequence (word k.RParen) (λ _. says found)) (λ ts n a s. inl s)
 
-listing_up : Within (sequence (word k.RParen) (λ _. says []) or sequence (separated k.Comma literal) (λ found. sequence (word k.RParen) (λ _. says found))) listing
+listing_up : Within (sequence (word k.RParen) (λ _. says []) or sequence (separated_list k.Comma literal) (λ found. sequence (word k.RParen) (λ _. says found))) listing
 listing_up =
-    either_up (sequence (word k.RParen) (λ _. says [])) (sequence (separated k.Comma literal) (λ found. sequence (word k.RParen) (λ _. says found))) listing no_members
+    either_up (sequence (word k.RParen) (λ _. says [])) (sequence (separated_list k.Comma literal) (λ found. sequence (word k.RParen) (λ _. says found))) listing no_members
     some_members
 
 -- ---- their readers

@@ -5,7 +5,7 @@ use Rattle.script_lex.specs.declared.token.Token.{Token}
 use Rattle.script_tokens.specs.Input.{Input, Outcome}
 use Rattle.script_expr.specs.declared.grammar.Level.TheVariants as level
 use Rattle.script_expr.specs.Expr as r
-use Rattle.script_forms.specs.Expressions.{Anywhere, nested, expression, expression_to}
+use Rattle.script_forms.specs.Expressions.{Anywhere, nested_expression, expression, expression_to}
 use Rattle.grammar_laws.specs.Nesting.{openings}
 use Rattle.grammar_laws.proofs.Taking.{Plain, Around, Inside, Behind, TooDeep, Kept, Sound, Inhabited}
 use Rattle.grammar_laws.proofs.Steps.{openings_append}
@@ -15,7 +15,7 @@ use Rattle.expression_laws.proofs.Levels.{nested_read, wider_read, some_nested}
 abbrev counted : Input → Input
 counted i = record i { operators = 1000 }
 
-around : (i : Input) (out : Outcome Syn) → Kept (Inside 100) (nested 101 Anywhere) (counted i) out → Kept Around expression i out
+around : (i : Input) (out : Outcome Syn) → Kept (Inside 100) (nested_expression 101 Anywhere) (counted i) out → Kept Around expression i out
 around i (Ok p) t = record { prefix = t.prefix; count = 0; joined = t.joined; budget = refl; said = (t.count, t.said, omega (arith, t.budget), refl) }
 around i (Err e) (Behind before after split at done) =
     Behind before after split at (record { more = done.more; count = 0; value = done.value; enough = refl; said = (done.count, done.said, done.enough, refl) })
@@ -30,7 +30,7 @@ few : (ahead before after : List Token) (t : Token) → ahead ≡ (before ++ t �
 few ahead before after t split = omega (arith, ap openings split, openings_append (before ++ t ∷ []) after, openings_append before (t ∷ []))
 
 -- where one more may nest, whatever is refused ends a viable prefix
-wide : (i : Input) (out : Outcome Syn) → Kept (Inside (suc (openings i.ahead) + 100)) (nested 102 Anywhere) (counted i) out → Kept Plain (expression_to 101) i out
+wide : (i : Input) (out : Outcome Syn) → Kept (Inside (suc (openings i.ahead) + 100)) (nested_expression 102 Anywhere) (counted i) out → Kept Plain (expression_to 101) i out
 wide i (Ok p) t = record { prefix = t.prefix; count = 0; joined = t.joined; budget = refl; said = (t.count, t.said, omega (arith, t.budget), refl) }
 wide i (Err e) (Behind before after split at done) =
     Behind before after split at (record { more = done.more; count = 0; value = done.value; enough = refl; said = (done.count, done.said, done.enough, refl) })

@@ -10,7 +10,7 @@ use Rattle.script_tokens.proofs.Alike.{same}
 use Rattle.script_tokens.specs.declared.fault.Fault.TheVariants.{At}
 use Rattle.script_tokens.specs.Input.{Input, Outcome, ◌>>=◌, ◌>>◌, and_then, pure, expect, eat, take_token, head, kind, next, sees, after, first_of}
 use Rattle.script_blocks.specs.Classes as r
-use Rattle.script_forms.specs.Form.{Form, sequence, says, word, maybe, whether, separated}
+use Rattle.script_forms.specs.Form.{Form, sequence, says, word, maybe, whether, separated_list}
 use Rattle.script_forms.specs.Basics as basic
 use Rattle.script_forms.specs.ClassLines as form
 use Rattle.grammar_laws.proofs.Taking.{Mode, Took, Refused, Behind, TooDeep, Kept, Out, Whole, Sound, Inhabited}
@@ -55,12 +55,12 @@ some_cascade_word = some_right (some_left (some_both (some_word k.Merge) (λ _. 
 
 -- one word, joined with what was so far
 WordKept : Mode → Cascade → Input → Outcome Cascade → Type 0
-WordKept m so_far i (Ok p) = (w : Cascade) × (p.0 ≡ form.joined w so_far) × Took m form.cascade_word i w p.1
+WordKept m so_far i (Ok p) = (w : Cascade) × (p.0 ≡ form.cascade_union w so_far) × Took m form.cascade_word i w p.1
 WordKept m so_far i (Err e) = Refused m form.cascade_word i e
 
 -- tokens that stand for a word, and the word
 word_after : (m : Mode) (g : Form (Unit {0})) (w so_far : Cascade) → ((ts : List Token) (n : ℕ) → sequence g (λ _. says w) ts n w → form.cascade_word ts n w) → (i : Input)
-    → (out : Outcome (Unit {0})) → Kept m g i out → WordKept m so_far i (and_then out (λ _. pure (form.joined w so_far)))
+    → (out : Outcome (Unit {0})) → Kept m g i out → WordKept m so_far i (and_then out (λ _. pure (form.cascade_union w so_far)))
 unfolding WordKept
 word_after m g w so_far up i (Ok p) t =
     (w, refl, record { prefix = t.prefix; count = t.count; joined = t.joined; budget = t.budget; said = up t.prefix t.count (then_says g w t.prefix t.count p.0 t.said) })
@@ -103,7 +103,7 @@ all = record { save_update = true; merge = true; refresh_expire = true; expunge 
 
 orphan_by : (m : Mode) (so_far : Cascade) (i j : Input) → Whole j.ahead → Took m (word k.Delete) i tt j → (b : Bool)
     → (same_kind (first_of j.ahead).kind k.Minus || same_kind (first_of j.ahead).kind k.Signed) ≡ b
-    → WordKept m so_far i ((if b then (expect k.Orphan >> pure (form.joined delete_orphan so_far)) else pure (form.joined delete so_far))
+    → WordKept m so_far i ((if b then (expect k.Orphan >> pure (form.cascade_union delete_orphan so_far)) else pure (form.cascade_union delete so_far))
     (if b then record { ahead = drop 1 j.ahead; operators = j.operators } else j))
 unfolding WordKept
 orphan_by m so_far i j whole t true seen =
@@ -150,10 +150,10 @@ word_read m so_far i whole = word_by _ so_far (kind i) i whole refl
 -- ---- words with commas between
 
 WordsKept : Mode → Cascade → Input → Outcome Cascade → Type 0
-WordsKept m so_far i (Ok p) = (words : List Cascade) × (p.0 ≡ form.all_of so_far words) × Took m (separated k.Comma form.cascade_word) i words p.1
-WordsKept m so_far i (Err e) = Refused m (separated k.Comma form.cascade_word) i e
+WordsKept m so_far i (Ok p) = (words : List Cascade) × (p.0 ≡ form.all_of so_far words) × Took m (separated_list k.Comma form.cascade_word) i words p.1
+WordsKept m so_far i (Err e) = Refused m (separated_list k.Comma form.cascade_word) i e
 
-behind : (m : Mode) (so_far longer : Cascade) (i j l : Input) (w : Cascade) → longer ≡ form.joined w so_far → Took m form.cascade_word i w j → Took m (word k.Comma) j tt l
+behind : (m : Mode) (so_far longer : Cascade) (i j l : Input) (w : Cascade) → longer ≡ form.cascade_union w so_far → Took m form.cascade_word i w j → Took m (word k.Comma) j tt l
     → (out : Outcome Cascade) → WordsKept m longer l out → WordsKept m so_far i out
 unfolding WordsKept
 behind m so_far longer i j l w is t u (Ok q) words =
@@ -176,7 +176,7 @@ behind m so_far longer i j l w is t u (Err e) (Behind before after split at done
       count = t.count + (u.count + done.count);
       value = w ∷ done.value;
       enough = enough_more m t.count (u.count + done.count) i.operators j.operators t.budget (enough_more m u.count done.count j.operators l.operators u.budget done.enough);
-      said = subst (λ ts. separated k.Comma form.cascade_word ts (t.count + (u.count + done.count)) (w ∷ done.value)) (joined_three t.prefix u.prefix before done.more)
+      said = subst (λ ts. separated_list k.Comma form.cascade_word ts (t.count + (u.count + done.count)) (w ∷ done.value)) (joined_three t.prefix u.prefix before done.more)
           (more_items k.Comma form.cascade_word t.prefix u.prefix (before ++ done.more) t.count u.count done.count w done.value t.said u.said done.said);
     })
 behind m so_far longer i j l w is t u (Err e) (TooDeep before after x dp split at wants) =
@@ -184,7 +184,7 @@ behind m so_far longer i j l w is t u (Err e) (TooDeep before after x dp split a
     (t.joined ∙ ap (λ ts. t.prefix ++ ts) (u.joined ∙ ap (λ ts. u.prefix ++ ts) split) ∙ joined_three t.prefix u.prefix (before ++ x ∷ []) after
     ∙ ap (λ ts. ts ++ after) (joined_three t.prefix u.prefix before (x ∷ []))) at wants
 
-by_mark : (m : Mode) (n : ℕ) (so_far longer : Cascade) (i : Input) (w : Cascade) (xs : List Token) (o : ℕ) → longer ≡ form.joined w so_far
+by_mark : (m : Mode) (n : ℕ) (so_far longer : Cascade) (i : Input) (w : Cascade) (xs : List Token) (o : ℕ) → longer ≡ form.cascade_union w so_far
     → Took m form.cascade_word i w (record { ahead = xs; operators = o }) → Whole xs → ((so_far : Cascade) (j : Input) → Whole j.ahead → WordsKept m so_far j (r.cascade_from n so_far j))
     → (b : Bool) → same_kind (first_of xs).kind k.Comma ≡ b
     → WordsKept m so_far i ((if b then r.cascade_from n longer else pure longer) (if b then record { ahead = drop 1 xs; operators = o } else record { ahead = xs; operators = o }))
@@ -213,7 +213,7 @@ words_by m zero so_far i whole = refused_here _ i (some_list k.Comma some_cascad
 words_by m (suc n) so_far i whole = by_word _ n so_far i whole (words_by _ n) (r.cascade_word so_far i) (word_read _ so_far i whole)
 
 abbrev words_form : Form Cascade
-words_form = sequence (separated k.Comma form.cascade_word) (λ words. says (form.all_of form.none words))
+words_form = sequence (separated_list k.Comma form.cascade_word) (λ words. says (form.all_of form.none words))
 
 some_words : Inhabited words_form
 some_words = some_both (some_list k.Comma some_cascade_word) (λ words. some_made _)
@@ -227,7 +227,7 @@ all_words m i (Ok p) words =
       count = t.count;
       joined = t.joined;
       budget = t.budget;
-      said = then_value (separated k.Comma form.cascade_word) (form.all_of form.none) t.prefix t.count words.0 t.said;
+      said = then_value (separated_list k.Comma form.cascade_word) (form.all_of form.none) t.prefix t.count words.0 t.said;
     })
 all_words m i (Err e) (Behind before after split at done) =
     Behind before after split at (record {
@@ -269,10 +269,10 @@ back_read : {m : Mode} → Sound m r.back form.back
 unfolding r.back
 back_read = on_kind r.back_by back_by
 
-using_read : {m : Mode} → Sound m (r.names_after k.Using) form.using
+using_read : {m : Mode} → Sound m (r.names_after k.Using) form.using_list
 using_read = if_word k.Using [] refl names_read (λ ts n a s. inl s) (inr (refl, refl, refl))
 
-some_using : Inhabited form.using
+some_using : Inhabited form.using_list
 some_using = some_right (some_made [])
 
 cascade_if_any_read : {m : Mode} → Sound m r.cascade_if_any form.cascade

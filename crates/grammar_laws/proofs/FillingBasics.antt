@@ -9,7 +9,7 @@ use Rattle.script_tokens.proofs.Alike.{alike}
 use Rattle.script_tokens.specs.Input.{Input, Reader, ◌>>=◌, and_then, pure, eat, head, next, sees, after, first_of, separated_from}
 use Rattle.script_tokens.specs.Names as n
 use Rattle.script_tokens.specs.Names.{is_no_name, has_length, name_in}
-use Rattle.script_forms.specs.Form.{Form, sequence, word, separated}
+use Rattle.script_forms.specs.Form.{Form, sequence, word, separated_list}
 use Rattle.script_forms.specs.Basics as form
 use Rattle.grammar_laws.proofs.Taking.{Mode, Enough}
 use Rattle.grammar_laws.proofs.Steps.{budget_none, budget_more}
@@ -63,7 +63,7 @@ first_solid sg =
     record { run = λ tokens count b said. let w = said.1 in longer w.prefix w.rest tokens w.joined (sg.run w.prefix w.prefix_count said.0 w.first) }
 
 -- there are no more items than tokens
-pub items_fit : {A : Type 0} (mark : Kind) (item : Form A) → Solid item → (all : List A) (tokens : List Token) (count : ℕ) → separated mark item tokens count all
+pub items_fit : {A : Type 0} (mark : Kind) (item : Form A) → Solid item → (all : List A) (tokens : List Token) (count : ℕ) → separated_list mark item tokens count all
     → length all ≤ length tokens
 items_fit mark item solid [] tokens count said = absurd said
 items_fit mark item solid (a ∷ []) tokens count said = solid.run tokens count a said
@@ -118,7 +118,7 @@ module _ {A : Type 0} (mode : Mode) (mark : Kind) (item : Reader A) (form : Form
       (step n found a (prefix ++ rest) rest rest l 0 o (found ++ a ∷ []) one (last_by n found a rest one.left (other (first_of rest).kind stop)))
 
   -- items behind those that were found
-  pub all_read : (n : ℕ) (all found : List A) (prefix rest : List Token) (count o : ℕ) → length all ≤ n → separated mark form prefix count all → Enough mode count o
+  pub all_read : (n : ℕ) (all found : List A) (prefix rest : List Token) (count o : ℕ) → length all ≤ n → separated_list mark form prefix count all → Enough mode count o
       → t (first_of rest).kind ≡ true → Read mode (separated_from mark item n found) (prefix ++ rest) rest count o (found ++ all)
   all_read n [] found prefix rest count o fits said enough stop = absurd said
   all_read zero (a ∷ more) found prefix rest count o fits said enough stop = absurd (omega arith)
@@ -149,7 +149,7 @@ module _ {A : Type 0} (mode : Mode) (mark : Kind) (item : Reader A) (form : Form
       (subst (λ xs. Read mode (separated_from mark item (suc n) found) (w.prefix ++ (u ∷ (v.rest ++ rest))) rest (w.prefix_count + v.rest_count) o xs)
       (append_assoc found (a ∷ []) (b ∷ more)) whole))
 
-  from_start : (prefix rest : List Token) (count o : ℕ) (all : List A) → Solid form → separated mark form prefix count all → Enough mode count o → t (first_of rest).kind ≡ true
+  from_start : (prefix rest : List Token) (count o : ℕ) (all : List A) → Solid form → separated_list mark form prefix count all → Enough mode count o → t (first_of rest).kind ≡ true
       → Read mode (λ i. separated_from mark item (length i.ahead) [] i) (prefix ++ rest) rest count o all
   from_start prefix rest count o all solid said enough stop =
       let fits = items_fit mark form solid all prefix count said in
@@ -159,7 +159,7 @@ module _ {A : Type 0} (mode : Mode) (mark : Kind) (item : Reader A) (form : Form
 
 pub listed : {A : Type 0} {mode : Mode} (mark : Kind) {item : Reader A} {form : Form A} (s t : Kind → Bool) → Complete mode s item form → Solid form → s mark ≡ true
     → ((y : Kind) → t y ≡ true → s y ≡ true) → ((y : Kind) → t y ≡ true → same_kind y mark ≡ false)
-    → Complete mode t (λ i. separated_from mark item (length i.ahead) [] i) (separated mark form)
+    → Complete mode t (λ i. separated_from mark item (length i.ahead) [] i) (separated_list mark form)
 listed {mode = mode} mark {item = item} {form = form} s t cp solid sm within other =
     record { run = λ prefix rest count o all said enough stop. from_start mode mark item form s t cp sm within other prefix rest count o all solid said enough stop }
 

@@ -10,7 +10,7 @@ use Rattle.script_tokens.proofs.Alike.{alike}
 use Rattle.script_tokens.specs.declared.fault.Fault.TheVariants.{At}
 use Rattle.script_tokens.specs.Input.{Reader, ◌>>=◌, ◌>>◌, and_then, pure, eat, expect, peek, take_token, head, next, sees, after, first_of}
 use Rattle.script_blocks.specs.Classes as r
-use Rattle.script_forms.specs.Form.{Form, sequence, says, word, maybe, whether, separated}
+use Rattle.script_forms.specs.Form.{Form, sequence, says, word, maybe, whether, separated_list}
 use Rattle.script_forms.specs.Basics as basic
 use Rattle.script_forms.specs.ClassLines as form
 use Rattle.grammar_laws.proofs.Taking.{Mode, Enough}
@@ -80,7 +80,7 @@ resaid : {A B C : Type 0} (g : Form A) (w : B) (f : B → C) (tokens : List Toke
 resaid g w f tokens count v said = then_to g (λ _. says w) (λ _. says (f w)) v (f v) (λ _. says_to f) tokens count said
 
 abbrev adds : Cascade → Cascade → Cascade
-adds so_far w = form.joined w so_far
+adds so_far w = form.cascade_union w so_far
 
 abbrev one_word : Kind → Cascade → Form Cascade
 one_word kd w = sequence (word kd) (λ _. says w)
@@ -102,7 +102,7 @@ two_read first second w = then_any (then_any (taken first) (λ _. then_any dash_
 
 -- `delete`, before no dash
 deleting_by : (mode : Mode) (so_far : Cascade) (rest : List Token) (o : ℕ) → (same_kind (first_of rest).kind k.Minus || same_kind (first_of rest).kind k.Signed) ≡ false
-    → Read mode (r.deleting so_far) rest rest 0 o (adds so_far delete)
+    → Read mode (r.after_delete so_far) rest rest 0 o (adds so_far delete)
 unfolding r.eat_dash sees head next
 deleting_by mode so_far rest o is = record {
   left = o;
@@ -114,7 +114,7 @@ deleting_by mode so_far rest o is = record {
 -- `delete-orphan`
 orphan_by : (mode : Mode) (so_far : Cascade) (d : Token) (ts rest : List Token) (n o : ℕ) → (same_kind d.kind k.Minus || same_kind d.kind k.Signed) ≡ true
     → Read mode (expect k.Orphan >> pure (adds so_far delete_orphan)) ts rest n o (adds so_far delete_orphan)
-    → Read mode (r.deleting so_far) (d ∷ ts) rest n o (adds so_far delete_orphan)
+    → Read mode (r.after_delete so_far) (d ∷ ts) rest n o (adds so_far delete_orphan)
 unfolding r.eat_dash sees head next
 orphan_by mode so_far d ts rest n o is read = record {
   left = read.left;
@@ -128,7 +128,7 @@ widen cp up = record { run = λ prefix rest count o a said enough stop. cp.run p
 
 orphan_run : (mode : Mode) (so_far : Cascade) (prefix rest : List Token) (count o : ℕ) (a : Cascade)
     → sequence form.dash (λ _. sequence (word k.Orphan) (λ _. says (adds so_far delete_orphan))) prefix count a → Enough mode count o
-    → Read mode (r.deleting so_far) (prefix ++ rest) rest count o a
+    → Read mode (r.after_delete so_far) (prefix ++ rest) rest count o a
 orphan_run mode so_far prefix rest count o a said enough =
     let w = said.1 in
     let d = dashed_of w.prefix w.prefix_count said.0 w.first in
@@ -142,21 +142,21 @@ orphan_run mode so_far prefix rest count o a said enough =
     let read_orphan : Read mode (expect k.Orphan >> pure (adds so_far delete_orphan)) (w.rest ++ rest) rest count o (adds so_far delete_orphan) =
     subst (λ n. Read mode (expect k.Orphan >> pure (adds so_far delete_orphan)) (w.rest ++ rest) rest n o (adds so_far delete_orphan)) counts
     (subst (λ x. Read mode (expect k.Orphan >> pure (adds so_far delete_orphan)) (w.rest ++ rest) rest w.rest_count o x) is read) in
-    subst (λ ts. Read mode (r.deleting so_far) (ts ++ rest) rest count o a) (sym tokens)
-    (subst (λ x. Read mode (r.deleting so_far) (d.token ∷ (w.rest ++ rest)) rest count o x) (sym is) (orphan_by mode so_far d.token (w.rest ++ rest) rest count o d.is read_orphan))
+    subst (λ ts. Read mode (r.after_delete so_far) (ts ++ rest) rest count o a) (sym tokens)
+    (subst (λ x. Read mode (r.after_delete so_far) (d.token ∷ (w.rest ++ rest)) rest count o x) (sym is) (orphan_by mode so_far d.token (w.rest ++ rest) rest count o d.is read_orphan))
 
-orphan_read : {mode : Mode} (so_far : Cascade) → Complete mode always (r.deleting so_far) (sequence (sequence form.dash (λ _. word k.Orphan)) (λ _. says (adds so_far delete_orphan)))
+orphan_read : {mode : Mode} (so_far : Cascade) → Complete mode always (r.after_delete so_far) (sequence (sequence form.dash (λ _. word k.Orphan)) (λ _. says (adds so_far delete_orphan)))
 orphan_read {mode = mode} so_far =
     widen (record { run = λ prefix rest count o a said enough stop. orphan_run mode so_far prefix rest count o a said enough })
     (regrouped form.dash (λ _. word k.Orphan) (λ _. says (adds so_far delete_orphan)))
 
 delete_run : (mode : Mode) (so_far : Cascade) (prefix rest : List Token) (count o : ℕ) (a : Cascade) → says (adds so_far delete) prefix count a → no_dash (first_of rest).kind ≡ true
-    → Read mode (r.deleting so_far) (prefix ++ rest) rest count o a
+    → Read mode (r.after_delete so_far) (prefix ++ rest) rest count o a
 delete_run mode so_far prefix rest count o a said stop =
-    subst (λ ts. Read mode (r.deleting so_far) (ts ++ rest) rest count o a) (sym said.0) (subst (λ n. Read mode (r.deleting so_far) rest rest n o a) (sym said.1)
-    (subst (λ x. Read mode (r.deleting so_far) rest rest 0 o x) (sym said.2) (deleting_by mode so_far rest o (sees_no_dash (first_of rest).kind stop))))
+    subst (λ ts. Read mode (r.after_delete so_far) (ts ++ rest) rest count o a) (sym said.0) (subst (λ n. Read mode (r.after_delete so_far) rest rest n o a) (sym said.1)
+    (subst (λ x. Read mode (r.after_delete so_far) rest rest 0 o x) (sym said.2) (deleting_by mode so_far rest o (sees_no_dash (first_of rest).kind stop))))
 
-delete_read : {mode : Mode} (so_far : Cascade) → Complete mode no_dash (r.deleting so_far) (says (adds so_far delete))
+delete_read : {mode : Mode} (so_far : Cascade) → Complete mode no_dash (r.after_delete so_far) (says (adds so_far delete))
 delete_read {mode = mode} so_far = record { run = λ prefix rest count o a said enough stop. delete_run mode so_far prefix rest count o a said stop }
 
 word_read : (mode : Mode) (so_far : Cascade) (prefix rest : List Token) (count o : ℕ) (w : Cascade) → form.cascade_word prefix count w → Enough mode count o
@@ -258,7 +258,7 @@ module _ (mode : Mode) where
     is = ap (λ out. and_then out (λ longer. eat k.Comma >>= (λ more. if more then r.cascade_from n longer else pure longer))) one.is ∙ two.is;
   }
 
-  words_from : (n : ℕ) (ws : List Cascade) (so_far : Cascade) (prefix rest : List Token) (count o : ℕ) → length ws ≤ n → separated k.Comma form.cascade_word prefix count ws
+  words_from : (n : ℕ) (ws : List Cascade) (so_far : Cascade) (prefix rest : List Token) (count o : ℕ) → length ws ≤ n → separated_list k.Comma form.cascade_word prefix count ws
       → Enough mode count o → behind_cascade (first_of rest).kind ≡ true → Read mode (r.cascade_from n so_far) (prefix ++ rest) rest count o (form.all_of so_far ws)
   words_from n [] so_far prefix rest count o fits said enough stop = absurd said
   words_from zero (w ∷ ws) so_far prefix rest count o fits said enough stop = absurd (omega arith)
@@ -290,17 +290,17 @@ module _ (mode : Mode) where
       subst (λ ts. Read mode (r.cascade_from (suc n) so_far) ts rest count o (form.all_of (adds so_far w) (v ∷ ws))) tokens
       (subst (λ m. Read mode (r.cascade_from (suc n) so_far) (p.prefix ++ (u ∷ (q.rest ++ rest))) rest m o (form.all_of (adds so_far w) (v ∷ ws))) counts whole)
 
-  cascade_run : (prefix rest : List Token) (count o : ℕ) (a : Cascade) → sequence (separated k.Comma form.cascade_word) (λ words. says (form.all_of form.none words)) prefix count a
+  cascade_run : (prefix rest : List Token) (count o : ℕ) (a : Cascade) → sequence (separated_list k.Comma form.cascade_word) (λ words. says (form.all_of form.none words)) prefix count a
       → Enough mode count o → behind_cascade (first_of rest).kind ≡ true → Read mode r.cascade (prefix ++ rest) rest count o a
   unfolding r.cascade
   cascade_run prefix rest count o a said enough stop =
-      let m = mapped_of (separated k.Comma form.cascade_word) (form.all_of form.none) prefix count a said in
+      let m = mapped_of (separated_list k.Comma form.cascade_word) (form.all_of form.none) prefix count a said in
       let fits = items_fit k.Comma form.cascade_word cascade_word_solid m.value prefix count m.said in
       let long = length-append prefix rest in
       let read = words_from (length (prefix ++ rest)) m.value form.none prefix rest count o (omega arith) m.said enough stop in
       subst (λ x. Read mode r.cascade (prefix ++ rest) rest count o x) (sym m.is) (record { left = read.left; budget = read.budget; is = read.is })
 
-cascade_read : {mode : Mode} → Complete mode behind_cascade r.cascade (sequence (separated k.Comma form.cascade_word) (λ words. says (form.all_of form.none words)))
+cascade_read : {mode : Mode} → Complete mode behind_cascade r.cascade (sequence (separated_list k.Comma form.cascade_word) (λ words. says (form.all_of form.none words)))
 cascade_read {mode = mode} = record { run = cascade_run mode }
 
 -- ---- the lines
@@ -348,7 +348,7 @@ unfolding same_kind
 not_secondary k.Secondary e = absurd (false_true e)
 not_secondary _ e = refl
 
-using_read : {mode : Mode} → Complete mode behind_using (r.names_after k.Using) form.using
+using_read : {mode : Mode} → Complete mode behind_using (r.names_after k.Using) form.using_list
 using_read = if_word k.Using [] (less names_read (λ y e. refl)) using_no_using
 
 back_read : {mode : Mode} → Complete mode always r.back form.back
@@ -373,7 +373,7 @@ module _ {mode : Mode} (many : Bool) (secondary : Form (Option (List ℕ))) (pos
       then_any sides_read (λ found. both using_read (λ columns. both (introduced k.Cascade cascade_read cascade_no_cascade) (λ words. both post_read (λ post. less (made _) (λ y e. refl))
       (λ post. made_opens _ (λ y e. e)))
       (λ words. then_opens is_end post_opens (λ post. made_opens _ (λ y e. e))))
-      (λ columns. then_opens behind_cascade (maybe_opens (first_opens {h = λ _. sequence (separated k.Comma form.cascade_word) (λ words. says (form.all_of form.none words))} (word_opens k.Cascade refl)) cascade_using)
+      (λ columns. then_opens behind_cascade (maybe_opens (first_opens {h = λ _. sequence (separated_list k.Comma form.cascade_word) (λ words. says (form.all_of form.none words))} (word_opens k.Cascade refl)) cascade_using)
       (λ words. then_opens is_end post_opens (λ post. made_opens _ (λ y e. e)))))
 
 no_secondary_read : {mode : Mode} → Complete mode no_secondary (r.secondary false) (says None)

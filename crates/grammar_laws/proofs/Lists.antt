@@ -5,12 +5,12 @@ use Rattle.script_lex.specs.declared.token.Token.{Token}
 use Rattle.script_lex.specs.Lex.{same_kind}
 use Rattle.script_tokens.proofs.Alike.{same}
 use Rattle.script_tokens.specs.Input.{Input, Outcome, Reader, ◌>>=◌, and_then, pure, eat, head, next, sees, after, first_of, separated_from}
-use Rattle.script_forms.specs.Form.{Form, sequence, says, word, separated}
+use Rattle.script_forms.specs.Form.{Form, sequence, says, word, separated_list}
 use Rattle.grammar_laws.proofs.Taking.{Mode, Took, Refused, Behind, TooDeep, Kept, Whole, Sound, Inhabited}
 use Rattle.grammar_laws.proofs.Sequences.{then_value}
 use Rattle.grammar_laws.proofs.Steps.{whole_rest, whole_next, budget_more, enough_more, deep_behind, both_refused, some_made, is_end, taken_by, refused_here}
 
-pub some_list : {A : Type 0} (mark : Kind) {item : Form A} → Inhabited item → Inhabited (separated mark item)
+pub some_list : {A : Type 0} (mark : Kind) {item : Form A} → Inhabited item → Inhabited (separated_list mark item)
 some_list mark w = record { tokens = w.tokens; value = w.value ∷ []; said = w.said }
 
 -- an item, a mark and more items
@@ -18,7 +18,7 @@ pub joined_three : (a b c d : List Token) → a ++ (b ++ (c ++ d)) ≡ (a ++ (b 
 joined_three a b c d = ap (λ ts. a ++ ts) (sym (append_assoc b c d)) ∙ sym (append_assoc a (b ++ c) d)
 
 pub more_items : {A : Type 0} (mark : Kind) (item : Form A) (a b rest : List Token) (l m n : ℕ) (x : A) (more : List A) → item a l x → word mark b m tt
-    → separated mark item rest n more → separated mark item (a ++ (b ++ rest)) (l + (m + n)) (x ∷ more)
+    → separated_list mark item rest n more → separated_list mark item (a ++ (b ++ rest)) (l + (m + n)) (x ∷ more)
 more_items mark item a b rest l m n x [] one two three = absurd three
 more_items mark item a b rest l m n x (y ∷ ys) one two three = record {
   prefix = a;
@@ -33,8 +33,8 @@ more_items mark item a b rest l m n x (y ∷ ys) one two three = record {
 
 -- the items that were read are behind those found before
 Items : {A : Type 0} → Mode → Kind → Form A → List A → Input → Outcome (List A) → Type 0
-Items {A} c mark item found i (Ok p) = (more : List A) × (p.0 ≡ found ++ more) × Took c (separated mark item) i more p.1
-Items c mark item found i (Err e) = Refused c (separated mark item) i e
+Items {A} c mark item found i (Ok p) = (more : List A) × (p.0 ≡ found ++ more) × Took c (separated_list mark item) i more p.1
+Items c mark item found i (Err e) = Refused c (separated_list mark item) i e
 
 module _ {A : Type 0} (c : Mode) (mark : Kind) (not_end : is_end mark ≡ false) (item : Reader A) (form : Form A) where
   behind : (found : List A) (i j m : Input) (x : A) → Took c form i x j → Took c (word mark) j tt m → (out : Outcome (List A)) → Items c mark form (found ++ x ∷ []) m out
@@ -61,7 +61,7 @@ module _ {A : Type 0} (c : Mode) (mark : Kind) (not_end : is_end mark ≡ false)
         count = t.count + (u.count + done.count);
         value = x ∷ done.value;
         enough = enough_more c t.count (u.count + done.count) i.operators j.operators t.budget (enough_more c u.count done.count j.operators m.operators u.budget done.enough);
-        said = subst (λ ts. separated mark form ts (t.count + (u.count + done.count)) (x ∷ done.value)) (joined_three t.prefix u.prefix before done.more)
+        said = subst (λ ts. separated_list mark form ts (t.count + (u.count + done.count)) (x ∷ done.value)) (joined_three t.prefix u.prefix before done.more)
             (more_items mark form t.prefix u.prefix (before ++ done.more) t.count u.count done.count x done.value t.said u.said done.said);
       })
   behind found i j m x t u (Err e) (TooDeep before after w dp split at wants) =
@@ -97,33 +97,33 @@ module _ {A : Type 0} (c : Mode) (mark : Kind) (not_end : is_end mark ≡ false)
   items_by sp any zero found i whole = refused_here _ i (some_list mark any)
   items_by sp any (suc n) found i whole = by_item n found i whole (items_by sp any n) (item i) (sp.run i whole)
 
-  all_of : (i : Input) (out : Outcome (List A)) → Items c mark form [] i out → Kept c (separated mark form) i out
+  all_of : (i : Input) (out : Outcome (List A)) → Items c mark form [] i out → Kept c (separated_list mark form) i out
   unfolding Items
-  all_of i (Ok p) items = subst (λ all. Took c (separated mark form) i all p.1) (sym items.1) items.2
+  all_of i (Ok p) items = subst (λ all. Took c (separated_list mark form) i all p.1) (sym items.1) items.2
   all_of i (Err e) r = r
 
 pub listed : {A : Type 0} {c : Mode} (mark : Kind) {item : Reader A} {form : Form A} → is_end mark ≡ false → Sound c item form → Inhabited form
-    → Sound c (λ i. separated_from mark item (length i.ahead) [] i) (separated mark form)
+    → Sound c (λ i. separated_from mark item (length i.ahead) [] i) (separated_list mark form)
 listed {c = c} mark {item = item} {form = form} not_end sp any =
     record { run = λ i whole. all_of c mark not_end item form i (separated_from mark item (length i.ahead) [] i) (items_by c mark not_end item form sp any (length i.ahead) [] i whole) }
 
 -- the items behind one that was found before
 behind_one : {A : Type 0} (c : Mode) (mark : Kind) (form : Form A) (first : A) (i : Input) (out : Outcome (List A)) → Items c mark form (first ∷ []) i out
-    → Kept c (sequence (separated mark form) (λ more. says (first ∷ more))) i out
+    → Kept c (sequence (separated_list mark form) (λ more. says (first ∷ more))) i out
 unfolding Items
 behind_one c mark form first i (Ok p) items =
     let t = items.2 in
-    subst (λ all. Took c (sequence (separated mark form) (λ more. says (first ∷ more))) i all p.1) (sym items.1) (record {
+    subst (λ all. Took c (sequence (separated_list mark form) (λ more. says (first ∷ more))) i all p.1) (sym items.1) (record {
       prefix = t.prefix;
       count = t.count;
       joined = t.joined;
       budget = t.budget;
-      said = then_value (separated mark form) (λ more. first ∷ more) t.prefix t.count items.0 t.said;
+      said = then_value (separated_list mark form) (λ more. first ∷ more) t.prefix t.count items.0 t.said;
     })
-behind_one c mark form first i (Err e) r = both_refused c (separated mark form) (λ more. says (first ∷ more)) i e (λ more. some_made (first ∷ more)) r
+behind_one c mark form first i (Err e) r = both_refused c (separated_list mark form) (λ more. says (first ∷ more)) i e (λ more. some_made (first ∷ more)) r
 
 pub listed_behind : {A : Type 0} {c : Mode} (mark : Kind) {item : Reader A} {form : Form A} → is_end mark ≡ false → Sound c item form → Inhabited form → (first : A)
-    → Sound c (λ i. separated_from mark item (length i.ahead) (first ∷ []) i) (sequence (separated mark form) (λ more. says (first ∷ more)))
+    → Sound c (λ i. separated_from mark item (length i.ahead) (first ∷ []) i) (sequence (separated_list mark form) (λ more. says (first ∷ more)))
 listed_behind {c = c} mark {item = item} {form = form} not_end sp any first = record {
   run = λ i whole.
       behind_one c mark form first i (separated_from mark item (length i.ahead) (first ∷ []) i)

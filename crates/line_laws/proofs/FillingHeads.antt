@@ -23,7 +23,7 @@ identity : {mode : Mode} → Complete mode always r.identity form.identity
 unfolding r.identity
 identity = then_any (expected k.Identity) (λ _. literal_read)
 
-discriminated : {mode : Mode} → Stands mode (among ends) r.discriminated form.discriminator (among (k.Discriminator ∷ ends))
+discriminated : {mode : Mode} → Stands mode (among ends) r.discriminator_if_any form.discriminator (among (k.Discriminator ∷ ends))
 unfolding among same_kind
 discriminated =
     let one = clause_stands k.Discriminator ends refl (less (then_any named (λ column. then_any identity (λ own. made (column, own)))) (λ y e. refl)) in
@@ -39,7 +39,7 @@ root class = then_any (taken k.Table) (λ _. then_any named (λ table. (link dis
 
 -- behind the name of a base
 own : {mode : Mode} (class base : List ℕ) (table : Option (List ℕ)) → Complete mode (among ends) (r.identity >>= (λ own. r.names_after k.Owns >>= (λ columns. pure (command.ClassHead class (Some base) table None (Some own) columns))))
-    (sequence form.identity (λ own. sequence form.owned (λ columns. says (command.ClassHead class (Some base) table None (Some own) columns))))
+    (sequence form.identity (λ own. sequence form.owns_list (λ columns. says (command.ClassHead class (Some base) table None (Some own) columns))))
 unfolding among same_kind
 own class base table = then_any identity (λ own. (link (list_stands k.Owns ends [] refl (less names_read (λ y e. refl))) (λ columns. done _ (λ y e. e))).complete)
 

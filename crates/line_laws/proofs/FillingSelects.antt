@@ -13,7 +13,7 @@ use Rattle.script_expr.specs.Expr as x
 use Rattle.script_select.specs.Select as s
 use Rattle.script_select.specs.Query as q
 use Rattle.script_select.specs.Bulk as b
-use Rattle.script_forms.specs.Form.{Form, Both, sequence, says, word, whether, separated, ◌or◌}
+use Rattle.script_forms.specs.Form.{Form, Both, sequence, says, word, whether, separated_list, ◌or◌}
 use Rattle.script_forms.specs.Expressions.{many, expression_to, source}
 use Rattle.script_forms.specs.Selects as form
 use Rattle.script_forms.specs.Queries as query
@@ -86,7 +86,7 @@ module _ (mode : Mode) (most : ℕ) (whole : Complete mode (among behind_express
   item_solid : Solid (form.item most)
   item_solid = solid_of _ item_opens refl
 
-  items : Complete mode (among (k.From ∷ [])) s.items (separated k.Comma (form.item most))
+  items : Complete mode (among (k.From ∷ [])) s.items (separated_list k.Comma (form.item most))
   unfolding s.items among all_in same_kind
   items =
       listed k.Comma (among (k.Comma ∷ k.From ∷ [])) (among (k.From ∷ [])) (item (k.Comma ∷ k.From ∷ []) refl refl) item_solid refl (rest_among k.Comma (k.From ∷ []))
@@ -97,7 +97,7 @@ module _ (mode : Mode) (most : ℕ) (whole : Complete mode (among behind_express
   asc_opens : (ks : List Kind) → Opens (sequence (whether (word k.Asc)) (λ _. says false)) (among ks) (among (k.Asc ∷ ks))
   asc_opens ks = then_opens (among ks) (whether_opens (word_opens k.Asc (first_among k.Asc ks)) (rest_among k.Asc ks)) (λ _. made_opens false (λ y e. e))
 
-  descending : (ks : List Kind) → among (k.Asc ∷ ks) k.Desc ≡ false → among ks k.Asc ≡ false → Stands mode (among ks) s.is_descending form.descending (among (k.Desc ∷ k.Asc ∷ ks))
+  descending : (ks : List Kind) → among (k.Asc ∷ ks) k.Desc ≡ false → among ks k.Asc ≡ false → Stands mode (among ks) s.is_descending form.is_descending (among (k.Desc ∷ k.Asc ∷ ks))
   unfolding s.is_descending
   descending ks no_desc no_asc = record {
     complete = word_or k.Desc (less (made true) (λ y e. refl)) (both (eaten k.Asc (unlike (among ks) k.Asc no_asc)) (λ _. less (made false) (λ y e. refl)) (λ _. made_opens false (λ y e. e)))

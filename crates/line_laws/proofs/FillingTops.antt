@@ -113,11 +113,11 @@ module _ {mode : Mode} where
   unfolding r.set
   set = record { complete = then_any values.member (λ owner. then_any (expected k.Assign) (λ _. set_to owner.0 owner.1)); opens = first_opens (first_opens (first_opens name_no_assign)) }
 
-  append : Behind mode r.append (sequence form.linked (λ found. says (c.Append found.0.0 found.0.1 found.1)))
+  append : Behind mode r.append (sequence form.member_and_term (λ found. says (c.Append found.0.0 found.0.1 found.1)))
   unfolding r.append
   append = record { complete = mapped (λ found. c.Append found.0.0 found.0.1 found.1) (values.linked {t = is_end} refl); opens = first_opens (first_opens (first_opens (first_opens name_no_assign))) }
 
-  remove : Behind mode r.remove (sequence form.linked (λ found. says (c.Remove found.0.0 found.0.1 found.1)))
+  remove : Behind mode r.remove (sequence form.member_and_term (λ found. says (c.Remove found.0.0 found.0.1 found.1)))
   unfolding r.remove
   remove = record { complete = mapped (λ found. c.Remove found.0.0 found.0.1 found.1) (values.linked {t = is_end} refl); opens = first_opens (first_opens (first_opens (first_opens name_no_assign))) }
 
@@ -147,21 +147,21 @@ module _ {mode : Mode} where
 
   -- ---- what a name is bound to
 
-  made_new : (bound : List ℕ) → Complete mode is_end (take_token >> b.made bound) (bindings.new bound)
-  unfolding b.made b.cells_if_any b.cells
+  made_new : (bound : List ℕ) → Complete mode is_end (take_token >> b.new_object bound) (bindings.new bound)
+  unfolding b.new_object b.cells_if_any b.cells
   made_new bound =
       then_any (taken k.New) (λ _. then_any named (λ class. both (unless_end [] (listed k.Comma always is_end values.cell (solid_of is_name values.cell_opens values.no_name_ends) refl (λ y e. refl) (unlike is_end k.Comma refl))
       (separated_opens k.Comma (opens_less values.cell_opens (not_this is_name k.LineEnd values.no_name_ends)))) (λ cells. any (made _)) (λ cells. made_opens _ (λ y e. e))))
 
-  got : (bound : List ℕ) → Complete mode is_end (take_token >> b.got bound) (bindings.get bound)
-  unfolding b.got literals.literals among same_kind
+  got : (bound : List ℕ) → Complete mode is_end (take_token >> b.object_by_key bound) (bindings.get bound)
+  unfolding b.object_by_key literals.literals among same_kind
   got bound =
       any (then_any (taken k.Get) (λ _. then_any named (λ class. then_any (expected k.LParen) (λ _.
       both (listed k.Comma always (among (k.RParen ∷ [])) literal_read (literal_solid) refl (λ y e. refl) (unlike (among (k.RParen ∷ [])) k.Comma refl))
       (λ key. then_any (expected k.RParen) (λ _. made _)) (λ key. first_opens (word_opens k.RParen refl))))))
 
-  related : (bound : List ℕ) → Complete mode is_end (take_token >> b.related bound) (bindings.related bound)
-  unfolding b.related
+  related : (bound : List ℕ) → Complete mode is_end (take_token >> b.related_object bound) (bindings.related_object bound)
+  unfolding b.related_object
   related bound = any (then_any (taken k.Related) (λ _. then_any values.member (λ found. made _)))
 
   begun : (bound : List ℕ) → Complete mode is_end (take_token >> pure (c.BeginNested bound)) (bindings.begin_nested bound)
@@ -222,26 +222,26 @@ module _ {mode : Mode} where
   at_top kd is one = on_top kd (on_word r.top_by kd (behind_word kd is one)) one.opens
 
   -- lines of the readers within, which read every first word that the one above does not
-  in_acting : (kd : Kind) {g : Form Command} → r.top_by kd ≡ r.acting → Complete mode is_end (r.acting_by kd) (sequence (word kd) (λ _. g)) → Opens g is_end no_assign
+  in_acting : (kd : Kind) {g : Form Command} → r.top_by kd ≡ r.action → Complete mode is_end (r.action_by kd) (sequence (word kd) (λ _. g)) → Opens g is_end no_assign
       → OfTop mode (sequence (word kd) (λ _. g))
-  unfolding r.top r.acting
+  unfolding r.top r.action
   in_acting kd {g = g} top cp og =
-      on_top kd (on_word r.top_by kd (subst (λ q. Complete mode is_end q (sequence (word kd) (λ _. g))) (sym top) (on_word r.acting_by kd cp))) og
+      on_top kd (on_word r.top_by kd (subst (λ q. Complete mode is_end q (sequence (word kd) (λ _. g))) (sym top) (on_word r.action_by kd cp))) og
 
-  at_acting : (kd : Kind) {p : Reader Command} {g : Form Command} → r.top_by kd ≡ r.acting → r.acting_by kd ≡ (take_token >> p) → Behind mode p g
+  at_acting : (kd : Kind) {p : Reader Command} {g : Form Command} → r.top_by kd ≡ r.action → r.action_by kd ≡ (take_token >> p) → Behind mode p g
       → OfTop mode (sequence (word kd) (λ _. g))
   at_acting kd top is one = in_acting kd top (behind_word kd is one) one.opens
 
-  in_termed : (kd : Kind) {g : Form Command} → r.top_by kd ≡ r.acting → r.acting_by kd ≡ r.termed → Complete mode is_end (r.termed_by kd) (sequence (word kd) (λ _. g))
+  in_termed : (kd : Kind) {g : Form Command} → r.top_by kd ≡ r.action → r.action_by kd ≡ r.term_command → Complete mode is_end (r.term_command_by kd) (sequence (word kd) (λ _. g))
       → Opens g is_end no_assign → OfTop mode (sequence (word kd) (λ _. g))
-  unfolding r.termed
-  in_termed kd {g = g} top acting cp og = in_acting kd top (subst (λ q. Complete mode is_end q (sequence (word kd) (λ _. g))) (sym acting) (on_word r.termed_by kd cp)) og
+  unfolding r.term_command
+  in_termed kd {g = g} top acting cp og = in_acting kd top (subst (λ q. Complete mode is_end q (sequence (word kd) (λ _. g))) (sym acting) (on_word r.term_command_by kd cp)) og
 
-  at_termed : (kd : Kind) (f : Term → Command) → r.top_by kd ≡ r.acting → r.acting_by kd ≡ r.termed → r.termed_by kd ≡ (take_token >> (R.term >>= (λ x. pure (f x))))
+  at_termed : (kd : Kind) (f : Term → Command) → r.top_by kd ≡ r.action → r.action_by kd ≡ r.term_command → r.term_command_by kd ≡ (take_token >> (R.term >>= (λ x. pure (f x))))
       → OfTop mode (sequence (word kd) (λ _. sequence basic.term (λ x. says (f x))))
   at_termed kd f top acting is = in_termed kd top acting (behind_word kd is (a_term f)) (first_opens (first_opens name_no_assign))
 
-  at_bare : (kd : Kind) (a : Command) → r.top_by kd ≡ r.acting → r.acting_by kd ≡ r.termed → r.termed_by kd ≡ r.bare → r.bare_by kd ≡ (take_token >> pure a)
+  at_bare : (kd : Kind) (a : Command) → r.top_by kd ≡ r.action → r.action_by kd ≡ r.term_command → r.term_command_by kd ≡ r.bare → r.bare_by kd ≡ (take_token >> pure a)
       → OfTop mode (sequence (word kd) (λ _. says a))
   unfolding r.bare
   at_bare kd a top acting termed is =
@@ -283,15 +283,15 @@ module _ (mode : Mode) (most : ℕ) (expressions : Complete mode (among behind_e
     opens = then_opens is_end (bulk_opens most) (λ x. made_opens (f x) (λ y e. e));
   }
 
-  compiled : (d : Dialect) → Complete mode is_end (r.compiled d) (form.compiled most d)
-  unfolding r.compiled
+  compiled : (d : Dialect) → Complete mode is_end (r.compilation d) (form.compilation most d)
+  unfolding r.compilation
   compiled d =
-      either (on_word (r.compiled_by d) k.Rows (then_any (taken k.Rows) (λ _. (rows (c.CompileRows d)).complete)))
-      (either (on_word (r.compiled_by d) k.Objects (then_any (taken k.Objects) (λ _. (objects (c.CompileObjects d)).complete)))
-      (either (on_word (r.compiled_by d) k.Bulk (then_any (taken k.Bulk) (λ _. (statements (c.CompileBulk d)).complete)))
-      (on_word (r.compiled_by d) k.Table (then_any (taken k.Table) (λ _. (a_name (c.CompileTable d)).complete)))))
+      either (on_word (r.compilation_by d) k.Rows (then_any (taken k.Rows) (λ _. (rows (c.CompileRows d)).complete)))
+      (either (on_word (r.compilation_by d) k.Objects (then_any (taken k.Objects) (λ _. (objects (c.CompileObjects d)).complete)))
+      (either (on_word (r.compilation_by d) k.Bulk (then_any (taken k.Bulk) (λ _. (statements (c.CompileBulk d)).complete)))
+      (on_word (r.compilation_by d) k.Table (then_any (taken k.Table) (λ _. (a_name (c.CompileTable d)).complete)))))
 
-  compile : Behind mode r.compile (sequence form.dialect (form.compiled most))
+  compile : Behind mode r.compile (sequence form.dialect (form.compilation most))
   unfolding r.compile
   compile = record { complete = then_any dialect compiled; opens = first_opens dialect_opens }
 

@@ -125,8 +125,8 @@ member =
 pub member_opens : {t : Kind → Bool} → Opens bindings.member t is_name
 member_opens = first_opens (first_opens name_opens)
 
-pub linked : {mode : Mode} {t : Kind → Bool} → t k.LBracket ≡ false → Complete mode t r.linked top.linked
-unfolding r.linked
+pub linked : {mode : Mode} {t : Kind → Bool} → t k.LBracket ≡ false → Complete mode t r.member_and_term top.member_and_term
+unfolding r.member_and_term
 linked out = then_any member (λ owner. both (term out) (λ other. less (made _) (λ y e. refl)) (λ other. made_opens _ (λ y e. e)))
 
 pub cell : {mode : Mode} → Complete mode always b.cell bindings.cell

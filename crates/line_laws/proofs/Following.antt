@@ -4,7 +4,7 @@ use Rattle.script_lex.specs.declared.kind.Kind.{Kind}
 use Rattle.script_lex.specs.declared.kind.Kind.TheVariants as k
 use Rattle.script_tokens.proofs.Alike.{same}
 use Rattle.script_tokens.specs.Input.{Input, Outcome, Reader, ◌>>=◌, and_then, pure, peek, take_token, eat, expect, clause, kind, sees, after, separated_from}
-use Rattle.script_forms.specs.Form.{Form, sequence, says, word, maybe, whether, separated, ◌or◌}
+use Rattle.script_forms.specs.Form.{Form, sequence, says, word, maybe, whether, separated_list, ◌or◌}
 use Rattle.grammar_laws.proofs.Taking.{Mode, Behind, TooDeep, Kept, Out, Whole, Sound, Inhabited}
 use Rattle.grammar_laws.proofs.Steps as step
 use Rattle.grammar_laws.proofs.Steps.{budget_none, within_out, is_end}
@@ -34,7 +34,7 @@ pub instead : {A : Type 0} {c : Mode} {p q : Reader A} {g : Form A} → ((i : In
 instead {c = c} {g = g} same one = record { sound = record { run = λ i whole. subst (Kept c g i) (same i) (one.sound.run i whole) }; some = one.some }
 
 pub listed : {A : Type 0} {c : Mode} (mark : Kind) {item : Reader A} {form : Form A} → is_end mark ≡ false → Follows c item form
-    → Follows c (λ i. separated_from mark item (length i.ahead) [] i) (separated mark form)
+    → Follows c (λ i. separated_from mark item (length i.ahead) [] i) (separated_list mark form)
 listed mark not_end one = record { sound = lists.listed mark not_end one.sound one.some; some = lists.some_list mark one.some }
 
 pub some_maybe : {A : Type 0} (g : Form A) → Inhabited (maybe g)

@@ -27,14 +27,14 @@ column_and_own = do
   own ← r.identity
   pure (column, own)
 
-pub discriminated_same : (i : Input) → clause k.Discriminator column_and_own i ≡ r.discriminated i
-unfolding r.discriminated
+pub discriminated_same : (i : Input) → clause k.Discriminator column_and_own i ≡ r.discriminator_if_any i
+unfolding r.discriminator_if_any
 discriminated_same i =
     clause_same k.Discriminator column_and_own (name >>= (λ column. r.identity >>= (λ own. pure (Some (column, own))))) (λ j.
     through (name j) (λ column. r.identity >>= (λ own. pure (column, own))) (λ x. pure (Some x)) (λ column m.
     through (r.identity m) (λ own. pure (column, own)) (λ x. pure (Some x)) (λ own o. refl))) i
 
-discriminated : {c : Mode} → Follows c r.discriminated form.discriminator
+discriminated : {c : Mode} → Follows c r.discriminator_if_any form.discriminator
 discriminated = instead discriminated_same (introduced k.Discriminator refl (link named (λ column. link identity (λ own. made _))))
 
 root_made : {c : Mode} (class table : List ℕ) (found : Option (List ℕ × Value)) → Follows c (pure (r.root_head class table found)) (says (form.root class table found))
@@ -46,7 +46,7 @@ unfolding r.root_class
 root class = link named (λ table. link discriminated (λ found. root_made class table found))
 
 extending : {c : Mode} (class : List ℕ) → Follows c (r.extending_class class) (sequence basic.name (λ base. sequence (maybe (sequence (word k.Table) (λ _. basic.name))) (λ table. sequence form.identity (λ own.
-    sequence form.owned (λ columns. says (command.ClassHead class (Some base) table None (Some own) columns))))))
+    sequence form.owns_list (λ columns. says (command.ClassHead class (Some base) table None (Some own) columns))))))
 unfolding r.extending_class
 extending class = link named (λ base. link (introduced k.Table refl named) (λ table. link identity (λ own. link (word_or k.Owns refl names (made [])) (λ columns. made _))))
 

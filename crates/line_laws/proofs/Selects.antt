@@ -12,7 +12,7 @@ use Rattle.script_expr.specs.Expr as x
 use Rattle.script_select.specs.Select as s
 use Rattle.script_select.specs.Query as q
 use Rattle.script_select.specs.Bulk as b
-use Rattle.script_forms.specs.Form.{Form, sequence, says, word, maybe, separated, ◌or◌}
+use Rattle.script_forms.specs.Form.{Form, sequence, says, word, maybe, separated_list, ◌or◌}
 use Rattle.script_forms.specs.Basics as basic
 use Rattle.script_forms.specs.Expressions.{many, expression_to, source}
 use Rattle.script_forms.specs.Selects as form
@@ -31,11 +31,11 @@ module _ (c : Mode) (most : ℕ) (whole : Follows c x.whole (expression_to most)
   unfolding s.item
   item = link whole (λ value. link (introduced k.As refl terms.named) (λ called. made _))
 
-  items : Follows c s.items (separated k.Comma (form.item most))
+  items : Follows c s.items (separated_list k.Comma (form.item most))
   unfolding s.items
   items = listed k.Comma refl item
 
-  descending : Follows c s.is_descending form.descending
+  descending : Follows c s.is_descending form.is_descending
   unfolding s.is_descending
   descending = word_or k.Desc refl (made true) (link (eaten k.Asc refl) (λ _. made false))
 
@@ -150,7 +150,7 @@ module _ (c : Mode) (most : ℕ) (whole : Follows c x.whole (expression_to most)
   unfolding b.insert
   insert = link terms.named (λ table. link terms.names (λ columns. link (token k.Values refl) (λ _. link row (λ found. made _))))
 
-  update : Follows c b.update (sequence basic.name (λ table. sequence (word k.Set) (λ _. sequence (separated k.Comma (statement.cell most)) (λ cells. sequence (form.condition most k.Where) (λ filter.
+  update : Follows c b.update (sequence basic.name (λ table. sequence (word k.Set) (λ _. sequence (separated_list k.Comma (statement.cell most)) (λ cells. sequence (form.condition most k.Where) (λ filter.
       says (bulk.Update table cells filter))))))
   unfolding b.update b.cells
   update = link terms.named (λ table. link (token k.Set refl) (λ _. link (listed k.Comma refl cell) (λ cells. link (condition k.Where refl) (λ filter. made _))))

@@ -50,8 +50,8 @@ pub member : {c : Mode} → Follows c r.member bindings.member
 unfolding r.member
 member = link term (λ owner. link (token k.Dot refl) (λ _. link named (λ called. made _)))
 
-pub linked : {c : Mode} → Follows c r.linked top.linked
-unfolding r.linked
+pub linked : {c : Mode} → Follows c r.member_and_term top.member_and_term
+unfolding r.member_and_term
 linked = link member (λ owner. link term (λ other. made _))
 
 pub source : {c : Mode} → Follows c x.source expressions.source

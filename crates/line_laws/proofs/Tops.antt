@@ -13,7 +13,7 @@ use Rattle.script_expr.specs.Expr.{whole}
 use Rattle.script_read.specs.Terms as R
 use Rattle.script_read.specs.Bindings as b
 use Rattle.script_read.specs.Top as r
-use Rattle.script_forms.specs.Form.{sequence, says, word, maybe, separated, ◌or◌}
+use Rattle.script_forms.specs.Form.{sequence, says, word, maybe, separated_list, ◌or◌}
 use Rattle.script_forms.specs.Basics as basic
 use Rattle.script_forms.specs.Expressions.{expression_to}
 use Rattle.script_forms.specs.Bindings as bindings
@@ -42,16 +42,16 @@ some_dialect : Inhabited form.dialect
 some_dialect = some_left (lead k.Sqlite (made {c = Plain} Sqlite))
 
 module _ {m : Mode} where
-  made_new : (bound : List ℕ) → Follows m (b.made bound) (sequence basic.name (λ class. sequence (separated k.Comma bindings.cell or says []) (λ cells. says (c.New bound class cells))))
-  unfolding b.made b.cells_if_any b.cells
+  made_new : (bound : List ℕ) → Follows m (b.new_object bound) (sequence basic.name (λ class. sequence (separated_list k.Comma bindings.cell or says []) (λ cells. says (c.New bound class cells))))
+  unfolding b.new_object b.cells_if_any b.cells
   made_new bound = link named (λ class. link (unless_end [] (of_first (listed k.Comma refl cell)) (inr (refl, refl, refl))) (λ cells. made _))
 
-  got : (bound : List ℕ) → Follows m (b.got bound) (sequence basic.name (λ class. sequence (word k.LParen) (λ _. sequence (separated k.Comma basic.literal) (λ key. sequence (word k.RParen) (λ _. says (c.Get bound class key))))))
-  unfolding b.got literals
+  got : (bound : List ℕ) → Follows m (b.object_by_key bound) (sequence basic.name (λ class. sequence (word k.LParen) (λ _. sequence (separated_list k.Comma basic.literal) (λ key. sequence (word k.RParen) (λ _. says (c.Get bound class key))))))
+  unfolding b.object_by_key literals
   got bound = link named (λ class. link (token k.LParen refl) (λ _. link (listed k.Comma refl literal) (λ key. link (token k.RParen refl) (λ _. made _))))
 
-  related : (bound : List ℕ) → Follows m (b.related bound) (sequence bindings.member (λ found. says (c.Related bound found.0 found.1)))
-  unfolding b.related
+  related : (bound : List ℕ) → Follows m (b.related_object bound) (sequence bindings.member (λ found. says (c.Related bound found.0 found.1)))
+  unfolding b.related_object
   related bound = link member (λ found. made _)
 
   set_to : (owner : Term) (called : List ℕ) → Follows m (r.set_to owner called) ((sequence basic.value (λ v. says (c.SetValue owner called v))) or (sequence basic.term (λ t. says (c.SetTerm owner called t))))
@@ -62,11 +62,11 @@ module _ {m : Mode} where
   unfolding r.set
   set = link member (λ owner. link (token k.Assign refl) (λ _. set_to owner.0 owner.1))
 
-  append : Follows m r.append (sequence form.linked (λ found. says (c.Append found.0.0 found.0.1 found.1)))
+  append : Follows m r.append (sequence form.member_and_term (λ found. says (c.Append found.0.0 found.0.1 found.1)))
   unfolding r.append
   append = link linked (λ found. made _)
 
-  remove : Follows m r.remove (sequence form.linked (λ found. says (c.Remove found.0.0 found.0.1 found.1)))
+  remove : Follows m r.remove (sequence form.member_and_term (λ found. says (c.Remove found.0.0 found.0.1 found.1)))
   unfolding r.remove
   remove = link linked (λ found. made _)
 
@@ -96,7 +96,7 @@ module _ {m : Mode} where
   unfolding r.bare
   bare = on_kind r.bare_by bare_by some_bare
 
-  termed_by : (kd : Kind) (i : Input) → Whole i.ahead → kind i ≡ kd → Out m (form.termed_line or form.bare_line) i (r.termed_by kd i)
+  termed_by : (kd : Kind) (i : Input) → Whole i.ahead → kind i ≡ kd → Out m (form.termed_line or form.bare_line) i (r.term_command_by kd i)
   termed_by k.Add i line is = left_of (left_of (behind_word k.Add refl (mapped c.Add term) i line is))
   termed_by k.Delete i line is = left_of (right_of (left_of (behind_word k.Delete refl (mapped c.Delete term) i line is)))
   termed_by k.Expunge i line is = left_of (right_of (right_of (left_of (behind_word k.Expunge refl (mapped c.Expunge term) i line is))))
@@ -105,13 +105,13 @@ module _ {m : Mode} where
   termed_by k.State i line is = left_of (right_of (right_of (right_of (right_of (right_of (behind_word k.State refl (mapped c.State term) i line is))))))
   termed_by _ i line is = right_of (at bare i line)
 
-  termed : Follows m r.termed (form.termed_line or form.bare_line)
-  unfolding r.termed
-  termed = on_kind r.termed_by termed_by (some_left some_termed)
+  termed : Follows m r.term_command (form.termed_line or form.bare_line)
+  unfolding r.term_command
+  termed = on_kind r.term_command_by termed_by (some_left some_termed)
 
   -- ---- lines that act
 
-  acting_by : (kd : Kind) (i : Input) → Whole i.ahead → kind i ≡ kd → Out m form.acting_line i (r.acting_by kd i)
+  acting_by : (kd : Kind) (i : Input) → Whole i.ahead → kind i ≡ kd → Out m form.acting_line i (r.action_by kd i)
   acting_by k.Set i line is = left_of (behind_word k.Set refl set i line is)
   acting_by k.Append i line is = right_of (left_of (behind_word k.Append refl append i line is))
   acting_by k.Remove i line is = right_of (right_of (left_of (behind_word k.Remove refl remove i line is)))
@@ -121,9 +121,9 @@ module _ {m : Mode} where
   acting_by k.Rollback i line is = right_of (right_of (right_of (right_of (right_of (right_of (left_of (behind_word k.Rollback refl (mapped c.Rollback name_if_any) i line is)))))))
   acting_by _ i line is = right_of (right_of (right_of (right_of (right_of (right_of (right_of (at termed i line)))))))
 
-  acting : Follows m r.acting form.acting_line
-  unfolding r.acting
-  acting = on_kind r.acting_by acting_by (some_left (lead k.Set set))
+  acting : Follows m r.action form.acting_line
+  unfolding r.action
+  acting = on_kind r.action_by acting_by (some_left (lead k.Set set))
 
   -- ---- dialects
 
@@ -155,16 +155,16 @@ module _ (m : Mode) (most : ℕ) (expressions : Follows m whole (expression_to m
       link named (λ bound. link (token k.Assign refl) (λ _. on_kind (b.binding_by bound) (binding_by bound) (some_left (lead k.New (made_new {m = Plain} bound)))))
 
   compiled_by : (d : Dialect) (kd : Kind) (i : Input) → Whole i.ahead → kind i ≡ kd
-      → Out m (form.compiled most d) i (r.compiled_by d kd i)
+      → Out m (form.compilation most d) i (r.compilation_by d kd i)
   compiled_by d k.Rows i line is = left_of (behind_word k.Rows refl (mapped (c.CompileRows d) (select m most expressions)) i line is)
   compiled_by d k.Objects i line is = right_of (left_of (behind_word k.Objects refl (mapped (c.CompileObjects d) (query_read m most expressions)) i line is))
   compiled_by d k.Bulk i line is = right_of (right_of (left_of (behind_word k.Bulk refl (mapped (c.CompileBulk d) (bulk_read m most expressions)) i line is)))
   compiled_by d k.Table i line is = right_of (right_of (right_of (behind_word k.Table refl (mapped (c.CompileTable d) named) i line is)))
   compiled_by d _ i line is = refused_at (some_left (lead k.Rows (mapped (c.CompileRows d) (select m most expressions)))) i
 
-  compile : Follows m r.compile (sequence form.dialect (form.compiled most))
-  unfolding r.compile r.compiled
-  compile = link dialect (λ d. on_kind (r.compiled_by d) (compiled_by d) (some_left (lead k.Rows (mapped (c.CompileRows d) (select m most expressions)))))
+  compile : Follows m r.compile (sequence form.dialect (form.compilation most))
+  unfolding r.compile r.compilation
+  compile = link dialect (λ d. on_kind (r.compilation_by d) (compiled_by d) (some_left (lead k.Rows (mapped (c.CompileRows d) (select m most expressions)))))
 
   top_by : (kd : Kind) (i : Input) → Whole i.ahead → kind i ≡ kd → Out m (form.top_line most) i (r.top_by kd i)
   top_by k.Table i line is = left_of (behind_word k.Table refl (mapped c.TableHead named) i line is)

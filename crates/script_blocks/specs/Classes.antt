@@ -28,8 +28,8 @@ unfoldable pub identity : Reader Value
 identity = expect k.Identity >> literal
 
 -- `discriminator name identity literal`, where it comes next
-unfoldable pub discriminated : Reader (Option (List ℕ × Value))
-discriminated = do
+unfoldable pub discriminator_if_any : Reader (Option (List ℕ × Value))
+discriminator_if_any = do
   found ← eat k.Discriminator
   if found then (do column ← name; own ← identity; pure (Some (column, own))) else pure None
 
@@ -41,7 +41,7 @@ root_head class table (Some p) = c.ClassHead class None (Some table) (Some p.0) 
 unfoldable pub root_class : List ℕ → Reader Command
 root_class class = do
   table ← name
-  column ← discriminated
+  column ← discriminator_if_any
   pure (root_head class table column)
 
 -- after `class name extends`
@@ -76,22 +76,22 @@ unfoldable pub dash : Reader (Unit {0})
 dash = λ i. if sees_dash i then Ok (tt, next i) else refuse i
 
 -- `-` and this word
-abbrev pub dashed : Kind → Reader (Unit {0})
-dashed word = dash >> expect word
+abbrev pub dash_and_word : Kind → Reader (Unit {0})
+dash_and_word word = dash >> expect word
 
 -- after `delete`: `delete` or `delete-orphan`
-abbrev pub deleting : Cascade → Reader Cascade
-deleting so_far = do
+abbrev pub after_delete : Cascade → Reader Cascade
+after_delete so_far = do
   found ← eat_dash
   if found then expect k.Orphan >> pure (record so_far { delete_orphan = true }) else pure (record so_far { delete = true })
 
 -- what one word of a cascade adds to it
 abbrev pub cascade_by : Cascade → Kind → Reader Cascade
-cascade_by so_far k.Save = take_token >> dashed k.Update >> pure (record so_far { save_update = true })
+cascade_by so_far k.Save = take_token >> dash_and_word k.Update >> pure (record so_far { save_update = true })
 cascade_by so_far k.Merge = take_token >> pure (record so_far { merge = true })
-cascade_by so_far k.Refresh = take_token >> dashed k.Expire >> pure (record so_far { refresh_expire = true })
+cascade_by so_far k.Refresh = take_token >> dash_and_word k.Expire >> pure (record so_far { refresh_expire = true })
 cascade_by so_far k.Expunge = take_token >> pure (record so_far { expunge = true })
-cascade_by so_far k.Delete = take_token >> deleting so_far
+cascade_by so_far k.Delete = take_token >> after_delete so_far
 cascade_by so_far k.All = take_token >> pure (record so_far { save_update = true; merge = true; refresh_expire = true; expunge = true; delete = true })
 cascade_by so_far k.NoneWord = take_token >> pure so_far
 cascade_by so_far _ = refuse

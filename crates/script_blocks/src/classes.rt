@@ -43,9 +43,9 @@ fn identity(tokens: &mut Tokens<'_>) -> Result<Value, Fault>
     literal(tokens)
 }
 
-#[tactic(auto, unfolding(crate::specs::Classes::discriminated))]
+#[tactic(auto, unfolding(crate::specs::Classes::discriminator_if_any))]
 fn discriminated(tokens: &mut Tokens<'_>) -> Result<Option<(Name, Value)>, Fault>
-    ensures { Reads (spec.discriminated tokens.old) result tokens.new }
+    ensures { Reads (spec.discriminator_if_any tokens.old) result tokens.new }
 {
     if !tokens.eat(Kind::Discriminator) {
         return Ok(None);
@@ -156,7 +156,7 @@ fn dash(tokens: &mut Tokens<'_>) -> Result<(), Fault>
 
 /// `-` and a word.
 fn dashed(tokens: &mut Tokens<'_>, word: Kind) -> Result<(), Fault>
-    ensures { Reads (spec.dashed word tokens.old) result tokens.new }
+    ensures { Reads (spec.dash_and_word word tokens.old) result tokens.new }
 {
     dash(tokens)?;
     tokens.expect(word)
@@ -164,7 +164,7 @@ fn dashed(tokens: &mut Tokens<'_>, word: Kind) -> Result<(), Fault>
 
 /// After `delete`: `delete` or `delete-orphan`.
 fn deleting(tokens: &mut Tokens<'_>, so_far: Cascade) -> Result<Cascade, Fault>
-    ensures { Reads (spec.deleting so_far tokens.old) result tokens.new }
+    ensures { Reads (spec.after_delete so_far tokens.old) result tokens.new }
 {
     if eat_dash(tokens) {
         tokens.expect(Kind::Orphan)?;

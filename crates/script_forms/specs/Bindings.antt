@@ -5,7 +5,7 @@ use Rattle.script_types.specs.declared.command.Command.{Command}
 use Rattle.script_types.specs.declared.command.Command.TheVariants as c
 use Rattle.script_types.specs.declared.command.Term.{Term}
 use Rattle.script_lex.specs.declared.kind.Kind.TheVariants as k
-use Rattle.script_forms.specs.Form.{Form, ◌>>=◌, ◌>>◌, ◌<$>◌, ◌or◌, says, word, separated}
+use Rattle.script_forms.specs.Form.{Form, ◌>>=◌, ◌>>◌, ◌<$>◌, ◌or◌, says, word, separated_list}
 use Rattle.script_forms.specs.Basics.{name, literal, value, term}
 use Rattle.script_forms.specs.Queries.{query}
 
@@ -30,7 +30,7 @@ abbrev pub new : List ℕ → Form Command
 new bound = do
   word k.New
   class ← name
-  cells ← separated k.Comma cell or says []
+  cells ← separated_list k.Comma cell or says []
   says (c.New bound class cells)
 
 -- `get NAME (LIT {, LIT})`
@@ -39,7 +39,7 @@ get bound = do
   word k.Get
   class ← name
   word k.LParen
-  key ← separated k.Comma literal
+  key ← separated_list k.Comma literal
   word k.RParen
   says (c.Get bound class key)
 
@@ -48,8 +48,8 @@ abbrev pub objects : ℕ → List ℕ → Form Command
 objects most bound = word k.Objects >> c.Objects bound <$> query most
 
 -- `related TERM.NAME`
-abbrev pub related : List ℕ → Form Command
-related bound = do
+abbrev pub related_object : List ℕ → Form Command
+related_object bound = do
   word k.Related
   found ← member
   says (c.Related bound found.0 found.1)
@@ -60,7 +60,7 @@ begin_nested bound = word k.BeginNested >> says (c.BeginNested bound)
 
 -- what a name is bound to
 abbrev pub bound_to : ℕ → List ℕ → Form Command
-bound_to most bound = new bound or get bound or objects most bound or related bound or begin_nested bound
+bound_to most bound = new bound or get bound or objects most bound or related_object bound or begin_nested bound
 
 -- `NAME =` and one of these, where so many of parentheses, `not` and unary minus may nest in an expression
 abbrev pub binding_line : ℕ → Form Command

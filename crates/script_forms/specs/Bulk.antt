@@ -5,7 +5,7 @@ use Rattle.script_types.specs.declared.expression.Syn.{Syn}
 use Rattle.script_types.specs.declared.select.SynBulk.{SynBulk}
 use Rattle.script_types.specs.declared.select.SynBulk.TheVariants as b
 use Rattle.script_lex.specs.declared.kind.Kind.TheVariants as k
-use Rattle.script_forms.specs.Form.{Form, ◌>>=◌, ◌>>◌, ◌<$>◌, ◌or◌, says, word, separated}
+use Rattle.script_forms.specs.Form.{Form, ◌>>=◌, ◌>>◌, ◌<$>◌, ◌or◌, says, word, separated_list}
 use Rattle.script_forms.specs.Basics.{name, names, value}
 use Rattle.script_forms.specs.Expressions.{expression_to}
 use Rattle.script_forms.specs.Selects.{condition}
@@ -14,7 +14,7 @@ use Rattle.script_forms.specs.Selects.{condition}
 abbrev pub row : Form (List Value)
 row = do
   word k.LParen
-  found ← separated k.Comma value
+  found ← separated_list k.Comma value
   word k.RParen
   says found
 
@@ -44,7 +44,7 @@ module _ (most : ℕ) where
     word k.Update
     table ← name
     word k.Set
-    cells ← separated k.Comma cell
+    cells ← separated_list k.Comma cell
     filter ← condition most k.Where
     says (b.Update table cells filter)
 

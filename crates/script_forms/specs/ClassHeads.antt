@@ -29,8 +29,8 @@ root_class class = do
   says (root class table found)
 
 -- `owns (NAME {, NAME})`, or nothing
-abbrev pub owned : Form (List (List ℕ))
-owned = (word k.Owns >> names) or says []
+abbrev pub owns_list : Form (List (List ℕ))
+owns_list = (word k.Owns >> names) or says []
 
 -- `extends NAME [table NAME] identity LIT [owns (NAME {, NAME})]`
 abbrev pub extending_class : List ℕ → Form Command
@@ -39,7 +39,7 @@ extending_class class = do
   base ← name
   table ← maybe (word k.Table >> name)
   own ← identity
-  columns ← owned
+  columns ← owns_list
   says (c.ClassHead class (Some base) table None (Some own) columns)
 
 -- `class NAME` and one of these

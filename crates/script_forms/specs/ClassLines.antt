@@ -4,7 +4,7 @@ use Rattle.class_types.specs.declared.declared.Cascade.{Cascade}
 use Rattle.script_types.specs.declared.command.Command.{Command}
 use Rattle.script_types.specs.declared.command.Command.TheVariants as c
 use Rattle.script_lex.specs.declared.kind.Kind.TheVariants as k
-use Rattle.script_forms.specs.Form.{Form, ◌>>=◌, ◌>>◌, ◌<$>◌, ◌or◌, says, word, maybe, whether, separated}
+use Rattle.script_forms.specs.Form.{Form, ◌>>=◌, ◌>>◌, ◌<$>◌, ◌or◌, says, word, maybe, whether, separated_list}
 use Rattle.script_forms.specs.Basics.{name, names}
 use Rattle.script_forms.specs.TableLines.{end_line}
 
@@ -13,8 +13,8 @@ abbrev pub back : Form Bool
 back = (word k.Back >> says false) or (word k.Backref >> says true)
 
 -- `using (NAME {, NAME})`, or nothing
-abbrev pub using : Form (List (List ℕ))
-using = (word k.Using >> names) or says []
+abbrev pub using_list : Form (List (List ℕ))
+using_list = (word k.Using >> names) or says []
 
 abbrev pub none : Cascade
 none = record { save_update = false; merge = false; refresh_expire = false; expunge = false; delete = false; delete_orphan = false }
@@ -36,8 +36,8 @@ cascade_word =
     or (word k.NoneWord >> says none)
 
 -- what either of two has
-abbrev pub joined : Cascade → Cascade → Cascade
-joined a b = record {
+abbrev pub cascade_union : Cascade → Cascade → Cascade
+cascade_union a b = record {
   save_update = a.save_update || b.save_update;
   merge = a.merge || b.merge;
   refresh_expire = a.refresh_expire || b.refresh_expire;
@@ -49,11 +49,11 @@ joined a b = record {
 -- what any of them has, beside what was so far
 abbrev pub all_of : Cascade → List Cascade → Cascade
 all_of so_far [] = so_far
-all_of so_far (word ∷ words) = all_of (joined word so_far) words
+all_of so_far (word ∷ words) = all_of (cascade_union word so_far) words
 
 -- `cascade C {, C}`, or nothing
 abbrev pub cascade : Form (Option Cascade)
-cascade = maybe (word k.Cascade >> all_of none <$> separated k.Comma cascade_word)
+cascade = maybe (word k.Cascade >> all_of none <$> separated_list k.Comma cascade_word)
 
 -- what a relationship joins: its name, its target, its secondary table, whether the partner is made, and the partner
 abbrev pub sides : Form (Option (List ℕ)) → Form (List ℕ × List ℕ × Option (List ℕ) × Bool × List ℕ)
@@ -68,7 +68,7 @@ sides secondary = do
 abbrev pub relation : Bool → Form (Option (List ℕ)) → Form Bool → Form Command
 relation many secondary post_update = do
   found ← sides secondary
-  columns ← using
+  columns ← using_list
   words ← cascade
   post ← post_update
   says (c.RelationLine (record {

@@ -12,14 +12,14 @@ use Rattle.script_types.specs.declared.expression.SynSource.{SynSource}
 use Rattle.script_lex.specs.declared.kind.Kind.{Kind}
 use Rattle.script_lex.specs.declared.kind.Kind.TheVariants as k
 use Rattle.script_lex.specs.declared.token.Token.{Token}
-use Rattle.script_forms.specs.Form.{Form, Both, ◌>>=◌, ◌>>◌, ◌<$>◌, ◌or◌, says, word, maybe, whether, separated}
+use Rattle.script_forms.specs.Form.{Form, Both, ◌>>=◌, ◌>>◌, ◌<$>◌, ◌or◌, says, word, maybe, whether, separated_list}
 use Rattle.script_forms.specs.Basics.{name, literal}
 
 -- ---- parts of forms
 
 -- no tokens say anything
-abbrev pub nothing : {A : Type 0} → Form A
-nothing tokens count found = ⊥
+abbrev pub no_form : {A : Type 0} → Form A
+no_form tokens count found = ⊥
 
 -- any number of items, also none
 abbrev pub many : {A : Type 0} → Form A → Form (List A)
@@ -31,7 +31,7 @@ abbrev pub several : {A : Type 0} → Kind → Form A → Form (List A)
 several mark item = do
   first ← item
   word mark
-  more ← separated mark item
+  more ← separated_list mark item
   says (first ∷ more)
 
 -- one token of this kind, which is one of the operators that are counted
@@ -39,8 +39,8 @@ abbrev pub operator : Kind → Form (Unit {0})
 operator kind tokens count _ = (t : Token) × (tokens ≡ t ∷ []) × (t.kind ≡ kind) × (count ≡ 1)
 
 -- one token of this kind, behind which an expression stands one deeper, where that may be
-abbrev pub nesting : ℕ → Kind → Form (Unit {0})
-nesting depth kind tokens count _ = (t : Token) × (tokens ≡ t ∷ []) × (t.kind ≡ kind) × (depth ≢ 0) × (count ≡ 0)
+abbrev pub nesting_token : ℕ → Kind → Form (Unit {0})
+nesting_token depth kind tokens count _ = (t : Token) × (tokens ≡ t ∷ []) × (t.kind ≡ kind) × (depth ≢ 0) × (count ≡ 0)
 
 -- ---- operators
 
@@ -51,16 +51,16 @@ pub data Joint : Type 0 where
   Times : Joint
   Beside : Joint
 
-abbrev pub joined : Joint → Syn → Syn → Syn
-joined Plus left right = e.Arith arith.Add left right
-joined Minus left right = e.Arith arith.Sub left right
-joined Times left right = e.Arith arith.Mul left right
-joined Beside left right = e.Concat left right
+abbrev pub operation_of : Joint → Syn → Syn → Syn
+operation_of Plus left right = e.Arith arith.Add left right
+operation_of Minus left right = e.Arith arith.Sub left right
+operation_of Times left right = e.Arith arith.Mul left right
+operation_of Beside left right = e.Concat left right
 
 -- an operand and those behind it, grouped to the left
-abbrev pub grouped : Syn → List (Joint × Syn) → Syn
-grouped left [] = left
-grouped left (next ∷ more) = grouped (joined next.0 left next.1) more
+abbrev pub left_association : Syn → List (Joint × Syn) → Syn
+left_association left [] = left
+left_association left (next ∷ more) = left_association (operation_of next.0 left next.1) more
 
 -- `+`, `-`, `||`; a minus directly before a digit is one too where an operator may stand
 abbrev pub sum_joint : Form Joint
@@ -75,7 +75,7 @@ abbrev pub chain : Form Joint → Form Syn → Form Syn
 chain joint operand = do
   first ← operand
   more ← many (do by ← joint; right ← operand; says (by, right))
-  says (grouped first more)
+  says (left_association first more)
 
 -- one operand, or a list of them
 abbrev pub one_or_list : Kind → (List Syn → Syn) → Form Syn → Form Syn
@@ -127,7 +127,7 @@ module _ (depth : ℕ) (inner : Place → Form Syn) where
   -- `(EXPR)`
   abbrev pub parenthesized : Form Syn
   parenthesized = do
-    nesting depth k.LParen
+    nesting_token depth k.LParen
     found ← inner Anywhere
     word k.RParen
     says found
@@ -136,7 +136,7 @@ module _ (depth : ℕ) (inner : Place → Form Syn) where
   abbrev pub existence : Form Syn
   existence = do
     word k.Exists
-    nesting depth k.LParen
+    nesting_token depth k.LParen
     from ← source
     word k.Where
     found ← inner Anywhere
@@ -147,7 +147,7 @@ module _ (depth : ℕ) (inner : Place → Form Syn) where
   abbrev pub count_all : Form Syn
   count_all = do
     free_word k.Count
-    nesting depth k.LParen
+    nesting_token depth k.LParen
     word k.Star
     word k.RParen
     says e.CountAll
@@ -156,8 +156,8 @@ module _ (depth : ℕ) (inner : Place → Form Syn) where
   abbrev pub call : Form Syn
   call = do
     called ← function
-    nesting depth k.LParen
-    found ← separated k.Comma (inner Anywhere)
+    nesting_token depth k.LParen
+    found ← separated_list k.Comma (inner Anywhere)
     word k.RParen
     says (e.Call called found)
 
@@ -175,7 +175,7 @@ module _ (depth : ℕ) (inner : Place → Form Syn) where
 
   -- UN: `- UN`, or ATOM
   abbrev pub unary : Form Syn
-  unary = (nesting depth k.Minus >> e.Neg <$> inner BehindMinus) or atom
+  unary = (nesting_token depth k.Minus >> e.Neg <$> inner BehindMinus) or atom
 
   -- PROD: `UN {* UN}`
   abbrev pub product : Form Syn
@@ -188,8 +188,8 @@ module _ (depth : ℕ) (inner : Place → Form Syn) where
   -- `([LIT {, LIT}])`
   abbrev pub members : Form (List Value)
   members = do
-    nesting depth k.LParen
-    found ← separated k.Comma literal or says []
+    nesting_token depth k.LParen
+    found ← separated_list k.Comma literal or says []
     word k.RParen
     says found
 
@@ -212,7 +212,7 @@ module _ (depth : ℕ) (inner : Place → Form Syn) where
 
   -- NEG: `not NEG`, or CMP
   abbrev pub negation : Form Syn
-  negation = (nesting depth k.Not >> e.Not <$> inner BehindNot) or comparison
+  negation = (nesting_token depth k.Not >> e.Not <$> inner BehindNot) or comparison
 
   -- CONJ: `NEG {and NEG}`
   abbrev pub conjunction : Form Syn
@@ -228,13 +228,13 @@ module _ (depth : ℕ) (inner : Place → Form Syn) where
   at BehindMinus = unary
 
 -- an expression in which less than this number of parentheses, `not` and unary minus nest
-unfoldable pub nested : ℕ → Place → Form Syn
-nested zero place = nothing
-nested (suc depth) place = at depth (nested depth) place
+unfoldable pub nested_expression : ℕ → Place → Form Syn
+nested_expression zero place = no_form
+nested_expression (suc depth) place = at depth (nested_expression depth) place
 
 -- an expression of its own: at most this number of parentheses, `not` and unary minus nest, and it has at most 1000 of `+ - || *`
 abbrev pub expression_to : ℕ → Form Syn
-expression_to most tokens count found = (operators : ℕ) × nested (suc most) Anywhere tokens operators found × (operators ≤ 1000) × (count ≡ 0)
+expression_to most tokens count found = (operators : ℕ) × nested_expression (suc most) Anywhere tokens operators found × (operators ≤ 1000) × (count ≡ 0)
 
 -- EXPR: at most 100 nest
 abbrev pub expression : Form Syn

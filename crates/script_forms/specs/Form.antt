@@ -58,8 +58,8 @@ whether p tokens count false = (tokens ≡ []) × (count ≡ 0)
 whether p tokens count true = p tokens count tt
 
 -- one item or more, with this mark between
-abbrev pub separated : {A : Type 0} → Kind → Form A → Form (List A)
-separated mark item tokens count [] = ⊥
-separated mark item tokens count (a ∷ []) = item tokens count a
-separated mark item tokens count (a ∷ b ∷ more) =
-    Both (λ ts n. item ts n a) (Both (λ ts n. word mark ts n tt) (λ ts n. separated mark item ts n (b ∷ more))) tokens count
+abbrev pub separated_list : {A : Type 0} → Kind → Form A → Form (List A)
+separated_list mark item tokens count [] = ⊥
+separated_list mark item tokens count (a ∷ []) = item tokens count a
+separated_list mark item tokens count (a ∷ b ∷ more) =
+    Both (λ ts n. item ts n a) (Both (λ ts n. word mark ts n tt) (λ ts n. separated_list mark item ts n (b ∷ more))) tokens count

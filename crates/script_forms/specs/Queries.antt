@@ -2,7 +2,7 @@
 use Rattle.std.specs.Prelude.{ℕ, Bool, true, false, List, []}
 use Rattle.script_types.specs.declared.select.SynQuery.{SynQuery}
 use Rattle.script_lex.specs.declared.kind.Kind.TheVariants as k
-use Rattle.script_forms.specs.Form.{Form, ◌>>=◌, ◌>>◌, ◌or◌, says, word, separated}
+use Rattle.script_forms.specs.Form.{Form, ◌>>=◌, ◌>>◌, ◌or◌, says, word, separated_list}
 use Rattle.script_forms.specs.Basics.{name}
 use Rattle.script_forms.specs.Expressions.{many}
 use Rattle.script_forms.specs.Selects.{condition, order, int_after}
@@ -28,7 +28,7 @@ option = do
 
 -- `with OPT {, OPT}`, or nothing
 abbrev pub options : Form (List (Bool × List ℕ × List ℕ))
-options = (word k.With >> separated k.Comma option) or says []
+options = (word k.With >> separated_list k.Comma option) or says []
 
 -- OSELECT: `NAME {join NAME.NAME} [where EXPR] ORDER [limit INT] [offset INT] [with OPT {, OPT}]`, where so many of parentheses, `not` and unary minus may nest in an expression
 abbrev pub query : ℕ → Form SynQuery

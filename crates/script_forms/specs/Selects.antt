@@ -5,13 +5,13 @@ use Rattle.script_types.specs.declared.select.SynJoin.{SynJoin}
 use Rattle.script_types.specs.declared.select.SynSelect.{SynSelect}
 use Rattle.script_lex.specs.declared.kind.Kind.{Kind}
 use Rattle.script_lex.specs.declared.kind.Kind.TheVariants as k
-use Rattle.script_forms.specs.Form.{Form, ◌>>=◌, ◌>>◌, ◌or◌, says, word, maybe, whether, separated}
+use Rattle.script_forms.specs.Form.{Form, ◌>>=◌, ◌>>◌, ◌or◌, says, word, maybe, whether, separated_list}
 use Rattle.script_forms.specs.Basics.{name, int}
 use Rattle.script_forms.specs.Expressions.{many, source, expression_to}
 
 -- whether it is `desc`: `desc`, `asc`, or neither
-abbrev pub descending : Form Bool
-descending = (word k.Desc >> says true) or (whether (word k.Asc) >> says false)
+abbrev pub is_descending : Form Bool
+is_descending = (word k.Desc >> says true) or (whether (word k.Asc) >> says false)
 
 -- a word and INT, or nothing
 abbrev pub int_after : Kind → Form (Option ℕ)
@@ -42,24 +42,24 @@ module _ (most : ℕ) where
 
   -- `group by EXPR {, EXPR}`, or nothing
   abbrev pub groups : Form (List Syn)
-  groups = (word k.Group >> (word k.By >> separated k.Comma (expression_to most))) or says []
+  groups = (word k.Group >> (word k.By >> separated_list k.Comma (expression_to most))) or says []
 
   -- `EXPR [asc | desc]`
   abbrev pub key : Form (Syn × Bool)
   key = do
     value ← expression_to most
-    down ← descending
+    down ← is_descending
     says (value, down)
 
   -- ORDER: `order by EXPR [asc | desc] {, EXPR [asc | desc]}`, or nothing
   abbrev pub order : Form (List (Syn × Bool))
-  order = (word k.Order >> (word k.By >> separated k.Comma key)) or says []
+  order = (word k.Order >> (word k.By >> separated_list k.Comma key)) or says []
 
   -- SELECT: `[distinct] EXPR [as NAME] {, EXPR [as NAME]} from SRC {[left] join SRC on EXPR} [where EXPR] [group by EXPR {, EXPR}] [having EXPR] ORDER [limit INT] [offset INT]`
   abbrev pub select : Form SynSelect
   select = do
     distinct ← whether (word k.Distinct)
-    items ← separated k.Comma item
+    items ← separated_list k.Comma item
     word k.From
     first ← source
     joins ← many join

@@ -43,8 +43,8 @@ set_line = do
   (c.SetValue owner.0 owner.1 <$> value) or (c.SetTerm owner.0 owner.1 <$> term)
 
 -- `TERM.NAME TERM`
-abbrev pub linked : Form ((Term × List ℕ) × Term)
-linked = do
+abbrev pub member_and_term : Form ((Term × List ℕ) × Term)
+member_and_term = do
   owner ← member
   other ← term
   says (owner, other)
@@ -53,14 +53,14 @@ linked = do
 abbrev pub append_line : Form Command
 append_line = do
   word k.Append
-  found ← linked
+  found ← member_and_term
   says (c.Append found.0.0 found.0.1 found.1)
 
 -- `remove TERM.NAME TERM`
 abbrev pub remove_line : Form Command
 remove_line = do
   word k.Remove
-  found ← linked
+  found ← member_and_term
   says (c.Remove found.0.0 found.0.1 found.1)
 
 -- `show TERM`, or `show TERM.NAME`
@@ -97,8 +97,8 @@ dialect =
     (word k.Sqlite >> says Sqlite) or (word k.Postgresql >> says Postgresql) or (word k.Mysql >> says Mysql)
 
 -- what is compiled: `rows SELECT`, `objects OSELECT`, `bulk BULK`, `table NAME`
-abbrev pub compiled : ℕ → Dialect → Form Command
-compiled most dialect =
+abbrev pub compilation : ℕ → Dialect → Form Command
+compilation most dialect =
     (word k.Rows >> c.CompileRows dialect <$> select most)
     or (word k.Objects >> c.CompileObjects dialect <$> query most)
     or (word k.Bulk >> c.CompileBulk dialect <$> bulk most)
@@ -106,7 +106,7 @@ compiled most dialect =
 
 -- `compile`, a dialect, and one of these
 abbrev pub compile_line : ℕ → Form Command
-compile_line most = word k.Compile >> (dialect >>= compiled most)
+compile_line most = word k.Compile >> (dialect >>= compilation most)
 
 -- a line that binds nothing, where so many of parentheses, `not` and unary minus may nest in an expression
 abbrev pub top_line : ℕ → Form Command

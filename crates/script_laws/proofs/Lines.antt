@@ -44,8 +44,8 @@ two_steady : IsSteady t.two
 unfolding t.two
 two_steady = both term_steady (λ first. both term_steady (λ second. made (first, second)))
 
-linked_steady : IsSteady t.linked
-unfolding t.linked
+linked_steady : IsSteady t.member_and_term
+unfolding t.member_and_term
 linked_steady = both member_steady (λ owner. both term_steady (λ other. made (owner, other)))
 
 -- ---- the block of a table
@@ -114,8 +114,8 @@ identity_steady : IsSteady l.identity
 unfolding l.identity
 identity_steady = both (expected k.Identity refl) (λ _. literal_steady)
 
-discriminated_steady : IsSteady l.discriminated
-unfolding l.discriminated
+discriminated_steady : IsSteady l.discriminator_if_any
+unfolding l.discriminator_if_any
 discriminated_steady =
     both (eaten k.Discriminator refl) (λ found. chosen found (both name_steady (λ column. both identity_steady (λ own. made (Some (column, own))))) (made None))
 
@@ -156,10 +156,10 @@ eat_dash_steady =
     on_token (λ t i. Ok (same_kind t.kind k.Minus || same_kind t.kind k.Signed, if same_kind t.kind k.Minus || same_kind t.kind k.Signed then next i else i))
     (λ t i is. eaten_by i (same_kind t.kind k.Minus || same_kind t.kind k.Signed) (λ seen. ap (λ u. closes u.kind) is ∙ dash_goes t.kind seen))
 
-dashed_steady : (word : Kind) → closes word ≡ false → IsSteady (l.dashed word)
+dashed_steady : (word : Kind) → closes word ≡ false → IsSteady (l.dash_and_word word)
 dashed_steady word goes = both dash_steady (λ _. expected word goes)
 
-deleting_steady : (so_far : Cascade) → IsSteady (l.deleting so_far)
+deleting_steady : (so_far : Cascade) → IsSteady (l.after_delete so_far)
 deleting_steady so_far = both eat_dash_steady (λ found. chosen found (both (expected k.Orphan refl) (λ _. made (record so_far { delete_orphan = true }))) (made (record so_far { delete = true })))
 
 cascade_by_steady : (so_far : Cascade) (kind : Kind) → IsSteadyAt kind (l.cascade_by so_far kind)
@@ -255,17 +255,17 @@ cells_if_any_steady : IsSteady n.cells_if_any
 unfolding n.cells_if_any
 cells_if_any_steady = ended_or [] n.cells cells_steady
 
-made_steady : (bound : List ℕ) → IsSteady (n.made bound)
-unfolding n.made
+made_steady : (bound : List ℕ) → IsSteady (n.new_object bound)
+unfolding n.new_object
 made_steady bound = both name_steady (λ class. both cells_if_any_steady (λ found. made (c.New bound class found)))
 
-got_steady : (bound : List ℕ) → IsSteady (n.got bound)
-unfolding n.got
+got_steady : (bound : List ℕ) → IsSteady (n.object_by_key bound)
+unfolding n.object_by_key
 got_steady bound =
     both name_steady (λ class. both (expected k.LParen refl) (λ _. both literals_steady (λ key. both (expected k.RParen refl) (λ _. made (c.Get bound class key)))))
 
-related_steady : (bound : List ℕ) → IsSteady (n.related bound)
-unfolding n.related
+related_steady : (bound : List ℕ) → IsSteady (n.related_object bound)
+unfolding n.related_object
 related_steady bound = both member_steady (λ found. made (c.Related bound found.0 found.1))
 
 binding_by_steady : (bound : List ℕ) (kind : Kind) → IsSteadyAt kind (n.binding_by bound kind)
@@ -326,16 +326,16 @@ dialect_steady : IsSteady o.dialect
 unfolding o.dialect
 dialect_steady = on_kind o.dialect_by dialect_by_steady
 
-compiled_by_steady : (d : Dialect) (kind : Kind) → IsSteadyAt kind (o.compiled_by d kind)
+compiled_by_steady : (d : Dialect) (kind : Kind) → IsSteadyAt kind (o.compilation_by d kind)
 compiled_by_steady d k.Rows = behind k.Rows refl (λ _. mapped (c.CompileRows d) select_steady)
 compiled_by_steady d k.Objects = behind k.Objects refl (λ _. mapped (c.CompileObjects d) query_steady)
 compiled_by_steady d k.Bulk = behind k.Bulk refl (λ _. mapped (c.CompileBulk d) bulk_steady)
 compiled_by_steady d k.Table = behind k.Table refl (λ _. mapped (c.CompileTable d) name_steady)
 compiled_by_steady d _ = there refused
 
-compiled_steady : (d : Dialect) → IsSteady (o.compiled d)
-unfolding o.compiled
-compiled_steady d = on_kind (o.compiled_by d) (compiled_by_steady d)
+compiled_steady : (d : Dialect) → IsSteady (o.compilation d)
+unfolding o.compilation
+compiled_steady d = on_kind (o.compilation_by d) (compiled_by_steady d)
 
 compile_steady : IsSteady o.compile
 unfolding o.compile
@@ -354,7 +354,7 @@ bare_steady : IsSteady o.bare
 unfolding o.bare
 bare_steady = on_kind o.bare_by bare_by_steady
 
-termed_by_steady : (kind : Kind) → IsSteadyAt kind (o.termed_by kind)
+termed_by_steady : (kind : Kind) → IsSteadyAt kind (o.term_command_by kind)
 termed_by_steady k.Add = behind k.Add refl (λ _. mapped c.Add term_steady)
 termed_by_steady k.Delete = behind k.Delete refl (λ _. mapped c.Delete term_steady)
 termed_by_steady k.Expunge = behind k.Expunge refl (λ _. mapped c.Expunge term_steady)
@@ -363,11 +363,11 @@ termed_by_steady k.Refresh = behind k.Refresh refl (λ _. mapped c.Refresh term_
 termed_by_steady k.State = behind k.State refl (λ _. mapped c.State term_steady)
 termed_by_steady _ = there bare_steady
 
-termed_steady : IsSteady o.termed
-unfolding o.termed
-termed_steady = on_kind o.termed_by termed_by_steady
+termed_steady : IsSteady o.term_command
+unfolding o.term_command
+termed_steady = on_kind o.term_command_by termed_by_steady
 
-acting_by_steady : (kind : Kind) → IsSteadyAt kind (o.acting_by kind)
+acting_by_steady : (kind : Kind) → IsSteadyAt kind (o.action_by kind)
 acting_by_steady k.Set = behind k.Set refl (λ _. set_steady)
 acting_by_steady k.Append = behind k.Append refl (λ _. append_steady)
 acting_by_steady k.Remove = behind k.Remove refl (λ _. remove_steady)
@@ -377,9 +377,9 @@ acting_by_steady k.Commit = behind k.Commit refl (λ _. mapped c.Commit name_if_
 acting_by_steady k.Rollback = behind k.Rollback refl (λ _. mapped c.Rollback name_if_any_steady)
 acting_by_steady _ = there termed_steady
 
-acting_steady : IsSteady o.acting
-unfolding o.acting
-acting_steady = on_kind o.acting_by acting_by_steady
+acting_steady : IsSteady o.action
+unfolding o.action
+acting_steady = on_kind o.action_by acting_by_steady
 
 top_by_steady : (kind : Kind) → IsSteadyAt kind (o.top_by kind)
 top_by_steady k.Table = behind k.Table refl (λ _. mapped c.TableHead name_steady)

@@ -27,15 +27,15 @@ unfoldable pub cells_if_any : Reader (List (List ℕ × Value))
 cells_if_any = λ i. if sees k.LineEnd i then Ok ([], i) else cells i
 
 -- after `name = new`
-unfoldable pub made : List ℕ → Reader Command
-made bound = do
+unfoldable pub new_object : List ℕ → Reader Command
+new_object bound = do
   class ← name
   found ← cells_if_any
   pure (c.New bound class found)
 
 -- after `name = get`
-unfoldable pub got : List ℕ → Reader Command
-got bound = do
+unfoldable pub object_by_key : List ℕ → Reader Command
+object_by_key bound = do
   class ← name
   expect k.LParen
   key ← literals
@@ -43,16 +43,16 @@ got bound = do
   pure (c.Get bound class key)
 
 -- after `name = related`
-unfoldable pub related : List ℕ → Reader Command
-related bound = do
+unfoldable pub related_object : List ℕ → Reader Command
+related_object bound = do
   found ← member
   pure (c.Related bound found.0 found.1)
 
 abbrev pub binding_by : List ℕ → Kind → Reader Command
-binding_by bound k.New = take_token >> made bound
-binding_by bound k.Get = take_token >> got bound
+binding_by bound k.New = take_token >> new_object bound
+binding_by bound k.Get = take_token >> object_by_key bound
 binding_by bound k.Objects = take_token >> c.Objects bound <$> query
-binding_by bound k.Related = take_token >> related bound
+binding_by bound k.Related = take_token >> related_object bound
 binding_by bound k.BeginNested = take_token >> pure (c.BeginNested bound)
 binding_by bound _ = refuse
 

@@ -35,8 +35,8 @@ two = do
   pure (first, second)
 
 -- `term.name term`
-unfoldable pub linked : Reader ((Term × List ℕ) × Term)
-linked = do
+unfoldable pub member_and_term : Reader ((Term × List ℕ) × Term)
+member_and_term = do
   owner ← member
   other ← term
   pure (owner, other)

@@ -15,7 +15,7 @@ use Rattle.script_tokens.specs.Literals.{value, begins_literal}
 use Rattle.script_select.specs.Select.{select}
 use Rattle.script_select.specs.Query.{query}
 use Rattle.script_select.specs.Bulk.{bulk}
-use Rattle.script_read.specs.Terms.{term, member, two, linked}
+use Rattle.script_read.specs.Terms.{term, member, two, member_and_term}
 use Rattle.script_blocks.specs.Classes.{class_head}
 
 -- after `set term.name =`
@@ -34,13 +34,13 @@ set = do
 -- after `append`
 unfoldable pub append : Reader Command
 append = do
-  found ← linked
+  found ← member_and_term
   pure (c.Append found.0.0 found.0.1 found.1)
 
 -- after `remove`
 unfoldable pub remove : Reader Command
 remove = do
-  found ← linked
+  found ← member_and_term
   pure (c.Remove found.0.0 found.0.1 found.1)
 
 -- after `show`
@@ -69,20 +69,20 @@ dialect_by _ = refuse
 unfoldable pub dialect : Reader Dialect
 dialect = peek >>= dialect_by
 
-abbrev pub compiled_by : Dialect → Kind → Reader Command
-compiled_by d k.Rows = take_token >> c.CompileRows d <$> select
-compiled_by d k.Objects = take_token >> c.CompileObjects d <$> query
-compiled_by d k.Bulk = take_token >> c.CompileBulk d <$> bulk
-compiled_by d k.Table = take_token >> c.CompileTable d <$> name
-compiled_by d _ = refuse
+abbrev pub compilation_by : Dialect → Kind → Reader Command
+compilation_by d k.Rows = take_token >> c.CompileRows d <$> select
+compilation_by d k.Objects = take_token >> c.CompileObjects d <$> query
+compilation_by d k.Bulk = take_token >> c.CompileBulk d <$> bulk
+compilation_by d k.Table = take_token >> c.CompileTable d <$> name
+compilation_by d _ = refuse
 
 -- after `compile` and a dialect
-unfoldable pub compiled : Dialect → Reader Command
-compiled d = peek >>= compiled_by d
+unfoldable pub compilation : Dialect → Reader Command
+compilation d = peek >>= compilation_by d
 
 -- after `compile`
 unfoldable pub compile : Reader Command
-compile = dialect >>= compiled
+compile = dialect >>= compilation
 
 -- a line of one word
 abbrev pub bare_by : Kind → Reader Command
@@ -98,31 +98,31 @@ unfoldable pub bare : Reader Command
 bare = peek >>= bare_by
 
 -- a line of a word and a term, or of one word
-abbrev pub termed_by : Kind → Reader Command
-termed_by k.Add = take_token >> c.Add <$> term
-termed_by k.Delete = take_token >> c.Delete <$> term
-termed_by k.Expunge = take_token >> c.Expunge <$> term
-termed_by k.Expire = take_token >> c.Expire <$> term
-termed_by k.Refresh = take_token >> c.Refresh <$> term
-termed_by k.State = take_token >> c.State <$> term
-termed_by _ = bare
+abbrev pub term_command_by : Kind → Reader Command
+term_command_by k.Add = take_token >> c.Add <$> term
+term_command_by k.Delete = take_token >> c.Delete <$> term
+term_command_by k.Expunge = take_token >> c.Expunge <$> term
+term_command_by k.Expire = take_token >> c.Expire <$> term
+term_command_by k.Refresh = take_token >> c.Refresh <$> term
+term_command_by k.State = take_token >> c.State <$> term
+term_command_by _ = bare
 
-unfoldable pub termed : Reader Command
-termed = peek >>= termed_by
+unfoldable pub term_command : Reader Command
+term_command = peek >>= term_command_by
 
 -- lines that change links or show, and those of terms
-abbrev pub acting_by : Kind → Reader Command
-acting_by k.Set = take_token >> set
-acting_by k.Append = take_token >> append
-acting_by k.Remove = take_token >> remove
-acting_by k.Show = take_token >> show
-acting_by k.Is = take_token >> same
-acting_by k.Commit = take_token >> c.Commit <$> name_if_any
-acting_by k.Rollback = take_token >> c.Rollback <$> name_if_any
-acting_by _ = termed
+abbrev pub action_by : Kind → Reader Command
+action_by k.Set = take_token >> set
+action_by k.Append = take_token >> append
+action_by k.Remove = take_token >> remove
+action_by k.Show = take_token >> show
+action_by k.Is = take_token >> same
+action_by k.Commit = take_token >> c.Commit <$> name_if_any
+action_by k.Rollback = take_token >> c.Rollback <$> name_if_any
+action_by _ = term_command
 
-unfoldable pub acting : Reader Command
-acting = peek >>= acting_by
+unfoldable pub action : Reader Command
+action = peek >>= action_by
 
 abbrev pub top_by : Kind → Reader Command
 top_by k.Table = take_token >> c.TableHead <$> name
@@ -130,7 +130,7 @@ top_by k.Class = take_token >> class_head
 top_by k.Rows = take_token >> c.Rows <$> select
 top_by k.Bulk = take_token >> c.Bulk <$> bulk
 top_by k.Compile = take_token >> compile
-top_by _ = acting
+top_by _ = action
 
 unfoldable pub top : Reader Command
 top = peek >>= top_by

@@ -50,9 +50,9 @@ fn cells_if_any(alloc: Global, tokens: &mut Tokens<'_>) -> Result<ListOf<(Name, 
     }
 }
 
-#[tactic(auto, unfolding(crate::specs::Bindings::made))]
+#[tactic(auto, unfolding(crate::specs::Bindings::new_object))]
 fn made(alloc: Global, tokens: &mut Tokens<'_>, bound: Name) -> Result<Command, Fault>
-    ensures { Reads (spec.made bound tokens.old) result tokens.new }
+    ensures { Reads (spec.new_object bound tokens.old) result tokens.new }
 {
     let class = name(tokens)?;
     let cells = cells_if_any(alloc, tokens)?;
@@ -63,9 +63,9 @@ fn made(alloc: Global, tokens: &mut Tokens<'_>, bound: Name) -> Result<Command, 
     })
 }
 
-#[tactic(auto, unfolding(crate::specs::Bindings::got))]
+#[tactic(auto, unfolding(crate::specs::Bindings::object_by_key))]
 fn got(alloc: Global, tokens: &mut Tokens<'_>, bound: Name) -> Result<Command, Fault>
-    ensures { Reads (spec.got bound tokens.old) result tokens.new }
+    ensures { Reads (spec.object_by_key bound tokens.old) result tokens.new }
 {
     let class = name(tokens)?;
     tokens.expect(Kind::LParen)?;
@@ -78,9 +78,9 @@ fn got(alloc: Global, tokens: &mut Tokens<'_>, bound: Name) -> Result<Command, F
     })
 }
 
-#[tactic(auto, unfolding(crate::specs::Bindings::related))]
+#[tactic(auto, unfolding(crate::specs::Bindings::related_object))]
 fn related(tokens: &mut Tokens<'_>, bound: Name) -> Result<Command, Fault>
-    ensures { Reads (spec.related bound tokens.old) result tokens.new }
+    ensures { Reads (spec.related_object bound tokens.old) result tokens.new }
 {
     let (term, relation) = member(tokens)?;
     Ok(Command::Related {

@@ -54,9 +54,9 @@ pub fn two(tokens: &mut Tokens<'_>) -> Result<(Term, Term), Fault>
 }
 
 /// A member and another term.
-#[tactic(auto, unfolding(crate::specs::Terms::linked))]
+#[tactic(auto, unfolding(crate::specs::Terms::member_and_term))]
 pub fn linked(tokens: &mut Tokens<'_>) -> Result<((Term, Name), Term), Fault>
-    ensures { Reads (spec.linked tokens.old) result tokens.new }
+    ensures { Reads (spec.member_and_term tokens.old) result tokens.new }
 {
     let owner = member(tokens)?;
     let other = term(tokens)?;

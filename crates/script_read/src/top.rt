@@ -126,9 +126,9 @@ fn dialect(tokens: &mut Tokens<'_>) -> Result<Dialect, Fault>
     }
 }
 
-#[tactic(auto, unfolding(crate::specs::Top::compiled))]
+#[tactic(auto, unfolding(crate::specs::Top::compilation))]
 fn compiled(alloc: Global, tokens: &mut Tokens<'_>, dialect: Dialect) -> Result<Command, Fault>
-    ensures { Reads (spec.compiled dialect tokens.old) result tokens.new }
+    ensures { Reads (spec.compilation dialect tokens.old) result tokens.new }
 {
     match tokens.kind() {
         Kind::Rows => {
@@ -194,9 +194,9 @@ fn bare(tokens: &mut Tokens<'_>) -> Result<Command, Fault>
 }
 
 /// A line of a word and a term, or of one word.
-#[tactic(auto, unfolding(crate::specs::Top::termed))]
+#[tactic(auto, unfolding(crate::specs::Top::term_command))]
 fn termed(tokens: &mut Tokens<'_>) -> Result<Command, Fault>
-    ensures { Reads (spec.termed tokens.old) result tokens.new }
+    ensures { Reads (spec.term_command tokens.old) result tokens.new }
 {
     match tokens.kind() {
         Kind::Add => {
@@ -228,9 +228,9 @@ fn termed(tokens: &mut Tokens<'_>) -> Result<Command, Fault>
 }
 
 /// A line that changes or shows objects, or of a scope.
-#[tactic(auto, unfolding(crate::specs::Top::acting))]
+#[tactic(auto, unfolding(crate::specs::Top::action))]
 fn acting(tokens: &mut Tokens<'_>) -> Result<Command, Fault>
-    ensures { Reads (spec.acting tokens.old) result tokens.new }
+    ensures { Reads (spec.action tokens.old) result tokens.new }
 {
     match tokens.kind() {
         Kind::Set => {

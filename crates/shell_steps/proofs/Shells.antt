@@ -28,7 +28,7 @@ use Rattle.shell_steps.specs.Calls.{IsShellCall, IsShellCallAlone, IsTurn}
 use Rattle.shell_steps.specs.ShellState.{IsKept, IsReady, ShellState, StaysReady}
 use Rattle.session_core.proofs.SessionLemmas.{stay_same}
 use Rattle.shell_steps.proofs.Bindings.{kept_same}
-use Rattle.shell_steps.specs.Step.{World, alone_at, alone_run, at_stage, at_stage_of, close_session, close_session_at, commit, opened_stage, do_command, do_line, program_of, program_at, program_if, end_of_script, create_tables, create_session_tables, create_unless, block_opened, declare_block, declared_stage, end_of_script_in, ends_block, is_head, error_text, goes, in_session, in_session_alone, in_block, is_open, is_skipped, line_if, line_step, next_line, on_tables, open_block, read, read_and_do, reply_to, run_at, said_command, session_run, skip_block, skip_line, with_skipping, tables_at, take_line, program_in_block, tell, tell_here, unless_end, with_block, with_refused, with_session}
+use Rattle.shell_steps.specs.Step.{World, alone_at, alone_run, at_stage, at_stage_of, close_session, close_session_at, commit, opened_stage, do_command, do_line, program_of, program_at, program_if, end_of_script, create_tables, create_session_tables, create_unless, block_opened, declare_block, declared_stage, end_of_script_in, ends_block, is_head, error_text, goes, in_session, in_session_alone, in_block, is_open, is_skipped, line_if, line_step, next_line, on_tables, open_block, read_command, read_and_do, reply_to, run_at, said_command, session_run, skip_block, skip_line, with_skipping, tables_at, take_line, program_in_block, tell, tell_here, unless_end, with_block, with_refused, with_session}
 use Rattle.programs.proofs.AloneLemmas.{alone_err, alone_lost, alone_ok, alone_same, answering_alone, asked_err, asked_ok, asked_tells, becomes_err, becomes_ok, beside_alone, change_ok, lost_alone, then_own_err, then_own_ok}
 use Rattle.programs.proofs.Recovering.{answering_ends, caught_early, caught_ok, caught_refused}
 
@@ -274,8 +274,8 @@ skips_none {own = own} none is = is ∙ ap (λ (b : Option Block). with_block b 
 
 -- a line could not be read, and the block's lines are skipped from there on
 pub unread : (bytes : List ℕ) {own now : ShellState} {e : Refusal}
-    → ends_early e ≡ false → Runs alone (λ (command : Command). command) (ask (said_command bytes)) own (Err e) own → now ≡ skip_block own → IsShellCallAlone (read bytes) own (Err e) now
-unfolding read
+    → ends_early e ≡ false → Runs alone (λ (command : Command). command) (ask (said_command bytes)) own (Err e) own → now ≡ skip_block own → IsShellCallAlone (read_command bytes) own (Err e) now
+unfolding read_command
 unread bytes early p is = record {
   step = guard_refused early p (changes_to skip_block is);
   stage = ap (λ (s : ShellState). s.stage) is;

@@ -261,11 +261,11 @@ abbrev pub said_command : List ℕ → ShellState → Result Command Refusal
 said_command bytes shell = said_by bytes shell.line (place_of shell.block)
 
 -- what a line says; in a block the lines behind one that can not be read are skipped
-unfoldable pub read : List ℕ → ShellState → Run ShellState Command
-read bytes = with_undo (ask (said_command bytes)) (change skip_block)
+unfoldable pub read_command : List ℕ → ShellState → Run ShellState Command
+read_command bytes = with_undo (ask (said_command bytes)) (change skip_block)
 
 unfoldable pub read_and_do : List ℕ → World → Run World (List ℕ)
-read_and_do bytes = on_own (read bytes) >>= do_command
+read_and_do bytes = on_own (read_command bytes) >>= do_command
 
 abbrev pub is_skipped : Option Block → Bool
 is_skipped None = false

@@ -87,9 +87,9 @@ impl Shell {
     }
 
     /// What a line says. In a block the lines behind one that can not be read are skipped.
-    #[tactic(auto, using(crate::proofs::Shells::acting), unfolding(crate::specs::Step::read))]
+    #[tactic(auto, using(crate::proofs::Shells::acting), unfolding(crate::specs::Step::read_command))]
     fn read(&mut self, line: &[u8]) -> Result<Command, Refusal>
-        ensures { IsShellCallAlone (step.read line.now) self.old result self.new }
+        ensures { IsShellCallAlone (step.read_command line.now) self.old result self.new }
     {
         match self.say(line) {
             Ok(command) => Ok(command),

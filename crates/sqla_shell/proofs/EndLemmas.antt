@@ -25,7 +25,7 @@ use Rattle.sqla_shell.specs.declared.stop.Stop.TheVariants as stopped
 use Rattle.sqla_shell.specs.Causes.{CountsFaults, ShowsFaults, done_status, faults, stop_refusal}
 use Rattle.sqla_shell.specs.Outcome.{Rests, Concludes, DoesLines, DoesScript, Ends, HasNothingLeft, IsDoneOf, IsReadThrough, IsRolledBack, IsSettled, IsStopped, IsWhole, IsUndone, IsUsage, ending_of, first_log, log_with, moment_writing, told_writing}
 use Rattle.script_lines.specs.Scripts.{lines_of}
-use Rattle.sqla_shell.specs.Reference.{ending, finished, reference, script}
+use Rattle.sqla_shell.specs.Reference.{end_unless_too_long, end_script, reference, script}
 
 -- ---- the end of the lines, and then what the end asks for
 
@@ -46,21 +46,21 @@ unfolding script
 script_stopped tell old new left stop (Ok e) is p = absurd is
 script_stopped tell old new None stop (Err d) is p = tt
 script_stopped tell old new (Some bytes) stop (Err d) is p =
-    subst (λ s. Runs {X = Ending} tell (λ e. e) (script bytes) old (Err (stop_refusal s)) new) (sym is) (then_err (λ u. ending (lines_of bytes).too_long) p.0)
+    subst (λ s. Runs {X = Ending} tell (λ e. e) (script bytes) old (Err (stop_refusal s)) new) (sym is) (then_err (λ u. end_unless_too_long (lines_of bytes).too_long) p.0)
 
 pub script_finished : {S : Type 0} (tell : S → Moment (Beside ShellState)) (old mid new : S) (left : Option (List ℕ)) (r : Result Ending Refusal)
-    → DoesLines left tell old (Ok Finished) mid → Runs tell (λ e. e) finished mid r new → DoesScript left tell old r new
+    → DoesLines left tell old (Ok Finished) mid → Runs tell (λ e. e) end_script mid r new → DoesScript left tell old r new
 unfolding script
 script_finished tell old mid new None r p ran = tt
 script_finished tell old mid new (Some bytes) r p ran =
-    then_ok (λ u. ending (lines_of bytes).too_long) p.0 (subst (λ b. Runs tell (λ e. e) (ending b) mid r new) (sym (is_false (lines_of bytes).too_long p.1)) ran)
+    then_ok (λ u. end_unless_too_long (lines_of bytes).too_long) p.0 (subst (λ b. Runs tell (λ e. e) (end_unless_too_long b) mid r new) (sym (is_false (lines_of bytes).too_long p.1)) ran)
 
 pub script_too_long : {S : Type 0} (tell : S → Moment (Beside ShellState)) (old mid : S) (left : Option (List ℕ))
     → DoesLines left tell old (Ok TooLong) mid → DoesScript left tell old (Ok TooLong) mid
 unfolding script
 script_too_long tell old mid None p = tt
 script_too_long tell old mid (Some bytes) p =
-    then_ok (λ u. ending (lines_of bytes).too_long) p.0 (subst (λ b. Runs tell (λ e. e) (ending b) mid (Ok TooLong) mid) (sym (is_true (lines_of bytes).too_long p.1)) (done refl))
+    then_ok (λ u. end_unless_too_long (lines_of bytes).too_long) p.0 (subst (λ b. Runs tell (λ e. e) (end_unless_too_long b) mid (Ok TooLong) mid) (sym (is_true (lines_of bytes).too_long p.1)) (done refl))
 
 -- ---- rolling back
 
@@ -208,7 +208,7 @@ is_done moment written (Some bytes) shell own first mid last sink after done end
 
 -- nothing is left of a script that was done to its end
 pub read_through : (done : Result Ending Stop) (refused : Bool) (mid last : Option (Told Store)) (end : Status) (old new : Option (List ℕ))
-    → Concludes done refused mid end last → IfOk done (λ ending. ending ≡ Finished → HasNothingLeft old new) → IsReadThrough end old new
+    → Concludes done refused mid end last → IfOk done (λ ending. end_unless_too_long ≡ Finished → HasNothingLeft old new) → IsReadThrough end old new
 read_through (Ok Finished) true mid last end old new c nothing = subst (λ s. IsReadThrough s old new) (sym c.0) (nothing refl)
 read_through (Ok Finished) false mid last end old new c nothing = subst (λ s. IsReadThrough s old new) (sym c.0) (nothing refl)
 read_through (Ok TooLong) refused mid last end old new c nothing = subst (λ s. IsReadThrough s old new) (sym c.0) tt
@@ -237,7 +237,7 @@ concludes_script (Err stopped.Memory) refused mid last end c = of_script end (su
 -- the status shows the faults that the script counted
 pub concludes_faults : (done : Result Ending Stop) (refused : Bool) (mid last : Option (Told Store)) (end : Status) (source sink keeper source' sink' keeper' keeper'' : ℕ)
     → Concludes done refused mid end last → CountsFaults done (faults source sink keeper) (faults source' sink' keeper') → keeper' ≤ keeper''
-    → IfOk done (λ ending. ending ≡ Finished → keeper'' ≡ keeper') → ShowsFaults end true (faults source sink keeper) (faults source' sink' keeper'')
+    → IfOk done (λ ending. end_unless_too_long ≡ Finished → keeper'' ≡ keeper') → ShowsFaults end true (faults source sink keeper) (faults source' sink' keeper'')
 concludes_faults (Ok Finished) true mid last end s k n s' k' n' n'' c p le same =
     subst (λ e. ShowsFaults e true (faults s k n) (faults s' k' n'')) (sym c.0) (p.0, p.1, same refl ∙ p.2)
 concludes_faults (Ok Finished) false mid last end s k n s' k' n' n'' c p le same =

@@ -14,7 +14,7 @@ use Rattle.script_lines.specs.declared.lines.ReadStop.TheVariants as read
 use Rattle.sqla_shell.specs.declared.stop.Stop.{Stop}
 use Rattle.sqla_shell.specs.declared.stop.Stop.TheVariants as stopped
 use Rattle.sqla_shell.specs.Causes.{CountsFaults, Faults, faults, keeper_stop, read_stop, write_stop}
-use Rattle.sqla_shell.specs.Seen.{Keeps, KeepsKeeper, Seen, faults_of, seen}
+use Rattle.sqla_shell.specs.Seen.{Keeps, KeepsKeeper, Seen, faults_of, moment_seen}
 
 -- ---- counts
 
@@ -84,7 +84,7 @@ keeps_passed {X = X} {r = r} is p = keeps_stop {X = X} r is p
 
 -- a call of the shell was stopped
 shell_stop : {X Y : Type 0} (e : Refusal) (s s' : Option (List ℕ)) (k : ℕ) (old new : Moment Store)
-    → ends_early e ≡ true → Acts {X = X} old (Err e) new → Keeps {X = Y} (seen None 0 s k old) (Err (keeper_stop e)) (seen None 0 s' k new)
+    → ends_early e ≡ true → Acts {X = X} old (Err e) new → Keeps {X = Y} (moment_seen None 0 s k old) (Err (keeper_stop e)) (moment_seen None 0 s' k new)
 shell_stop KeeperFault s s' k old new early (Acted p) =
     record { faults = (refl, refl, p.faults); keeper = record { target = p.kept; attached = p.attached; tells = p.tells } }
 shell_stop Memory s s' k old new early (Acted p) =
@@ -92,34 +92,34 @@ shell_stop Memory s s' k old new early (Acted p) =
 shell_stop e s s' k old new early p = cc
 
 pub shell_stopped : {X Y : Type 0} {e : Refusal} {s s' : Option (List ℕ)} {k : ℕ} {old new : Moment Store} {r : Result Y Stop}
-    → ends_early e ≡ true → IsErrAnd r (λ d. d ≡ keeper_stop e) → Acts {X = X} old (Err e) new → Keeps (seen None 0 s k old) r (seen None 0 s' k new)
+    → ends_early e ≡ true → IsErrAnd r (λ d. d ≡ keeper_stop e) → Acts {X = X} old (Err e) new → Keeps (moment_seen None 0 s k old) r (moment_seen None 0 s' k new)
 shell_stopped {X = X} {Y = Y} {e = e} {s = s} {s' = s'} {k = k} {old = old} {new = new} {r = r} early is p = keeps_stop {X = Y} r is (shell_stop {X = X} {Y = Y} e s s' k old new early p)
 
 -- a call of the shell answered
-pub shell_answered : {X Y : Type 0} {x : X} {y : Y} {s s' : Option (List ℕ)} {k : ℕ} {old new : Moment Store} → Acts old (Ok x) new → Keeps (seen None 0 s k old) (Ok y) (seen None 0 s' k new)
+pub shell_answered : {X Y : Type 0} {x : X} {y : Y} {s s' : Option (List ℕ)} {k : ℕ} {old new : Moment Store} → Acts old (Ok x) new → Keeps (moment_seen None 0 s k old) (Ok y) (moment_seen None 0 s' k new)
 shell_answered (Acted p) = record { faults = (refl, refl, p.faults); keeper = record { target = p.kept; attached = p.attached; tells = p.tells } }
 
 -- a piece was written, or that was stopped
-pub sink_wrote : {X : Type 0} {r : Result X Stop} {s s' : Option (List ℕ)} {k k' : ℕ} {keeper : Moment Store} → CountsFaults r (faults 0 k 0) (faults 0 k' 0) → Keeps (seen None 0 s k keeper) r (seen None 0 s' k' keeper)
+pub sink_wrote : {X : Type 0} {r : Result X Stop} {s s' : Option (List ℕ)} {k k' : ℕ} {keeper : Moment Store} → CountsFaults r (faults 0 k 0) (faults 0 k' 0) → Keeps (moment_seen None 0 s k keeper) r (moment_seen None 0 s' k' keeper)
 sink_wrote {r = r} {k = k} {k' = k'} {keeper = keeper} p = record { faults = counts_sink r k keeper.faults k' keeper.faults refl p; keeper = keeper_same }
 
 -- a call of a sink and a keeper, beside a source that stood still
-pub beside_source : {X : Type 0} {r : Result X Stop} {l l' w w' : Option (List ℕ)} {s s' k k' : ℕ} {old new : Moment Store} → s' ≡ s → Keeps (seen None 0 w k old) r (seen None 0 w' k' new) → Keeps (seen l s w k old) r (seen l' s' w' k' new)
+pub beside_source : {X : Type 0} {r : Result X Stop} {l l' w w' : Option (List ℕ)} {s s' k k' : ℕ} {old new : Moment Store} → s' ≡ s → Keeps (moment_seen None 0 w k old) r (moment_seen None 0 w' k' new) → Keeps (moment_seen l s w k old) r (moment_seen l' s' w' k' new)
 beside_source {r = r} {s = s} {s' = s'} {k = k} {k' = k'} {old = old} {new = new} same p =
     record { faults = counts_beside r s s' k old.faults k' new.faults same p.faults; keeper = p.keeper }
 
 -- the source answered
-pub source_read : {X : Type 0} {x : X} {l l' w : Option (List ℕ)} {s s' k : ℕ} {keeper : Moment Store} → s' ≡ s → Keeps (seen l s w k keeper) (Ok x) (seen l' s' w k keeper)
+pub source_read : {X : Type 0} {x : X} {l l' w : Option (List ℕ)} {s s' k : ℕ} {keeper : Moment Store} → s' ≡ s → Keeps (moment_seen l s w k keeper) (Ok x) (moment_seen l' s' w k keeper)
 source_read same = record { faults = (same, refl, refl); keeper = keeper_same }
 
 read_counted : {X : Type 0} (cause : ReadStop) (l l' w : Option (List ℕ)) (s s' k : ℕ) (keeper : Moment Store) → s ≤ s' → (cause ≡ read.Fault → Rose s s') → (cause ≢ read.Fault → s' ≡ s)
-    → Keeps {X = X} (seen l s w k keeper) (Err (read_stop cause)) (seen l' s' w k keeper)
+    → Keeps {X = X} (moment_seen l s w k keeper) (Err (read_stop cause)) (moment_seen l' s' w k keeper)
 read_counted read.Fault l l' w s s' k keeper le rose quiet = record { faults = ((le, rose refl), refl, refl); keeper = keeper_same }
 read_counted read.Memory l l' w s s' k keeper le rose quiet = record { faults = (quiet (λ same. cc), refl, refl); keeper = keeper_same }
 
 -- the source was stopped
 pub source_stopped : {X : Type 0} {cause : ReadStop} {r : Result X Stop} {l l' w : Option (List ℕ)} {s s' k : ℕ} {keeper : Moment Store} → IsErrAnd r (λ d. d ≡ read_stop cause)
-    → s ≤ s' → (cause ≡ read.Fault → Rose s s') → (cause ≢ read.Fault → s' ≡ s) → Keeps (seen l s w k keeper) r (seen l' s' w k keeper)
+    → s ≤ s' → (cause ≡ read.Fault → Rose s s') → (cause ≢ read.Fault → s' ≡ s) → Keeps (moment_seen l s w k keeper) r (moment_seen l' s' w k keeper)
 source_stopped {X = X} {cause = cause} {r = r} {l = l} {l' = l'} {w = w} {s = s} {s' = s'} {k = k} {keeper = keeper} is le rose quiet =
     keeps_stop {X = X} r is (read_counted {X = X} cause l l' w s s' k keeper le rose quiet)
 
@@ -135,19 +135,19 @@ err_is {e = e} is = ap (err_of e) is
 
 -- a call of the shell answered, and then a piece was written, or that was stopped
 pub answered_then_wrote : {X Y : Type 0} {x : X} {r : Result Y Stop} {s s' : Option (List ℕ)} {k k' : ℕ} {old new : Moment Store}
-    → Acts old (Ok x) new → CountsFaults r (faults 0 k 0) (faults 0 k' 0) → Keeps (seen None 0 s k old) r (seen None 0 s' k' new)
+    → Acts old (Ok x) new → CountsFaults r (faults 0 k 0) (faults 0 k' 0) → Keeps (moment_seen None 0 s k old) r (moment_seen None 0 s' k' new)
 answered_then_wrote {r = r} {s = s} {s' = s'} {k = k} {k' = k'} {new = new} p q =
     keeps_then {r = r} (shell_answered {Y = Unit {0}} {y = tt} {s = s} {s' = s} {k = k} p) (sink_wrote {r = r} {s = s} {s' = s'} {k = k} {k' = k'} {keeper = new} q)
 
 -- a piece was written, and then a call of the shell was stopped
 pub wrote_then_stopped : {X Y : Type 0} {e : Refusal} {r : Result Y Stop} {s s' : Option (List ℕ)} {k k' : ℕ} {old new : Moment Store}
     → CountsFaults {X = Unit {0}} (Ok tt) (faults 0 k 0) (faults 0 k' 0) → ends_early e ≡ true → IsErrAnd r (λ d. d ≡ keeper_stop e) → Acts {X = X} old (Err e) new
-    → Keeps (seen None 0 s k old) r (seen None 0 s' k' new)
+    → Keeps (moment_seen None 0 s k old) r (moment_seen None 0 s' k' new)
 wrote_then_stopped {X = X} {e = e} {r = r} {s = s} {s' = s'} {k = k} {k' = k'} {old = old} p early is q =
     keeps_then {x = tt} {r = r} (sink_wrote {X = Unit {0}} {r = Ok tt} {s = s} {s' = s'} {k = k} {k' = k'} {keeper = old} p) (shell_stopped {X = X} {s = s'} {s' = s'} early is q)
 
 -- a piece was written, and then a call of the shell answered
 pub wrote_then_answered : {X Y : Type 0} {x : X} {y : Y} {s s' : Option (List ℕ)} {k k' : ℕ} {old new : Moment Store}
-    → CountsFaults {X = Unit {0}} (Ok tt) (faults 0 k 0) (faults 0 k' 0) → Acts old (Ok x) new → Keeps (seen None 0 s k old) (Ok y) (seen None 0 s' k' new)
+    → CountsFaults {X = Unit {0}} (Ok tt) (faults 0 k 0) (faults 0 k' 0) → Acts old (Ok x) new → Keeps (moment_seen None 0 s k old) (Ok y) (moment_seen None 0 s' k' new)
 wrote_then_answered {y = y} {s = s} {s' = s'} {k = k} {k' = k'} {old = old} p q =
     keeps_then {x = tt} {r = Ok y} (sink_wrote {X = Unit {0}} {r = Ok tt} {s = s} {s' = s'} {k = k} {k' = k'} {keeper = old} p) (shell_answered {y = y} {s = s'} {s' = s'} q)

@@ -22,14 +22,14 @@ use Rattle.sqla_shell.specs.declared.stop.Stop.{Stop}
 use Rattle.sqla_shell.specs.Causes.{read_stop, stop_refusal}
 use Rattle.sqla_shell.specs.Outcome.{DoesLines, HasNothingLeft, ending_of}
 use Rattle.script_lines.specs.Scripts.{Lines, lines_by, lines_from, lines_of}
-use Rattle.sqla_shell.specs.Reference.{answered}
+use Rattle.sqla_shell.specs.Reference.{do_and_reply}
 
 -- so many lines were done, and what is left of the bytes has the lines behind them
 pub record OnWay {S : Type 0} (tell : S → Moment (Beside ShellState)) (all : Lines) (old : S) (i taken : ℕ) (bytes : List ℕ) (mid : S) : Type 0 where
   pub most : ℕ
   pub few : most_bytes + 1 ≤ most + taken
   pub lines : lines_from most taken bytes ≡ record { lines = drop i all.lines; too_long = all.too_long }
-  pub way : Reaches tell (each answered tt all.lines) old (each answered tt (drop i all.lines)) mid
+  pub way : Reaches tell (each do_and_reply tt all.lines) old (each do_and_reply tt (drop i all.lines)) mid
 
 -- the same, where the source tells its bytes
 abbrev pub OnLines : {S : Type 0} → Option (List ℕ) → (S → Moment (Beside ShellState)) → S → ℕ → ℕ → Option (List ℕ) → S → Type 0
@@ -82,7 +82,7 @@ turned all (suc most) i taken bytes line now rest few later within lines is = by
 -- a line was done
 pub line_done : {S X : Type 0} {tell : S → Moment (Beside ShellState)} (old : S) {mid new : S} {v : X → Unit {0}} {x : X} (start : Option (List ℕ)) (i taken : ℕ) (left : Option (List ℕ)) (line : List ℕ) (now : ℕ) (more : Option (List ℕ))
     → taken < now → now ≤ most_bytes → OnLines start tell old i taken left mid → IsNextOf taken left (next.Line line) now more
-    → Runs tell v (answered line tt) mid (Ok x) new → OnLines start tell old (i + 1) now more new
+    → Runs tell v (do_and_reply line tt) mid (Ok x) new → OnLines start tell old (i + 1) now more new
 line_done old None i taken left line now more later within on is ran = tt
 line_done old (Some script) i taken None line now more later within on is ran = absurd on
 line_done old (Some script) i taken (Some bytes) line now None later within on is ran = absurd is
@@ -94,25 +94,25 @@ line_done {tell = tell} old {mid = mid} {new = new} {v = v} {x = x} (Some script
       few = t.few;
       lines = ap (λ ls. record { lines = ls; too_long = (lines_from t.most now rest).too_long }) (next_rest all.lines i line (lines_from t.most now rest).lines t.here)
           ∙ ap (λ b. record { lines = drop (i + 1) all.lines; too_long = b }) t.behind;
-      way = each_turn answered all.lines i on.way (has_more all.lines i line (lines_from t.most now rest).lines t.here) (next_item all.lines i line (lines_from t.most now rest).lines t.here) ran refl;
+      way = each_turn do_and_reply all.lines i on.way (has_more all.lines i line (lines_from t.most now rest).lines t.here) (next_item all.lines i line (lines_from t.most now rest).lines t.here) ran refl;
     }
 
 -- a line was stopped
 pub line_stopped : {S X : Type 0} {tell : S → Moment (Beside ShellState)} (old : S) {mid new : S} {v : X → Unit {0}} {e : Refusal} (start : Option (List ℕ)) (i taken : ℕ) (left : Option (List ℕ)) (line : List ℕ) (now : ℕ) (more : Option (List ℕ))
     → taken < now → now ≤ most_bytes → OnLines start tell old i taken left mid → IsNextOf taken left (next.Line line) now more
-    → Runs tell v (answered line tt) mid (Err e) new → DoesLines start tell old (Err e) new
+    → Runs tell v (do_and_reply line tt) mid (Err e) new → DoesLines start tell old (Err e) new
 line_stopped old None i taken left line now more later within on is ran = tt
 line_stopped old (Some script) i taken None line now more later within on is ran = absurd on
 line_stopped old (Some script) i taken (Some bytes) line now None later within on is ran = absurd is
 line_stopped {tell = tell} old {mid = mid} {new = new} {v = v} {e = e} (Some script) i taken (Some bytes) line now (Some rest) later within on is ran =
     let all = lines_of script in
     let t = turned all on.most i taken bytes line now rest on.few later within on.lines is in
-    (each_err answered all.lines i on.way (has_more all.lines i line (lines_from t.most now rest).lines t.here) (next_item all.lines i line (lines_from t.most now rest).lines t.here) ran, tt)
+    (each_err do_and_reply all.lines i on.way (has_more all.lines i line (lines_from t.most now rest).lines t.here) (next_item all.lines i line (lines_from t.most now rest).lines t.here) ran, tt)
 
 -- the same with the stop's own words
 pub line_stopped_as : {S X : Type 0} {tell : S → Moment (Beside ShellState)} (old : S) {mid new : S} {v : X → Unit {0}} (start : Option (List ℕ)) (i taken : ℕ) (left : Option (List ℕ)) (line : List ℕ) (now : ℕ) (more : Option (List ℕ))
     → taken < now → now ≤ most_bytes → OnLines start tell old i taken left mid → IsNextOf taken left (next.Line line) now more
-    → (stop : Stop) (r : Result Ending Stop) → IsErrAnd r (λ d. d ≡ stop) → Runs tell v (answered line tt) mid (Err (stop_refusal stop)) new → DoesLines start tell old (as_refusal stop_refusal r) new
+    → (stop : Stop) (r : Result Ending Stop) → IsErrAnd r (λ d. d ≡ stop) → Runs tell v (do_and_reply line tt) mid (Err (stop_refusal stop)) new → DoesLines start tell old (as_refusal stop_refusal r) new
 line_stopped_as old start i taken left line now more later within on is stop (Ok e) same ran = absurd same
 line_stopped_as {tell = tell} old {new = new} start i taken left line now more later within on is stop (Err d) same ran =
     subst (λ s. DoesLines start tell old (Err (stop_refusal s)) new) (sym same) (line_stopped old start i taken left line now more later within on is ran)
@@ -150,7 +150,7 @@ lines_ended tell old mid (Some script) i taken (Some bytes) now None within on i
 lines_ended tell old mid (Some script) i taken (Some bytes) now (Some rest) within on is =
     let all = lines_of script in
     let e = ended all on.most i taken bytes next.End false on.few within on.lines refl (λ most. ap (λ c. lines_by c (lines_from most)) (cut_ended taken bytes now rest (next_cut taken bytes) is)) in
-    (each_end answered all.lines i on.way e.0 refl, by all.too_long e.1)
+    (each_end do_and_reply all.lines i on.way e.0 refl, by all.too_long e.1)
   where
     by : (b : Bool) → b ≡ false → ending.Finished ≡ ending_of b
     by false is = refl
@@ -165,7 +165,7 @@ lines_too_long tell old mid (Some script) i taken (Some bytes) now None within o
 lines_too_long tell old mid (Some script) i taken (Some bytes) now (Some rest) within on is =
     let all = lines_of script in
     let e = ended all on.most i taken bytes next.TooLong true on.few within on.lines refl (λ most. ap (λ c. lines_by c (lines_from most)) (cut_too_long taken bytes now rest (next_cut taken bytes) is)) in
-    (each_end answered all.lines i on.way e.0 refl, by all.too_long e.1)
+    (each_end do_and_reply all.lines i on.way e.0 refl, by all.too_long e.1)
   where
     by : (b : Bool) → b ≡ true → ending.TooLong ≡ ending_of b
     by true is = refl
@@ -177,7 +177,7 @@ pub read_stopped : {S : Type 0} (tell : S → Moment (Beside ShellState)) (old m
 read_stopped tell old mid None i taken left stop cause is on = tt
 read_stopped tell old mid (Some script) i taken None stop cause is on = absurd on
 read_stopped tell old mid (Some script) i taken (Some bytes) stop cause is on =
-    (subst (λ d. Runs {X = Ending} tell (λ e. tt) (each answered tt (lines_of script).lines) old (Err d) mid) (sym (memory stop cause is)) (reaches_end on.way no_memory), tt)
+    (subst (λ d. Runs {X = Ending} tell (λ e. tt) (each do_and_reply tt (lines_of script).lines) old (Err d) mid) (sym (memory stop cause is)) (reaches_end on.way no_memory), tt)
   where
     memory : (stop : Stop) (cause : ReadStop) → stop ≡ read_stop cause → stop_refusal stop ≡ Memory
     memory stop read.Fault is = ap stop_refusal is

@@ -16,7 +16,7 @@ use Rattle.sqla_shell.specs.declared.status.Status.TheVariants as status
 use Rattle.sqla_shell.specs.Seen.{KeepsKeeper, Seen}
 use Rattle.sqla_shell.specs.Causes.{done_status, stop_status}
 use Rattle.script_lines.specs.Scripts.{lines_of}
-use Rattle.sqla_shell.specs.Reference.{answered, reference, script}
+use Rattle.sqla_shell.specs.Reference.{do_and_reply, reference, script}
 
 -- ---- what is seen of a shell, a keeper and a sink
 
@@ -65,7 +65,7 @@ ending_of false = Finished
 abbrev pub DoesLines : {S : Type 0} → Option (List ℕ) → (S → Moment (Beside ShellState)) → S → Result Ending Refusal → S → Type 0
 DoesLines None tell old result new = Unit {0}
 DoesLines (Some bytes) tell old result new =
-    Runs tell (λ e. tt) (each answered tt (lines_of bytes).lines) old result new × IfOk result (λ e. e ≡ ending_of (lines_of bytes).too_long)
+    Runs tell (λ e. tt) (each do_and_reply tt (lines_of bytes).lines) old result new × IfOk result (λ e. e ≡ ending_of (lines_of bytes).too_long)
 
 -- the script was done
 abbrev pub DoesScript : {S : Type 0} → Option (List ℕ) → (S → Moment (Beside ShellState)) → S → Result Ending Refusal → S → Type 0

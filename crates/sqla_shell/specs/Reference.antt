@@ -15,20 +15,20 @@ unfoldable pub writes : {W : Type 0} → List ℕ → W → Run W (Unit {0})
 writes bytes w = record { events = map Writes bytes; answer = Ok tt; after = w }
 
 -- a line is done, and then its reply goes out
-unfoldable pub answered : List ℕ → Unit {0} → Beside ShellState → Run (Beside ShellState) (Unit {0})
-answered line u = reply_to line >>= writes
+unfoldable pub do_and_reply : List ℕ → Unit {0} → Beside ShellState → Run (Beside ShellState) (Unit {0})
+do_and_reply line u = reply_to line >>= writes
 
 -- the script has ended: a block that is open is refused, and the session is closed
-unfoldable pub finished : Beside ShellState → Run (Beside ShellState) Ending
-finished = end_reply >>= λ reply. writes reply >>= λ u. close_session >>= λ u. give Finished
+unfoldable pub end_script : Beside ShellState → Run (Beside ShellState) Ending
+end_script = end_reply >>= λ reply. writes reply >>= λ u. close_session >>= λ u. give Finished
 
-abbrev pub ending : Bool → Beside ShellState → Run (Beside ShellState) Ending
-ending true = give TooLong
-ending false = finished
+abbrev pub end_unless_too_long : Bool → Beside ShellState → Run (Beside ShellState) Ending
+end_unless_too_long true = give TooLong
+end_unless_too_long false = end_script
 
 -- each line of a script in order, and then its end
 unfoldable pub script : List ℕ → Beside ShellState → Run (Beside ShellState) Ending
-script bytes = each answered tt (lines_of bytes).lines >>= λ u. ending (lines_of bytes).too_long
+script bytes = each do_and_reply tt (lines_of bytes).lines >>= λ u. end_unless_too_long (lines_of bytes).too_long
 
 -- nothing is declared, and there is no table
 abbrev pub start : Beside ShellState

@@ -13,8 +13,8 @@ pub record Seen : Type 0 where
   pub writes : ℕ
   pub keeper : Moment Store
 
-abbrev pub seen : Option (List ℕ) → ℕ → Option (List ℕ) → ℕ → Moment Store → Seen
-seen left reads written writes keeper = record { left = left; reads = reads; written = written; writes = writes; keeper = keeper }
+abbrev pub moment_seen : Option (List ℕ) → ℕ → Option (List ℕ) → ℕ → Moment Store → Seen
+moment_seen left reads written writes keeper = record { left = left; reads = reads; written = written; writes = writes; keeper = keeper }
 
 abbrev pub faults_of : Seen → Faults
 faults_of s = record { source = s.reads; sink = s.writes; keeper = s.keeper.faults }

@@ -5,7 +5,7 @@ ghost use Rattle.keeper_core.specs.Keeping.{new_store};
 ghost use Rattle.programs.specs.declared.target.Target.TheVariants as targets;
 ghost use Rattle.sqla_shell.specs.Causes.{CountsFaults, ShowsFaults, done_status, faults, stop_status};
 ghost use Rattle.sqla_shell.specs.Outcome.{Concludes, IsDone, IsReadThrough, IsReference, IsRolledBack, IsUsage, Rests};
-ghost use Rattle.sqla_shell.specs.Seen.{KeepsKeeper, seen};
+ghost use Rattle.sqla_shell.specs.Seen.{KeepsKeeper, moment_seen};
 
 use crate::ending::Ending;
 use crate::script::{do_script, write_all};
@@ -43,10 +43,10 @@ pub fn run<S: Source, O: Sink, K: Keeper>(
     ensures unused { words.now.items ≢ [] → keeper.new ≡ keeper.old }
     // Without words the run is the reference's, and the keeper's target is memory.
     ensures reference { words.now.items ≡ [] → IsReference
-        (seen (S.left source.old) (S.faults source.old) (O.written sink.old) (O.faults sink.old)
+        (moment_seen (S.left source.old) (S.faults source.old) (O.written sink.old) (O.faults sink.old)
         (K.moment keeper.old))
         result
-        (seen (S.left source.new) (S.faults source.new) (O.written sink.new) (O.faults sink.new)
+        (moment_seen (S.left source.new) (S.faults source.new) (O.written sink.new) (O.faults sink.new)
         (K.moment keeper.new)) }
     ensures through { IsReadThrough result (S.left source.old) (S.left source.new) }
     ensures target { words.now.items ≡ [] → (K.moment keeper.new).target ≡ Some targets.Memory }
@@ -88,10 +88,10 @@ fn run_script<S: Source, O: Sink, K: Keeper>(
     requires attached { (K.moment keeper.old).attached ≡ true }
     requires outside { (K.moment keeper.old).depth ≡ 0 }
     ensures reference { IsDone
-        (seen (S.left source.old) (S.faults source.old) (O.written sink.old) (O.faults sink.old)
+        (moment_seen (S.left source.old) (S.faults source.old) (O.written sink.old) (O.faults sink.old)
         (K.moment keeper.old))
         result
-        (seen (S.left source.new) (S.faults source.new) (O.written sink.new) (O.faults sink.new)
+        (moment_seen (S.left source.new) (S.faults source.new) (O.written sink.new) (O.faults sink.new)
         (K.moment keeper.new)) }
     ensures through { IsReadThrough result (S.left source.old) (S.left source.new) }
     ensures keeper { KeepsKeeper (K.moment keeper.old) (K.moment keeper.new) }

@@ -7,8 +7,8 @@ ghost use Rattle.script_lines.specs.Cutting.{FitsSource, Pending, to_come};
 ghost use Rattle.shell_steps.specs.ShellState.{IsReady};
 ghost use Rattle.sqla_shell.specs.Causes.{CountsFaults, faults, stop_refusal};
 ghost use Rattle.sqla_shell.specs.Outcome.{DoesLines, DoesScript, HasNothingLeft, HasWritten, moment_writing};
-ghost use Rattle.sqla_shell.specs.Reference.{answered, finished, writes};
-ghost use Rattle.sqla_shell.specs.Seen.{Keeps, seen};
+ghost use Rattle.sqla_shell.specs.Reference.{do_and_reply, end_script, writes};
+ghost use Rattle.sqla_shell.specs.Seen.{Keeps, moment_seen};
 
 use crate::ending::Ending;
 use crate::stop::Stop;
@@ -46,10 +46,10 @@ pub fn do_script<S: Source, O: Sink, K: Keeper>(
     ensures through { IfOk result (λ ending. ending ≡ Ending.Finished
         → HasNothingLeft (S.left source.old) (S.left source.new)) }
     ensures keeps { Keeps
-        (seen (S.left source.old) (S.faults source.old) (O.written sink.old) (O.faults sink.old)
+        (moment_seen (S.left source.old) (S.faults source.old) (O.written sink.old) (O.faults sink.old)
         (K.moment keeper.old))
         result
-        (seen (S.left source.new) (S.faults source.new) (O.written sink.new) (O.faults sink.new)
+        (moment_seen (S.left source.new) (S.faults source.new) (O.written sink.new) (O.faults sink.new)
         (K.moment keeper.new)) }
     ensures outside { IfOk result
         (λ ending. ending ≡ Ending.Finished → (K.moment keeper.new).depth ≡ 0) }
@@ -78,10 +78,10 @@ fn do_lines<S: Source, O: Sink, K: Keeper>(
         → HasNothingLeft (S.left source.old) (S.left source.new)) }
     ensures ready { OnOk result (IsReady shell.new.stage (K.moment keeper.new)) }
     ensures keeps { Keeps
-        (seen (S.left source.old) (S.faults source.old) (O.written sink.old) (O.faults sink.old)
+        (moment_seen (S.left source.old) (S.faults source.old) (O.written sink.old) (O.faults sink.old)
         (K.moment keeper.old))
         result
-        (seen (S.left source.new) (S.faults source.new) (O.written sink.new) (O.faults sink.new)
+        (moment_seen (S.left source.new) (S.faults source.new) (O.written sink.new) (O.faults sink.new)
         (K.moment keeper.new)) }
 {
     for _turn in 0..u64::MAX {
@@ -102,14 +102,14 @@ fn answer_line<O: Sink, K: Keeper>(
     line: &[u8],
 ) -> Result<(), Stop>
     requires { IsReady shell.old.stage (K.moment keeper.old) }
-    ensures step { Runs (moment_writing K.moment O.written) (λ u. u) (answered line.now tt)
+    ensures step { Runs (moment_writing K.moment O.written) (λ u. u) (do_and_reply line.now tt)
         (shell.old, keeper.old, sink.old) (as_refusal stop_refusal result)
         (shell.new, keeper.new, sink.new) }
     ensures ready { OnOk result (IsReady shell.new.stage (K.moment keeper.new)) }
     ensures keeps { Keeps
-        (seen None 0 (O.written sink.old) (O.faults sink.old) (K.moment keeper.old))
+        (moment_seen None 0 (O.written sink.old) (O.faults sink.old) (K.moment keeper.old))
         result
-        (seen None 0 (O.written sink.new) (O.faults sink.new) (K.moment keeper.new)) }
+        (moment_seen None 0 (O.written sink.new) (O.faults sink.new) (K.moment keeper.new)) }
 {
     let reply = shell.answer(keeper, line)?;
     write_all(sink, reply.bytes())
@@ -122,15 +122,15 @@ fn finish<O: Sink, K: Keeper>(
     keeper: &mut K,
 ) -> Result<Ending, Stop>
     requires { IsReady shell.old.stage (K.moment keeper.old) }
-    ensures step { Runs (moment_writing K.moment O.written) (λ e. e) finished
+    ensures step { Runs (moment_writing K.moment O.written) (λ e. e) end_script
         (shell.old, keeper.old, sink.old) (as_refusal stop_refusal result)
         (shell.new, keeper.new, sink.new) }
     ensures finished { IfOk result (λ ending. ending ≡ Ending.Finished) }
     ensures outside { OnOk result ((K.moment keeper.new).depth ≡ 0) }
     ensures keeps { Keeps
-        (seen None 0 (O.written sink.old) (O.faults sink.old) (K.moment keeper.old))
+        (moment_seen None 0 (O.written sink.old) (O.faults sink.old) (K.moment keeper.old))
         result
-        (seen None 0 (O.written sink.new) (O.faults sink.new) (K.moment keeper.new)) }
+        (moment_seen None 0 (O.written sink.new) (O.faults sink.new) (K.moment keeper.new)) }
 {
     let reply = shell.answer_end(keeper)?;
     write_all(sink, reply.bytes())?;

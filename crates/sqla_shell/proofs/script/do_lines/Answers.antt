@@ -5,7 +5,7 @@ use Rattle.script_lines.specs.Cutting.{IsNextOf, KeepsLimits, to_come}
 use Rattle.shell_steps.specs.ShellState.{ShellState}
 use Rattle.sqla_shell.specs.Causes.{stop_refusal}
 use Rattle.sqla_shell.specs.Outcome.{moment_writing}
-use Rattle.sqla_shell.specs.Reference.{answered}
+use Rattle.sqla_shell.specs.Reference.{do_and_reply}
 use Rattle.sqla_shell.proofs.LinesLemmas.{OnLines, line_done, line_stopped_as, lines_ended, lines_start, lines_too_long, nothing_left}
 use Rattle.sqla_shell.proofs.KeepsLemmas.{beside_source, err_is, keeper_same, keeps_passed, keeps_then, source_read, source_stopped}
 use Rattle.sqla_shell.proofs.script.do_lines.Goals as goal
@@ -46,7 +46,7 @@ returns-in_err-answer_line-in-Line-clause-reference g c =
     limits.1 limits.2 c.loop-turn.invariant.way
     (subst (λ a. IsNextOf c.loop-turn.lines.taken (to_come c.loop-turn.lines (g.S.Source.left c.loop-turn.source)) a c.next_line.new.self.taken (to_come c.next_line.new.self (g.S.Source.left c.next_line.new.source))) c.in-Line.is c.in_ok-next_line.ensures.next)
     c.in_err-answer_line-in-Line.field-0.0 c.from_residual-in_err-answer_line-in-Line.result c.from_residual-in_err-answer_line-in-Line.ensures.1
-    (subst (λ line. Runs (moment_writing {S = ShellState} g.K.Keeper.moment g.O.Sink.written) (λ u. u) (answered line tt) (c.loop-turn.shell, c.loop-turn.keeper, c.loop-turn.sink) (Err (stop_refusal c.in_err-answer_line-in-Line.field-0.0)) (c.answer_line.new.shell, c.answer_line.new.keeper, c.answer_line.new.sink)) c.as_slice.ensures c.in_err-answer_line-in-Line.ensures.step)
+    (subst (λ line. Runs (moment_writing {S = ShellState} g.K.Keeper.moment g.O.Sink.written) (λ u. u) (do_and_reply line tt) (c.loop-turn.shell, c.loop-turn.keeper, c.loop-turn.sink) (Err (stop_refusal c.in_err-answer_line-in-Line.field-0.0)) (c.answer_line.new.shell, c.answer_line.new.keeper, c.answer_line.new.sink)) c.as_slice.ensures c.in_err-answer_line-in-Line.ensures.step)
 
 -- src/script.rt:78:5
 pub loop-turn-preserved : goal.loop-turn-preserved
@@ -57,7 +57,7 @@ loop-turn-preserved g c =
           (g.S.Source.left c.args.source.now) c.loop-turn._turn c.loop-turn.lines.taken (to_come c.loop-turn.lines (g.S.Source.left c.loop-turn.source)) c.in-Line.line c.next_line.new.self.taken (to_come c.next_line.new.self (g.S.Source.left c.next_line.new.source))
           limits.1 limits.2 c.loop-turn.invariant.way
           (subst (λ a. IsNextOf c.loop-turn.lines.taken (to_come c.loop-turn.lines (g.S.Source.left c.loop-turn.source)) a c.next_line.new.self.taken (to_come c.next_line.new.self (g.S.Source.left c.next_line.new.source))) c.in-Line.is c.in_ok-next_line.ensures.next)
-          (subst (λ line. Runs (moment_writing {S = ShellState} g.K.Keeper.moment g.O.Sink.written) (λ u. u) (answered line tt) (c.loop-turn.shell, c.loop-turn.keeper, c.loop-turn.sink) (Ok tt) (c.answer_line.new.shell, c.answer_line.new.keeper, c.answer_line.new.sink)) c.as_slice.ensures c.in_ok-answer_line-in-Line.ensures.step);
+          (subst (λ line. Runs (moment_writing {S = ShellState} g.K.Keeper.moment g.O.Sink.written) (λ u. u) (do_and_reply line tt) (c.loop-turn.shell, c.loop-turn.keeper, c.loop-turn.sink) (Ok tt) (c.answer_line.new.shell, c.answer_line.new.keeper, c.answer_line.new.sink)) c.as_slice.ensures c.in_ok-answer_line-in-Line.ensures.step);
       turns = omega (arith, c.loop-turn.invariant.turns, limits.1);
       few = limits.2;
       fits = c.in_ok-next_line.ensures.fits;

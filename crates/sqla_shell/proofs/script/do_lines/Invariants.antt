@@ -2,7 +2,7 @@ use Rattle.std.proofs.Common.{◌≤◌, Ok}
 use Rattle.script_lines.specs.Cutting.{FitsSource, most_bytes, to_come}
 use Rattle.shell_steps.specs.ShellState.{IsReady}
 use Rattle.sqla_shell.specs.Outcome.{moment_writing}
-use Rattle.sqla_shell.specs.Seen.{Keeps, seen}
+use Rattle.sqla_shell.specs.Seen.{Keeps, moment_seen}
 use Rattle.sqla_shell.proofs.LinesLemmas.{OnLines}
 use Rattle.sqla_shell.proofs.script.do_lines.Given as goal
 
@@ -14,7 +14,7 @@ invariant-loop-turn g l = record {
   fits : FitsSource l.lines (g.S.Source.left l.source);
   ready : IsReady l.shell.stage (g.K.Keeper.moment l.keeper);
   keeps : Keeps {X = Unit {0}}
-      (seen (g.S.Source.left l.fn.source) (g.S.Source.faults l.fn.source) (g.O.Sink.written l.fn.sink) (g.O.Sink.faults l.fn.sink) (g.K.Keeper.moment l.fn.keeper))
+      (moment_seen (g.S.Source.left l.fn.source) (g.S.Source.faults l.fn.source) (g.O.Sink.written l.fn.sink) (g.O.Sink.faults l.fn.sink) (g.K.Keeper.moment l.fn.keeper))
       (Ok tt)
-      (seen (g.S.Source.left l.source) (g.S.Source.faults l.source) (g.O.Sink.written l.sink) (g.O.Sink.faults l.sink) (g.K.Keeper.moment l.keeper));
+      (moment_seen (g.S.Source.left l.source) (g.S.Source.faults l.source) (g.O.Sink.written l.sink) (g.O.Sink.faults l.sink) (g.K.Keeper.moment l.keeper));
 }

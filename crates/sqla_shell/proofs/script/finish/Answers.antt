@@ -6,7 +6,7 @@ use Rattle.programs.specs.Beside.{Beside}
 use Rattle.shell_steps.specs.ShellState.{ShellState}
 use Rattle.shell_steps.specs.Step.{close_session}
 use Rattle.sqla_shell.specs.Outcome.{HasWritten}
-use Rattle.sqla_shell.specs.Reference.{finished, writes}
+use Rattle.sqla_shell.specs.Reference.{end_script, writes}
 use Rattle.sqla_shell.specs.declared.ending.Ending.{Ending}
 use Rattle.sqla_shell.specs.declared.ending.Ending.TheVariants.{Finished}
 use Rattle.sqla_shell.proofs.WritingLemmas.{answer_stopped, on_shell, on_sink, sink_stopped}
@@ -21,13 +21,13 @@ after_writing u = close_session >>= after_closing
 
 -- src/script.rt:124:17
 pub returns-in_err-reply-clause-step : goal.returns-in_err-reply-clause-step
-unfolding finished
+unfolding end_script
 returns-in_err-reply-clause-step g c = answer_stopped g.K.Keeper.moment g.O.Sink.written g.met.K.Keeper.coherent (λ e. e) (λ reply. writes reply >>= after_writing) c.args.sink.now c.in_err-reply.field-0.0 c.from_residual.result
     (ap ends_early c.in_err-reply.ensures.cause) c.from_residual.ensures.1 c.in_err-reply.ensures.step
 
 -- src/script.rt:125:5
 pub returns-in_err-write_all-clause-step : goal.returns-in_err-write_all-clause-step
-unfolding finished
+unfolding end_script
 returns-in_err-write_all-clause-step g c = then_ok (λ reply. writes reply >>= after_writing) (on_shell g.K.Keeper.moment g.O.Sink.written g.met.K.Keeper.coherent c.args.sink.now c.in_ok-reply.ensures.step)
     (sink_stopped {S = ShellState} g.K.Keeper.moment g.O.Sink.written (g.O.Sink.faults c.args.sink.now) (g.O.Sink.faults c.write_all.new.sink) (λ e. e) after_writing c.answer_end.new.self c.args.keeper.now c.args.sink.now c.write_all.new.sink c.in_ok-reply.reply
     c.in_err-write_all.field-0.0 c.from_residual-in_err-write_all.result
@@ -36,7 +36,7 @@ returns-in_err-write_all-clause-step g c = then_ok (λ reply. writes reply >>= a
 
 -- src/script.rt:126:5
 pub returns-in_err-close-clause-step : goal.returns-in_err-close-clause-step
-unfolding finished
+unfolding end_script
 returns-in_err-close-clause-step g c = then_ok (λ reply. writes reply >>= after_writing) (on_shell g.K.Keeper.moment g.O.Sink.written g.met.K.Keeper.coherent c.args.sink.now c.in_ok-reply.ensures.step)
     (then_ok after_writing (on_sink {S = ShellState} g.K.Keeper.moment g.O.Sink.written (g.O.Sink.faults c.args.sink.now) (g.O.Sink.faults c.write_all.new.sink) c.answer_end.new.self c.args.keeper.now c.args.sink.now c.write_all.new.sink c.in_ok-reply.reply (Ok tt)
     (subst (λ piece. HasWritten (g.O.Sink.written c.args.sink.now) piece (Ok tt) (g.O.Sink.written c.write_all.new.sink)) c.bytes.ensures c.in_ok-write_all.ensures.bytes) c.in_ok-write_all.ensures.faults)
@@ -45,7 +45,7 @@ returns-in_err-close-clause-step g c = then_ok (λ reply. writes reply >>= after
 
 -- src/script.rt:109:1
 pub returns-clause-step : goal.returns-clause-step
-unfolding finished
+unfolding end_script
 returns-clause-step g c = then_ok (λ reply. writes reply >>= after_writing) (on_shell g.K.Keeper.moment g.O.Sink.written g.met.K.Keeper.coherent c.args.sink.now c.in_ok-reply.ensures.step)
     (then_ok after_writing (on_sink {S = ShellState} g.K.Keeper.moment g.O.Sink.written (g.O.Sink.faults c.args.sink.now) (g.O.Sink.faults c.write_all.new.sink) c.answer_end.new.self c.args.keeper.now c.args.sink.now c.write_all.new.sink c.in_ok-reply.reply (Ok tt)
     (subst (λ piece. HasWritten (g.O.Sink.written c.args.sink.now) piece (Ok tt) (g.O.Sink.written c.write_all.new.sink)) c.bytes.ensures c.in_ok-write_all.ensures.bytes) c.in_ok-write_all.ensures.faults)
