@@ -161,14 +161,14 @@ cut_read Mysql None (Some o) t v w =
     (λ m r u is rest. after_words (λ r u. Cut Mysql (codes " LIMIT " ++ (m ++ r)) (number o ∷ u) (None, Some (number o))) rest
     (λ r last. at_end (λ r u. Cut Mysql (codes " LIMIT " ++ (m ++ (codes ", 18446744073709551615" ++ r))) (number o ∷ u) (None, Some (number o))) last (mysql_offset (number o) is)))
 cut_read Sqlite (Some l) (Some o) t v w =
-    one_number Sqlite (λ p u. Cut Sqlite p u (Some (number l), Some (number o))) (codes " LIMIT ") l (s.counted (codes " OFFSET ") o) t v w
+    one_number Sqlite (λ p u. Cut Sqlite p u (Some (number l), Some (number o))) (codes " LIMIT ") l (s.row_count_pieces (codes " OFFSET ") o) t v w
     (λ m r u is rest. last_number Sqlite (λ r u. Cut Sqlite (codes " LIMIT " ++ (m ++ r)) (number l ∷ u) (Some (number l), Some (number o))) (codes " OFFSET ") o r u rest
     (λ n at. sqlite_both (number l) (number o) is at))
 cut_read Postgresql (Some l) (Some o) t v w =
-    one_number Postgresql (λ p u. Cut Postgresql p u (Some (number l), Some (number o))) (codes " LIMIT ") l (s.counted (codes " OFFSET ") o) t v w
+    one_number Postgresql (λ p u. Cut Postgresql p u (Some (number l), Some (number o))) (codes " LIMIT ") l (s.row_count_pieces (codes " OFFSET ") o) t v w
     (λ m r u is rest. last_number Postgresql (λ r u. Cut Postgresql (codes " LIMIT " ++ (m ++ r)) (number l ∷ u) (Some (number l), Some (number o))) (codes " OFFSET ") o r u rest
     (λ n at. postgresql_both (number l) (number o) is at))
 cut_read Mysql (Some l) (Some o) t v w =
-    one_number Mysql (λ p u. Cut Mysql p u (Some (number l), Some (number o))) (codes " LIMIT ") o (s.counted (codes ", ") l) t v w
+    one_number Mysql (λ p u. Cut Mysql p u (Some (number l), Some (number o))) (codes " LIMIT ") o (s.row_count_pieces (codes ", ") l) t v w
     (λ m r u is rest. last_number Mysql (λ r u. Cut Mysql (codes " LIMIT " ++ (m ++ r)) (number o ∷ u) (Some (number l), Some (number o))) (codes ", ") l r u rest
     (λ n at. mysql_both (number l) (number o) is at))

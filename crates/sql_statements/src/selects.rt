@@ -316,7 +316,7 @@ fn number(writer: &mut Writer, n: u64) -> Result<(), Refusal>
 #[tactic(auto, using(sql_text::proofs::Steps::steps))]
 fn counted(writer: &mut Writer, word: &str, n: u64) -> Result<(), Refusal>
     requires { n < 2 ^ 63 }
-    ensures { Wrote (spec.counted word.now n) result writer.old writer.new }
+    ensures { Wrote (spec.row_count_pieces word.now n) result writer.old writer.new }
 {
     writer.put_words(word)?;
     number(writer, n)
@@ -343,7 +343,7 @@ fn offset_alone(writer: &mut Writer, offset: u64) -> Result<(), Refusal>
 fn offset_first(writer: &mut Writer, offset: u64, limit: u64) -> Result<(), Refusal>
     requires offset { offset < 2 ^ 63 }
     requires limit { limit < 2 ^ 63 }
-    ensures { Wrote (spec.counted (codes " LIMIT ") offset ++ spec.counted (codes ", ") limit)
+    ensures { Wrote (spec.row_count_pieces (codes " LIMIT ") offset ++ spec.row_count_pieces (codes ", ") limit)
         result writer.old writer.new }
 {
     counted(writer, " LIMIT ", offset)?;

@@ -2,7 +2,7 @@ use Rattle.std.proofs.Common.{[], ◌∷◌, codes, sym, ◌∙◌, subst}
 use Rattle.sql_text.specs.declared.names.Quoting.{Quoting}
 use Rattle.sql_text.specs.Written.{Wrote, words}
 use Rattle.sql_text.proofs.Behind.{wrote_behind}
-use Rattle.sql_statements.specs.Selects.{counted, offset_pieces}
+use Rattle.sql_statements.specs.Selects.{row_count_pieces, offset_pieces}
 use Rattle.sql_statements.proofs.selects.offset_alone.Goals as goal
 
 pub returns-in-Sqlite : goal.returns-in-Sqlite
@@ -10,5 +10,5 @@ returns-in-Sqlite c = subst (λ (q : Quoting). Wrote (offset_pieces q c.args.off
 
 pub returns-in_ok-counted-in-Mysql : goal.returns-in_ok-counted-in-Mysql
 returns-in_ok-counted-in-Mysql c =
-    let told = wrote_behind (counted (codes " LIMIT ") c.args.offset) (words (codes ", 18446744073709551615") ∷ []) c.put_words.result c.args.writer.now c.counted-in-Mysql.new.writer c.put_words.new.self c.in_ok-counted-in-Mysql.ensures c.put_words.ensures.wrote in
+    let told = wrote_behind (row_count_pieces (codes " LIMIT ") c.args.offset) (words (codes ", 18446744073709551615") ∷ []) c.put_words.result c.args.writer.now c.counted-in-Mysql.new.writer c.put_words.new.self c.in_ok-counted-in-Mysql.ensures c.put_words.ensures.wrote in
     subst (λ (q : Quoting). Wrote (offset_pieces q c.args.offset) c.put_words.result c.args.writer.now c.put_words.new.self) (sym c.in-Mysql.is ∙ c.quoting.ensures) told
