@@ -127,13 +127,13 @@ unsized_in Sqlite columns = None
 unsized_in Postgresql columns = None
 unsized_in Mysql columns = first_unsized 0 columns
 
-abbrev pub created : Quoting → Catalog → TableId → List ℕ → Option ColumnNo → Result (List ℕ) Refusal
-created quoting schema table later None = Ok (create_text quoting schema (spec_of schema table) later)
-created quoting schema table later (Some column) = Err (CompileError table column)
+abbrev pub create_text_or_refusal : Quoting → Catalog → TableId → List ℕ → Option ColumnNo → Result (List ℕ) Refusal
+create_text_or_refusal quoting schema table later None = Ok (create_text quoting schema (spec_of schema table) later)
+create_text_or_refusal quoting schema table later (Some column) = Err (CompileError table column)
 
 -- CREATE TABLE without the foreign keys of these numbers, or the first column that has no type
 unfoldable pub ddl : Quoting → Catalog → TableId → List ℕ → Result (List ℕ) Refusal
-ddl quoting schema table later = created quoting schema table later (unsized_in quoting (spec_of schema table).columns)
+ddl quoting schema table later = create_text_or_refusal quoting schema table later (unsized_in quoting (spec_of schema table).columns)
 
 abbrev pub alter_pieces : Catalog → TableSpec → ForeignSpec → List Piece
 alter_pieces schema spec foreign = words (codes "ALTER TABLE ") ∷ name spec.name ∷ words (codes " ADD ") ∷ foreign_pieces schema foreign
