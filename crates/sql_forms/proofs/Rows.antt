@@ -25,7 +25,7 @@ use Rattle.sql_grammar.specs.Reads.{AreMarks, one_mark, more_marks}
 use Rattle.sql_trees.proofs.Pieces.{OfText, Writes, after_words, after_name, after_value, at_end, split, before_words, all_written}
 use Rattle.sql_forms.specs.Forms.{RowForm, fill, add}
 use Rattle.sql_forms.specs.Clauses.{Items, Series, no_series, series, Name, name, Row, row, Cell, cell, KeyCell, key_cell, Returned, none_returned, returned, ReadsRow, fill_row, add_rows, change_row, remove_row, default_word}
-use Rattle.sql_forms.specs.Form.{given, given_cells, given_values, key_told, told, key_values, is_drawn, add_form, row_form}
+use Rattle.sql_forms.specs.Form.{columns_with_values, given_cells, given_values, key_told, returned_columns, key_values, is_drawn, add_form, row_form}
 use Rattle.sql_forms.specs.Read.{RowsAreRead}
 use Rattle.sql_forms.proofs.Parts.{AllRead, items_read}
 use Rattle.sql_forms.proofs.Bulks.{no_values, default_is}
@@ -55,11 +55,11 @@ more_by : {A : Type 0} (k : Bool) (first word : List ℕ) (pieces : A → List P
 more_by true first word pieces x xs ps qs one other = one
 more_by false first word pieces x xs ps qs one other = ap (λ (rs : List Piece). words first ∷ pieces x ++ rs) (other ∙ headed_led word pieces xs)
 
-names_are : (drawn : Bool) (first : List ℕ) (columns : List ColumnSpec) → r.names_pieces drawn first columns ≡ headed first (codes ", ") name_pieces (given drawn columns)
+names_are : (drawn : Bool) (first : List ℕ) (columns : List ColumnSpec) → r.names_pieces drawn first columns ≡ headed first (codes ", ") name_pieces (columns_with_values drawn columns)
 unfolding is_left_out
 names_are drawn first [] = refl
 names_are drawn first (c ∷ cs) =
-    more_by (drawn && c.key) first (codes ", ") name_pieces c.name (given drawn cs) (r.names_pieces drawn first cs) (r.names_pieces drawn (codes ", ") cs) (names_are drawn first cs) (names_are drawn (codes ", ") cs)
+    more_by (drawn && c.key) first (codes ", ") name_pieces c.name (columns_with_values drawn cs) (r.names_pieces drawn first cs) (r.names_pieces drawn (codes ", ") cs) (names_are drawn first cs) (names_are drawn (codes ", ") cs)
 
 cells_are : (drawn : Bool) (first : List ℕ) (columns : List ColumnSpec) (cells : List Value) → r.row_cells drawn first columns cells ≡ headed first (codes ", ") cell_value (given_cells drawn columns cells)
 unfolding is_left_out
@@ -88,13 +88,13 @@ record HasFirst {A : Type 0} (xs : List A) : Type 0 where
   others : List A
   is : xs ≡ first ∷ others
 
-some_given : (drawn : Bool) (columns : List ColumnSpec) → list_all (λ c. drawn && c.key) columns ≡ false → HasFirst (given drawn columns)
+some_given : (drawn : Bool) (columns : List ColumnSpec) → list_all (λ c. drawn && c.key) columns ≡ false → HasFirst (columns_with_values drawn columns)
 some_given drawn [] h = absurd (cc)
 some_given drawn (c ∷ cs) h = by (drawn && c.key) h (some_given drawn cs)
   where
-    by : (k : Bool) → (k && list_all (λ c. drawn && c.key) cs) ≡ false → (list_all (λ c. drawn && c.key) cs ≡ false → HasFirst (given drawn cs)) → HasFirst (cond k (given drawn cs) (c.name ∷ given drawn cs))
+    by : (k : Bool) → (k && list_all (λ c. drawn && c.key) cs) ≡ false → (list_all (λ c. drawn && c.key) cs ≡ false → HasFirst (columns_with_values drawn cs)) → HasFirst (cond k (columns_with_values drawn cs) (c.name ∷ columns_with_values drawn cs))
     by true h rec = rec h
-    by false h rec = record { first = c.name; others = given drawn cs; is = refl }
+    by false h rec = record { first = c.name; others = columns_with_values drawn cs; is = refl }
 
 some_cells : (drawn : Bool) (columns : List ColumnSpec) (cells : List Value) → list_all (λ c. drawn && c.key) columns ≡ false → pointwise may_hold columns cells ≡ true → HasFirst (given_cells drawn columns cells)
 some_cells drawn [] cells h p = absurd (cc)
@@ -213,7 +213,7 @@ told_drawn : (drawn : Bool) (spec : TableSpec) (t : List ℕ) (v : List Value) �
 told_drawn true spec t v w = told_names spec.name spec.columns t v w
 told_drawn false spec t v w = at_end (Tells Postgresql []) w (refl, none_returned)
 
-told_read : (q : Quoting) (drawn : Bool) (spec : TableSpec) (t : List ℕ) (v : List Value) → Writes q (r.returning_pieces q drawn spec) t v → Tells q (told q drawn spec) t v
+told_read : (q : Quoting) (drawn : Bool) (spec : TableSpec) (t : List ℕ) (v : List Value) → Writes q (r.returning_pieces q drawn spec) t v → Tells q (returned_columns q drawn spec) t v
 told_read Sqlite drawn spec t v w = at_end (Tells Sqlite []) w (refl, none_returned)
 told_read Postgresql drawn spec t v w = told_drawn drawn spec t v w
 told_read Mysql drawn spec t v w = at_end (Tells Mysql []) w (refl, none_returned)
@@ -222,13 +222,13 @@ told_read Mysql drawn spec t v w = at_end (Tells Mysql []) w (refl, none_returne
 
 module _ (q : Quoting) where
   fill_read : (spec : TableSpec) (drawn : Bool) (t : List ℕ) (v : List Value) → Writes q (words (codes "INSERT INTO ") ∷ name_piece spec.name ∷ words (b.default_word q) ∷ r.returning_pieces q drawn spec) t v
-      → ReadsRow q t v (fill spec.name (told q drawn spec))
+      → ReadsRow q t v (fill spec.name (returned_columns q drawn spec))
   fill_read spec drawn t v w =
-      let form : RowForm = fill spec.name (told q drawn spec) in
+      let form : RowForm = fill spec.name (returned_columns q drawn spec) in
       after_words (λ p u. ReadsRow q p u form) w (λ p rest. after_name (λ p u. ReadsRow q (codes "INSERT INTO " ++ p) u form) rest
       (λ a p is rest. after_words (λ p u. ReadsRow q (codes "INSERT INTO " ++ (a ++ p)) u form) rest
       (λ p last.
-      let tells : Tells q (told q drawn spec) p v = told_read q drawn spec p v last in
+      let tells : Tells q (returned_columns q drawn spec) p v = told_read q drawn spec p v last in
       subst (λ word. ReadsRow q (codes "INSERT INTO " ++ (a ++ (word ++ p))) v form) (sym (default_is q))
       (subst (λ u. ReadsRow q (codes "INSERT INTO " ++ (a ++ (default_word q ++ p))) u form) (sym tells.0) (fill_row is tells.1)))))
 
@@ -237,15 +237,15 @@ module _ (q : Quoting) where
 
   add_read : (spec : TableSpec) (drawn : Bool) (rows : List (List Value)) → list_all (λ c. drawn && c.key) spec.columns ≡ false → list_all (is_row spec) rows ≡ true → (t : List ℕ) (v : List Value)
       → Writes q (words (codes "INSERT INTO ") ∷ name_piece spec.name ∷ (r.lists_pieces drawn spec.columns rows ++ r.returning_pieces q drawn spec)) t v
-      → ReadsRow q t v (add spec.name (given drawn spec.columns) (map (given_values drawn spec.columns) rows) (told q drawn spec))
+      → ReadsRow q t v (add spec.name (columns_with_values drawn spec.columns) (map (given_values drawn spec.columns) rows) (returned_columns q drawn spec))
   add_read spec drawn rows h wide t v w =
-      let some : HasFirst (given drawn spec.columns) = some_given drawn spec.columns h in
-      let form : RowForm = add spec.name (some.first ∷ some.others) (map (given_values drawn spec.columns) rows) (told q drawn spec) in
-      subst (λ ns. ReadsRow q t v (add spec.name ns (map (given_values drawn spec.columns) rows) (told q drawn spec))) (sym some.is)
+      let some : HasFirst (columns_with_values drawn spec.columns) = some_given drawn spec.columns h in
+      let form : RowForm = add spec.name (some.first ∷ some.others) (map (given_values drawn spec.columns) rows) (returned_columns q drawn spec) in
+      subst (λ ns. ReadsRow q t v (add spec.name ns (map (given_values drawn spec.columns) rows) (returned_columns q drawn spec))) (sym some.is)
       (after_words (λ p u. ReadsRow q p u form) w (λ p rest. after_name (λ p u. ReadsRow q (codes "INSERT INTO " ++ p) u form) rest
       (λ a p is rest. split (λ p u. ReadsRow q (codes "INSERT INTO " ++ (a ++ p)) u form) (r.lists_pieces drawn spec.columns rows) (r.returning_pieces q drawn spec) rest
       (λ e d x dv lists last.
-      let tells : Tells q (told q drawn spec) d dv = told_read q drawn spec d dv last in
+      let tells : Tells q (returned_columns q drawn spec) d dv = told_read q drawn spec d dv last in
       split (λ e x. ReadsRow q (codes "INSERT INTO " ++ (a ++ (e ++ d))) (x ++ dv) form) (r.names_pieces drawn (codes " (") spec.columns) (words (codes ") VALUES ") ∷ with_separators (codes ", ") (r.row_list drawn spec.columns) rows) lists
       (λ m c u z namesw rowsw. after_words (λ m u. ReadsRow q (codes "INSERT INTO " ++ (a ++ ((m ++ c) ++ d))) ((u ++ z) ++ dv) form)
       (subst (λ ps. Writes q ps m u) (names_are drawn (codes " (") spec.columns ∙ ap (headed (codes " (") (codes ", ") name_pieces) some.is) namesw)
@@ -258,7 +258,7 @@ module _ (q : Quoting) where
 
   insert_by : (spec : TableSpec) (drawn : Bool) (rows : List (List Value)) → list_all (is_row spec) rows ≡ true → (k : Bool) → list_all (λ c. drawn && c.key) spec.columns ≡ k → (t : List ℕ) (v : List Value)
       → Writes q (words (codes "INSERT INTO ") ∷ name_piece spec.name ∷ (cond k (words (b.default_word q) ∷ []) (r.lists_pieces drawn spec.columns rows) ++ r.returning_pieces q drawn spec)) t v
-      → ReadsRow q t v (cond k (fill spec.name (told q drawn spec)) (add spec.name (given drawn spec.columns) (map (given_values drawn spec.columns) rows) (told q drawn spec)))
+      → ReadsRow q t v (cond k (fill spec.name (returned_columns q drawn spec)) (add spec.name (columns_with_values drawn spec.columns) (map (given_values drawn spec.columns) rows) (returned_columns q drawn spec)))
   insert_by spec drawn rows wide true is t v w = fill_read spec drawn t v w
   insert_by spec drawn rows wide false is t v w = add_read spec drawn rows is wide t v w
 

@@ -68,9 +68,9 @@ is_drawn spec [] = false
 is_drawn spec (cells ∷ rows) = wants_key spec cells
 
 -- the columns that are given values: all but a key that is to be generated
-abbrev pub given : Bool → List ColumnSpec → List (List ℕ)
-given drawn [] = []
-given drawn (column ∷ columns) = if drawn && column.key then given drawn columns else column.name ∷ given drawn columns
+abbrev pub columns_with_values : Bool → List ColumnSpec → List (List ℕ)
+columns_with_values drawn [] = []
+columns_with_values drawn (column ∷ columns) = if drawn && column.key then columns_with_values drawn columns else column.name ∷ columns_with_values drawn columns
 
 -- the values that are given
 abbrev pub given_cells : Bool → List ColumnSpec → List Value → List (List ℕ × Value)
@@ -87,10 +87,10 @@ key_told table [] = []
 key_told table (column ∷ columns) = if column.key then (table, column.name) ∷ key_told table columns else key_told table columns
 
 -- PostgreSQL tells a generated key
-abbrev pub told : Quoting → Bool → TableSpec → List (List ℕ × List ℕ)
-told Sqlite drawn spec = []
-told Postgresql drawn spec = if drawn then key_told spec.name spec.columns else []
-told Mysql drawn spec = []
+abbrev pub returned_columns : Quoting → Bool → TableSpec → List (List ℕ × List ℕ)
+returned_columns Sqlite drawn spec = []
+returned_columns Postgresql drawn spec = if drawn then key_told spec.name spec.columns else []
+returned_columns Mysql drawn spec = []
 
 -- the key's columns with their values
 abbrev pub key_values : List ℕ → List ColumnSpec → List Value → List (List ℕ × List ℕ × Value)
@@ -100,8 +100,8 @@ key_values table (column ∷ columns) (v ∷ key) = if column.key then (table, c
 
 abbrev pub add_form : Quoting → TableSpec → Bool → List (List Value) → RowForm
 add_form quoting spec drawn rows =
-    if list_all (λ column. drawn && column.key) spec.columns then fill spec.name (told quoting drawn spec)
-    else add spec.name (given drawn spec.columns) (map (given_values drawn spec.columns) rows) (told quoting drawn spec)
+    if list_all (λ column. drawn && column.key) spec.columns then fill spec.name (returned_columns quoting drawn spec)
+    else add spec.name (columns_with_values drawn spec.columns) (map (given_values drawn spec.columns) rows) (returned_columns quoting drawn spec)
 
 abbrev pub row_form : Quoting → Catalog → RowStmt → RowForm
 row_form quoting schema (row.Insert table rows) = add_form quoting (spec_of schema table) (is_drawn (spec_of schema table) rows) rows

@@ -20,7 +20,7 @@ use Rattle.schema_core.specs.WellFormed.{AreNewRows, IsWellFormed, are_cells, is
 use Rattle.sql_text.specs.declared.names.Quoting.{Quoting}
 use Rattle.sql_text.specs.Columns.{column_name}
 use Rattle.sql_forms.specs.Forms.{RowForm, fill, add, change, remove}
-use Rattle.sql_forms.specs.Form.{given, given_cells, given_values, is_drawn, key_values, row_form, told}
+use Rattle.sql_forms.specs.Form.{columns_with_values, given_cells, given_values, is_drawn, key_values, row_form, returned_columns}
 use Rattle.sql_semantics.specs.DistinctNames.{has_columns, has_distinct_names}
 use Rattle.sql_readings.proofs.Rows.{one_row_form}
 use Rattle.statement_readings.specs.OneStatement.{IsOneRow}
@@ -156,36 +156,36 @@ rows_told spec drawn (cells ∷ rows) held wants =
 
 -- ---- which columns are given
 
-all_given : (columns : List ColumnSpec) → length (given false columns) ≡ length columns
+all_given : (columns : List ColumnSpec) → length (columns_with_values false columns) ≡ length columns
 all_given [] = refl
 all_given (c ∷ cs) = ap suc (all_given cs)
 
-at_most_all : (columns : List ColumnSpec) → length (given true columns) ≤ length columns
+at_most_all : (columns : List ColumnSpec) → length (columns_with_values true columns) ≤ length columns
 at_most_all [] = omega arith
 at_most_all (c ∷ cs) = by c.key (at_most_all cs)
   where
-    by : (k : Bool) → length (given true cs) ≤ length cs → length (cond k (given true cs) (c.name ∷ given true cs)) ≤ suc (length cs)
+    by : (k : Bool) → length (columns_with_values true cs) ≤ length cs → length (cond k (columns_with_values true cs) (c.name ∷ columns_with_values true cs)) ≤ suc (length cs)
     by true l = omega arith
     by false l = omega arith
 
-fewer : (columns : List ColumnSpec) → count_by (λ d. d.key) columns ≡ 1 → length (given true columns) < length columns
+fewer : (columns : List ColumnSpec) → count_by (λ d. d.key) columns ≡ 1 → length (columns_with_values true columns) < length columns
 fewer [] one = absurd (omega arith)
 fewer (c ∷ cs) one = by c.key (sym (count_step c cs) ∙ one) (fewer cs)
   where
-    by : (k : Bool) → cond k 1 0 + count_by (λ d. d.key) cs ≡ 1 → (count_by (λ d. d.key) cs ≡ 1 → length (given true cs) < length cs) → length (cond k (given true cs) (c.name ∷ given true cs)) < suc (length cs)
-    by true e rec = let most : length (given true cs) ≤ length cs = at_most_all cs in omega arith
-    by false e rec = let less : length (given true cs) < length cs = rec (omega arith) in omega arith
+    by : (k : Bool) → cond k 1 0 + count_by (λ d. d.key) cs ≡ 1 → (count_by (λ d. d.key) cs ≡ 1 → length (columns_with_values true cs) < length cs) → length (cond k (columns_with_values true cs) (c.name ∷ columns_with_values true cs)) < suc (length cs)
+    by true e rec = let most : length (columns_with_values true cs) ≤ length cs = at_most_all cs in omega arith
+    by false e rec = let less : length (columns_with_values true cs) < length cs = rec (omega arith) in omega arith
 
 generated_once : (spec : TableSpec) → has_generated_key spec ≡ true → count_by (λ d. d.key) spec.columns ≡ 1
 generated_once spec g =
     eqb-true (count_by (λ (d : ColumnSpec). d.key) spec.columns) 1
     (and_parts (count_by (λ (d : ColumnSpec). d.key) spec.columns == 1) (list_any (λ (d : ColumnSpec). d.key && is_free_integer spec.foreigns d) spec.columns) g).0
 
-left_out : (spec : TableSpec) (drawn : Bool) → (drawn ≡ true → has_generated_key spec ≡ true) → leaves_out spec (given drawn spec.columns) ≡ drawn
-left_out spec false generated = ap not (eq-eqb (length (given false spec.columns)) (length spec.columns) (all_given spec.columns))
+left_out : (spec : TableSpec) (drawn : Bool) → (drawn ≡ true → has_generated_key spec ≡ true) → leaves_out spec (columns_with_values drawn spec.columns) ≡ drawn
+left_out spec false generated = ap not (eq-eqb (length (columns_with_values false spec.columns)) (length spec.columns) (all_given spec.columns))
 left_out spec true generated =
-    let less : length (given true spec.columns) < length spec.columns = fewer spec.columns (generated_once spec (generated refl)) in
-    ap not (ne_eqb (length (given true spec.columns)) (length spec.columns) (λ e. absurd (omega arith)))
+    let less : length (columns_with_values true spec.columns) < length spec.columns = fewer spec.columns (generated_once spec (generated refl)) in
+    ap not (ne_eqb (length (columns_with_values true spec.columns)) (length spec.columns) (λ e. absurd (omega arith)))
 
 -- ---- the rows of a statement
 
@@ -302,11 +302,11 @@ module _ (q : Quoting) (schema : Catalog) (named : has_distinct_names schema ≡
   insert_told table rows there new = by (list_all (λ c. (is_drawn (spec_of schema table) rows) && c.key) (spec_of schema table).columns) refl
     where
       by : (b : Bool) → list_all (λ c. (is_drawn (spec_of schema table) rows) && c.key) (spec_of schema table).columns ≡ b
-          → row_back schema (cond b (fill (spec_of schema table).name (told q (is_drawn (spec_of schema table) rows) (spec_of schema table))) (add (spec_of schema table).name (given (is_drawn (spec_of schema table) rows) (spec_of schema table).columns) (map (given_values (is_drawn (spec_of schema table) rows) (spec_of schema table).columns) rows) (told q (is_drawn (spec_of schema table) rows) (spec_of schema table)))) ≡ row.Insert table rows
+          → row_back schema (cond b (fill (spec_of schema table).name (returned_columns q (is_drawn (spec_of schema table) rows) (spec_of schema table))) (add (spec_of schema table).name (columns_with_values (is_drawn (spec_of schema table) rows) (spec_of schema table).columns) (map (given_values (is_drawn (spec_of schema table) rows) (spec_of schema table).columns) rows) (returned_columns q (is_drawn (spec_of schema table) rows) (spec_of schema table)))) ≡ row.Insert table rows
       by true keys =
           ap (λ (t : TableId). row.Insert t ((cell.Null ∷ []) ∷ [])) (table_told q schema named table there) ∙ ap (row.Insert table) (filling (spec_of schema table) rows (some_columns table there) new keys)
       by false keys =
-          ap (λ (t : TableId). add_back schema t (given (is_drawn (spec_of schema table) rows) (spec_of schema table).columns) (map (given_values (is_drawn (spec_of schema table) rows) (spec_of schema table).columns) rows)) (table_told q schema named table there)
+          ap (λ (t : TableId). add_back schema t (columns_with_values (is_drawn (spec_of schema table) rows) (spec_of schema table).columns) (map (given_values (is_drawn (spec_of schema table) rows) (spec_of schema table).columns) rows)) (table_told q schema named table there)
           ∙ (ap (λ (d : Bool). row.Insert table (map (filled d (spec_of schema table).columns) (map (given_values (is_drawn (spec_of schema table) rows) (spec_of schema table).columns) rows))) (left_out (spec_of schema table) (is_drawn (spec_of schema table) rows) (drawn_generated (spec_of schema table) rows))
           ∙ ap (row.Insert table) (rows_told (spec_of schema table) (is_drawn (spec_of schema table) rows) rows new.wide (alike_rows (spec_of schema table) rows new.alike)))
 
