@@ -7,7 +7,7 @@ use Rattle.base_core.specs.declared.ids.ColumnNo.{ColumnNo}
 use Rattle.base_core.specs.declared.value.Value.{Value}
 use Rattle.base_core.specs.declared.value.Value.TheVariants.{Null}
 use Rattle.schema_core.specs.declared.table.ColumnSpec.{ColumnSpec}
-use Rattle.table_rows.specs.Rows.{keyed}
+use Rattle.table_rows.specs.Rows.{cell_or_key}
 use Rattle.schema_core.specs.Apply.{with_cells, with_key}
 use Rattle.schema_core.specs.Judged.{lacks_value}
 use Rattle.schema_core.specs.Catalog.{same_name}
@@ -123,9 +123,9 @@ pub ruleset lack_steps = (lack_hit, lack_free, lack_held, lack_end, lack_short)
 -- ---- the key written in a row
 
 pub keyed_cell : (columns : List ColumnSpec) (key : Value) (row cells : List Value) (i : ℕ) (d : ColumnSpec) (cell : Value) → i < length columns → slice_get row i ≡ Some cell
-    → (cells ++ keyed (get_or columns i d) key cell ∷ []) ++ with_key (drop (i + 1) columns) key (drop (i + 1) row) ≡ cells ++ with_key (drop i columns) key (drop i row)
+    → (cells ++ cell_or_key (get_or columns i d) key cell ∷ []) ++ with_key (drop (i + 1) columns) key (drop (i + 1) row) ≡ cells ++ with_key (drop i columns) key (drop i row)
 keyed_cell columns key row cells i d cell h is =
-    append_assoc cells (keyed (get_or columns i d) key cell ∷ []) (with_key (drop (i + 1) columns) key (drop (i + 1) row))
+    append_assoc cells (cell_or_key (get_or columns i d) key cell ∷ []) (with_key (drop (i + 1) columns) key (drop (i + 1) row))
     ∙ ap (λ r. cells ++ r) (sym (both (λ cs r. with_key cs key r) columns row i d cell h is))
 
 pub keyed_end : (columns : List ColumnSpec) (key : Value) (row : List Value) (i : ℕ) → length columns ≤ i → with_key (drop i columns) key (drop i row) ≡ []

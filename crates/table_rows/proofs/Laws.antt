@@ -12,7 +12,7 @@ use Rattle.base_core.specs.declared.ids.TableId.{TableId}
 use Rattle.base_core.specs.declared.value.Value.{Value}
 use Rattle.base_core.specs.Order.{values_cmp}
 use Rattle.schema_core.specs.Tables.{Rows, Tables, table_cmp, row_under, rows_in, with_row, with_rows, without_row}
-use Rattle.table_rows.specs.Rows.{AreSorted, restored, rows_at}
+use Rattle.table_rows.specs.Rows.{AreSorted, with_former_row, rows_at}
 use Rattle.table_rows.proofs.Entries.{put_in_place, put_again, put_old, take_new, put_taken, put_back, found_put}
 
 -- rows written in the place of a table's are the tables with these rows
@@ -28,9 +28,9 @@ pub rows_kept : (tables : Tables) (table : TableId) (old rows : Rows) → rows_i
 rows_kept tables table old rows found same = ap (set_value (is_at (table_cmp table)) tables) same ∙ set_value_same (is_at (table_cmp table)) tables old found
 
 pub restored_written : (tables : Tables) (table : TableId) (old rows : Rows) (key : List Value) (before : Option (List Value)) → IsStrictlySortedBy table_cmp (keys_of tables)
-    → rows_in tables table ≡ Some old → rows ≡ restored old key before → set_value (is_at (table_cmp table)) tables rows ≡ with_rows tables table (restored (rows_at tables table) key before)
+    → rows_in tables table ≡ Some old → rows ≡ with_former_row old key before → set_value (is_at (table_cmp table)) tables rows ≡ with_rows tables table (with_former_row (rows_at tables table) key before)
 restored_written tables table old rows key before sorted found is =
-    rows_written tables table old rows sorted found ∙ ap (with_rows tables table) (is ∙ ap (λ there. restored there key before) (sym (rows_there tables table old found)))
+    rows_written tables table old rows sorted found ∙ ap (with_rows tables table) (is ∙ ap (λ there. with_former_row there key before) (sym (rows_there tables table old found)))
 
 pub ruleset writing_rows = (rows_written, rows_there, rows_kept, restored_written)
 
@@ -38,10 +38,10 @@ pub rows_found : (tables : Tables) (table : TableId) (rows : Rows) → rows_at (
 rows_found tables table rows = ap (λ found. unwrap_or found []) (found_put tables_total table rows tables)
 
 -- a row written under a key, and what stood there brought back
-pub row_restored : (rows : Rows) (key row : List Value) → IsStrictlySortedBy values_cmp (keys_of rows) → restored (with_row rows key row) key (row_under rows key) ≡ rows
+pub row_restored : (rows : Rows) (key row : List Value) → IsStrictlySortedBy values_cmp (keys_of rows) → with_former_row (with_row rows key row) key (row_under rows key) ≡ rows
 row_restored rows key row sorted = at (row_under rows key) refl
   where
-    at : (before : Option (List Value)) → row_under rows key ≡ before → restored (with_row rows key row) key before ≡ rows
+    at : (before : Option (List Value)) → row_under rows key ≡ before → with_former_row (with_row rows key row) key before ≡ rows
     at None is = take_new values_total key row rows is
     at (Some old) is = put_back values_total key old row rows sorted is
 
@@ -62,11 +62,11 @@ rows_restored tables table rows sorted created = at (rows_in tables table) refl
 -- a row put in a table, and what stood under its key brought back
 pub put_undone : (tables : Tables) (table : TableId) (key row : List Value) → AreSorted tables table → is_some (rows_in tables table) ≡ true
     → with_rows (with_rows tables table (with_row (rows_at tables table) key row)) table
-    (restored (rows_at (with_rows tables table (with_row (rows_at tables table) key row)) table) key (row_under (rows_at tables table) key)) ≡ tables
+    (with_former_row (rows_at (with_rows tables table (with_row (rows_at tables table) key row)) table) key (row_under (rows_at tables table) key)) ≡ tables
 put_undone tables table key row sorted created =
     let rows : Rows = rows_at tables table in
     let after : Rows = with_row rows key row in
-    ap (λ found. with_rows (with_rows tables table after) table (restored found key (row_under rows key))) (rows_found tables table after)
+    ap (λ found. with_rows (with_rows tables table after) table (with_former_row found key (row_under rows key))) (rows_found tables table after)
     ∙ ap (λ back. with_rows (with_rows tables table after) table back) (row_restored rows key row sorted.1)
     ∙ rows_restored tables table after sorted.0 created
 

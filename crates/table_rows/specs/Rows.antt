@@ -15,13 +15,13 @@ abbrev pub rows_at : Tables → TableId → Rows
 rows_at tables table = unwrap_or (rows_in tables table) []
 
 -- the rows with what stood under a key before
-abbrev pub restored : Rows → List Value → Option (List Value) → Rows
-restored rows key None = remove_entry (is_at (values_cmp key)) rows
-restored rows key (Some row) = set_value (is_at (values_cmp key)) rows row
+abbrev pub with_former_row : Rows → List Value → Option (List Value) → Rows
+with_former_row rows key None = remove_entry (is_at (values_cmp key)) rows
+with_former_row rows key (Some row) = set_value (is_at (values_cmp key)) rows row
 
 -- a cell, or the key where the cell's column is of the key
-abbrev pub keyed : ColumnSpec → Value → Value → Value
-keyed column key cell = cond column.key key cell
+abbrev pub cell_or_key : ColumnSpec → Value → Value → Value
+cell_or_key column key cell = cond column.key key cell
 
 -- tables are ascending by number, and the rows of one of them by key
 abbrev pub AreSorted : Tables → TableId → Type 0

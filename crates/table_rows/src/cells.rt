@@ -3,7 +3,7 @@
 ghost use Rattle.std.specs.Prelude.{◌≡◌, ◌&&◌, not, IfOk};
 ghost use Rattle.schema_core.specs.Apply.{with_cells, with_key};
 ghost use Rattle.schema_core.specs.Judged.{lacks_value};
-ghost use Rattle.table_rows.specs.Rows.{keyed};
+ghost use Rattle.table_rows.specs.Rows.{cell_or_key};
 ghost use Rattle.schema_core.specs.Catalog.{is_required};
 ghost use Rattle.schema_core.specs.Tables.{cell_of, has_null, is_null, key_cells};
 ghost use Rattle.std.specs.Prelude.{map};
@@ -127,8 +127,8 @@ pub fn lacks_given(columns: &[ColumnSpec], row: &[Value], generated: bool) -> bo
 }
 
 /// A cell, or the key where its column is of the key.
-fn keyed(column: &ColumnSpec, key: i64, cell: &Value) -> Result<Value, AllocError>
-    ensures { IfOk result (λ value. value ≡ keyed column.now (Value.Int key) cell.now) }
+fn cell_or_key(column: &ColumnSpec, key: i64, cell: &Value) -> Result<Value, AllocError>
+    ensures { IfOk result (λ value. value ≡ cell_or_key column.now (Value.Int key) cell.now) }
 {
     if column.key {
         return Ok(Value::Int(key));
@@ -151,7 +151,7 @@ pub fn with_key(
         let Some(cell) = row.get(place) else {
             return Ok(ListOf::from_vec(cells));
         };
-        cells.push(keyed(column, key, cell)?)?;
+        cells.push(cell_or_key(column, key, cell)?)?;
     }
     Ok(ListOf::from_vec(cells))
 }

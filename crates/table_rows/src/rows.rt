@@ -8,7 +8,7 @@ ghost use Rattle.std.specs.List.Sorted.{IsStrictlySortedBy};
 ghost use Rattle.base_core.specs.Order.{values_cmp};
 ghost use Rattle.schema_core.specs.Apply.{key_after, next_key};
 ghost use Rattle.schema_core.specs.Tables.{row_under, with_row, without_row};
-ghost use Rattle.table_rows.specs.Rows.{restored};
+ghost use Rattle.table_rows.specs.Rows.{with_former_row};
 
 use base_core::{Copied, Key, ListOf, RowList, RowValues, Value};
 use std::alloc::{AllocError, Global};
@@ -80,7 +80,7 @@ impl TableRows {
     #[tactic(auto, using(crate::proofs::Entries::set_absent))]
     /// Brings back what stood under a key.
     pub fn restore(&mut self, key: &Key, before: Option<RowValues>)
-        ensures { self.new ≡ restored self.old key.now before }
+        ensures { self.new ≡ with_former_row self.old key.now before }
     {
         let Some(row) = before else {
             self.rows.remove(key);

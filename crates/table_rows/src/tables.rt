@@ -5,7 +5,7 @@ ghost use Rattle.std.specs.Option.{option_copied};
 ghost use Rattle.programs.specs.Store.{with_empty_table, without_table};
 ghost use Rattle.schema_core.specs.Tables.{rows_in, row_under, with_row, with_rows, without_row};
 ghost use Rattle.sql_semantics.specs.Created.{bare};
-ghost use Rattle.table_rows.specs.Rows.{AreSorted, rows_at, restored};
+ghost use Rattle.table_rows.specs.Rows.{AreSorted, rows_at, with_former_row};
 
 use crate::rows::TableRows;
 use base_core::{Copied, Key, ListOf, RowList, RowValues, TableId};
@@ -132,7 +132,7 @@ impl TableMap {
     pub fn restore(&mut self, table: TableId, key: &Key, before: Option<RowValues>)
         requires { is_some (rows_in self.old table) ≡ true }
         ensures { self.new ≡ with_rows self.old table
-            (restored (rows_at self.old table) key.now before) }
+            (with_former_row (rows_at self.old table) key.now before) }
     {
         let Some(rows) = self.tables.get_mut(&table) else {
             return;

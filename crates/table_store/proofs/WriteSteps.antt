@@ -19,7 +19,7 @@ use Rattle.schema_core.specs.Judged.{Judged, and_then, lacks_value, some_loses_r
 use Rattle.schema_core.specs.Tables.{Rows, Tables, key_of, row_under, rows_in, with_row, with_rows, without_row}
 use Rattle.schema_core.specs.Told.{Told}
 use Rattle.schema_core.proofs.ApplySteps as steps
-use Rattle.table_rows.specs.Rows.{AreSorted, restored, rows_at}
+use Rattle.table_rows.specs.Rows.{AreSorted, with_former_row, rows_at}
 use Rattle.table_store.specs.Held.{Did, DidOrLeft, put_from, stand, taken_back, with_entry}
 use Rattle.table_rows.proofs.Entries.{found_put, put_again}
 use Rattle.table_rows.proofs.Laws.{put_undone, rows_found, taking_undone}
@@ -132,7 +132,7 @@ new_absent spec rows (Some row) entry is = absent_by spec rows row (is_some (row
 entry_undone : (tables : Tables) (table : TableId) (entry : List Value × List Value) → AreSorted tables table → is_some (rows_in tables table) ≡ true → is_some (row_under (rows_at tables table) entry.0) ≡ false
     → with_rows (with_entry tables table entry) table (without_row (rows_at (with_entry tables table entry) table) entry.0) ≡ tables
 entry_undone tables table entry sorted created new =
-    ap (λ before. with_rows (with_entry tables table entry) table (restored (rows_at (with_entry tables table entry) table) entry.0 before)) (sym (is_absent (row_under (rows_at tables table) entry.0) new))
+    ap (λ before. with_rows (with_entry tables table entry) table (with_former_row (rows_at (with_entry tables table entry) table) entry.0 before)) (sym (is_absent (row_under (rows_at tables table) entry.0) new))
     ∙ put_undone tables table entry.0 entry.1 sorted created
 
 put_undone_again : (schema : Catalog) (tables left : Tables) (table : TableId) (done : Rows) (row : List Value) (more : List (List Value)) (entry : List Value × List Value) (e : Unwritten)
@@ -276,12 +276,12 @@ update_stands schema tables after table key row cells found full is fine =
 pub update_undone : (schema : Catalog) (tables after : Tables) (table : TableId) (key row : List Value) (cells : List (ColumnNo × Value)) (e : Unwritten) → row_under (rows_at tables table) key ≡ Some row
     → lacks_value is_required (spec_of schema table).columns (with_cells row cells) ≡ false → after ≡ with_rows tables table (with_row (rows_at tables table) key (with_cells row cells))
     → AreSorted tables table → is_some (rows_in tables table) ≡ true → Told (stand schema after table (updated key row cells)) (Err e)
-    → Did (update_row schema tables table (rows_at tables table) key cells) tables (Err e) (with_rows after table (restored (rows_at after table) key (row_under (rows_at tables table) key)))
+    → Did (update_row schema tables table (rows_at tables table) key cells) tables (Err e) (with_rows after table (with_former_row (rows_at after table) key (row_under (rows_at tables table) key)))
 update_undone schema tables after table key row cells (Violates violation) found full is sorted created told = (
   update_full schema tables table (rows_at tables table) key row cells found full
       ∙ ap (λ ts. and_then (stand schema ts table (updated key row cells)) (λ _. Ok (key ∷ [], ts))) (sym is)
       ∙ ap (λ r. and_then r (λ _. Ok (key ∷ [], after))) told,
-  ap (λ ts. with_rows ts table (restored (rows_at ts table) key (row_under (rows_at tables table) key))) is ∙ put_undone tables table key (with_cells row cells) sorted created,
+  ap (λ ts. with_rows ts table (with_former_row (rows_at ts table) key (row_under (rows_at tables table) key))) is ∙ put_undone tables table key (with_cells row cells) sorted created,
 )
 update_undone schema tables after table key row cells Memory found full is sorted created told = tt
 
