@@ -32,7 +32,7 @@ use Rattle.table_rows.specs.Rows.{rows_at}
 use Rattle.table_rows.specs.Lost.{some_lost}
 use Rattle.table_rows.specs.declared.judging.Before.TheVariants as before
 use Rattle.table_store.specs.Held.{DidOrLeft, stand}
-use Rattle.table_store.specs.Written.{Answers, Leaves, Replaces, deleted, unwritten_refusal, updated}
+use Rattle.table_store.specs.Written.{Answers, Leaves, Replaces, keys_to_remove, unwritten_refusal, rows_to_write}
 use Rattle.table_store.proofs.Evaluated.{deletes_evaluated, updates_evaluated}
 use Rattle.table_store.proofs.WriteSteps.{stand_written, still_created}
 
@@ -154,31 +154,31 @@ first_refused : {A B : Type 0} (first : Checked A) (next : A → Checked B) (e :
 first_refused first next refusals.Memory told = tt
 first_refused first next e told = ap (λ r. r >>= next) told
 
-pub updated_rows : (schema : Catalog) (tables : Tables) (table : TableId) (cells : List (ColumnNo × Option Expr)) (filter : Option Expr) (rows entries : Rows) → updated tables cells filter rows ≡ Ok entries
+pub updated_rows : (schema : Catalog) (tables : Tables) (table : TableId) (cells : List (ColumnNo × Option Expr)) (filter : Option Expr) (rows entries : Rows) → rows_to_write tables cells filter rows ≡ Ok entries
     → spec.update schema tables table cells filter rows ≡ spec.update_entries schema tables table rows entries
 updated_rows schema tables table cells filter rows entries is =
     then_next (require_created (bare tables) (spec.named_in cells filter)) (updated_from (bare tables) cells filter [] rows) (spec.update_entries schema tables table rows)
     ∙ ap (λ r. r >>= spec.update_entries schema tables table rows) is
 
-pub update_refused : (schema : Catalog) (tables : Tables) (table : TableId) (cells : List (ColumnNo × Option Expr)) (filter : Option Expr) (rows : Rows) (e : Refusal) (r : WriteRefusal) → Refuses e (updated tables cells filter rows)
+pub update_refused : (schema : Catalog) (tables : Tables) (table : TableId) (cells : List (ColumnNo × Option Expr)) (filter : Option Expr) (rows : Rows) (e : Refusal) (r : WriteRefusal) → Refuses e (rows_to_write tables cells filter rows)
     → write_refusal table r ≡ e → Refuses (write_refusal table r) (spec.update schema tables table cells filter rows)
 update_refused schema tables table cells filter rows e r told is =
     subst (λ (d : Refusal). Refuses d (spec.update schema tables table cells filter rows)) (sym is)
     (subst (Refuses e) (sym (then_next (require_created (bare tables) (spec.named_in cells filter)) (updated_from (bare tables) cells filter [] rows) (spec.update_entries schema tables table rows)))
-    (first_refused (updated tables cells filter rows) (spec.update_entries schema tables table rows) e told))
+    (first_refused (rows_to_write tables cells filter rows) (spec.update_entries schema tables table rows) e told))
 
-pub deleted_rows : (schema : Catalog) (tables : Tables) (table : TableId) (filter : Option Expr) (rows : Rows) (keys : List (List Value)) → deleted tables filter rows ≡ Ok keys
+pub deleted_rows : (schema : Catalog) (tables : Tables) (table : TableId) (filter : Option Expr) (rows : Rows) (keys : List (List Value)) → keys_to_remove tables filter rows ≡ Ok keys
     → spec.delete schema tables table filter rows ≡ spec.delete_keys schema tables table rows keys
 deleted_rows schema tables table filter rows keys is =
     then_next (require_created (bare tables) (spec.named_in [] filter)) (deleted_from (bare tables) filter [] rows) (spec.delete_keys schema tables table rows)
     ∙ ap (λ r. r >>= spec.delete_keys schema tables table rows) is
 
-pub delete_refused : (schema : Catalog) (tables : Tables) (table : TableId) (filter : Option Expr) (rows : Rows) (e : Refusal) (r : WriteRefusal) → Refuses e (deleted tables filter rows)
+pub delete_refused : (schema : Catalog) (tables : Tables) (table : TableId) (filter : Option Expr) (rows : Rows) (e : Refusal) (r : WriteRefusal) → Refuses e (keys_to_remove tables filter rows)
     → write_refusal table r ≡ e → Refuses (write_refusal table r) (spec.delete schema tables table filter rows)
 delete_refused schema tables table filter rows e r told is =
     subst (λ (d : Refusal). Refuses d (spec.delete schema tables table filter rows)) (sym is)
     (subst (Refuses e) (sym (then_next (require_created (bare tables) (spec.named_in [] filter)) (deleted_from (bare tables) filter [] rows) (spec.delete_keys schema tables table rows)))
-    (first_refused (deleted tables filter rows) (spec.delete_keys schema tables table rows) e told))
+    (first_refused (keys_to_remove tables filter rows) (spec.delete_keys schema tables table rows) e told))
 
 pub ruleset taking_steps = (updates_evaluated, updated_rows, update_refused, deletes_evaluated, deleted_rows, delete_refused)
 

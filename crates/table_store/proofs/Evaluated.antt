@@ -13,7 +13,7 @@ use Rattle.sql_semantics.specs.Taken.{deleted_from, updated_from}
 use Rattle.expr_eval.proofs.Refused.{OnlyData}
 use Rattle.select_rows.proofs.Refused.{OnlyMisses, created_misses}
 use Rattle.bulk_rows.proofs.Refused.{deleted_data, updated_data}
-use Rattle.table_store.specs.Written.{IsOfEvaluation, deleted, updated}
+use Rattle.table_store.specs.Written.{IsOfEvaluation, keys_to_remove, rows_to_write}
 
 abbrev OnlyEvaluated : {A : Type 0} → Checked A → Type 0
 OnlyEvaluated (Ok a) = Unit {0}
@@ -37,14 +37,14 @@ told_only : {A : Type 0} (r : Checked A) (e : Refusal) → OnlyEvaluated r → R
 told_only r refusals.Memory h told = tt
 told_only r e h told = subst OnlyEvaluated told h
 
-pub updates_evaluated : (tables : Tables) (cells : List (ColumnNo × Option Expr)) (filter : Option Expr) (rows : Rows) (e : Refusal) → Refuses e (updated tables cells filter rows) → IsOfEvaluation e
+pub updates_evaluated : (tables : Tables) (cells : List (ColumnNo × Option Expr)) (filter : Option Expr) (rows : Rows) (e : Refusal) → Refuses e (rows_to_write tables cells filter rows) → IsOfEvaluation e
 updates_evaluated tables cells filter rows e told =
-    told_only (updated tables cells filter rows) e
+    told_only (rows_to_write tables cells filter rows) e
     (both_only (require_created (bare tables) (named_in cells filter)) (updated_from (bare tables) cells filter [] rows) (misses_only (named_in cells filter) (require_created (bare tables) (named_in cells filter)) (created_misses (bare tables) (named_in cells filter)))
     (data_only (updated_from (bare tables) cells filter [] rows) (updated_data (bare tables) cells filter [] rows))) told
 
-pub deletes_evaluated : (tables : Tables) (filter : Option Expr) (rows : Rows) (e : Refusal) → Refuses e (deleted tables filter rows) → IsOfEvaluation e
+pub deletes_evaluated : (tables : Tables) (filter : Option Expr) (rows : Rows) (e : Refusal) → Refuses e (keys_to_remove tables filter rows) → IsOfEvaluation e
 deletes_evaluated tables filter rows e told =
-    told_only (deleted tables filter rows) e
+    told_only (keys_to_remove tables filter rows) e
     (both_only (require_created (bare tables) (named_in [] filter)) (deleted_from (bare tables) filter [] rows) (misses_only (named_in [] filter) (require_created (bare tables) (named_in [] filter)) (created_misses (bare tables) (named_in [] filter)))
     (data_only (deleted_from (bare tables) filter [] rows) (deleted_data (bare tables) filter [] rows))) told

@@ -63,9 +63,9 @@ Replaces (Err r) old result new = (result ≡ Err r) × (new ≡ old)
 -- ---- the rows of a bulk statement
 
 -- the rows that an UPDATE writes, each under its key
-abbrev pub updated : Tables → List (ColumnNo × Option Expr) → Option Expr → Rows → Checked Rows
-updated tables cells filter rows = require_created (bare tables) (named_in cells filter) >>= λ _. updated_from (bare tables) cells filter [] rows
+abbrev pub rows_to_write : Tables → List (ColumnNo × Option Expr) → Option Expr → Rows → Checked Rows
+rows_to_write tables cells filter rows = require_created (bare tables) (named_in cells filter) >>= λ _. updated_from (bare tables) cells filter [] rows
 
 -- the keys of the rows that a DELETE takes out
-abbrev pub deleted : Tables → Option Expr → Rows → Checked (List (List Value))
-deleted tables filter rows = require_created (bare tables) (named_in [] filter) >>= λ _. deleted_from (bare tables) filter [] rows
+abbrev pub keys_to_remove : Tables → Option Expr → Rows → Checked (List (List Value))
+keys_to_remove tables filter rows = require_created (bare tables) (named_in [] filter) >>= λ _. deleted_from (bare tables) filter [] rows

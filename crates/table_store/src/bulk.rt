@@ -10,7 +10,7 @@ ghost use Rattle.sql_semantics.specs.Applied as spec;
 ghost use Rattle.sql_semantics.specs.Checked.{Gives};
 ghost use Rattle.sql_semantics.specs.Plain.{IsPlainBulk};
 ghost use Rattle.table_rows.specs.Rows.{rows_at};
-ghost use Rattle.table_store.specs.Written.{Answers, Leaves, Replaces, deleted, updated};
+ghost use Rattle.table_store.specs.Written.{Answers, Leaves, Replaces, keys_to_remove, rows_to_write};
 
 use crate::refusals::{taking_refusal, unwritten_refusal};
 use crate::writing::{insert_rows, stand};
@@ -170,14 +170,14 @@ fn insert(
 }
 
 /// The rows that an UPDATE writes, each under its key.
-fn updated(
+fn rows_to_write(
     alloc: Global,
     tables: &TableMap,
     rows: &TableRows,
     cells: &ListOf<(ColumnNo, Option<Expr>)>,
     filter: &Option<Expr>,
 ) -> Result<ListOf<(Key, RowValues)>, Refusal>
-    ensures { Gives (λ x. x) result (updated tables.now cells.now filter.now rows.now) }
+    ensures { Gives (λ x. x) result (rows_to_write tables.now cells.now filter.now rows.now) }
 {
     let seen = tables.bare(alloc)?;
     bulk_rows::all_created(alloc, &seen, cells.as_slice(), filter)?;
@@ -185,13 +185,13 @@ fn updated(
 }
 
 /// The keys of the rows that a DELETE takes out.
-fn deleted(
+fn keys_to_remove(
     alloc: Global,
     tables: &TableMap,
     rows: &TableRows,
     filter: &Option<Expr>,
 ) -> Result<ListOf<Key>, Refusal>
-    ensures { Gives (λ x. x) result (deleted tables.now filter.now rows.now) }
+    ensures { Gives (λ x. x) result (keys_to_remove tables.now filter.now rows.now) }
 {
     let seen = tables.bare(alloc)?;
     bulk_rows::all_created(alloc, &seen, &[], filter)?;
@@ -213,7 +213,7 @@ fn update(
     ensures { Answers table result
         (spec.update schema.now tables.now table cells.now filter.now rows.now) }
 {
-    match updated(alloc, tables, rows, cells, filter) {
+    match rows_to_write(alloc, tables, rows, cells, filter) {
         Ok(entries) => update_entries(alloc, schema, tables, table, rows, entries.as_slice()),
         Err(refusal) => Err(taking_refusal(&refusal)),
     }
@@ -232,7 +232,7 @@ fn delete(
     ensures { Answers table result
         (spec.delete schema.now tables.now table filter.now rows.now) }
 {
-    match deleted(alloc, tables, rows, filter) {
+    match keys_to_remove(alloc, tables, rows, filter) {
         Ok(keys) => delete_keys(alloc, schema, tables, table, rows, keys.as_slice()),
         Err(refusal) => Err(taking_refusal(&refusal)),
     }
