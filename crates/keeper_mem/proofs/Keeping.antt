@@ -26,7 +26,7 @@ use Rattle.statement_log.specs.Logged.{start_of}
 use Rattle.table_store.specs.Written.{given_up}
 use Rattle.keeper_mem.specs.declared.keeper.Attachment.{Attachment}
 use Rattle.keeper_mem.specs.declared.keeper.Attachment.TheVariants.{Fresh, Taken, Untaken}
-use Rattle.keeper_mem.specs.Kept.{Does, IsNumbered, Kept, counted, depth_by, ended, failed, is_failing, is_faulted, is_taken, moment_of, refused_by, sent_by, target_of, taken_by, told_by, told_of, untaken_by}
+use Rattle.keeper_mem.specs.Kept.{Does, IsNumbered, Kept, one_call_more, depth_by, call_ended, call_failed, is_failing, is_faulted, is_taken, moment_of, refused_by, sent_by, target_of, taken_by, told_by, told_of, untaken_by}
 
 -- ---- a keeper that took its target tells what it has
 
@@ -68,37 +68,37 @@ same_log Fresh old new sent committed = refl
 same_log (Taken target) old new sent committed = cc
 same_log (Untaken target) old new sent committed = refl
 
-failed_left : (old : Kept) → IsUndone (moment_of old) (moment_of (failed (counted old)))
-failed_left old = ((refl, refl), same_log old.attachment old (failed (counted old)) refl refl)
+failed_left : (old : Kept) → IsUndone (moment_of old) (moment_of (call_failed (one_call_more old)))
+failed_left old = ((refl, refl), same_log old.attachment old (call_failed (one_call_more old)) refl refl)
 
-ended_left : (old : Kept) → IsUndone (moment_of old) (moment_of (ended (counted old)))
-ended_left old = ((refl, refl), same_log old.attachment old (ended (counted old)) refl refl)
+ended_left : (old : Kept) → IsUndone (moment_of old) (moment_of (call_ended (one_call_more old)))
+ended_left old = ((refl, refl), same_log old.attachment old (call_ended (one_call_more old)) refl refl)
 
-refused_left : (statement : Sent) (e : Refusal) (old : Kept) → ends_early e ≡ false → IsLeft statement e (moment_of old) (moment_of (refused_by (counted old) statement e))
+refused_left : (statement : Sent) (e : Refusal) (old : Kept) → ends_early e ≡ false → IsLeft statement e (moment_of old) (moment_of (refused_by (one_call_more old) statement e))
 refused_left statement e old own =
     let last : Option Refused = Some (record { statement = statement; refusal = e }) in
-    let kept : Kept = refused_by (counted old) statement e in
+    let kept : Kept = refused_by (one_call_more old) statement e in
     subst (λ (b : Bool). MatchBool b (IsUndone (moment_of old) (moment_of kept)) (Rose old.refusals (one_more old.refusals) × (last ≡ last))) (sym own) (omega arith, refl)
 
 -- ---- one call's program
 
 -- a statement was sent, and answered
 ran_ok : {A : Type 0} (m : Store → Run Store A) (statement : Sent) (after : Store) (x : A) (old : Kept) → is_taken old.attachment ≡ true
-    → m old.store ≡ sends statement after (Ok x) → Runs moment_of (λ y. y) m old (Ok x) (sent_by (counted old) statement after)
+    → m old.store ≡ sends statement after (Ok x) → Runs moment_of (λ y. y) m old (Ok x) (sent_by (one_call_more old) statement after)
 unfolding after_events
 ran_ok {A = A} m statement after x old taken ran = Ran (record {
-  told = as_told (λ (y : A). y) m old (sent_by (counted old) statement after) (Ok x) taken taken
-      (subst (λ run. IsRun run (told_of old).log (Ok x) (told_of (sent_by (counted old) statement after))) (sym ran) (record { answer = refl; world = refl; log = refl }));
+  told = as_told (λ (y : A). y) m old (sent_by (one_call_more old) statement after) (Ok x) taken taken
+      (subst (λ run. IsRun run (told_of old).log (Ok x) (told_of (sent_by (one_call_more old) statement after))) (sym ran) (record { answer = refl; world = refl; log = refl }));
   keeps = record { faults = refl; refusals = omega arith; shown = tt; calm = (refl, refl); target = refl; attached = refl; tells = refl };
 })
 
 -- no statement was sent
 ran_quiet : {A : Type 0} (m : Store → Run Store A) (x : A) (old : Kept) → is_taken old.attachment ≡ true
-    → m old.store ≡ quiet (Ok x) old.store → Runs moment_of (λ y. y) m old (Ok x) (counted old)
+    → m old.store ≡ quiet (Ok x) old.store → Runs moment_of (λ y. y) m old (Ok x) (one_call_more old)
 unfolding after_events
 ran_quiet {A = A} m x old taken ran = Ran (record {
-  told = as_told (λ (y : A). y) m old (counted old) (Ok x) taken taken
-      (subst (λ run. IsRun run (told_of old).log (Ok x) (told_of (counted old))) (sym ran) (record { answer = refl; world = refl; log = refl }));
+  told = as_told (λ (y : A). y) m old (one_call_more old) (Ok x) taken taken
+      (subst (λ run. IsRun run (told_of old).log (Ok x) (told_of (one_call_more old))) (sym ran) (record { answer = refl; world = refl; log = refl }));
   keeps = record { faults = refl; refusals = omega arith; shown = tt; calm = (refl, refl); target = refl; attached = refl; tells = refl };
 })
 
@@ -108,21 +108,21 @@ shown_last true statement e n = (omega arith, statement, refl)
 shown_last false statement e n = tt
 
 own_stop : (A : Type 0) (statement : Sent) (e : Refusal) (old : Kept) → ends_early e ≡ false
-    → Stops {W = Store} {A = A} (sends statement old.store (Err e)) (told_of old).log e (told_of (refused_by (counted old) statement e))
+    → Stops {W = Store} {A = A} (sends statement old.store (Err e)) (told_of old).log e (told_of (refused_by (one_call_more old) statement e))
 unfolding after_events
 own_stop A statement e old own =
     let run : Run Store A = sends statement old.store (Err e) in
-    let now : Told Store = told_of (refused_by (counted old) statement e) in
+    let now : Told Store = told_of (refused_by (one_call_more old) statement e) in
     let whole : IsRun run (told_of old).log (Err e) now = record { answer = refl; world = refl; log = refl } in
     subst (λ b. MatchBool b (IsCutOff run (told_of old).log now) (IsRun run (told_of old).log (Err e) now)) (sym own) whole
 
 -- a statement was sent, and refused
 ran_refused : {A : Type 0} (m : Store → Run Store A) (statement : Sent) (e : Refusal) (old : Kept) → is_taken old.attachment ≡ true → old.refusals < 2 ^ 64
-    → ends_early e ≡ false → m old.store ≡ sends statement old.store (Err e) → Runs moment_of (λ y. y) m old (Err e) (refused_by (counted old) statement e)
+    → ends_early e ≡ false → m old.store ≡ sends statement old.store (Err e) → Runs moment_of (λ y. y) m old (Err e) (refused_by (one_call_more old) statement e)
 unfolding after_events
 ran_refused {A = A} m statement e old taken small own ran = Ran (record {
-  told = as_told (λ (y : A). y) m old (refused_by (counted old) statement e) (Err e) taken taken
-      (subst (λ run. Stops run (told_of old).log e (told_of (refused_by (counted old) statement e))) (sym ran) (own_stop A statement e old own));
+  told = as_told (λ (y : A). y) m old (refused_by (one_call_more old) statement e) (Err e) taken taken
+      (subst (λ run. Stops run (told_of old).log e (told_of (refused_by (one_call_more old) statement e))) (sym ran) (own_stop A statement e old own));
   keeps = record {
     faults = no_fault e old.faults (own_is_no_fault e own);
     refusals = more old.refusals small;
@@ -134,17 +134,17 @@ ran_refused {A = A} m statement e old taken small own ran = Ran (record {
   };
 })
 
-ran_failed : {A : Type 0} (m : Store → Run Store A) (old : Kept) → is_taken old.attachment ≡ true → old.faults < 2 ^ 64 → Runs moment_of (λ y. y) m old (Err KeeperFault) (failed (counted old))
+ran_failed : {A : Type 0} (m : Store → Run Store A) (old : Kept) → is_taken old.attachment ≡ true → old.faults < 2 ^ 64 → Runs moment_of (λ y. y) m old (Err KeeperFault) (call_failed (one_call_more old))
 unfolding after_events
 ran_failed {A = A} m old taken small = Ran (record {
-  told = as_told (λ (y : A). y) m old (failed (counted old)) (Err KeeperFault) taken taken (record { prefix = []; rest = (m old.store).events; events = refl; log = refl });
+  told = as_told (λ (y : A). y) m old (call_failed (one_call_more old)) (Err KeeperFault) taken taken (record { prefix = []; rest = (m old.store).events; events = refl; log = refl });
   keeps = record { faults = (more old.faults small, omega arith); refusals = omega arith; shown = tt; calm = tt; target = refl; attached = refl; tells = refl };
 })
 
-ran_ended : {A : Type 0} (m : Store → Run Store A) (old : Kept) → is_taken old.attachment ≡ true → Runs moment_of (λ y. y) m old (Err Memory) (ended (counted old))
+ran_ended : {A : Type 0} (m : Store → Run Store A) (old : Kept) → is_taken old.attachment ≡ true → Runs moment_of (λ y. y) m old (Err Memory) (call_ended (one_call_more old))
 unfolding after_events
 ran_ended {A = A} m old taken = Ran (record {
-  told = as_told (λ (y : A). y) m old (ended (counted old)) (Err Memory) taken taken (record { prefix = []; rest = (m old.store).events; events = refl; log = refl });
+  told = as_told (λ (y : A). y) m old (call_ended (one_call_more old)) (Err Memory) taken taken (record { prefix = []; rest = (m old.store).events; events = refl; log = refl });
   keeps = record { faults = refl; refusals = omega arith; shown = tt; calm = tt; target = refl; attached = refl; tells = refl };
 })
 
@@ -152,66 +152,66 @@ ran_ended {A = A} m old taken = Ran (record {
 
 -- the call's statement was sent
 sent_call : {A : Type 0} (m : Store → Run Store A) (statement : Sent) (after : Store) (scopes : ℕ) (x : A) (old new : Kept) → is_taken old.attachment ≡ true
-    → m old.store ≡ sends statement after (Ok x) → length after.scopes ≡ scopes → new ≡ sent_by (counted old) statement after → IsCall moment_of m scopes old (Ok x) new
+    → m old.store ≡ sends statement after (Ok x) → length after.scopes ≡ scopes → new ≡ sent_by (one_call_more old) statement after → IsCall moment_of m scopes old (Ok x) new
 sent_call m statement after scopes x old new taken ran count is = subst (IsCall moment_of m scopes old (Ok x)) (sym is) (record {
   step = ran_ok m statement after x old taken ran;
-  depth = depth_taken old.attachment (sent_by (counted old) statement after) taken ∙ count;
+  depth = depth_taken old.attachment (sent_by (one_call_more old) statement after) taken ∙ count;
   stops = tt;
   undone = tt;
 })
 
 -- the call sent nothing
 quiet_call : {A : Type 0} (m : Store → Run Store A) (scopes : ℕ) (x : A) (old new : Kept) → is_taken old.attachment ≡ true
-    → m old.store ≡ quiet (Ok x) old.store → depth_by old.attachment old ≡ scopes → new ≡ counted old → IsCall moment_of m scopes old (Ok x) new
+    → m old.store ≡ quiet (Ok x) old.store → depth_by old.attachment old ≡ scopes → new ≡ one_call_more old → IsCall moment_of m scopes old (Ok x) new
 quiet_call m scopes x old new taken ran count is = subst (IsCall moment_of m scopes old (Ok x)) (sym is) (record {
   step = ran_quiet m x old taken ran;
-  depth = depth_same old.attachment old (counted old) refl ∙ count;
+  depth = depth_same old.attachment old (one_call_more old) refl ∙ count;
   stops = tt;
   undone = tt;
 })
 
 -- the call was ended by a fault
 pub faulted : {A : Type 0} {m : Store → Run Store A} {scopes : ℕ} {old new : Kept} → is_taken old.attachment ≡ true → old.faults < 2 ^ 64
-    → new ≡ failed (counted old) → IsCall moment_of m scopes old (Err KeeperFault) new
+    → new ≡ call_failed (one_call_more old) → IsCall moment_of m scopes old (Err KeeperFault) new
 faulted {m = m} {scopes = scopes} {old = old} taken small is = subst (IsCall moment_of m scopes old (Err KeeperFault)) (sym is) (record {
   step = ran_failed m old taken small;
-  depth = depth_none old.attachment (failed (counted old)) refl;
+  depth = depth_none old.attachment (call_failed (one_call_more old)) refl;
   stops = refl;
   undone = failed_left old;
 })
 
 -- the call was ended since memory ran out
 pub ran_out : {A : Type 0} {m : Store → Run Store A} {scopes : ℕ} {old new : Kept} → is_taken old.attachment ≡ true
-    → new ≡ ended (counted old) → IsCall moment_of m scopes old (Err Memory) new
+    → new ≡ call_ended (one_call_more old) → IsCall moment_of m scopes old (Err Memory) new
 ran_out {m = m} {scopes = scopes} {old = old} taken is = subst (IsCall moment_of m scopes old (Err Memory)) (sym is) (record {
   step = ran_ended m old taken;
-  depth = depth_none old.attachment (ended (counted old)) refl;
+  depth = depth_none old.attachment (call_ended (one_call_more old)) refl;
   stops = refl;
   undone = ended_left old;
 })
 
 pub began : (old new : Kept) → is_taken old.attachment ≡ true → depth_by old.attachment old ≡ 0
-    → new ≡ sent_by (counted old) (start_of (length old.store.scopes)) (record { tables = old.store.tables; scopes = old.store.tables ∷ old.store.scopes }) → keeping.IsBegin moment_of old (Ok tt) new
+    → new ≡ sent_by (one_call_more old) (start_of (length old.store.scopes)) (record { tables = old.store.tables; scopes = old.store.tables ∷ old.store.scopes }) → keeping.IsBegin moment_of old (Ok tt) new
 unfolding call.begin
 began old new taken outside is =
     let none : length old.store.scopes ≡ 0 = sym (depth_taken old.attachment old taken) ∙ outside in
     let after : Store = record { tables = old.store.tables; scopes = old.store.tables ∷ old.store.scopes } in
-    sent_call call.begin sent.Begin after 1 tt old new taken refl (ap suc none) (is ∙ ap (λ n. sent_by (counted old) (start_of n) after) none)
+    sent_call call.begin sent.Begin after 1 tt old new taken refl (ap suc none) (is ∙ ap (λ n. sent_by (one_call_more old) (start_of n) after) none)
 
 start_inside : (n : ℕ) → 1 ≤ n → start_of n ≡ sent.Savepoint n
 start_inside zero some = absurd (omega (arith, some))
 start_inside (suc n) some = refl
 
 pub saved : (old new : Kept) → is_taken old.attachment ≡ true → 1 ≤ depth_by old.attachment old
-    → new ≡ sent_by (counted old) (start_of (length old.store.scopes)) (record { tables = old.store.tables; scopes = old.store.tables ∷ old.store.scopes }) → keeping.IsSavepoint moment_of old (Ok tt) new
+    → new ≡ sent_by (one_call_more old) (start_of (length old.store.scopes)) (record { tables = old.store.tables; scopes = old.store.tables ∷ old.store.scopes }) → keeping.IsSavepoint moment_of old (Ok tt) new
 unfolding call.savepoint
 saved old new taken inside is =
     let some : 1 ≤ length old.store.scopes = subst (λ n. 1 ≤ n) (depth_taken old.attachment old taken) inside in
     let after : Store = record { tables = old.store.tables; scopes = old.store.tables ∷ old.store.scopes } in
     sent_call call.savepoint (sent.Savepoint (length old.store.scopes)) after (depth_by old.attachment old + 1) tt old new taken refl
-    (omega (arith, depth_taken old.attachment old taken)) (is ∙ ap (λ s. sent_by (counted old) s after) (start_inside (length old.store.scopes) some))
+    (omega (arith, depth_taken old.attachment old taken)) (is ∙ ap (λ s. sent_by (one_call_more old) s after) (start_inside (length old.store.scopes) some))
 
-pub released : (old new : Kept) → is_taken old.attachment ≡ true → new ≡ sent_by (counted old) (sent.Release (length old.store.scopes - 1)) (record { tables = old.store.tables; scopes = drop 1 old.store.scopes })
+pub released : (old new : Kept) → is_taken old.attachment ≡ true → new ≡ sent_by (one_call_more old) (sent.Release (length old.store.scopes - 1)) (record { tables = old.store.tables; scopes = drop 1 old.store.scopes })
     → keeping.IsRelease moment_of old (Ok tt) new
 unfolding call.release
 released old new taken is =
@@ -219,7 +219,7 @@ released old new taken is =
     (omega (arith, length-drop 1 old.store.scopes, depth_taken old.attachment old taken)) is
 
 went_back : (number : ℕ) (old new : Kept) → is_taken old.attachment ≡ true → number < depth_by old.attachment old
-    → new ≡ sent_by (counted old) (sent.RollbackTo number) (record { tables = slice_index_or old.store.scopes (length old.store.scopes - number - 1) old.store.tables; scopes = drop (length old.store.scopes - number) old.store.scopes })
+    → new ≡ sent_by (one_call_more old) (sent.RollbackTo number) (record { tables = slice_index_or old.store.scopes (length old.store.scopes - number - 1) old.store.tables; scopes = drop (length old.store.scopes - number) old.store.scopes })
     → keeping.IsRollbackTo moment_of number old (Ok tt) new
 unfolding call.rollback_to
 went_back number old new taken inside is =
@@ -227,19 +227,19 @@ went_back number old new taken inside is =
     (record { tables = slice_index_or old.store.scopes (length old.store.scopes - number - 1) old.store.tables; scopes = drop (length old.store.scopes - number) old.store.scopes }) number tt old new taken refl
     (omega (arith, inside, length-drop (length old.store.scopes - number) old.store.scopes, depth_taken old.attachment old taken)) is
 
-pub went_back_from : (number : ℕ) (old mid new : Kept) → is_taken old.attachment ≡ true → number < depth_by old.attachment old → mid ≡ counted old
+pub went_back_from : (number : ℕ) (old mid new : Kept) → is_taken old.attachment ≡ true → number < depth_by old.attachment old → mid ≡ one_call_more old
     → new ≡ sent_by mid (sent.RollbackTo number) (record { tables = slice_index_or mid.store.scopes (length mid.store.scopes - number - 1) mid.store.tables; scopes = drop (length mid.store.scopes - number) mid.store.scopes })
     → keeping.IsRollbackTo moment_of number old (Ok tt) new
 went_back_from number old mid new taken inside same is =
     went_back number old new taken inside
     (subst (λ (k : Kept). new ≡ sent_by k (sent.RollbackTo number) (record { tables = slice_index_or k.store.scopes (length k.store.scopes - number - 1) k.store.tables; scopes = drop (length k.store.scopes - number) k.store.scopes })) same is)
 
-pub rolled_back : (old new : Kept) → is_taken old.attachment ≡ true → new ≡ sent_by (counted old) sent.Rollback (record { tables = committed_of old.store; scopes = [] })
+pub rolled_back : (old new : Kept) → is_taken old.attachment ≡ true → new ≡ sent_by (one_call_more old) sent.Rollback (record { tables = committed_of old.store; scopes = [] })
     → keeping.IsRollback moment_of old (Ok tt) new
 unfolding call.rollback
 rolled_back old new taken is = sent_call call.rollback sent.Rollback (record { tables = committed_of old.store; scopes = [] }) 0 tt old new taken refl refl is
 
-pub committed : (old new : Kept) → is_taken old.attachment ≡ true → new ≡ sent_by (counted old) sent.Commit (record { tables = old.store.tables; scopes = [] })
+pub committed : (old new : Kept) → is_taken old.attachment ≡ true → new ≡ sent_by (one_call_more old) sent.Commit (record { tables = old.store.tables; scopes = [] })
     → keeping.IsCommit moment_of old (Ok tt) new
 unfolding call.commit
 committed old new taken is = sent_call call.commit sent.Commit (record { tables = old.store.tables; scopes = [] }) 0 tt old new taken refl refl is
@@ -248,13 +248,13 @@ outside_none : (old : Kept) → is_taken old.attachment ≡ true → depth_by ol
 outside_none old taken outside = sym (depth_taken old.attachment old taken) ∙ outside
 
 pub made : (table : TableId) (old new : Kept) → is_taken old.attachment ≡ true → depth_by old.attachment old ≡ 0 → is_created old.store.tables table ≡ false
-    → new ≡ sent_by (counted old) (sent.Create table) (record { tables = with_empty_table old.store.tables table; scopes = old.store.scopes }) → keeping.IsCreate moment_of table old (Ok true) new
+    → new ≡ sent_by (one_call_more old) (sent.Create table) (record { tables = with_empty_table old.store.tables table; scopes = old.store.scopes }) → keeping.IsCreate moment_of table old (Ok true) new
 unfolding call.create
 made table old new taken outside absent is =
     sent_call (call.create table) (sent.Create table) (record { tables = with_empty_table old.store.tables table; scopes = old.store.scopes }) 0 true old new taken
     (ap (λ b. if b then quiet (Ok false) old.store else sends (sent.Create table) (record { tables = with_empty_table old.store.tables table; scopes = old.store.scopes }) (Ok true)) absent) (outside_none old taken outside) is
 
-pub not_made : (table : TableId) (old new : Kept) → is_taken old.attachment ≡ true → depth_by old.attachment old ≡ 0 → is_created old.store.tables table ≡ true → new ≡ counted old
+pub not_made : (table : TableId) (old new : Kept) → is_taken old.attachment ≡ true → depth_by old.attachment old ≡ 0 → is_created old.store.tables table ≡ true → new ≡ one_call_more old
     → keeping.IsCreate moment_of table old (Ok false) new
 unfolding call.create
 not_made table old new taken outside there is =
@@ -262,13 +262,13 @@ not_made table old new taken outside there is =
     (ap (λ b. if b then quiet (Ok false) old.store else sends (sent.Create table) (record { tables = with_empty_table old.store.tables table; scopes = old.store.scopes }) (Ok true)) there) outside is
 
 pub removed : (table : TableId) (old new : Kept) → is_taken old.attachment ≡ true → depth_by old.attachment old ≡ 0 → is_created old.store.tables table ≡ true
-    → new ≡ sent_by (counted old) (sent.Drop table) (record { tables = without_table old.store.tables table; scopes = old.store.scopes }) → keeping.IsDrop moment_of table old (Ok true) new
+    → new ≡ sent_by (one_call_more old) (sent.Drop table) (record { tables = without_table old.store.tables table; scopes = old.store.scopes }) → keeping.IsDrop moment_of table old (Ok true) new
 unfolding call.drop_table
 removed table old new taken outside there is =
     sent_call (call.drop_table table) (sent.Drop table) (record { tables = without_table old.store.tables table; scopes = old.store.scopes }) 0 true old new taken
     (ap (λ b. if b then sends (sent.Drop table) (record { tables = without_table old.store.tables table; scopes = old.store.scopes }) (Ok true) else quiet (Ok false) old.store) there) (outside_none old taken outside) is
 
-pub not_removed : (table : TableId) (old new : Kept) → is_taken old.attachment ≡ true → depth_by old.attachment old ≡ 0 → is_created old.store.tables table ≡ false → new ≡ counted old
+pub not_removed : (table : TableId) (old new : Kept) → is_taken old.attachment ≡ true → depth_by old.attachment old ≡ 0 → is_created old.store.tables table ≡ false → new ≡ one_call_more old
     → keeping.IsDrop moment_of table old (Ok false) new
 unfolding call.drop_table
 not_removed table old new taken outside absent is =
@@ -276,77 +276,77 @@ not_removed table old new taken outside absent is =
     (ap (λ b. if b then sends (sent.Drop table) (record { tables = without_table old.store.tables table; scopes = old.store.scopes }) (Ok true) else quiet (Ok false) old.store) absent) outside is
 
 pub scanned : (table : TableId) (rows : Option (List (List Value))) (old new : Kept) → is_taken old.attachment ≡ true
-    → rows ≡ option_map (λ rows. map (λ entry. entry.1) rows) (rows_in old.store.tables table) → new ≡ counted old → keeping.IsScan moment_of table old (Ok rows) new
+    → rows ≡ option_map (λ rows. map (λ entry. entry.1) rows) (rows_in old.store.tables table) → new ≡ one_call_more old → keeping.IsScan moment_of table old (Ok rows) new
 unfolding call.scan give
 scanned table rows old new taken found is = quiet_call (call.scan table) (depth_by old.attachment old) rows old new taken (ap (λ r. quiet (Ok r) old.store) (sym found)) refl is
 
 -- ---- statements
 
 statement_done : {A : Type 0} (m : Store → Run Store A) (statement : Sent) (May : Refusal → Type 0) (x : A) (old new : Kept) → is_taken old.attachment ≡ true
-    → Does m statement (counted old) (Ok x) new → IsStatement moment_of m statement May old (Ok x) new
+    → Does m statement (one_call_more old) (Ok x) new → IsStatement moment_of m statement May old (Ok x) new
 statement_done m statement May x old new taken did = subst (IsStatement moment_of m statement May old (Ok x)) (sym did.2) (record {
   step = ran_ok m statement new.store x old taken did.0;
-  depth = depth_same old.attachment old (sent_by (counted old) statement new.store) did.1;
+  depth = depth_same old.attachment old (sent_by (one_call_more old) statement new.store) did.1;
   refuses = tt;
   left = tt;
 })
 
 statement_refused : {A : Type 0} (m : Store → Run Store A) (statement : Sent) (May : Refusal → Type 0) (e : Refusal) (old new : Kept) → is_taken old.attachment ≡ true → old.refusals < 2 ^ 64
-    → ends_early e ≡ false → May e → m old.store ≡ sends statement old.store (Err e) → new ≡ refused_by (counted old) statement e → IsStatement moment_of m statement May old (Err e) new
+    → ends_early e ≡ false → May e → m old.store ≡ sends statement old.store (Err e) → new ≡ refused_by (one_call_more old) statement e → IsStatement moment_of m statement May old (Err e) new
 statement_refused m statement May e old new taken small own may ran is = subst (IsStatement moment_of m statement May old (Err e)) (sym is) (record {
   step = ran_refused m statement e old taken small own ran;
-  depth = depth_same old.attachment old (refused_by (counted old) statement e) refl ∙ sym (ap (λ b. if b then 0 else depth_by old.attachment old) own);
+  depth = depth_same old.attachment old (refused_by (one_call_more old) statement e) refl ∙ sym (ap (λ b. if b then 0 else depth_by old.attachment old) own);
   refuses = may;
   left = refused_left statement e old own;
 })
 
 statement_ended : {A : Type 0} (m : Store → Run Store A) (statement : Sent) (May : Refusal → Type 0) (old new : Kept) → is_taken old.attachment ≡ true
-    → May Memory → new ≡ ended (counted old) → IsStatement moment_of m statement May old (Err Memory) new
+    → May Memory → new ≡ call_ended (one_call_more old) → IsStatement moment_of m statement May old (Err Memory) new
 statement_ended m statement May old new taken may is = subst (IsStatement moment_of m statement May old (Err Memory)) (sym is) (record {
   step = ran_ended m old taken;
-  depth = depth_none old.attachment (ended (counted old)) refl;
+  depth = depth_none old.attachment (call_ended (one_call_more old)) refl;
   refuses = may;
   left = ended_left old;
 })
 
 -- the statement was not done
 statement_not_done : {A : Type 0} (m : Store → Run Store A) (statement : Sent) (May : Refusal → Type 0) (e : Refusal) (old new : Kept) → is_taken old.attachment ≡ true → old.refusals < 2 ^ 64
-    → May e → Does m statement (counted old) (Err e) new → IsStatement moment_of m statement May old (Err e) new
+    → May e → Does m statement (one_call_more old) (Err e) new → IsStatement moment_of m statement May old (Err e) new
 statement_not_done m statement May e old new taken small may did = by (ends_early e) refl did
   where
-    by : (b : Bool) → ends_early e ≡ b → MatchBool b ((e ≡ Memory) × (new ≡ ended (counted old))) ((m old.store ≡ sends statement old.store (Err e)) × (new ≡ refused_by (counted old) statement e))
+    by : (b : Bool) → ends_early e ≡ b → MatchBool b ((e ≡ Memory) × (new ≡ call_ended (one_call_more old))) ((m old.store ≡ sends statement old.store (Err e)) × (new ≡ refused_by (one_call_more old) statement e))
         → IsStatement moment_of m statement May old (Err e) new
     by true early q = subst (λ (d : Refusal). IsStatement moment_of m statement May old (Err d) new) (sym q.0) (statement_ended m statement May old new taken (subst May q.0 may) q.1)
     by false own q = statement_refused m statement May e old new taken small own may q.0 q.1
 
 -- a statement was done after the call was counted, or not
 pub statement_ran : {A : Type 0} (m : Store → Run Store A) (statement : Sent) (May : Refusal → Type 0) (r : Result A Refusal) (old mid new : Kept) → is_taken old.attachment ≡ true → old.refusals < 2 ^ 64
-    → mid ≡ counted old → IfErr r May → Does m statement mid r new → IsStatement moment_of m statement May old r new
+    → mid ≡ one_call_more old → IfErr r May → Does m statement mid r new → IsStatement moment_of m statement May old r new
 statement_ran {A = A} m statement May r old mid new taken small same may did = by r may (subst (λ (kept : Kept). Does m statement kept r new) same did)
   where
-    by : (r : Result A Refusal) → IfErr r May → Does m statement (counted old) r new → IsStatement moment_of m statement May old r new
+    by : (r : Result A Refusal) → IfErr r May → Does m statement (one_call_more old) r new → IsStatement moment_of m statement May old r new
     by (Ok x) may q = statement_done m statement May x old new taken q
     by (Err e) may q = statement_not_done m statement May e old new taken small may q
 
 -- the statement was ended by a fault
 pub statement_faulted : {A : Type 0} {m : Store → Run Store A} {statement : Sent} {May : Refusal → Type 0} {old new : Kept} → is_taken old.attachment ≡ true → old.faults < 2 ^ 64
-    → May KeeperFault → new ≡ failed (counted old) → IsStatement moment_of m statement May old (Err KeeperFault) new
+    → May KeeperFault → new ≡ call_failed (one_call_more old) → IsStatement moment_of m statement May old (Err KeeperFault) new
 statement_faulted {m = m} {statement = statement} {May = May} {old = old} taken small may is = subst (IsStatement moment_of m statement May old (Err KeeperFault)) (sym is) (record {
   step = ran_failed m old taken small;
-  depth = depth_none old.attachment (failed (counted old)) refl;
+  depth = depth_none old.attachment (call_failed (one_call_more old)) refl;
   refuses = may;
   left = failed_left old;
 })
 
 -- whatever was done, the call was counted, and it is no fault
-pub statement_numbered : {A : Type 0} (m : Store → Run Store A) (statement : Sent) (r : Result A Refusal) (old mid new : Kept) → is_failing old ≡ false → mid ≡ counted old → Does m statement mid r new → IsNumbered old r new
+pub statement_numbered : {A : Type 0} (m : Store → Run Store A) (statement : Sent) (r : Result A Refusal) (old mid new : Kept) → is_failing old ≡ false → mid ≡ one_call_more old → Does m statement mid r new → IsNumbered old r new
 statement_numbered {A = A} m statement r old mid new failing same did = by r (subst (λ (kept : Kept). Does m statement kept r new) same did)
   where
-    by : (r : Result A Refusal) → Does m statement (counted old) r new → IsNumbered old r new
+    by : (r : Result A Refusal) → Does m statement (one_call_more old) r new → IsNumbered old r new
     by (Ok x) q = (sym failing, ap (λ (kept : Kept). kept.calls) q.2, ap (λ (kept : Kept). kept.failing) q.2)
     by (Err e) q = stop (ends_early e) refl q
       where
-        stop : (b : Bool) → ends_early e ≡ b → MatchBool b ((e ≡ Memory) × (new ≡ ended (counted old))) ((m old.store ≡ sends statement old.store (Err e)) × (new ≡ refused_by (counted old) statement e))
+        stop : (b : Bool) → ends_early e ≡ b → MatchBool b ((e ≡ Memory) × (new ≡ call_ended (one_call_more old))) ((m old.store ≡ sends statement old.store (Err e)) × (new ≡ refused_by (one_call_more old) statement e))
             → IsNumbered {A = A} old (Err e) new
         stop true early p = (ap is_fault p.0 ∙ sym failing, ap (λ (kept : Kept). kept.calls) p.1, ap (λ (kept : Kept). kept.failing) p.1)
         stop false own p = (own_is_no_fault e own ∙ sym failing, ap (λ (kept : Kept). kept.calls) p.1, ap (λ (kept : Kept). kept.failing) p.1)
@@ -368,7 +368,7 @@ not_anew : (target : Target) (told : Told Store) (e : Refusal) → IsToldAnew ta
 not_anew targets.Memory told e = refl
 not_anew (targets.File name) told e = refl
 
-pub attach_failed : (target : Target) (old new : Kept) → target_of old.attachment ≡ None → old.faults < 2 ^ 64 → new ≡ untaken_by (failed (counted old)) target
+pub attach_failed : (target : Target) (old new : Kept) → target_of old.attachment ≡ None → old.faults < 2 ^ 64 → new ≡ untaken_by (call_failed (one_call_more old)) target
     → IsAttached (moment_of old) target (Err KeeperFault) (moment_of new)
 attach_failed target old new none small is = subst (λ n. IsAttached (moment_of old) target (Err KeeperFault) (moment_of n)) (sym is) (record {
   told = subst (λ t. IsToldAnew target (Some t) (Err KeeperFault) (Some new_store)) (sym (fresh old.attachment old none)) (not_anew target new_store KeeperFault);
@@ -379,10 +379,10 @@ attach_failed target old new none small is = subst (λ n. IsAttached (moment_of 
   attached = refl;
 })
 
-pub attach_taken : (target : Target) (old new : Kept) → target ≡ targets.Memory → new ≡ taken_by (counted old) target → IsAttached (moment_of old) target (Ok tt) (moment_of new)
+pub attach_taken : (target : Target) (old new : Kept) → target ≡ targets.Memory → new ≡ taken_by (one_call_more old) target → IsAttached (moment_of old) target (Ok tt) (moment_of new)
 attach_taken target old new memory is =
     subst (λ t. IsAttached (moment_of old) t (Ok tt) (moment_of new)) (sym memory)
-    (subst (λ n. IsAttached (moment_of old) targets.Memory (Ok tt) (moment_of n)) (sym (is ∙ ap (taken_by (counted old)) memory)) (record {
+    (subst (λ n. IsAttached (moment_of old) targets.Memory (Ok tt) (moment_of n)) (sym (is ∙ ap (taken_by (one_call_more old)) memory)) (record {
       told = refl;
       faults = refl;
       calm = (refl, refl);

@@ -13,7 +13,7 @@ use Rattle.keeper_core.specs.declared.keeper.QueryRefusal.{QueryRefusal}
 use Rattle.keeper_core.specs.declared.keeper.QueryRefusal.TheVariants as queries
 use Rattle.keeper_core.specs.Calls.{query_refusal, sends, write_refusal}
 use Rattle.table_store.specs.Written.{Stores, given_up}
-use Rattle.keeper_mem.specs.Kept.{Does, Kept, ended, refused_by}
+use Rattle.keeper_mem.specs.Kept.{Does, Kept, call_ended, refused_by}
 
 -- ---- scopes
 
@@ -51,7 +51,7 @@ does_refused : {A : Type 0} (m : Store → Run Store A) (statement : Sent) (e : 
 does_refused {A = A} m statement e old new mid other did is = by (ends_early e) did
   where
     by : (b : Bool) → MatchBool b ((e ≡ refusal.Memory) × (given_up mid ≡ given_up old.store)) ((m old.store ≡ sends {A = A} statement old.store (Err e)) × (mid ≡ old.store))
-        → MatchBool b ((e ≡ refusal.Memory) × (new ≡ ended old)) ((m old.store ≡ sends {A = A} statement old.store (Err e)) × (new ≡ refused_by old statement e))
+        → MatchBool b ((e ≡ refusal.Memory) × (new ≡ call_ended old)) ((m old.store ≡ sends {A = A} statement old.store (Err e)) × (new ≡ refused_by old statement e))
     by true q = absurd (other q.0)
     by false q = (q.0, is ∙ ap (λ (store : Store). record (refused_by old statement e) { store = store }) q.1)
 

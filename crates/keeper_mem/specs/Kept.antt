@@ -99,16 +99,16 @@ IsNumbered old result new = (is_faulted result ≡ is_failing old) × (new.calls
 -- ---- what calls make of a keeper
 
 -- one call more
-abbrev pub counted : Kept → Kept
-counted kept = record kept { calls = one_more kept.calls }
+abbrev pub one_call_more : Kept → Kept
+one_call_more kept = record kept { calls = one_more kept.calls }
 
 -- the call was ended by memory that ran out
-abbrev pub ended : Kept → Kept
-ended kept = record kept { store = given_up kept.store }
+abbrev pub call_ended : Kept → Kept
+call_ended kept = record kept { store = given_up kept.store }
 
 -- the call was ended by a fault
-abbrev pub failed : Kept → Kept
-failed kept = record kept { store = given_up kept.store; faults = one_more kept.faults }
+abbrev pub call_failed : Kept → Kept
+call_failed kept = record kept { store = given_up kept.store; faults = one_more kept.faults }
 
 -- a statement was sent, and left this store
 abbrev pub sent_by : Kept → Sent → Store → Kept
@@ -137,7 +137,7 @@ abbrev pub Does : {A : Type 0} → (Store → Run Store A) → Sent → Kept →
 Does m statement old (Ok x) new =
     (m old.store ≡ sends statement new.store (Ok x)) × (new.store.scopes ≡ old.store.scopes) × (new ≡ sent_by old statement new.store)
 Does m statement old (Err e) new =
-    MatchBool (ends_early e) ((e ≡ from.Memory) × (new ≡ ended old)) ((m old.store ≡ sends statement old.store (Err e)) × (new ≡ refused_by old statement e))
+    MatchBool (ends_early e) ((e ≡ from.Memory) × (new ≡ call_ended old)) ((m old.store ≡ sends statement old.store (Err e)) × (new ≡ refused_by old statement e))
 
 -- ---- what is told fits the depth and the tables that were committed
 

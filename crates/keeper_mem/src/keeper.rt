@@ -20,7 +20,7 @@ ghost use Rattle.keeper_core.specs.Calls.{query_refusal, write_refusal};
 ghost use Rattle.keeper_core.specs.Keeping.{RefusesBulk, RefusesRow, RefusesSelect};
 ghost use Rattle.statement_log.specs.Logged.{start_of};
 ghost use Rattle.table_store.specs.Written.{given_up};
-ghost use Rattle.keeper_mem.specs.Kept.{Does, counted, depth_by, ended, failed, is_failing, is_listed, is_taken, new_keeper, sent_by, taken_by, untaken_by};
+ghost use Rattle.keeper_mem.specs.Kept.{Does, one_call_more, depth_by, call_ended, call_failed, is_failing, is_listed, is_taken, new_keeper, sent_by, taken_by, untaken_by};
 
 use base_core::{KeyList, Refusal, RowList, TableId};
 use expr_types::{Bulk, Select};
@@ -103,9 +103,9 @@ impl MemKeeper {
     /// Counts a call, and ends it where its number is one of those that fail.
     pub(crate) fn count_call(&mut self) -> Result<(), KeeperStop>
         ensures small { (self.old.faults < 2 ^ 64) × (self.old.refusals < 2 ^ 64) }
-        ensures ok { OnOk result (is_failing self.old ≡ false × (self.new ≡ counted self.old)) }
+        ensures ok { OnOk result (is_failing self.old ≡ false × (self.new ≡ one_call_more self.old)) }
         ensures err { IfErr result (λ e. (e ≡ stops.Fault) × (is_failing
-            self.old ≡ true) × (self.new ≡ failed (counted self.old))) }
+            self.old ≡ true) × (self.new ≡ call_failed (one_call_more self.old))) }
     {
         self.calls = self.calls.saturating_add(1);
         if is_listed(self.calls, self.failing.as_slice()) {
@@ -117,7 +117,7 @@ impl MemKeeper {
 
     /// Ends a call by a fault.
     pub(crate) fn fail(&mut self)
-        ensures { self.new ≡ failed self.old }
+        ensures { self.new ≡ call_failed self.old }
     {
         self.faults = self.faults.saturating_add(1);
         go_back(&mut self.store, &mut self.log);
@@ -125,7 +125,7 @@ impl MemKeeper {
 
     /// Ends a call since memory ran out.
     pub(crate) fn give_up(&mut self)
-        ensures { self.new ≡ ended self.old }
+        ensures { self.new ≡ call_ended self.old }
     {
         go_back(&mut self.store, &mut self.log);
     }

@@ -1,6 +1,6 @@
 -- A fault, or memory that ran out, ends the call.
 use Rattle.std.proofs.Common.{ap, ◌∙◌}
-use Rattle.keeper_mem.specs.Kept.{ended}
+use Rattle.keeper_mem.specs.Kept.{call_ended}
 use Rattle.keeper_mem.proofs.Keeping.{faulted, ran_out}
 use Rattle.keeper_mem.proofs.acting.MemKeeperKeeper.drop_table.Goals as goal
 
@@ -8,4 +8,4 @@ pub returns-in_default-clause-call : goal.returns-in_default-clause-call
 returns-in_default-clause-call c = faulted c.requires.attached c.count_call.ensures.small.0 c.in_default.ensures.err.2
 
 pub returns-in_default-remove_table-clause-call : goal.returns-in_default-remove_table-clause-call
-returns-in_default-remove_table-clause-call c = ran_out c.requires.attached (c.give_up.ensures ∙ ap ended (c.in_default-remove_table.ensures.err ∙ c.in-Ok.ensures.ok.1))
+returns-in_default-remove_table-clause-call c = ran_out c.requires.attached (c.give_up.ensures ∙ ap call_ended (c.in_default-remove_table.ensures.err ∙ c.in-Ok.ensures.ok.1))
