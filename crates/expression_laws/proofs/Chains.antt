@@ -28,7 +28,7 @@ pub record Joins (joint : Form form.Joint) (kd : Kind) (j : Joint) : Type 0 wher
   pub by : form.Joint
   pub not_end : is_end kd ≡ false
   pub said : (t : Token) → t.kind ≡ kd → joint (t ∷ []) 1 by
-  pub joined : (left right : Syn) → r.joined j left right ≡ form.operation_of by left right
+  pub joined : (left right : Syn) → r.join_operands j left right ≡ form.operation_of by left right
 
 abbrev pub JoinsBy : Form form.Joint → Kind → Option Joint → Type 0
 JoinsBy joint kd None = Unit {0}
@@ -83,7 +83,7 @@ module _ (depth : ℕ) (joints : Kind → Option Joint) (joint : Form form.Joint
   behind : (left : Syn) (j : Joint) (kd : Kind) → Joins joint kd j → (more : Syn → Reader Syn) → ((left : Syn) → Sound (Inside depth) (more left) (rest joint operand left))
       → (xs : List Token) (o : ℕ) → (first_of xs).kind ≡ kd → o ≢ 0 → Whole xs
       → Kept (Inside depth) (rest joint operand left) (record { ahead = xs; operators = o })
-      (and_then (p (record { ahead = drop 1 xs; operators = o - 1 })) (λ right. more (r.joined j left right)))
+      (and_then (p (record { ahead = drop 1 xs; operators = o - 1 })) (λ right. more (r.join_operands j left right)))
   behind left j kd joins more rec [] o is some whole = absurd (true_false (ap is_end is ∙ joins.not_end))
     where
       true_false : true ≡ false → ⊥
@@ -91,10 +91,10 @@ module _ (depth : ℕ) (joints : Kind → Option Joint) (joint : Form form.Joint
   behind left j kd joins more rec (t ∷ ts) o is some whole =
       let i : Input = record { ahead = t ∷ ts; operators = o } in
       let m : Input = record { ahead = ts; operators = o - 1 } in
-      let out = and_then (p m) (λ right. more (r.joined j left right)) in
+      let out = and_then (p m) (λ right. more (r.join_operands j left right)) in
       let took : Took (Inside depth) joint i joins.by m = record { prefix = t ∷ []; count = 1; joined = refl; budget = omega (arith, some); said = joins.said t is } in
-      let turn : Sound (Inside depth) (p >>= (λ right. more (r.joined j left right))) (sequence operand (λ right. rest joint operand (form.operation_of joins.by left right))) =
-      both operand_read (λ right. subst (λ x. Sound (Inside depth) (more (r.joined j left right)) (rest joint operand x)) (joins.joined left right) (rec (r.joined j left right)))
+      let turn : Sound (Inside depth) (p >>= (λ right. more (r.join_operands j left right))) (sequence operand (λ right. rest joint operand (form.operation_of joins.by left right))) =
+      both operand_read (λ right. subst (λ x. Sound (Inside depth) (more (r.join_operands j left right)) (rest joint operand x)) (joins.joined left right) (rec (r.join_operands j left right)))
       (λ right. some_rest joint operand (form.operation_of joins.by left right)) in
       within_out (Inside depth) (sequence joint (λ by. sequence operand (λ right. rest joint operand (form.operation_of by left right)))) (rest joint operand left) i
       (one_more joint operand left) out
@@ -103,7 +103,7 @@ module _ (depth : ℕ) (joints : Kind → Option Joint) (joint : Form form.Joint
   counted_by : (left : Syn) (j : Joint) (kd : Kind) → Joins joint kd j → (more : Syn → Reader Syn) → ((left : Syn) → Sound (Inside depth) (more left) (rest joint operand left))
       → (xs : List Token) (o : ℕ) → (first_of xs).kind ≡ kd → Whole xs → (b : Bool) → (o == 0) ≡ b
       → Kept (Inside depth) (rest joint operand left) (record { ahead = xs; operators = o })
-      (and_then (and_then {A = Unit {0}} (if b then Err (At (first_of xs).at) else Ok (tt, record { ahead = drop 1 xs; operators = o - 1 })) (λ _. p)) (λ right. more (r.joined j left right)))
+      (and_then (and_then {A = Unit {0}} (if b then Err (At (first_of xs).at) else Ok (tt, record { ahead = drop 1 xs; operators = o - 1 })) (λ _. p)) (λ right. more (r.join_operands j left right)))
   unfolding head
   counted_by left j kd joins more rec xs o is whole true none = refused_here (Inside depth) (record { ahead = xs; operators = o }) (some_rest joint operand left)
   counted_by left j kd joins more rec xs o is whole false some = behind left j kd joins more rec xs o is (eqb-false o 0 some) whole

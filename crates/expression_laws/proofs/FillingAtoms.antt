@@ -110,7 +110,7 @@ reader_joint form.Minus = joint.Arith op.Sub
 reader_joint form.Times = joint.Arith op.Mul
 reader_joint form.Beside = joint.Concat
 
-joined_alike : (by : form.Joint) (left right : Syn) → r.joined (reader_joint by) left right ≡ form.operation_of by left right
+joined_alike : (by : form.Joint) (left right : Syn) → r.join_operands (reader_joint by) left right ≡ form.operation_of by left right
 unfolding reader_joint
 joined_alike form.Plus left right = refl
 joined_alike form.Minus left right = refl

@@ -22,7 +22,7 @@ linked joint operand = sequence joint (λ by. sequence operand (λ right. says (
 module _ (joint : Kind → Option Joint) (marks : Form form.Joint) (named : form.Joint → Joint) (operand : Reader Syn) (operands : Form Syn) (s t : Kind → Bool)
     (cp : Complete inside s operand operands) (sg : Sign marks (λ kd by. joint kd ≡ Some (named by)) 1) (before : (kd : Kind) (j : Joint) → joint kd ≡ Some j → s kd ≡ true)
     (within : (y : Kind) → t y ≡ true → s y ≡ true) (ends : (y : Kind) → t y ≡ true → joint y ≡ None)
-    (alike : (by : form.Joint) (left right : Syn) → r.joined (named by) left right ≡ form.operation_of by left right) where
+    (alike : (by : form.Joint) (left right : Syn) → r.join_operands (named by) left right ≡ form.operation_of by left right) where
   last_read : (n : ℕ) (left : Syn) (rest : List Token) (o : ℕ) → joint (first_of rest).kind ≡ None → Read inside (chained_from joint operand n left) rest rest 0 o left
   unfolding chained_from head
   last_read zero left rest o none = record { left = o; budget = omega arith; is = refl }
@@ -40,7 +40,7 @@ module _ (joint : Kind → Option Joint) (marks : Form form.Joint) (named : form
       ∙ ap (λ m. Ok (tt, record { ahead = ts; operators = m })) less
 
   next_read : (n : ℕ) (left right a : Syn) (j : Joint) (u : Token) (ts ys rest : List Token) (l m o : ℕ) → joint u.kind ≡ Some j → (one : Read inside operand ts ys l o right)
-      → Read inside (chained_from joint operand n (r.joined j left right)) ys rest m one.left a
+      → Read inside (chained_from joint operand n (r.join_operands j left right)) ys rest m one.left a
       → Read inside (chained_from joint operand (suc n) left) (u ∷ ts) rest (1 + (l + m)) (suc o) a
   unfolding chained_from head
   next_read n left right a j u ts ys rest l m o some one two =
@@ -49,8 +49,8 @@ module _ (joint : Kind → Option Joint) (marks : Form form.Joint) (named : form
         left = two.left;
         budget = omega (arith, one.budget, two.budget);
         is = ap (λ found. r.chained_by (chained_from joint operand n) operand left found i) some
-            ∙ ap (λ out. and_then (and_then out (λ _. operand)) (λ x. chained_from joint operand n (r.joined j left x))) (operator_by u ts o)
-            ∙ ap (λ out. and_then out (λ x. chained_from joint operand n (r.joined j left x))) one.is ∙ two.is;
+            ∙ ap (λ out. and_then (and_then out (λ _. operand)) (λ x. chained_from joint operand n (r.join_operands j left x))) (operator_by u ts o)
+            ∙ ap (λ out. and_then out (λ x. chained_from joint operand n (r.join_operands j left x))) one.is ∙ two.is;
       }
 
   -- there are no more operands than tokens
@@ -99,12 +99,12 @@ module _ (joint : Kind → Option Joint) (marks : Form form.Joint) (named : form
       let counts : 1 + (w.prefix_count + said.rest_count) ≡ count = omega (arith, said.counted, v.counted, w.counted, w.second.1, one.counts) in
       let first : Read inside operand (w.prefix ++ (said.rest ++ rest)) (said.rest ++ rest) w.prefix_count o right =
       cp.run w.prefix (said.rest ++ rest) w.prefix_count o right w.first (omega (arith, counts)) (links_open more said.rest rest said.rest_count said.second stop) in
-      let second : Read inside (chained_from joint operand n (r.joined (named by) left right)) (said.rest ++ rest) rest said.rest_count first.left
-      (form.left_association (r.joined (named by) left right) more) =
-      links_read n more (r.joined (named by) left right) said.rest rest said.rest_count first.left (omega arith) said.second (omega (arith, counts, first.budget)) stop in
-      let read = next_read n left right (form.left_association (r.joined (named by) left right) more) (named by) one.token (w.prefix ++ (said.rest ++ rest)) (said.rest ++ rest) rest
+      let second : Read inside (chained_from joint operand n (r.join_operands (named by) left right)) (said.rest ++ rest) rest said.rest_count first.left
+      (form.left_association (r.join_operands (named by) left right) more) =
+      links_read n more (r.join_operands (named by) left right) said.rest rest said.rest_count first.left (omega arith) said.second (omega (arith, counts, first.budget)) stop in
+      let read = next_read n left right (form.left_association (r.join_operands (named by) left right) more) (named by) one.token (w.prefix ++ (said.rest ++ rest)) (said.rest ++ rest) rest
       w.prefix_count said.rest_count o one.is first second in
-      let said_so : form.left_association (r.joined (named by) left right) more ≡ form.left_association left (a ∷ more) =
+      let said_so : form.left_association (r.join_operands (named by) left right) more ≡ form.left_association left (a ∷ more) =
       ap (λ x. form.left_association x more) (alike by left right) ∙ ap (λ x. form.left_association left (x ∷ more)) (sym pair) in
       subst (λ ts. Read inside (chained_from joint operand (suc n) left) ts rest count (suc o) (form.left_association left (a ∷ more))) tokens
       (subst (λ m. Read inside (chained_from joint operand (suc n) left) (one.token ∷ (w.prefix ++ (said.rest ++ rest))) rest m (suc o) (form.left_association left (a ∷ more))) counts

@@ -63,14 +63,14 @@ abbrev pub product_joint : Kind → Option Joint
 product_joint k.Star = Some (joint.Arith arith.Mul)
 product_joint _ = None
 
-abbrev pub joined : Joint → Syn → Syn → Syn
-joined (joint.Arith op) left right = e.Arith op left right
-joined joint.Concat left right = e.Concat left right
+abbrev pub join_operands : Joint → Syn → Syn → Syn
+join_operands (joint.Arith op) left right = e.Arith op left right
+join_operands joint.Concat left right = e.Concat left right
 
 -- an operand and the joints and operands that follow it, grouped to the left
 abbrev pub chained_by : (Syn → Reader Syn) → Reader Syn → Syn → Option Joint → Reader Syn
 chained_by more operand left None = pure left
-chained_by more operand left (Some joint) = operator >> operand >>= (λ right. more (joined joint left right))
+chained_by more operand left (Some joint) = operator >> operand >>= (λ right. more (join_operands joint left right))
 
 unfoldable pub chained_from : (Kind → Option Joint) → Reader Syn → ℕ → Syn → Reader Syn
 chained_from joint operand zero left = pure left

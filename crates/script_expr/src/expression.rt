@@ -101,7 +101,7 @@ fn boxed(alloc: Global, tree: Syn) -> Result<Boxed<Syn>, Fault>
 }
 
 fn joined(joint: Joint, left: Boxed<Syn>, right: Boxed<Syn>) -> Syn
-    ensures { result ≡ spec.joined joint left right }
+    ensures { result ≡ spec.join_operands joint left right }
 {
     match joint {
         Joint::Arith(op) => Syn::Arith(op, left, right),

@@ -10,7 +10,7 @@ use Rattle.script_tokens.proofs.Alike.{same}
 use Rattle.script_tokens.specs.declared.fault.Fault.{Fault}
 use Rattle.script_tokens.specs.declared.fault.Fault.TheVariants.{At}
 use Rattle.script_tokens.specs.Input.{Input, Outcome, Reader, ◌>>=◌, ◌>>◌, and_then, pure, refusal, peek, eat, head, kind, next, sees, after, first_of, operator, separated_from}
-use Rattle.script_expr.specs.Expr.{joined, chained_by, chained_from}
+use Rattle.script_expr.specs.Expr.{join_operands, chained_by, chained_from}
 use Rattle.script_laws.specs.Steady.{closes, Settled, Taken, Refused, IsSteady}
 use Rattle.script_laws.proofs.Steps.{IsSteadyAt, both, both_there, there, made, eaten, on_kind, counted, false_true}
 use Rattle.script_laws.proofs.Loops.{Turn, Done, Again, after_turn, looped}
@@ -170,7 +170,7 @@ listed mark {item = item} marks steady bare found =
 module _ (joint : Kind → Option Joint) (operand : Reader Syn) (ends : (kd : Kind) → closes kd ≡ true → joint kd ≡ None) (steady : IsSteady operand) where
   link_by : Syn → Option Joint → Reader (Turn Syn Syn)
   link_by left None = pure (Done left)
-  link_by left (Some j) = operator >> operand >>= (λ right. pure (Again (joined j left right)))
+  link_by left (Some j) = operator >> operand >>= (λ right. pure (Again (join_operands j left right)))
 
   link : Syn → Reader (Turn Syn Syn)
   link left = peek >>= (λ kind. link_by left (joint kind))
@@ -185,15 +185,15 @@ module _ (joint : Kind → Option Joint) (operand : Reader Syn) (ends : (kd : Ki
   link_by_steady : (left : Syn) (kd : Kind) (o : Option Joint) → joint kd ≡ o → IsSteadyAt kd (link_by left o)
   unfolding link_by
   link_by_steady left kd None e = there (made (Done left))
-  link_by_steady left kd (Some j) e = both_there (both_there (counted kd (goes kd j e)) (λ _. steady)) (λ right. made (Again (joined j left right)))
+  link_by_steady left kd (Some j) e = both_there (both_there (counted kd (goes kd j e)) (λ _. steady)) (λ right. made (Again (join_operands j left right)))
 
   link_steady : (left : Syn) → IsSteady (link left)
   unfolding link
   link_steady left = on_kind (λ kind. link_by left (joint kind)) (λ kind. link_by_steady left kind (joint kind) refl)
 
   out_same : (n : ℕ) (left : Syn) (j : Joint) (out : Outcome Syn)
-      → and_then out (λ right. chained_from joint operand n (joined j left right))
-      ≡ and_then (and_then out (λ right. pure (Again (joined j left right)))) (after_turn (chained_from joint operand n))
+      → and_then out (λ right. chained_from joint operand n (join_operands j left right))
+      ≡ and_then (and_then out (λ right. pure (Again (join_operands j left right)))) (after_turn (chained_from joint operand n))
   out_same n left j (Ok p) = refl
   out_same n left j (Err e) = refl
 
@@ -222,7 +222,7 @@ module _ (joint : Kind → Option Joint) (operand : Reader Syn) (ends : (kd : Ki
   operator_takes t ts o m e = taken_at t ts o (o == 0) m e
 
   after_operand : (left more : Syn) (j : Joint) (i m : Input) (len : ℕ) (out : Outcome Syn) → operand i ≡ out → length i.ahead ≡ len
-      → Yields {A = Turn Syn Syn} (and_then out (λ right. pure (Again (joined j left right)))) (Again more) m → length m.ahead ≤ len
+      → Yields {A = Turn Syn Syn} (and_then out (λ right. pure (Again (join_operands j left right)))) (Again more) m → length m.ahead ≤ len
   after_operand left more j i m len (Err f) was took e = absurd (refused_yields e)
   after_operand left more j i m len (Ok p) was took e =
       let less : length p.1.ahead ≤ length i.ahead = never_longer steady i p.1 p.0 was in
@@ -230,7 +230,7 @@ module _ (joint : Kind → Option Joint) (operand : Reader Syn) (ends : (kd : Ki
       omega arith
 
   after_operator : (left more : Syn) (j : Joint) (m : Input) (len : ℕ) (out : Outcome (Unit {0})) → ((n : Input) → Yields {A = Unit {0}} out tt n → length n.ahead ≡ len)
-      → Yields {A = Turn Syn Syn} (and_then (and_then out (λ _. operand)) (λ right. pure (Again (joined j left right)))) (Again more) m → length m.ahead ≤ len
+      → Yields {A = Turn Syn Syn} (and_then (and_then out (λ _. operand)) (λ right. pure (Again (join_operands j left right)))) (Again more) m → length m.ahead ≤ len
   after_operator left more j m len (Err f) took e = absurd (refused_yields e)
   after_operator left more j m len (Ok p) took e = after_operand left more j p.1 m len (operand p.1) refl (took p.1 refl) e
 
