@@ -27,7 +27,7 @@ use Rattle.expr_types.specs.Normal.{normal}
 use Rattle.expr_types.proofs.Folds.{fold-Compare, fold-Column, fold-Lit, fold-Arith, fold-Exists}
 use Rattle.sql_semantics.specs.Kinds.{Judged, Scope, column_in, expression_kind, judged_level}
 use Rattle.sql_semantics.specs.Plain.{IsFilter, IsPlainBulk, IsPlainSelect, IfSet, IsWritten, StandsIn, adds_name, alone, fits, fits_level, has_full_lists, has_kind, is_free_column, is_key_column, is_kind_where, lacks_aggregate, name_of, names_apart}
-use Rattle.keeper_tests.specs.Pair.{AreApart, IsPair, above, cell, clear, clear_named, literal, names, number, put, raised, rewrite}
+use Rattle.keeper_tests.specs.Pair.{AreApart, IsPair, above, cell, clear, clear_named, literal, names, number, insert_pair, number_plus, rewrite}
 
 -- all rows of a table, with no item
 abbrev pub rows_of : TableId → Select
@@ -55,7 +55,7 @@ of_cell : (column : ColumnSpec) (n : Option ℤ) → kind_of column.kind ≡ Int
 of_cell column None is = refl
 of_cell column (Some n) is = ap (λ kind. same_kind Integer kind) is
 
-pub put_plain : (schema : Catalog) (table : TableId) (id n : Option ℤ) → IsPair schema table → IsPlainBulk schema (put table id n)
+pub put_plain : (schema : Catalog) (table : TableId) (id n : Option ℤ) → IsPair schema table → IsPlainBulk schema (insert_pair table id n)
 put_plain schema table id n is = (
   is.declared,
   refl,
@@ -196,7 +196,7 @@ named schema table other is other_is apart =
 
 -- ---- statements
 
-pub raise_plain : (schema : Catalog) (table : TableId) (by : ℤ) (bound : Option ℤ) → IsPair schema table → IsPlainBulk schema (rewrite table (raised by) bound)
+pub raise_plain : (schema : Catalog) (table : TableId) (by : ℤ) (bound : Option ℤ) → IsPair schema table → IsPlainBulk schema (rewrite table (number_plus by) bound)
 raise_plain schema table by bound is = (is.declared, refl, is_free schema table is, (sum schema table by is, tt), filtered schema table bound is)
 
 pub assign_plain : (schema : Catalog) (table : TableId) (n bound : Option ℤ) → IsPair schema table → IsPlainBulk schema (rewrite table (literal n) bound)

@@ -73,16 +73,16 @@ literal None = None
 literal (Some n) = Some (expr.Lit (Int n))
 
 -- a row
-abbrev pub put : TableId → Option ℤ → Option ℤ → Bulk
-put table id n = bulk.Insert table (record { 0 = 0 } ∷ record { 0 = 1 } ∷ []) (cell id ∷ cell n ∷ [])
+abbrev pub insert_pair : TableId → Option ℤ → Option ℤ → Bulk
+insert_pair table id n = bulk.Insert table (record { 0 = 0 } ∷ record { 0 = 1 } ∷ []) (cell id ∷ cell n ∷ [])
 
 -- an UPDATE of the second column
 abbrev pub rewrite : TableId → Option Expr → Option ℤ → Bulk
 rewrite table value bound = bulk.Update table ((record { 0 = 1 }, value) ∷ []) (above bound)
 
 -- so much more than the second column has
-abbrev pub raised : ℤ → Option Expr
-raised by = Some (expr.Arith Add number (expr.Lit (Int by)))
+abbrev pub number_plus : ℤ → Option Expr
+number_plus by = Some (expr.Arith Add number (expr.Lit (Int by)))
 
 abbrev pub clear : TableId → Option ℤ → Bulk
 clear table bound = bulk.Delete table (above bound)

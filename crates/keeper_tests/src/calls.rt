@@ -165,7 +165,7 @@ fn literal(n: Option<i64>) -> Option<Expr>
 
 /// A row of both columns.
 fn put(alloc: Global, table: TableId, id: Option<i64>, n: Option<i64>) -> Result<Bulk, AllocError>
-    ensures { IfOk result (λ s. s ≡ pair.put table id n) }
+    ensures { IfOk result (λ s. s ≡ pair.insert_pair table id n) }
 {
     let mut columns = Vec::new(alloc);
     columns.push(ColumnNo(0))?;
@@ -196,7 +196,7 @@ fn rewrite(
 }
 
 fn raised(alloc: Global, by: i64) -> Result<Option<Expr>, AllocError>
-    ensures { IfOk result (λ value. value ≡ pair.raised by) }
+    ensures { IfOk result (λ value. value ≡ pair.number_plus by) }
 {
     Ok(Some(Expr::Arith(
         ArithOp::Add,
@@ -207,7 +207,7 @@ fn raised(alloc: Global, by: i64) -> Result<Option<Expr>, AllocError>
 
 /// So much more in the second column.
 fn raise(alloc: Global, table: TableId, by: i64, bound: Option<i64>) -> Result<Bulk, AllocError>
-    ensures { IfOk result (λ s. s ≡ pair.rewrite table (pair.raised by) bound) }
+    ensures { IfOk result (λ s. s ≡ pair.rewrite table (pair.number_plus by) bound) }
 {
     let value = raised(alloc, by)?;
     rewrite(alloc, table, value, bound)
