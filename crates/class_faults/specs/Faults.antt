@@ -72,8 +72,9 @@ inherits_badly tables classes layouts placed =
 
 -- ---- BadSecondary
 
-abbrev pub misses_ends : Side → Bool
-misses_ends side = is_some side.spec.secondary && is_none side.ends
+-- a link names a secondary table, which only a collection has, or the table's columns, key or foreign keys are not right
+abbrev pub is_bad_secondary : Side → Bool
+is_bad_secondary side = is_some side.spec.secondary && (not side.spec.many || is_none side.ends)
 
 -- ---- KeyForeign
 
@@ -132,7 +133,7 @@ fault_of_pairs tables classes layouts sides =
 -- the first kind that holds of the keys of relationships, and then of pairs
 unfoldable pub fault_of_keys : List TableSpec → Classes → List Layout → List Side → Option ArgumentKind
 fault_of_keys tables classes layouts sides =
-    if list_any misses_ends sides then Some BadSecondary
+    if list_any is_bad_secondary sides then Some BadSecondary
     else if list_any (lacks_join tables classes sides) sides then Some NoJoin
     else if list_any (has_two_joins tables classes sides) sides then Some TwoJoins
     else fault_of_pairs tables classes layouts sides

@@ -5,7 +5,7 @@ ghost use Rattle.std.specs.List.{enumerate_from, list_any};
 ghost use Rattle.schema_core.specs.Catalog.{has_name, is_required, same_name};
 ghost use Rattle.schema_core.specs.Declaration.{some_two};
 ghost use Rattle.class_sides.specs.Pairs.{differs, has_two_joins, lacks_join, overlaps};
-ghost use Rattle.class_faults.specs.Faults.{fault_among, fault_of_keys, fault_of_pairs, has_fixed, inherits_badly, is_discriminator, is_fixed, is_free_column, is_key_named, is_of_key, is_place, is_unique_name, keeps_no_orphans, key_of, may_own, misses_delete, misses_ends, misses_table, misses_target, misses_tie_in, owns_rightly, posts_badly};
+ghost use Rattle.class_faults.specs.Faults.{fault_among, fault_of_keys, fault_of_pairs, has_fixed, inherits_badly, is_bad_secondary, is_discriminator, is_fixed, is_free_column, is_key_named, is_of_key, is_place, is_unique_name, keeps_no_orphans, key_of, may_own, misses_delete, misses_table, misses_target, misses_tie_in, owns_rightly, posts_badly};
 ghost use Rattle.class_layouts.specs.Columns.{columns_in};
 ghost use Rattle.class_sides.specs.Keys.{is_tied, names_of};
 
@@ -199,10 +199,11 @@ fn some_inherits_badly(schema: &Schema, classes: &Classes, layouts: &[Layout]) -
 
 // ---- BadSecondary
 
-fn misses_ends(side: &Side) -> bool
-    ensures { result ≡ misses_ends side.now }
+/// Whether a link names a secondary table, or a collection names one whose columns, key or foreign keys are not right.
+fn is_bad_secondary(side: &Side) -> bool
+    ensures { result ≡ is_bad_secondary side.now }
 {
-    side.spec.secondary.is_some() && side.ends.is_none()
+    side.spec.secondary.is_some() && (!side.spec.many || side.ends.is_none())
 }
 
 // ---- NoJoin, TwoJoins and PartnerDiffers
@@ -398,10 +399,10 @@ fn fault_of_pairs(
     None
 }
 
-fn some_misses_ends(sides: &[Side]) -> bool
-    ensures { result ≡ list_any misses_ends sides.now }
+fn some_bad_secondary(sides: &[Side]) -> bool
+    ensures { result ≡ list_any is_bad_secondary sides.now }
 {
-    sides.iter().any(misses_ends)
+    sides.iter().any(is_bad_secondary)
 }
 
 #[tactic(auto, unfolding(crate::specs::Faults::fault_of_keys))]
@@ -414,7 +415,7 @@ fn fault_of_keys(
 ) -> Option<ArgumentKind>
     ensures { result ≡ fault_of_keys schema.now.tables classes.now layouts.now sides.now }
 {
-    if some_misses_ends(sides) {
+    if some_bad_secondary(sides) {
         return Some(ArgumentKind::BadSecondary);
     }
     if some_lacks_join(schema, classes, sides) {

@@ -10,3 +10,5 @@ pub mod RelatedKeys
 pub mod RootLemmas
 pub mod RelatedJoins
 pub mod RelatedPairs
+pub mod OnceLemmas
+pub mod PairedLemmas

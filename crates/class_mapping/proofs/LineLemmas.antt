@@ -1,8 +1,9 @@
 -- What the lines of classes keep as more is declared, and what the root of a class has.
-use Rattle.std.proofs.Common.{◌≡◌, ◌⊎◌, inl, inr, ℕ, zero, suc, ◌<◌, ◌≤◌, Bool, true, false, ◌&&◌, ◌||◌, List, [], ◌∷◌, ◌++◌, ◌∙◌, length, map, ap, sym, refl, Option, None, Some, is_some, is_none, Ok, ◌==◌, arith, length-append, eq-or-lt_of_le}
+use Rattle.std.proofs.Common.{◌≡◌, ◌⊎◌, inl, inr, ℕ, zero, suc, ◌<◌, ◌≤◌, Bool, true, false, ◌&&◌, ◌||◌, List, [], ◌∷◌, ◌++◌, ◌∙◌, length, map, ap, sym, refl, subst, Option, None, Some, is_some, is_none, Ok, ◌==◌, arith, length-append, eq-or-lt_of_le}
 use Rattle.std.specs.Prelude.{slice_get}
 use Rattle.std.specs.List.{list_all, list_any}
-use Rattle.std.proofs.lemmas.Bool.{eq-eqb}
+use Rattle.std.proofs.lemmas.Bool.{eq-eqb, eqb-true}
+use Rattle.std.proofs.lemmas.List.{append-nil, append_assoc}
 use Rattle.std.proofs.lemmas.Option.{same_Some, slice_get_within}
 use Rattle.base_core.proofs.Lists.{get_before, get_last}
 use Rattle.base_core.specs.declared.ids.ClassId.{ClassId}
@@ -19,9 +20,9 @@ use Rattle.class_layouts.specs.Columns.{attributes_on, named_table}
 use Rattle.class_layouts.specs.Declaring.{declared_unless}
 use Rattle.class_layouts.specs.Faults.{class_fault, first_fault, is_declared, maps_name, misses_declaration, names_on as all_names_on}
 use Rattle.class_layouts.specs.Hierarchy.{has_class, line_at, line_of, line_or_none, new_line, place_named, relations_in, root_in, with_class}
-use Rattle.class_mapping.specs.Lines.{AreLines, are_declared, is_root_over, is_rooted, names_at, names_on, spec_at}
-use Rattle.class_mapping.proofs.Having.{two_before}
-use Rattle.class_mapping.proofs.Lists.{all_append, and_both, and_left, and_right, none_append, or_left, or_none, or_right}
+use Rattle.class_mapping.specs.Lines.{AreLines, BeginsWith, are_declared, is_root_over, is_rooted, names_at, names_on, is_same_class, spec_at}
+use Rattle.class_mapping.proofs.Having.{all_of, some_of, two_before}
+use Rattle.class_mapping.proofs.Lists.{all_append, and_both, and_left, and_right, none_append, or_left, or_none, or_right, some_is}
 use Rattle.class_mapping.proofs.MappingLemmas.{taken_is, untaken}
 use Rattle.class_mapping.proofs.PlainClassLemmas.{over_kept, table_taken}
 use Rattle.class_mapping.proofs.ValidLemmas.{split}
@@ -57,6 +58,8 @@ lines_over tables more classes lines = record {
   rooted = all_then (is_rooted tables classes.specs) (is_rooted (tables ++ more ∷ []) classes.specs) (λ line h. root_kept_table tables more (spec_at classes.specs (root_in line)) h) classes.lines lines.rooted;
   declared = lines.declared;
   own = lines.own;
+  once = lines.once;
+  nested = lines.nested;
   named = lines.named;
 }
 
@@ -65,7 +68,7 @@ lines_table schema spec table new classes h lines = rw (table_taken schema spec 
 
 -- ---- with one class more
 
-got_still : {A : Type 0} (xs ys : List A) (n : ℕ) (x : A) → slice_get xs n ≡ Some x → slice_get (xs ++ ys) n ≡ Some x
+pub got_still : {A : Type 0} (xs ys : List A) (n : ℕ) (x : A) → slice_get xs n ≡ Some x → slice_get (xs ++ ys) n ≡ Some x
 got_still xs ys n x e = get_before xs ys n (slice_get_within xs n x e) ∙ e
 
 got_some : {A : Type 0} (xs ys : List A) (n : ℕ) (o : Option A) → slice_get xs n ≡ o → is_some o ≡ true → slice_get (xs ++ ys) n ≡ o
@@ -106,7 +109,7 @@ base_starts tables classes spec (Some place) lines =
     rooted_or_none tables (classes.specs ++ spec ∷ []) (slice_get classes.lines place)
     (λ line here. rooted_at tables classes.specs (spec ∷ []) (root_in line) (all_at (is_rooted tables classes.specs) classes.lines place line lines.rooted here))
 
-base_declared : (tables : List TableSpec) (classes : Classes) (place : Option ℕ) → AreLines tables classes → are_declared classes.specs (line_at classes place) ≡ true
+pub base_declared : (tables : List TableSpec) (classes : Classes) (place : Option ℕ) → AreLines tables classes → are_declared classes.specs (line_at classes place) ≡ true
 base_declared tables classes None lines = refl
 base_declared tables classes (Some place) lines = by (slice_get classes.lines place) (λ line here. all_at (are_declared classes.specs) classes.lines place line lines.declared here)
   where
@@ -172,6 +175,103 @@ own_at classes line class old (inr before) h =
 last_or_before : (class : ℕ) (lines : List (List ClassId)) (line : List ClassId) → class < length (lines ++ line ∷ []) → (class ≡ length lines) ⊎ (class < length lines)
 last_or_before class lines line h = let less : class ≤ length lines = omega (arith, h, length-append lines (line ∷ [])) in eq-or-lt_of_le less
 
+-- ---- a line begins with the lines of its classes
+
+pub line_within : (lines : List (List ClassId)) (class n : ℕ) (line : Option (List ClassId)) → slice_get lines class ≡ line → has_class (line_or_none line) n ≡ true → class < length lines
+line_within lines class n None e h = absurd cc
+line_within lines class n (Some line) e h = slice_get_within lines class line e
+
+in_last : (base : List ClassId) (last n : ℕ) → has_class (base ++ record { 0 = last } ∷ []) n ≡ true → (n ≡ last) ⊎ (has_class base n ≡ true)
+in_last base last n h = by (has_class base n) refl
+  where
+    apart : (class : ℕ) → (xs : List ClassId) → has_class xs n ≡ false → has_class (xs ++ record { 0 = class } ∷ []) n ≡ ((class == n) || false)
+    apart class [] e = refl
+    apart class (x ∷ xs) e =
+        ap (λ b. b || has_class (xs ++ record { 0 = class } ∷ []) n) (or_left (x.0 == n) (has_class xs n) e) ∙ apart class xs (or_right (x.0 == n) (has_class xs n) e)
+
+    only : (b : Bool) → (b || false) ≡ true → b ≡ true
+    only true k = refl
+    only false k = absurd cc
+
+    by : (b : Bool) → has_class base n ≡ b → (n ≡ last) ⊎ (has_class base n ≡ true)
+    by true e = inr e
+    by false e = inl (sym (eqb-true last n (only (last == n) (sym (apart last base e) ∙ h))))
+
+pub declared_in : (specs : List ClassSpec) (line : List ClassId) (class : ClassId) → are_declared specs line ≡ true → has_class line class.0 ≡ true → class.0 < length specs
+declared_in specs line class h g =
+    let found = some_of (λ (other : ClassId). other.0 == class.0) line g in
+    let same : found.0.0 ≡ class.0 = eqb-true found.0.0 class.0 found.2 in
+    let some = some_is (slice_get specs found.0.0) (all_of (λ (other : ClassId). is_some (slice_get specs other.0)) line found.0 h found.1) in
+    subst (λ (n : ℕ). n < length specs) same (slice_get_within specs found.0.0 some.0 some.1)
+
+-- ---- a class stands in its line once
+
+not_same : (n m : ℕ) → m < n → (n == m) ≡ false
+not_same n m less = by (n == m) refl
+  where
+    by : (b : Bool) → (n == m) ≡ b → b ≡ false
+    by true e = let same : n ≡ m = eqb-true n m e in absurd (omega (arith, less, same))
+    by false e = refl
+
+last_once : (specs : List ClassSpec) (line : List ClassId) → some_two is_same_class line ≡ false → are_declared specs line ≡ true → some_two is_same_class (line ++ record { 0 = length specs } ∷ []) ≡ false
+last_once specs [] h d = refl
+last_once specs (class ∷ line) h d =
+    let some = some_is (slice_get specs class.0) (and_left (is_some (slice_get specs class.0)) (are_declared specs line) d) in
+    or_none (list_any (λ later. is_same_class later class) (line ++ record { 0 = length specs } ∷ [])) (some_two is_same_class (line ++ record { 0 = length specs } ∷ []))
+    (none_append (λ later. is_same_class later class) line (record { 0 = length specs } ∷ []) (or_left (list_any (λ later. is_same_class later class) line) (some_two is_same_class line) h)
+    (or_none (length specs == class.0) false (not_same (length specs) class.0 (slice_get_within specs class.0 some.0 some.1)) refl))
+    (last_once specs line (or_right (list_any (λ later. is_same_class later class) line) (some_two is_same_class line) h) (and_right (is_some (slice_get specs class.0)) (are_declared specs line) d))
+
+base_once : (tables : List TableSpec) (classes : Classes) (place : Option ℕ) → AreLines tables classes → some_two is_same_class (line_at classes place) ≡ false
+base_once tables classes None lines = refl
+base_once tables classes (Some place) lines = by (slice_get classes.lines place) (λ line here. none_at (λ line. some_two is_same_class line) classes.lines place line lines.once here)
+  where
+    by : (line : Option (List ClassId)) → ((l : List ClassId) → line ≡ Some l → some_two is_same_class l ≡ false) → some_two is_same_class (line_or_none line) ≡ false
+    by None f = refl
+    by (Some line) f = f line refl
+
+module _ (tables : List TableSpec) (classes : Classes) (spec : ClassSpec) (lined : length classes.lines ≡ length classes.specs) (lines : AreLines tables classes) where
+  abbrev last_line : List ClassId
+  last_line = new_line classes spec
+
+  abbrev all_classes : Classes
+  all_classes = with_class classes spec
+
+  line_before : (class : ℕ) → class < length classes.lines → line_of all_classes class ≡ line_of classes class
+  line_before class before = ap line_or_none (get_before classes.lines (last_line ∷ []) class before)
+
+  line_last : (class : ℕ) → class ≡ length classes.lines → line_of all_classes class ≡ last_line
+  line_last class same = ap (line_of all_classes) same ∙ ap line_or_none (get_last classes.lines last_line)
+
+  -- the line of a class of an older line is as it was
+  nested_before : (place : Option ℕ) (above : ClassId) → has_class (line_at classes place) above.0 ≡ true → BeginsWith (line_at classes place) (line_of all_classes above.0)
+  nested_before None above h = absurd cc
+  nested_before (Some class) above h =
+      let less : above.0 < length classes.specs = declared_in classes.specs (line_of classes class) above (base_declared tables classes (Some class) lines) h in
+      let before : above.0 < length classes.lines = rw lined less in
+      subst (λ (line : List ClassId). BeginsWith (line_of classes class) line) (sym (line_before above.0 before)) (lines.nested class above h)
+
+  nested_last : (above : ClassId) → (above.0 ≡ length classes.specs) ⊎ (has_class (line_at classes (place_named classes.specs spec.base)) above.0 ≡ true) → BeginsWith last_line (line_of all_classes above.0)
+  nested_last above (inl same) = ([], sym (line_last above.0 (same ∙ sym lined)) ∙ sym (append-nil (line_of all_classes above.0)))
+  nested_last above (inr before) =
+      let first = nested_before (place_named classes.specs spec.base) above before in (
+        first.0 ++ record { 0 = length classes.specs } ∷ [],
+        ap (λ (line : List ClassId). line ++ record { 0 = length classes.specs } ∷ []) first.1 ∙ append_assoc (line_of all_classes above.0) first.0 (record { 0 = length classes.specs } ∷ []),
+      )
+
+  nested_by : (class : ℕ) (above : ClassId) → (class ≡ length classes.lines) ⊎ (class < length classes.lines) → has_class (line_of all_classes class) above.0 ≡ true → BeginsWith (line_of all_classes class) (line_of all_classes above.0)
+  nested_by class above (inl last) h =
+      let here : has_class last_line above.0 ≡ true = ap (λ (line : List ClassId). has_class line above.0) (sym (line_last class last)) ∙ h in
+      subst (λ (line : List ClassId). BeginsWith line (line_of all_classes above.0)) (sym (line_last class last))
+      (nested_last above (in_last (line_at classes (place_named classes.specs spec.base)) (length classes.specs) above.0 here))
+  nested_by class above (inr before) h =
+      let here : has_class (line_of classes class) above.0 ≡ true = ap (λ (line : List ClassId). has_class line above.0) (sym (line_before class before)) ∙ h in
+      subst (λ (line : List ClassId). BeginsWith line (line_of all_classes above.0)) (sym (line_before class before)) (nested_before (Some class) above here)
+
+  pub nested_with : (class : ℕ) (above : ClassId) → has_class (line_of all_classes class) above.0 ≡ true → BeginsWith (line_of all_classes class) (line_of all_classes above.0)
+  nested_with class above h =
+      nested_by class above (last_or_before class classes.lines last_line (line_within all_classes.lines class above.0 (slice_get all_classes.lines class) refl h)) h
+
 lines_with : (rules : Rules) (tables : List TableSpec) (classes : Classes) (spec : ClassSpec) → class_fault rules tables classes spec ≡ None → length classes.lines ≡ length classes.specs
     → AreLines tables classes → AreLines tables (with_class classes spec)
 unfolding first_fault
@@ -197,6 +297,11 @@ lines_with rules tables classes spec h lined lines =
       own = λ class less.
           own_at classes line class lines.own (last_or_before class classes.lines line less)
           (ap (λ (n : ℕ). has_class line n) lined ∙ has_last base (length classes.specs));
+      once =
+          none_append (λ line. some_two is_same_class line) classes.lines (line ∷ []) lines.once
+          (or_none (some_two is_same_class line) false
+          (last_once classes.specs base (base_once tables classes (place_named classes.specs spec.base) lines) (base_declared tables classes (place_named classes.specs spec.base) lines)) refl);
+      nested = nested_with tables classes spec lined lines;
       named =
           none_append (λ line. some_two same_name (names_on all line)) classes.lines (line ∷ [])
           (none_named classes spec classes.lines lines.declared lines.named)

@@ -173,11 +173,17 @@ joined_if true true holds h f = f refl
 joined_if true false holds h f = absurd cc
 joined_if false any holds h f = refl
 
-pub covered_if : {A B : Type 0} (given : Option A) (found : Option B) (good : B → Bool) → (is_some given && is_none found) ≡ false
+pub covered_if : {A B : Type 0} (given : Option A) (many : Bool) (found : Option B) (good : B → Bool) → (is_some given && (not many || is_none found)) ≡ false
     → (is_none found || holds_of good found) ≡ true → (is_none given || holds_of good found) ≡ true
-covered_if None found good h g = refl
-covered_if (Some x) None good h g = absurd cc
-covered_if (Some x) (Some y) good h g = g
+covered_if None many found good h g = refl
+covered_if (Some x) false found good h g = absurd cc
+covered_if (Some x) true None good h g = absurd cc
+covered_if (Some x) true (Some y) good h g = g
+
+pub many_if : {A : Type 0} (given : Option A) (many rest : Bool) → (is_some given && (not many || rest)) ≡ false → (is_none given || many) ≡ true
+many_if None many rest h = refl
+many_if (Some x) true rest h = refl
+many_if (Some x) false rest h = absurd cc
 
 pub paired_if : (back taken any : Bool) → (if back then taken else not any) ≡ false → (back || any) ≡ true
 paired_if true taken any h = refl

@@ -45,19 +45,19 @@ map_twice g f (x ∷ xs) = ap (λ zs. g (f x) ∷ zs) (map_twice g f xs)
 pub same_class : (one other : ClassId) → (one.0 == other.0) ≡ true → one ≡ other
 same_class one other h = ap (λ (n : ℕ). let class : ClassId = record { 0 = n } in class) (eqb-true one.0 other.0 h)
 
-class_has : (line : List ClassId) (class : ClassId) → has_class line class.0 ≡ true → Has line class
+pub class_has : (line : List ClassId) (class : ClassId) → has_class line class.0 ≡ true → Has line class
 class_has line class h =
     let found = some_of (λ (other : ClassId). other.0 == class.0) line h in
     subst (λ (c : ClassId). Has line c) (same_class found.0 class found.2) found.1
 
-has_class_from : (line : List ClassId) (class : ClassId) (n : ℕ) → Has line class → class.0 ≡ n → has_class line n ≡ true
+pub has_class_from : (line : List ClassId) (class : ClassId) (n : ℕ) → Has line class → class.0 ≡ n → has_class line n ≡ true
 has_class_from line class n h e = any_has (λ (other : ClassId). other.0 == n) line class h (eq-eqb class.0 n e)
 
-class_is : (o : Option ClassId) (class : ClassId) → is_class o class ≡ true → o ≡ Some class
+pub class_is : (o : Option ClassId) (class : ClassId) → is_class o class ≡ true → o ≡ Some class
 class_is None class h = absurd cc
 class_is (Some found) class h = ap (λ (c : ClassId). Some c) (same_class found class h)
 
-is_class_of : (o : Option ClassId) (class : ClassId) → o ≡ Some class → is_class o class ≡ true
+pub is_class_of : (o : Option ClassId) (class : ClassId) → o ≡ Some class → is_class o class ≡ true
 is_class_of o class e = ap (λ (found : Option ClassId). is_class found class) e ∙ eq-eqb class.0 class.0 refl
 
 target_within : (o : Option ℕ) (n : ℕ) → ((i : ℕ) → o ≡ Some i → i < n) → (class : ClassId) → option_map (λ place. let c : ClassId = record { 0 = place } in c) o ≡ Some class → class.0 < n
@@ -167,7 +167,7 @@ module _ (mapped : Mapped) (lined : length mapped.classes.lines ≡ length mappe
       let within : class < length classes.lines = rw lined less in
       line_here (slice_get classes.lines class) (get_or classes.lines class []) (slice_get-get_or classes.lines class [] within)
 
-  own_line : (class : ClassId) → class.0 < length classes.specs → Has (line_of classes class.0) class
+  pub own_line : (class : ClassId) → class.0 < length classes.specs → Has (line_of classes class.0) class
   own_line class less =
       let within : class.0 < length classes.lines = rw lined less in
       class_has (line_of classes class.0) class (lines.own class.0 within)
@@ -217,7 +217,7 @@ module _ (mapped : Mapped) (lined : length mapped.classes.lines ≡ length mappe
   abbrev list_on : List ClassId → List Relation
   list_on line = linking.relations_on tables classes sides names line
 
-  target_in : (line : List ClassId) (o : Option ClassId) (class : ClassId) → is_class o class ≡ true → Has line class → is_target_in o line ≡ true
+  pub target_in : (line : List ClassId) (o : Option ClassId) (class : ClassId) → is_class o class ≡ true → Has line class → is_target_in o line ≡ true
   target_in line None class h g = absurd cc
   target_in line (Some found) class h g = has_class_from line class found.0 g (sym (eqb-true found.0 class.0 h))
 
@@ -251,7 +251,7 @@ module _ (mapped : Mapped) (lined : length mapped.classes.lines ≡ length mappe
       ∙ ap (λ (more : List (List ℕ)). map (λ (relation : Relation). relation.name) (map own (filter (linking.is_own class) sides)) ++ more) (map_twice (λ (relation : Relation). relation.name) back (filter (linking.makes_back class) sides))
       ∙ ap (λ (first : List (List ℕ)). first ++ map (λ side. side.spec.partner) (filter (linking.makes_back class) sides)) (map_twice (λ (relation : Relation). relation.name) own (filter (linking.is_own class) sides))
 
-  names_of_list : (line : List ClassId) → map (λ (relation : Relation). relation.name) (list_on line) ≡ linking.names_on sides line
+  pub names_of_list : (line : List ClassId) → map (λ (relation : Relation). relation.name) (list_on line) ≡ linking.names_on sides line
   names_of_list [] = refl
   names_of_list (class ∷ line) =
       map_append (λ (relation : Relation). relation.name) (linking.relations_at tables classes sides names class) (list_on line)
@@ -286,7 +286,7 @@ module _ (mapped : Mapped) (lined : length mapped.classes.lines ≡ length mappe
 
   module _ (differing : list_any (differs classes layouts sides) sides ≡ false) where
     -- the name of a backref is not taken
-    not_taken : {A : Type 0} (class : ℕ) → class < length classes.specs → (side other : Side) → Has sides side → side.spec.backref ≡ true → is_target_in side.target (line_of classes class) ≡ true
+    pub not_taken : {A : Type 0} (class : ℕ) → class < length classes.specs → (side other : Side) → Has sides side → side.spec.backref ≡ true → is_target_in side.target (line_of classes class) ≡ true
         → Has sides other → gives_name (line_of classes class) side other ≡ true → A
     not_taken class less side other h backref inside g gives =
         let layout : Layout = layout_on tables classes (line_of classes class) in
@@ -322,7 +322,7 @@ module _ (mapped : Mapped) (lined : length mapped.classes.lines ≡ length mappe
             (and_both (has_class (line_of classes side.class.0) side.class.0) (same_name side.spec.name found.0.spec.partner) stands
             (named_alike side.spec.name found.0.spec.partner (sym (ap (λ (r : Relation). r.name) found.4 ∙ e)))))
 
-    back_apart : (class : ClassId) → class.0 < length classes.specs → (side : Side) → Has sides side → side.spec.backref ≡ true → is_target_in side.target (line_of classes class.0) ≡ true
+    pub back_apart : (class : ClassId) → class.0 < length classes.specs → (side : Side) → Has sides side → side.spec.backref ≡ true → is_target_in side.target (line_of classes class.0) ≡ true
         → (other : Side) → Has sides other → other.spec.backref ≡ true → is_target_in other.target (line_of classes class.0) ≡ true → other.spec.partner ≡ side.spec.partner
         → (b : Bool) → same_side side other ≡ b → other ≡ side
     back_apart class less side h backref inside other g backs within e true same =

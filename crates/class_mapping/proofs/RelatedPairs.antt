@@ -27,8 +27,8 @@ use Rattle.class_sides.specs.Pairs.{differ, fits, fits_mutual, is_of_target, is_
 use Rattle.class_sides.specs.Linking.{ends_on, far_key, far_or, key_or_none, near_key, near_or}
 use Rattle.class_faults.specs.Faults.{mapping_fault}
 use Rattle.class_mapping.specs.Lines.{AreLines}
-use Rattle.class_mapping.specs.Mapped.{IsClass, IsValidMapping, Mapped, relations_of}
-use Rattle.class_mapping.specs.Related.{AreApart, ArePartners, AreRelated, SharesKey, partner_of, relation_at, share_key}
+use Rattle.class_mapping.specs.Mapped.{IsClass, IsValidMapping, Mapped, partner_of, relations_of}
+use Rattle.class_mapping.specs.Related.{AreApart, ArePartners, AreRelated, SharesKey, relation_at, share_key}
 use Rattle.class_mapping.specs.Valid.{IsValid, covers, covers_both, holds_of, is_joined, is_paired, joins_ends}
 use Rattle.class_mapping.proofs.Having.{Has, all_from, all_of, any_has, found_of, has_at, named_alike, none_of, same_names, some_of, true_false}
 use Rattle.class_mapping.proofs.MappingLemmas.{all_found, resolved_is}
@@ -454,7 +454,7 @@ module _ (mapped : Mapped) (lined : length mapped.classes.lines ≡ length mappe
           (partner_same (back_in mapped side) other (own_in mapped side) (back_partners mapped lined lines valid.differing side h is.0 _ (target_is mapped lined lines valid side h)).back e)
           (back_shares side h plain).1)
 
-  shares_any : (line : List ClassId) (relation : Relation) → Came mapped line relation → (near : Bool) → is_none relation.far ≡ near → SharesKey mapped relation
+  pub shares_any : (line : List ClassId) (relation : Relation) → Came mapped line relation → (near : Bool) → is_none relation.far ≡ near → SharesKey mapped relation
   shares_any line relation came true near = shares_is relation (is_of line relation came near)
   shares_any line relation came false far = λ other e. or_first (is_some relation.far) (is_none other.far && same_key relation.foreign other.foreign && differ relation.many other.many) (not_none relation.far far)
 

@@ -24,9 +24,9 @@ use Rattle.class_sides.specs.declared.side.Side.{Side}
 use Rattle.class_sides.specs.Keys.{allows, columns_at, is_inherited, is_tied, refers_into}
 use Rattle.class_sides.specs.Sides.{Ends, candidates, ends_among, ends_by, ends_in, has_attribute, is_all_keys, key_at, layout_at, serves, side_of, sides_at, sides_of, table_candidates, target_of}
 use Rattle.class_sides.specs.Pairs.{differs, fits, is_partner, is_plain, is_taken_in, join_of, lacks_join}
-use Rattle.class_faults.specs.Faults.{fault_among, fault_of_keys, fault_of_pairs, inherits_badly, misses_ends, misses_table, misses_target, misses_tie_in, owns_rightly}
+use Rattle.class_faults.specs.Faults.{fault_among, fault_of_keys, fault_of_pairs, inherits_badly, is_bad_secondary, misses_table, misses_target, misses_tie_in, owns_rightly}
 use Rattle.class_mapping.specs.Valid.{IsValid, covers, covers_both, extends_rightly, holds_of, is_among, is_covered, is_joined, is_paired, is_tied_in, joins, joins_ends, refers_by}
-use Rattle.class_mapping.proofs.Lists.{all_better, all_flat, all_good, all_kept, all_map, all_numbered, all_true, all_unless, and_both, and_every, and_four, and_left, and_right, and_three, covered_if, found_holds, joined_if, led_if, none_flat, none_map, none_numbered, paired_if}
+use Rattle.class_mapping.proofs.Lists.{all_better, all_flat, all_good, all_kept, all_map, all_numbered, all_true, all_unless, and_both, and_every, and_four, and_left, and_right, and_three, covered_if, found_holds, joined_if, led_if, many_if, none_flat, none_map, none_numbered, paired_if}
 
 -- ---- the keys that can serve a side
 
@@ -199,11 +199,15 @@ all_joined tables classes layouts sides had h =
     sides h had
 
 all_covered : (tables : List TableSpec) (layouts : List Layout) (sides : List Side) → list_all (ends_good tables layouts) sides ≡ true
-    → list_any misses_ends sides ≡ false → list_all (is_covered tables layouts) sides ≡ true
+    → list_any is_bad_secondary sides ≡ false → list_all (is_covered tables layouts) sides ≡ true
 all_covered tables layouts sides had h =
-    all_better misses_ends (ends_good tables layouts) (is_covered tables layouts)
-    (λ side bad good. covered_if side.spec.secondary side.ends (covers tables layouts side) bad good)
+    all_better is_bad_secondary (ends_good tables layouts) (is_covered tables layouts)
+    (λ side bad good. covered_if side.spec.secondary side.spec.many side.ends (covers tables layouts side) bad good)
     sides h had
+
+all_collections : (sides : List Side) → list_any is_bad_secondary sides ≡ false → list_all (λ side. is_plain side || side.spec.many) sides ≡ true
+all_collections sides h =
+    all_good is_bad_secondary (λ side. is_plain side || side.spec.many) (λ side bad. many_if side.spec.secondary side.spec.many (is_none side.ends) bad) sides h
 
 all_paired : (classes : Classes) (layouts : List Layout) (sides : List Side) → list_any (differs classes layouts sides) sides ≡ false → list_all (is_paired sides) sides ≡ true
 all_paired classes layouts sides h =
@@ -280,6 +284,7 @@ valid_by tables classes layouts sides joining covering orphans h =
       led = all_led tables sides first.1;
       tied = all_extend tables classes layouts two.0;
       joined = all_joined tables classes layouts sides joining four.0;
+      collections = all_collections sides three.0;
       covered = all_covered tables layouts sides covering three.0;
       apart = six.0;
       paired = all_paired classes layouts sides seven.0;

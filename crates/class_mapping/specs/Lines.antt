@@ -1,5 +1,5 @@
 -- What the lines of declared classes have.
-use Rattle.std.specs.Prelude.{◌≡◌, ◌<◌, ℕ, Bool, true, false, ◌&&◌, List, length, map, slice_get, Option, None, Some, is_none, is_some}
+use Rattle.std.specs.Prelude.{◌≡◌, ◌<◌, ℕ, Bool, true, false, ◌&&◌, List, ◌++◌, length, map, slice_get, ◌==◌, Option, None, Some, is_none, is_some}
 use Rattle.std.specs.List.{flat_map, list_all, list_any}
 use Rattle.base_core.specs.declared.ids.ClassId.{ClassId}
 use Rattle.schema_core.specs.declared.table.TableSpec.{TableSpec}
@@ -35,6 +35,13 @@ names_at classes class = map (λ relation. relation.name) (relations_at classes 
 abbrev pub names_on : Classes → List ClassId → List (List ℕ)
 names_on classes line = flat_map (names_at classes) line
 
+abbrev pub is_same_class : ClassId → ClassId → Bool
+is_same_class one other = one.0 == other.0
+
+-- a line begins with another, or is that one
+abbrev pub BeginsWith : List ClassId → List ClassId → Type 0
+BeginsWith line first = (rest : List ClassId) × (line ≡ first ++ rest)
+
 -- what every mapping's lines have
 pub record AreLines (tables : List TableSpec) (classes : Classes) : Type 0 where
   -- each begins with a root over a declared table
@@ -42,5 +49,9 @@ pub record AreLines (tables : List TableSpec) (classes : Classes) : Type 0 where
   pub declared : list_all (are_declared classes.specs) classes.lines ≡ true
   -- a class stands in its own line
   pub own : (class : ℕ) → class < length classes.lines → has_class (line_of classes class) class ≡ true
+  -- no class stands in a line twice
+  pub once : list_any (λ line. some_two is_same_class line) classes.lines ≡ false
+  -- a line begins with the line of each class in it
+  pub nested : (class : ℕ) (above : ClassId) → has_class (line_of classes class) above.0 ≡ true → BeginsWith (line_of classes class) (line_of classes above.0)
   -- no two relationships of the blocks of a line have one name
   pub named : list_any (λ line. some_two same_name (names_on classes line)) classes.lines ≡ false

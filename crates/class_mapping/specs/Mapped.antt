@@ -117,7 +117,7 @@ list_or_none (Some list) = list
 abbrev pub relations_of : Mapped → ClassId → List Relation
 relations_of mapped class = list_or_none (slice_get (linking.relations_of mapped.schema.tables mapped.classes) class.0)
 
--- the partner of a relationship: the one of its target that leads back
+-- the partner of a relationship: the one that stands at its partner's place in the list of its target
 abbrev pub partner_of : Mapped → Relation → Option Relation
 partner_of mapped relation = slice_get (relations_of mapped relation.target) relation.partner.0
 

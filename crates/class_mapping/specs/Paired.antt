@@ -30,3 +30,5 @@ pub record HasPairs (mapped : Mapped) : Type 0 where
   pub inherited : (class above : ClassId) (place : ℕ) (relation : Relation) → is_at_or_under mapped class above ≡ true → IsAt mapped above place relation → IsAt mapped class place relation
   -- each relationship has a partner that leads back
   pub back : (class : ClassId) (place : ℕ) (relation : Relation) → IsAt mapped class place relation → IsBack mapped class relation (partner_of mapped relation)
+  -- and a partner's partner stands at the relationship's place
+  pub returns : (class : ClassId) (place : ℕ) (relation partner : Relation) → IsAt mapped class place relation → partner_of mapped relation ≡ Some partner → partner.partner.0 ≡ place

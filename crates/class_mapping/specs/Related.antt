@@ -7,15 +7,11 @@ use Rattle.class_types.specs.declared.mapped.Relation.{Relation}
 use Rattle.class_sides.specs.Keys.{TableKey, same_key}
 use Rattle.class_sides.specs.Pairs.{differ}
 use Rattle.class_mapping.specs.Valid.{covers_both, joins}
-use Rattle.class_mapping.specs.Mapped.{IsClass, Mapped, layout_of, relations_of}
+use Rattle.class_mapping.specs.Mapped.{IsClass, Mapped, layout_of, partner_of, relations_of}
 
 -- the relationship at a place of a class
 abbrev pub relation_at : Mapped → ClassId → RelNo → Option Relation
 relation_at mapped class place = slice_get (relations_of mapped class) place.0
-
--- what stands at a relationship's partner's place in the list of its target
-abbrev pub partner_of : Mapped → Relation → Option Relation
-partner_of mapped relation = relation_at mapped relation.target relation.partner
 
 -- each of the two is the other's partner, and leads to the class that declares the other
 pub record ArePartners (mapped : Mapped) (relation other : Relation) : Type 0 where

@@ -97,6 +97,8 @@ pub record IsValid (tables : List TableSpec) (classes : Classes) (layouts : List
   pub tied : list_all (extends_rightly tables classes layouts) (enumerate_from 0 classes.specs) ≡ true
   -- without a secondary table, a foreign key of the many side refers to the one side
   pub joined : list_all (is_joined tables classes layouts sides) sides ≡ true
+  -- a secondary table is behind collections alone
+  pub collections : list_all (λ side. is_plain side || side.spec.many) sides ≡ true
   -- a secondary table's two keys are its whole key, one to each side
   pub covered : list_all (is_covered tables layouts) sides ≡ true
   -- a foreign key or a secondary table serves one pair

@@ -15,6 +15,7 @@ ghost use Rattle.class_layouts.specs.Faults.{class_fault};
 ghost use Rattle.class_mapping.specs.Mapped.{IsAttribute, IsClass, IsValidMapping, all_validators, attributes_of, class_spec, find_class, key_attributes, layout_of, line_of, parent_of, partner_of, relations_of, root_of, root_table, tables_of, validators_of};
 ghost use Rattle.class_mapping.specs.Plain.{early_fault};
 ghost use Rattle.class_mapping.specs.PlainClass.{ArePlain, IsPlainClass};
+ghost use Rattle.class_mapping.specs.Paired.{HasPairs};
 ghost use Rattle.class_mapping.specs.Related.{AreRelated};
 ghost use Rattle.class_mapping.specs.Declaring.{configured_mapping, configure, declare_class, declare_table, with_class, with_table};
 
@@ -120,12 +121,14 @@ impl Mapping {
         &self.schema
     }
 
-    /// Whether all was checked since the last declaration. If so there is no fault, each foreign key has its target, and each
-    /// relationship of each class has its partner and its keys.
+    /// Whether all was checked since the last declaration. If so there is no fault, each foreign key has its target, each
+    /// relationship of each class has its partner, of the opposite form, and its keys, and a class under another has the
+    /// other's relationships at their places.
     pub fn is_configured(&self) -> bool
         ensures configured { result ≡ self.now.configured }
         ensures valid { self.now.configured ≡ true → IsValidMapping self.now }
         ensures related { self.now.configured ≡ true → AreRelated self.now }
+        ensures paired { self.now.configured ≡ true → HasPairs self.now }
         ensures resolved { self.now.configured ≡ true → self.now.schema.resolved ≡ true }
     {
         self.configured
@@ -231,11 +234,13 @@ impl Mapping {
         self.layout(class).keys.as_slice()
     }
 
-    /// The relationships of a class: inherited ones first, then those of its block, then its backrefs in order of declaration.
+    /// The relationships of a class: inherited ones first, then those of its block, then its backrefs in order of
+    /// declaration. Each has a partner that leads back.
     pub fn relations(&self, class: ClassId) -> &[Relation]
         requires declared { IsClass self.now class }
         requires configured { self.now.configured ≡ true }
-        ensures { result.now ≡ relations_of self.now class }
+        ensures relations { result.now ≡ relations_of self.now class }
+        ensures paired { HasPairs self.now }
     {
         self.linked(class)
     }
@@ -243,7 +248,8 @@ impl Mapping {
     /// The relationships of a class, if it is declared.
     fn linked(&self, class: ClassId) -> &[Relation]
         requires { self.now.configured ≡ true }
-        ensures { result.now ≡ relations_of self.now class }
+        ensures relations { result.now ≡ relations_of self.now class }
+        ensures paired { HasPairs self.now }
     {
         match self.relations.get(class.0 as usize) {
             Some(list) => list.as_slice(),
@@ -350,6 +356,7 @@ impl Mapping {
         ensures closed { OnOk result (self.new ≡ configured_mapping self.old) }
         ensures valid { OnOk result (IsValidMapping self.new) }
         ensures related { OnOk result (AreRelated self.new) }
+        ensures paired { OnOk result (HasPairs self.new) }
         ensures sound { result ≡ Err Memory → has_targets self.old.schema.tables ≡ true }
     {
         if !self.schema.has_targets() {

@@ -57,7 +57,7 @@ pub fn set_one(
     requires parent { IsEnd arena.old parent }
     ensures step { Takes (λ _. tt)
         (spec.set_one arena.old mapping.now child relation parent) arena.old result arena.new }
-    ensures fits { HasPairs mapping.now → IsFit mapping.now arena.new }
+    ensures fits { IsFit mapping.now arena.new }
     ensures classes { classes_of arena.new ≡ classes_of arena.old }
 {
     let found = &mapping.relations(arena.object(child).class)[relation.0 as usize];
@@ -96,7 +96,7 @@ pub fn append(
     requires loaded { spec.is_unloaded (spec.link_at arena.old owner relation) ≡ false }
     ensures step { Takes (λ _. tt)
         (spec.append arena.old mapping.now owner relation member) arena.old result arena.new }
-    ensures fits { HasPairs mapping.now → IsFit mapping.now arena.new }
+    ensures fits { IsFit mapping.now arena.new }
     ensures classes { classes_of arena.new ≡ classes_of arena.old }
 {
     let found = &mapping.relations(arena.object(owner).class)[relation.0 as usize];
@@ -135,7 +135,7 @@ pub fn remove(
     requires loaded { spec.is_unloaded (spec.link_at arena.old owner relation) ≡ false }
     ensures step { Takes (λ _. tt)
         (spec.remove arena.old mapping.now owner relation member) arena.old result arena.new }
-    ensures fits { HasPairs mapping.now → IsFit mapping.now arena.new }
+    ensures fits { IsFit mapping.now arena.new }
     ensures classes { classes_of arena.new ≡ classes_of arena.old }
 {
     let found = &mapping.relations(arena.object(owner).class)[relation.0 as usize];

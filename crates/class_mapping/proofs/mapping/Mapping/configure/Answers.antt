@@ -3,6 +3,7 @@ use Rattle.std.proofs.lemmas.Grind.{common_steps}
 use Rattle.schema_core.specs.Declaration.{has_targets}
 use Rattle.class_mapping.specs.Mapped.{Mapped}
 use Rattle.class_mapping.proofs.MappingLemmas.{laid_by, refused_by_targets, valid_by_check}
+use Rattle.class_mapping.proofs.PairedLemmas.{paired_by_check}
 use Rattle.class_mapping.proofs.RelatedPairs.{related_by_check}
 use Rattle.class_mapping.proofs.mapping.Mapping.configure.Goals as goal
 
@@ -29,4 +30,10 @@ pub returns-clause-related : goal.returns-clause-related
 returns-clause-related c =
     let none : c.in_ok-found.found.fault ≡ None = grind (arith, common_steps) in
     related_by_check c.self.inside.schema c.resolve.new.self c.self.inside.classes c.in_ok-found.found.fault c.self.invariant.lined c.self.invariant.lines c.self.invariant.orphans
+    c.in_ok-resolve.ensures.step c.in_ok-found.ensures.fault none
+
+pub returns-clause-paired : goal.returns-clause-paired
+returns-clause-paired c =
+    let none : c.in_ok-found.found.fault ≡ None = grind (arith, common_steps) in
+    paired_by_check c.self.inside.schema c.resolve.new.self c.self.inside.classes c.in_ok-found.found.fault c.self.invariant.lined c.self.invariant.lines c.self.invariant.orphans
     c.in_ok-resolve.ensures.step c.in_ok-found.ensures.fault none
