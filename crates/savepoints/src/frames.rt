@@ -1,6 +1,6 @@
 //! The scopes of a session.
 
-ghost use Rattle.std.specs.Prelude.{◌≡◌, ◌<◌, ◌≤◌, ◌∷◌, ◌-◌, drop, nat_le, length, IfErr, OnOk, OnErr};
+ghost use Rattle.std.specs.Prelude.{◌≡◌, ◌<◌, ◌≤◌, ◌∷◌, ◌-◌, drop, nat_le, length, Err, IfErr, OnOk, OnErr};
 ghost use Rattle.std.specs.List.{All};
 ghost use Rattle.base_core.specs.Answers.{Takes};
 ghost use Rattle.base_core.specs.declared.refusal.Refusal.TheVariants.{Memory};
@@ -62,13 +62,14 @@ impl Frames {
     /// One more scope starts, with the objects as they stand now.
     ///
     /// # Errors
-    /// `LimitReached(Savepoints)` where 64 savepoints are open. A refusal changes nothing.
+    /// `LimitReached(Savepoints)` where 64 savepoints are open; `Memory` where there are fewer. A refusal changes nothing.
     #[tactic(auto, unfolding(crate::specs::Scopes::push))]
     pub fn push(&mut self, arena: &Arena) -> Result<(), Refusal>
         ensures step { Takes (λ _. tt) (spec.push arena.now self.old) self.old result self.new }
         ensures pushed { OnOk result
             (self.new ≡ record self.old { scopes = spec.begun_at arena.now ∷ self.old.scopes }) }
         ensures cause { length self.old.scopes < spec.scope_limit → IfErr result (λ e. e ≡ Memory) }
+        ensures room { result ≡ Err Memory → length self.old.scopes < spec.scope_limit }
         ensures keys { (mapped : Mapped) → IsFit mapped arena.now
             → All (spec.HasKeys mapped arena.now) self.old.scopes
             → All (spec.HasKeys mapped arena.now) self.new.scopes }
