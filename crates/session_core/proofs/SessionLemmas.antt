@@ -17,7 +17,7 @@ use Rattle.savepoints.specs.declared.scope.Scope.{Scope}
 use Rattle.savepoints.specs.Scopes.{Framed, HasKeys, begun_at, push}
 use Rattle.object_arena.proofs.ClassLemmas.{classes_long}
 use Rattle.savepoints.proofs.KeyLemmas.{all_kept, all_made, class_at}
-use Rattle.session_core.specs.SessionState.{IsOfClass, IsSession, ObjectsStay, Stay, has_scope}
+use Rattle.session_core.specs.SessionState.{IsOfClass, IsSession, KeepsScopes, ObjectsStay, SessionState, Stay, has_scope}
 
 -- objects that change, each in its class
 pub session_kept : (mapped : Mapped) (old new : Graph) (frames : Framed) → IsFit mapped new → classes_of new ≡ classes_of old → IsSession mapped old frames.scopes → IsSession mapped new frames.scopes
@@ -56,6 +56,16 @@ session_entered mapped graph old new (Ok u) outside step is keys session =
     record { configured = session.configured; plain = session.plain; fit = session.fit; keys = keys; one = omega (arith, long) }
 session_entered mapped graph old new (Err e) outside step is keys session =
     record { configured = session.configured; plain = session.plain; fit = session.fit; keys = keys; one = rw step.0 session.one }
+
+-- ---- one step after another
+
+pub keeps_more : {old mid new : SessionState} → KeepsScopes old mid → KeepsScopes mid new → KeepsScopes old new
+keeps_more first second = record {
+  same = record { mapping = second.same.mapping ∙ first.same.mapping; classes = second.same.classes ∙ first.same.classes };
+  scopes = second.scopes ∙ first.scopes;
+}
+
+-- ---- scopes
 
 -- a scope is in progress or none is
 pub inside : (scopes : List Scope) → 0 < length scopes → has_scope scopes ≡ true

@@ -59,7 +59,7 @@ commits moment p q c is cause =
     then_ok (λ _. flush >>= λ _. (on_store no_note call.commit >>= λ _. changes session_committed)) p
     (then_ok (λ _. on_store no_note call.commit >>= λ _. changes session_committed) q (then_ends moment (λ _. session_committed) c is cause))
 
--- the session was session_closed
+-- the session was closed
 pub closes : {K : Type 0} (moment : K → Moment Store) {own now : SessionState} {old new : K} {r : Result (Unit {0}) Refusal}
     → Runs (moment_beside moment) (λ u. u) (rollback_when_begun (in_transaction own)) (own, old) (Ok tt) (own, new) → OnOk r (now ≡ session_closed own) → IfErr r (λ e. e ≡ Memory) → Runs (moment_beside moment) (λ u. u) close (own, old) r (now, new)
 unfolding close

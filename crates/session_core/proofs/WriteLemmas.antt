@@ -18,12 +18,14 @@ use Rattle.class_mapping.specs.Mapped.{Mapped, attribute_of, attributes_of, key_
 use Rattle.object_arena.specs.declared.object.Cell.{Cell}
 use Rattle.object_arena.specs.declared.object.Object.{Object}
 use Rattle.object_arena.specs.Graph.{Graph, IsCell, IsObject, cell_at, expired_cell, kept_identity, no_object, object_at, place_of, root_at, with_cell, with_object, with_state}
+use Rattle.object_arena.specs.Every.{classes_of}
 use Rattle.object_arena.specs.Identity.{find_identity, is_other, is_taken}
 use Rattle.object_arena.specs.declared.object.State.TheVariants.{Detached, Persistent}
 use Rattle.object_arena.specs.Fit.{IsFit, cell_fits, is_just_of_kind, is_of_kind, key_fits, key_value_fits, value_fits}
 use Rattle.object_arena.proofs.FitLemmas.{fit_at, fit_cells}
 use Rattle.object_arena.proofs.PartLemmas.{pointwise_at}
-use Rattle.session_core.specs.Flush.{IsUnderKey, Written, holder_freed, held_cell, graph_settled, value_under, written_object, written_value}
+use Rattle.session_core.proofs.ObjectLemmas.{class_still, made_still}
+use Rattle.session_core.specs.Flush.{IsUnderKey, StaysFit, Written, holder_freed, held_cell, graph_settled, value_under, written_object, written_value}
 
 -- ---- the cells
 
@@ -85,6 +87,24 @@ class_kept graph object other new made same =
     (λ (apart : place_of other ≢ place_of object).
     ap (λ (o : Object). o.class) (get_or-set_other graph.objects (place_of object) (place_of other) new no_object apart))
     (cases_eq (place_of other) (place_of object))
+
+-- ---- an object after a step
+
+-- a key that fits it does so still
+pub key_still : (mapped : Mapped) (old new : Graph) (object : ObjId) (key : List Value) → classes_of new ≡ classes_of old → IsObject old object → key_fits mapped (object_at old object).class key ≡ true
+    → key_fits mapped (object_at new object).class key ≡ true
+key_still mapped old new object key same made fits = ap (λ (class : ClassId). key_fits mapped class key) (class_still old new object same made) ∙ fits
+
+-- it has as many cells
+pub cells_still : (mapped : Mapped) (old new : Graph) (object : ObjId) → IsFit mapped old → StaysFit mapped old new → IsObject old object → length (object_at new object).cells ≡ length (object_at old object).cells
+cells_still mapped old new object fit stays made =
+    sym (fit_cells mapped new object stays.fit (made_still old new object stays.classes made))
+    ∙ ap (λ (class : ClassId). length (attributes_of mapped class)) (class_still old new object stays.classes made)
+    ∙ fit_cells mapped old object fit made
+
+-- one step after another
+pub stays_then : (mapped : Mapped) (old mid new : Graph) → StaysFit mapped old mid → StaysFit mapped mid new → StaysFit mapped old new
+stays_then mapped old mid new first second = record { fit = second.fit; classes = second.classes ∙ first.classes }
 
 -- ---- who stands for a key
 

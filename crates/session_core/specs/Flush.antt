@@ -17,7 +17,8 @@ use Rattle.object_arena.specs.declared.object.State.TheVariants.{Transient, Pend
 use Rattle.schema_core.specs.Tables.{value_or_null}
 use Rattle.object_arena.specs.Graph.{Graph, IsObject, expired_object, kept_identity, object_at, root_at, row_of, with_object, with_state}
 use Rattle.object_arena.specs.Identity.{find_identity, with_identity}
-use Rattle.object_arena.specs.Fit.{key_fits}
+use Rattle.object_arena.specs.Fit.{IsFit, key_fits}
+use Rattle.object_arena.specs.Every.{classes_of}
 
 -- ---- what is written
 
@@ -94,6 +95,11 @@ with_written mapped graph written =
 
 abbrev pub graph_settled : Mapped → Graph → Written → Graph
 graph_settled mapped graph written = with_written mapped (under_key graph written) written
+
+-- what each step keeps of the graph: its objects fit the mapping, and are as many as before, each of its class
+pub record StaysFit (mapped : Mapped) (old new : Graph) : Type 0 where
+  pub fit : IsFit mapped new
+  pub classes : classes_of new ≡ classes_of old
 
 -- ---- at a commit and at a close
 

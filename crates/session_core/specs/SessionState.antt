@@ -54,9 +54,13 @@ in_transaction session = has_scope session.scopes
 abbrev pub depth_of : SessionState → ℕ
 depth_of session = if session.failed then length session.scopes + 1 else length session.scopes
 
+-- the keeper took its target, and has so many scopes open
+abbrev pub HasDepth : {W : Type 0} → ℕ → Moment W → Type 0
+HasDepth depth moment = (moment.attached ≡ true) × (moment.depth ≡ depth)
+
 -- the keeper took its target, and has the session's scopes open
 abbrev pub IsInStep : {W : Type 0} → SessionState → Moment W → Type 0
-IsInStep session moment = (moment.attached ≡ true) × (moment.depth ≡ length session.scopes)
+IsInStep session moment = HasDepth (length session.scopes) moment
 
 -- a call keeps the keeper in step, unless memory or the store ended it early
 abbrev pub StaysInStep : {A W : Type 0} → Result A Refusal → SessionState → Moment W → Type 0
@@ -67,6 +71,11 @@ StaysInStep (Err e) session moment = ends_early e ≡ false → IsInStep session
 pub record SameObjects (old new : SessionState) : Type 0 where
   pub mapping : new.mapping ≡ old.mapping
   pub classes : classes_of new.graph ≡ classes_of old.graph
+
+-- what a step inside a scope keeps: the mapping and the objects, and the scopes in progress
+pub record KeepsScopes (old new : SessionState) : Type 0 where
+  pub same : SameObjects old new
+  pub scopes : new.scopes ≡ old.scopes
 
 -- what a call keeps: the mapping and the objects, and the keeper in step, unless memory or the store ended it early
 pub record IsKept {A W : Type 0} (result : Result A Refusal) (old new : SessionState) (moment : Moment W) : Type 0 where

@@ -9,7 +9,7 @@ ghost use Rattle.object_arena.specs.Graph.{IsObject, object_at, row_of};
 ghost use Rattle.programs.specs.Programs.{ends_early};
 ghost use Rattle.programs.specs.Beside.{moment_beside, on_store, no_note, by_own};
 ghost use Rattle.programs.specs.Moment.{Runs};
-ghost use Rattle.session_core.specs.SessionState.{IsInStep, IsKept, StaysInStep, SameObjects};
+ghost use Rattle.session_core.specs.SessionState.{HasDepth, IsInStep, IsKept, KeepsScopes, SameObjects, StaysInStep};
 ghost use Rattle.keeper_core.specs.Calls as call;
 ghost use Rattle.object_arena.specs.Fit.{key_fits};
 ghost use Rattle.std.specs.List.{All, enumerate_from};
@@ -143,8 +143,7 @@ impl Session {
         ensures step { Runs (moment_beside K.moment)
             (λ u. u) (on_store no_note call.rollback) (self.now, keeper.old) result
             (self.now, keeper.new) }
-        ensures ended { (K.moment keeper.new).depth ≡ 0 }
-        ensures attached { (K.moment keeper.new).attached ≡ true }
+        ensures ended { HasDepth 0 (K.moment keeper.new) }
         ensures stops { IfErr result (λ e. ends_early e ≡ true) }
     {
         calls::rollback(keeper)
@@ -291,8 +290,7 @@ impl Session {
         requires keys { All (spec.IsUnderKey self.old.mapping self.old.graph) written }
         ensures ok { OnOk result (self.new ≡ steps.session_flushed written self.old) }
         ensures cause { IfErr result (λ e. e ≡ Refusal.Memory) }
-        ensures scope { self.new.scopes ≡ self.old.scopes }
-        ensures same { SameObjects self.old self.new }
+        ensures keeps { KeepsScopes self.old self.new }
     {
         for (object, key) in written.into_vec() {
             self.settle_one(object, key)?;
@@ -305,8 +303,7 @@ impl Session {
         requires key { spec.IsUnderKey self.old.mapping self.old.graph (object, key) }
         ensures ok { OnOk result (self.new ≡ steps.session_settled (object, key) self.old) }
         ensures cause { IfErr result (λ e. e ≡ Refusal.Memory) }
-        ensures scope { self.new.scopes ≡ self.old.scopes }
-        ensures same { SameObjects self.old self.new }
+        ensures keeps { KeepsScopes self.old self.new }
     {
         settle(&mut self.arena, &self.mapping, object, key)
     }

@@ -1,10 +1,9 @@
 //! The values with which an object is made.
 
-ghost use Rattle.std.specs.Prelude.{◌≡◌, None, Some, length, slice_get, IfErr, IfOk};
-ghost use Rattle.class_mapping.specs.Mapped.{Mapped, attributes_of};
+ghost use Rattle.std.specs.Prelude.{◌≡◌, None, Some, slice_get, IfErr, IfOk};
+ghost use Rattle.class_mapping.specs.Mapped.{attributes_of};
 ghost use Rattle.object_arena.specs.Graph.{IsObject, object_at, with_cell};
-ghost use Rattle.object_arena.specs.Fit.{IsFit};
-ghost use Rattle.object_arena.specs.Every.{classes_of};
+ghost use Rattle.object_arena.specs.Fit.{KeepsWith};
 ghost use Rattle.session_core.specs.Making as spec;
 
 use base_core::{AttrNo, Copied, Kind, ObjId, Refusal, Value};
@@ -56,11 +55,10 @@ pub(crate) fn values_of(alloc: Global, cells: &[(AttrNo, Value)]) -> Result<Valu
 pub(crate) fn put_values(arena: &mut Arena, object: ObjId, values: Values)
     requires object { IsObject arena.old object }
     ensures made { arena.new ≡ spec.with_values arena.old object values.items }
-    ensures same { length arena.new.objects ≡ length arena.old.objects }
-    ensures fits { (mapped : Mapped) → IsFit mapped arena.old
-        → spec.mismatch (attributes_of mapped (object_at arena.old object).class) values.items
-        ≡ None → IsFit mapped arena.new }
-    ensures classes { classes_of arena.new ≡ classes_of arena.old }
+    ensures keeps { KeepsWith
+        (λ mapped. spec.mismatch
+        (attributes_of mapped (object_at arena.old object).class) values.items ≡ None)
+        arena.old arena.new }
 {
     for (attr, value) in values {
         put_value(arena, object, attr, value);
@@ -72,13 +70,11 @@ fn put_value(arena: &mut Arena, object: ObjId, attr: AttrNo, value: Value)
     requires object { IsObject arena.old object }
     ensures put { arena.new ≡ with_cell arena.old object attr
         (record { value = Some value; base = None }) }
-    ensures fits { (mapped : Mapped) → IsFit mapped arena.old
-        → spec.mismatch_at (slice_get
-        (attributes_of mapped (object_at arena.old object).class) attr.0) value ≡ None
-        → IsFit mapped arena.new }
-    ensures same { length arena.new.objects ≡ length arena.old.objects }
-    ensures class { (object_at arena.new object).class ≡ (object_at arena.old object).class }
-    ensures classes { classes_of arena.new ≡ classes_of arena.old }
+    ensures keeps { KeepsWith
+        (λ mapped. spec.mismatch_at
+        (slice_get (attributes_of mapped (object_at arena.old object).class) attr.0) value
+        ≡ None)
+        arena.old arena.new }
 {
     if attr.0 as usize >= arena.object(object).cells.len() {
         return;

@@ -8,7 +8,7 @@ ghost use Rattle.programs.specs.Programs.{ends_early};
 ghost use Rattle.programs.specs.Beside.{moment_beside, on_store, no_note};
 ghost use Rattle.keeper_core.specs.Calls as call;
 ghost use Rattle.programs.specs.Moment.{Runs};
-ghost use Rattle.session_core.specs.SessionState.{IsInStep, IsKept, IsOfClass, ObjectsStay, SameObjects, depth_of, in_transaction, new_session};
+ghost use Rattle.session_core.specs.SessionState.{HasDepth, IsInStep, IsKept, IsOfClass, KeepsScopes, ObjectsStay, SameObjects, depth_of, in_transaction, new_session};
 ghost use Rattle.session_core.specs.Making as making;
 ghost use Rattle.programs.specs.Alone.{IsQuiet};
 ghost use Rattle.session_core.specs.Steps as steps;
@@ -234,8 +234,7 @@ impl Session {
         ensures step { Runs (moment_beside K.moment)
             (λ u. u) (on_store no_note call.commit) (self.now, keeper.old) result
             (self.now, keeper.new) }
-        ensures ended { (K.moment keeper.new).depth ≡ 0 }
-        ensures attached { (K.moment keeper.new).attached ≡ true }
+        ensures ended { HasDepth 0 (K.moment keeper.new) }
         ensures stops { IfErr result (λ e. ends_early e ≡ true) }
     {
         calls::commit(keeper)
@@ -248,8 +247,7 @@ impl Session {
         ensures step { Runs (moment_beside K.moment)
             (λ u. u) (steps.rollback_when_begun (in_transaction self.now)) (self.now, keeper.old) result
             (self.now, keeper.new) }
-        ensures ended { (K.moment keeper.new).depth ≡ 0 }
-        ensures attached { (K.moment keeper.new).attached ≡ true }
+        ensures ended { HasDepth 0 (K.moment keeper.new) }
         ensures stops { IfErr result (λ e. ends_early e ≡ true) }
     {
         if self.frames.depth() > 0 {
@@ -263,8 +261,7 @@ impl Session {
     fn take_in(&mut self, object: ObjId) -> Result<(), Refusal>
         requires object { IsObject self.old.graph object }
         ensures step { IsQuiet (λ u. u) (steps.take_in object self.old) result self.new }
-        ensures scopes { self.new.scopes ≡ self.old.scopes }
-        ensures same { SameObjects self.old self.new }
+        ensures keeps { KeepsScopes self.old self.new }
     {
         match self.arena.state_of(object) {
             State::Deleted => Err(Refusal::InvalidRequestError(RequestKind::Deleted)),

@@ -1,14 +1,14 @@
 //! What becomes of objects whose rows were written, and at the end of a transaction that was not rolled back.
 
-ghost use Rattle.std.specs.Prelude.{◌≡◌, true, false, length, IfOk, IfErr, OnOk, ◌==◌};
+ghost use Rattle.std.specs.Prelude.{◌≡◌, true, false, IfOk, IfErr, OnOk, ◌==◌};
 ghost use Rattle.std.specs.List.{position};
-ghost use Rattle.class_mapping.specs.Mapped.{Mapped, key_attributes};
+ghost use Rattle.class_mapping.specs.Mapped.{key_attributes};
 ghost use Rattle.schema_core.specs.Tables.{value_or_null};
 ghost use Rattle.object_arena.specs.Graph.{IsCell, IsObject, object_at, root_at, with_cell, with_marks, with_object, with_state, cell_at};
 ghost use Rattle.object_arena.specs.declared.object.State.TheVariants.{Pending};
 ghost use Rattle.object_arena.specs.Identity.{find_identity, is_taken};
-ghost use Rattle.object_arena.specs.Fit.{IsFit, key_fits};
-ghost use Rattle.object_arena.specs.Every.{classes_of, each_object};
+ghost use Rattle.object_arena.specs.Fit.{IsFit, Keeps, key_fits};
+ghost use Rattle.object_arena.specs.Every.{each_object};
 ghost use Rattle.session_core.specs.Flush as spec;
 
 use crate::rows::value_or_null;
@@ -31,9 +31,7 @@ pub(crate) fn settle(
     requires key { key_fits mapping.now (object_at arena.old object).class key ≡ true }
     ensures ok { OnOk result (arena.new ≡ spec.graph_settled mapping.now arena.old (object, key)) }
     ensures cause { IfErr result (λ e. e ≡ Refusal.Memory) }
-    ensures fit { IsFit mapping.now arena.new }
-    ensures same { length arena.new.objects ≡ length arena.old.objects }
-    ensures classes { classes_of arena.new ≡ classes_of arena.old }
+    ensures keeps { spec.StaysFit mapping.now arena.old arena.new }
 {
     let written = key.copied()?;
     put_under_key(arena, mapping, object, key)?;
@@ -52,10 +50,7 @@ fn put_under_key(
     requires key { key_fits mapping.now (object_at arena.old object).class key ≡ true }
     ensures ok { OnOk result (arena.new ≡ spec.under_key arena.old (object, key)) }
     ensures cause { IfErr result (λ e. e ≡ Refusal.Memory) }
-    ensures fit { IsFit mapping.now arena.new }
-    ensures same { length arena.new.objects ≡ length arena.old.objects }
-    ensures class { (object_at arena.new object).class ≡ (object_at arena.old object).class }
-    ensures classes { classes_of arena.new ≡ classes_of arena.old }
+    ensures keeps { spec.StaysFit mapping.now arena.old arena.new }
 {
     free(arena, mapping, object, &key)?;
     arena.register(object, key)
@@ -70,10 +65,7 @@ fn free(arena: &mut Arena, mapping: &Mapping, object: ObjId, key: &Key) -> Resul
         (find_identity arena.old (root_at arena.old object) key.now)) }
     ensures free { OnOk result (is_taken arena.new object key.now ≡ false) }
     ensures cause { IfErr result (λ e. e ≡ Refusal.Memory) }
-    ensures fit { IsFit mapping.now arena.new }
-    ensures same { length arena.new.objects ≡ length arena.old.objects }
-    ensures class { (object_at arena.new object).class ≡ (object_at arena.old object).class }
-    ensures classes { classes_of arena.new ≡ classes_of arena.old }
+    ensures keeps { spec.StaysFit mapping.now arena.old arena.new }
 {
     match arena.find_identity(arena.root_at(object), key) {
         None => Ok(()),
@@ -96,9 +88,7 @@ fn write_cells(
     ensures ok { OnOk result (arena.new
         ≡ spec.with_written mapping.now arena.old (object, key.now)) }
     ensures cause { IfErr result (λ e. e ≡ Refusal.Memory) }
-    ensures fit { IsFit mapping.now arena.new }
-    ensures same { length arena.new.objects ≡ length arena.old.objects }
-    ensures classes { classes_of arena.new ≡ classes_of arena.old }
+    ensures keeps { spec.StaysFit mapping.now arena.old arena.new }
 {
     for place in 0..arena.object(object).cells.len() {
         let Ok(attr) = u32::try_from(place) else {
@@ -128,12 +118,7 @@ fn write_cell(
         (key_attributes mapping.now (object_at arena.old object).class) key.now
         (attr.0, cell_at arena.old object attr)))) }
     ensures cause { IfErr result (λ e. e ≡ Refusal.Memory) }
-    ensures fit { IsFit mapping.now arena.new }
-    ensures same { length arena.new.objects ≡ length arena.old.objects }
-    ensures class { (object_at arena.new object).class ≡ (object_at arena.old object).class }
-    ensures width { length (object_at arena.new object).cells
-        ≡ length (object_at arena.old object).cells }
-    ensures classes { classes_of arena.new ≡ classes_of arena.old }
+    ensures keeps { spec.StaysFit mapping.now arena.old arena.new }
 {
     let record = arena.object(object);
     let value = written_value(
@@ -188,9 +173,7 @@ pub(crate) fn unmark(arena: &mut Arena, object: ObjId) -> Result<(), Refusal>
     ensures ok { OnOk result (arena.new
         ≡ with_object arena.old object (spec.object_unmarked (object_at arena.old object))) }
     ensures cause { IfErr result (λ e. e ≡ Refusal.Memory) }
-    ensures fits { (mapped : Mapped) → IsFit mapped arena.old → IsFit mapped arena.new }
-    ensures same { length arena.new.objects ≡ length arena.old.objects }
-    ensures classes { classes_of arena.new ≡ classes_of arena.old }
+    ensures keeps { Keeps arena.old arena.new }
 {
     let (added, orphan) = {
         let record = arena.object(object);
@@ -204,9 +187,7 @@ pub(crate) fn unmark(arena: &mut Arena, object: ObjId) -> Result<(), Refusal>
 pub(crate) fn commit_all(arena: &mut Arena) -> Result<(), Refusal>
     ensures ok { OnOk result (arena.new ≡ each_object spec.object_committed arena.old) }
     ensures cause { IfErr result (λ e. e ≡ Refusal.Memory) }
-    ensures fits { (mapped : Mapped) → IsFit mapped arena.old → IsFit mapped arena.new }
-    ensures same { length arena.new.objects ≡ length arena.old.objects }
-    ensures classes { classes_of arena.new ≡ classes_of arena.old }
+    ensures keeps { Keeps arena.old arena.new }
 {
     for number in 0..arena.count() {
         commit_one(arena, ObjId(number + 1))?;
@@ -220,9 +201,7 @@ fn commit_one(arena: &mut Arena, object: ObjId) -> Result<(), Refusal>
     ensures ok { OnOk result (arena.new
         ≡ with_object arena.old object (spec.object_committed (object_at arena.old object))) }
     ensures cause { IfErr result (λ e. e ≡ Refusal.Memory) }
-    ensures fits { (mapped : Mapped) → IsFit mapped arena.old → IsFit mapped arena.new }
-    ensures same { length arena.new.objects ≡ length arena.old.objects }
-    ensures classes { classes_of arena.new ≡ classes_of arena.old }
+    ensures keeps { Keeps arena.old arena.new }
 {
     match arena.object(object).state {
         State::Persistent => {
@@ -239,9 +218,7 @@ fn commit_one(arena: &mut Arena, object: ObjId) -> Result<(), Refusal>
 pub(crate) fn let_go_all(arena: &mut Arena) -> Result<(), Refusal>
     ensures ok { OnOk result (arena.new ≡ each_object spec.object_left arena.old) }
     ensures cause { IfErr result (λ e. e ≡ Refusal.Memory) }
-    ensures fits { (mapped : Mapped) → IsFit mapped arena.old → IsFit mapped arena.new }
-    ensures same { length arena.new.objects ≡ length arena.old.objects }
-    ensures classes { classes_of arena.new ≡ classes_of arena.old }
+    ensures keeps { Keeps arena.old arena.new }
 {
     for number in 0..arena.count() {
         let_go(arena, ObjId(number + 1))?;
@@ -255,9 +232,7 @@ fn let_go(arena: &mut Arena, object: ObjId) -> Result<(), Refusal>
     ensures ok { OnOk result (arena.new
         ≡ with_object arena.old object (spec.object_left (object_at arena.old object))) }
     ensures cause { IfErr result (λ e. e ≡ Refusal.Memory) }
-    ensures fits { (mapped : Mapped) → IsFit mapped arena.old → IsFit mapped arena.new }
-    ensures same { length arena.new.objects ≡ length arena.old.objects }
-    ensures classes { classes_of arena.new ≡ classes_of arena.old }
+    ensures keeps { Keeps arena.old arena.new }
 {
     unmark(arena, object)?;
     arena.put_state(object, left_state(arena.object(object).state))
@@ -280,9 +255,7 @@ pub(crate) fn put_pending(arena: &mut Arena, object: ObjId, added: u64) -> Resul
         ≡ with_state (with_marks arena.old object added false
         (object_at arena.old object).orphan) object Pending) }
     ensures cause { IfErr result (λ e. e ≡ Refusal.Memory) }
-    ensures fits { (mapped : Mapped) → IsFit mapped arena.old → IsFit mapped arena.new }
-    ensures same { length arena.new.objects ≡ length arena.old.objects }
-    ensures classes { classes_of arena.new ≡ classes_of arena.old }
+    ensures keeps { Keeps arena.old arena.new }
 {
     let orphan = arena.object(object).orphan;
     arena.put_marks(object, added, false, orphan)?;

@@ -17,13 +17,16 @@ returns-clause-ok c =
     (cell_written c.args.arena.now c.put_cell.new.self c.args.object c.args.attr c.in_ok-value.value c.in_ok-base.base written is c.in_ok-base.ensures)
     c.put_cell.ensures.ok
 
-pub returns-clause-fit : goal.returns-clause-fit
-returns-clause-fit c =
+pub returns-clause-keeps : goal.returns-clause-keeps
+returns-clause-keeps c =
     let written : Value = written_value (key_attributes c.args.mapping.now (object_at c.args.arena.now c.args.object).class) c.args.key.now (c.args.attr.0, cell_at c.args.arena.now c.args.object c.args.attr) in
     let is : c.in_ok-value.value ≡ written =
     value_is c.args.mapping.now c.args.arena.now c.args.object c.args.attr c.args.key.now c.object-record.result.now c.key_attributes.result.now c.at.result.now c.in_ok-value.value
     c.object-record.ensures.is c.key_attributes.ensures.keys c.at.ensures c.in_ok-value.ensures in
-    c.put_cell.ensures.keeps.fits c.args.mapping.now
-    (copy_fits (attribute_of c.args.mapping.now (object_at c.args.arena.now c.args.object).class c.args.attr) c.in_ok-value.value c.in_ok-base.base written is c.in_ok-base.ensures
-    (written_fits c.args.mapping.now (object_at c.args.arena.now c.args.object).class c.args.attr c.args.key.now (cell_at c.args.arena.now c.args.object c.args.attr) c.requires.key
-    (cell_is_fit c.args.mapping.now c.args.arena.now c.args.object c.args.attr c.requires.fit c.requires.object c.requires.attr))) c.requires.fit
+    record {
+      fit = c.put_cell.ensures.keeps.fits c.args.mapping.now
+          (copy_fits (attribute_of c.args.mapping.now (object_at c.args.arena.now c.args.object).class c.args.attr) c.in_ok-value.value c.in_ok-base.base written is c.in_ok-base.ensures
+          (written_fits c.args.mapping.now (object_at c.args.arena.now c.args.object).class c.args.attr c.args.key.now (cell_at c.args.arena.now c.args.object c.args.attr) c.requires.key
+          (cell_is_fit c.args.mapping.now c.args.arena.now c.args.object c.args.attr c.requires.fit c.requires.object c.requires.attr))) c.requires.fit;
+      classes = c.put_cell.ensures.keeps.classes;
+    }

@@ -6,6 +6,7 @@ use Rattle.class_mapping.specs.Mapped.{Mapped}
 use Rattle.session_core.specs.Flush.{IsUnderKey, Written}
 use Rattle.session_core.specs.SessionState.{SessionState}
 use Rattle.session_core.specs.Steps.{session_flushed}
+use Rattle.session_core.proofs.SessionLemmas.{keeps_more}
 use Rattle.session_core.proofs.WriteLemmas.{rest_under_key}
 use Rattle.session_core.proofs.session.Session.settle_all.Goals as goal
 
@@ -27,10 +28,6 @@ loop-object-preserved c =
       tt,
       tt,
       ap (session_flushed rest) c.in_ok-settle_one.ensures.ok ∙ sym (ap (λ (xs : List Written). session_flushed xs c.loop-object.self) items) ∙ c.loop-object.invariant.2,
-      subst (λ (m : Mapped). All (IsUnderKey m c.settle_one.new.self.graph) rest) (sym c.in_ok-settle_one.ensures.same.mapping) under,
-      record {
-        mapping = c.in_ok-settle_one.ensures.same.mapping ∙ c.loop-object.invariant.4.mapping;
-        classes = c.in_ok-settle_one.ensures.same.classes ∙ c.loop-object.invariant.4.classes;
-      },
-      c.in_ok-settle_one.ensures.scope ∙ c.loop-object.invariant.5,
+      subst (λ (m : Mapped). All (IsUnderKey m c.settle_one.new.self.graph) rest) (sym c.in_ok-settle_one.ensures.keeps.same.mapping) under,
+      keeps_more c.loop-object.invariant.4 c.in_ok-settle_one.ensures.keeps,
     )
