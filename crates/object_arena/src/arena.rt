@@ -1,6 +1,6 @@
 //! The arena of objects.
 
-ghost use Rattle.std.specs.Prelude.{◌≡◌, ◌<◌, ◌≤◌, ◌≢◌, ◌+◌, [], List, None, Some, length, true, false, IsOk, IfOk, IfErr, OnOk, OnErr, IfSome, is_some, ◌++◌, ◌∷◌};
+ghost use Rattle.std.specs.Prelude.{◌≡◌, ◌<◌, ◌≤◌, ◌≢◌, ◌+◌, [], List, None, Some, length, true, false, IsOk, IfOk, IfErr, OnOk, OnErr, Err, IfSome, is_some, ◌++◌, ◌∷◌};
 ghost use Rattle.std.specs.List.{position, zip};
 ghost use Rattle.base_core.specs.Answers.{Takes};
 ghost use Rattle.base_core.specs.declared.ids.ClassId.{ClassId};
@@ -201,7 +201,7 @@ impl Arena {
     /// Makes a transient object of a class, by the next number: null cells, unset links, no identity.
     ///
     /// # Errors
-    /// `LimitReached(Objects)` where there are 1,000,000 objects. A refusal changes nothing.
+    /// `LimitReached(Objects)` where there are 1,000,000 objects; `Memory` where there are fewer. A refusal changes nothing.
     pub fn make(&mut self, mapping: &Mapping, class: ClassId) -> Result<ObjId, Refusal>
         requires declared { IsClass mapping.now class }
         requires configured { mapping.now.configured ≡ true }
@@ -209,6 +209,7 @@ impl Arena {
             (make self.old mapping.now class) self.old result self.new }
         ensures made { OnOk result (self.new ≡ with_fresh self.old mapping.now class) }
         ensures room { OnOk result (length self.old.objects < object_limit) }
+        ensures cause { result ≡ Err Memory → length self.old.objects < object_limit }
         ensures exists { IfOk result (λ object. IsObject self.new object) }
         ensures fresh { IfOk result
             (λ object. object_at self.new object ≡ fresh_object mapping.now class) }
