@@ -7,8 +7,9 @@ ghost use Rattle.object_arena.specs.Graph.{IsObject};
 ghost use Rattle.relations.specs.Mirror.{is_unloaded, link_at};
 
 use crate::fits::{key_fits, link_fits};
-use crate::told::told;
-use base_core::{AttrNo, ClassId, Key, ListOf, ObjId, ObjList, Refusal, RelNo, Value};
+use crate::told::{reached, told};
+use base_core::{AttrNo, ClassId, Key, ListOf, ObjId, ObjList, ObjSet, Refusal, RelNo, Value};
+use cascades::{delete_closure, expire_closure, expunge_closure, save_closure};
 use class_mapping::Mapping;
 use object_arena::{Arena, Cell, Link, State};
 use relations::{append, remove, set_one};
@@ -232,6 +233,7 @@ fn prepare(alloc: Global, arena: &mut Arena, mapping: &Mapping, act: &[u8]) -> R
 fn change(alloc: Global, arena: &mut Arena, mapping: &Mapping, act: &[u8]) -> Result<(), Refusal>
     requires configured { mapping.now.configured ≡ true }
     requires fit { IsFit mapping.now arena.old }
+    ensures { IsFit mapping.now arena.new }
 {
     let object = ObjId(digit_at(act, 1));
     let place = RelNo(digit_at(act, 2));
@@ -271,13 +273,53 @@ fn is_unloaded(arena: &Arena, object: ObjId, place: RelNo) -> bool
     }
 }
 
+/// The closure of an object along the flag that a letter names.
+fn closure(
+    alloc: Global,
+    arena: &Arena,
+    mapping: &Mapping,
+    letter: u8,
+    object: ObjId,
+) -> Result<ObjSet, Refusal>
+    requires configured { mapping.now.configured ≡ true }
+    requires fit { IsFit mapping.now arena.now }
+    requires object { IsObject arena.now object }
+{
+    match letter {
+        b'u' => save_closure(alloc, arena, mapping, object),
+        b'x' => expire_closure(alloc, arena, mapping, object),
+        b'p' => expunge_closure(alloc, arena, mapping, object),
+        _ => delete_closure(alloc, arena, mapping, object),
+    }
+}
+
+/// Says the closure of an object.
+fn reach(
+    alloc: Global,
+    arena: &Arena,
+    mapping: &Mapping,
+    act: &[u8],
+    said: &mut String,
+) -> Result<(), Refusal>
+    requires configured { mapping.now.configured ≡ true }
+    requires fit { IsFit mapping.now arena.now }
+{
+    let object = ObjId(digit_at(act, 2));
+    if !is_made(arena, object) {
+        return Err(Refusal::NotBuilt);
+    }
+    let objects = closure(alloc, arena, mapping, byte_at(act, 1), object)?;
+    reached(&objects, said)?;
+    Ok(())
+}
+
 /// Whether an act changes a link.
 fn is_change(act: &[u8]) -> bool {
     let letter = byte_at(act, 0);
     letter == b's' || letter == b'a' || letter == b'r'
 }
 
-/// The graph after the acts of a line, and the answer to the last one.
+/// The graph after the acts of a line, and the answer to the last one, or the closure for which it asks.
 fn play(alloc: Global, mapping: &Mapping, line: &str, said: &mut String) -> Result<(), Refusal>
     requires { mapping.now.configured ≡ true }
 {
@@ -287,6 +329,10 @@ fn play(alloc: Global, mapping: &Mapping, line: &str, said: &mut String) -> Resu
         if is_change(act) {
             let answer = change(alloc, &mut arena, mapping, act);
             told(&arena, &answer, said)?;
+            return Ok(());
+        }
+        if byte_at(act, 0) == b'g' {
+            reach(alloc, &arena, mapping, act, said)?;
             return Ok(());
         }
         prepare(alloc, &mut arena, mapping, act)?;

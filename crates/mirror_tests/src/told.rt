@@ -1,6 +1,6 @@
 //! What is said of a graph, in a line of text.
 
-use base_core::{ObjId, ObjList, Refusal, RequestKind};
+use base_core::{ObjId, ObjList, ObjSet, Refusal, RequestKind};
 use object_arena::{Arena, Link, Object};
 use std::alloc::{AllocError, Global};
 
@@ -96,6 +96,15 @@ pub(crate) fn told(
     said.push_str(word(answer))?;
     for number in 0..arena.count() {
         say_object(said, number + 1, arena.object(ObjId(number + 1)))?;
+    }
+    Ok(())
+}
+
+/// The objects of a closure, by their numbers.
+pub(crate) fn reached(objects: &ObjSet, said: &mut String) -> Result<(), AllocError> {
+    said.push_str("Reaches ")?;
+    for object in objects.as_slice() {
+        say_number(said, object.0)?;
     }
     Ok(())
 }
