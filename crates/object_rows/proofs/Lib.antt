@@ -1,0 +1,3 @@
+pub mod ObjectSteps
+pub mod PlaceSteps
+pub mod Steps

@@ -1,0 +1,232 @@
+//! The rows that objects change.
+
+ghost use Rattle.std.specs.Prelude.{◌≡◌, ◌++◌, ◌∷◌, [], true, filter, map, IfOk, IfErr, OnOk};
+ghost use Rattle.std.specs.List.{All, filter_map};
+ghost use Rattle.base_core.specs.declared.refusal.Refusal.TheVariants.{Memory};
+ghost use Rattle.object_arena.specs.Graph.{IsObject};
+ghost use Rattle.object_rows.specs.Cells.{linked_cell};
+ghost use Rattle.object_rows.specs.Ready.{IsReady};
+ghost use Rattle.object_rows.specs.Rows as spec;
+
+use crate::cells::Projection;
+use crate::columns::{cell_for, columns_at};
+use crate::names::kept_objects;
+use base_core::{ColumnNo, Copied, Key, ListOf, ObjId, Refusal, RowName, TableId, Value};
+use class_layouts::number_of;
+use object_arena::Cell;
+use schema_core::{ChangedRow, ColumnSpec, RowCell};
+use std::alloc::Global;
+
+/// Cells, each with its column.
+type Cells = ListOf<(ColumnNo, RowCell)>;
+
+/// Whether a value is the one that was last read or written.
+fn is_base(base: &Option<Value>, value: &Value) -> bool
+    ensures { result ≡ spec.is_base base.now value.now }
+{
+    match base {
+        Some(base) => value.cmp(base).is_eq(),
+        None => false,
+    }
+}
+
+/// What a value changes, unless it is what the row has.
+fn change_to(base: &Option<Value>, value: &Value) -> Result<Option<RowCell>, Refusal>
+    ensures change { IfOk result (λ change. change ≡ spec.change_to base.now value.now) }
+    ensures cause { IfErr result (λ e. e ≡ Memory) }
+{
+    if is_base(base, value) {
+        return Ok(None);
+    }
+    Ok(Some(RowCell::Given(value.copied()?)))
+}
+
+/// What a cell changes, unless it is the value that the row is known to hold. The only refusal is `Memory`.
+pub fn linked_change(base: &Option<Value>, cell: &RowCell) -> Result<Option<RowCell>, Refusal>
+    ensures change { IfOk result (λ change. change ≡ spec.linked_change base.now cell.now) }
+    ensures cause { IfErr result (λ e. e ≡ Memory) }
+{
+    match cell {
+        RowCell::KeyOf(place, part) => Ok(Some(RowCell::KeyOf(*place, *part))),
+        RowCell::Given(value) => change_to(base, value),
+    }
+}
+
+/// What an object's own cell changes.
+fn own_change(cell: &Cell) -> Result<Option<RowCell>, Refusal>
+    ensures change { IfOk result
+        (λ change. change ≡ spec.own_change cell.now.base cell.now.value) }
+    ensures cause { IfErr result (λ e. e ≡ Memory) }
+{
+    match &cell.value {
+        Some(value) => change_to(&cell.base, value),
+        None => Ok(None),
+    }
+}
+
+/// The key of an identity, or an empty one.
+fn key_or_none(alloc: Global, identity: &Option<Key>) -> Result<Key, Refusal>
+    ensures key { IfOk result (λ key. key ≡ spec.key_or_none identity.now) }
+    ensures cause { IfErr result (λ e. e ≡ Memory) }
+{
+    match identity {
+        Some(key) => Ok(key.copied()?),
+        None => Ok(ListOf::new(alloc)),
+    }
+}
+
+impl<'a> Projection<'a> {
+    /// What is changed by a cell, or by what a changed link gives in its place.
+    fn cell_change(
+        &self,
+        object: ObjId,
+        table: TableId,
+        column: &ColumnSpec,
+        own: &Cell,
+    ) -> Result<Option<RowCell>, Refusal>
+        requires ready { IsReady self.now }
+        requires object { IsObject self.now.arena.now object }
+        ensures change { IfOk result (λ change. change ≡ spec.cell_change
+            (linked_cell self.now.mapping.now self.now.arena.now self.now.prepared.now
+            self.now.names.now object table column.now.name) own.now) }
+        ensures cause { IfErr result (λ e. e ≡ Memory) }
+    {
+        match self.linked_cell(object, table, &column.name)? {
+            Some(cell) => linked_change(&own.base, &cell),
+            None => own_change(own),
+        }
+    }
+
+    #[tactic(auto, using(object_arena::proofs::FitLemmas::fit_class))]
+    /// What is changed in a column of a table.
+    fn change_in(
+        &self,
+        object: ObjId,
+        table: TableId,
+        number: usize,
+        column: &ColumnSpec,
+    ) -> Result<Option<RowCell>, Refusal>
+        requires ready { IsReady self.now }
+        requires object { IsObject self.now.arena.now object }
+        ensures change { IfOk result (λ change. change ≡ spec.change_at self.now.mapping.now
+            self.now.arena.now self.now.prepared.now self.now.names.now object table
+            (number, column.now)) }
+        ensures cause { IfErr result (λ e. e ≡ Memory) }
+    {
+        let record = self.arena.object(object);
+        match cell_for(self.mapping, record, table, number) {
+            Some(own) => self.cell_change(object, table, column, own),
+            None => Ok(None),
+        }
+    }
+
+    /// The change in a column of a table goes behind others, where there is one outside the key.
+    fn push_change(
+        &self,
+        out: &mut Cells,
+        object: ObjId,
+        table: TableId,
+        number: usize,
+        column: &ColumnSpec,
+    ) -> Result<(), Refusal>
+        requires ready { IsReady self.now }
+        requires object { IsObject self.now.arena.now object }
+        ensures change { OnOk result (out.new ≡ out.old ++ filter_map
+            (spec.changed_cell self.now.mapping.now self.now.arena.now self.now.prepared.now
+            self.now.names.now object table) ((number, column.now) ∷ [])) }
+        ensures cause { IfErr result (λ e. e ≡ Memory) }
+    {
+        if column.key {
+            return Ok(());
+        }
+        if let Some(cell) = self.change_in(object, table, number, column)? {
+            out.push((ColumnNo(number_of(number)?), cell))?;
+        }
+        Ok(())
+    }
+
+    #[tactic(auto, using(class_layouts::proofs::Steps::steps))]
+    /// The row of an object in a table, with the cells that change.
+    fn changed_row(
+        &self,
+        alloc: Global,
+        object: ObjId,
+        table: TableId,
+    ) -> Result<ChangedRow, Refusal>
+        requires ready { IsReady self.now }
+        requires object { IsObject self.now.arena.now object }
+        ensures row { IfOk result (λ row. row ≡ spec.changed_row self.now.mapping.now
+            self.now.arena.now self.now.prepared.now self.now.names.now object table) }
+        ensures cause { IfErr result (λ e. e ≡ Memory) }
+    {
+        let columns = columns_at(self.mapping, table);
+        let mut cells = ListOf::new(alloc);
+        for (number, column) in columns.iter().enumerate() {
+            self.push_change(&mut cells, object, table, number, column)?;
+        }
+        let key = key_or_none(alloc, &self.arena.object(object).identity)?;
+        Ok(ChangedRow {
+            name: RowName { table, object },
+            key,
+            cells,
+        })
+    }
+
+    /// The row of an object in a table goes behind others, where some cell of it changes.
+    fn push_changed(
+        &self,
+        alloc: Global,
+        out: &mut ListOf<ChangedRow>,
+        object: ObjId,
+        table: TableId,
+    ) -> Result<(), Refusal>
+        requires ready { IsReady self.now }
+        requires object { IsObject self.now.arena.now object }
+        ensures row { OnOk result (out.new ≡ out.old ++ filter spec.has_cells
+            (map (spec.changed_row self.now.mapping.now self.now.arena.now
+            self.now.prepared.now self.now.names.now object) (table ∷ []))) }
+        ensures cause { IfErr result (λ e. e ≡ Memory) }
+    {
+        let row = self.changed_row(alloc, object, table)?;
+        if !row.cells.is_empty() {
+            out.push(row)?;
+        }
+        Ok(())
+    }
+
+    #[tactic(auto, using(class_layouts::proofs::Steps::steps, object_arena::proofs::FitLemmas::fit_class))]
+    /// The rows of an object that change go behind others.
+    fn push_rows_changed(
+        &self,
+        alloc: Global,
+        out: &mut ListOf<ChangedRow>,
+        object: ObjId,
+    ) -> Result<(), Refusal>
+        requires ready { IsReady self.now }
+        requires object { IsObject self.now.arena.now object }
+        ensures rows { OnOk result (out.new ≡ out.old ++ spec.rows_changed self.now.mapping.now
+            self.now.arena.now self.now.prepared.now self.now.names.now object) }
+        ensures cause { IfErr result (λ e. e ≡ Memory) }
+    {
+        for table in self.mapping.tables_of(self.arena.object(object).class) {
+            self.push_changed(alloc, out, object, *table)?;
+        }
+        Ok(())
+    }
+
+    #[tactic(auto, using(class_layouts::proofs::Steps::steps), unfolding(crate::specs::Rows::changed_rows))]
+    /// The rows with changed cells of each object that keeps its rows.
+    pub fn changed_rows(&self, alloc: Global) -> Result<ListOf<ChangedRow>, Refusal>
+        requires ready { IsReady self.now }
+        ensures rows { IfOk result (λ rows. rows
+            ≡ spec.changed_rows self.now.mapping.now self.now.arena.now self.now.prepared.now) }
+        ensures cause { IfErr result (λ e. e ≡ Memory) }
+    {
+        let objects = kept_objects(alloc, self.arena, self.prepared)?;
+        let mut rows = ListOf::new(alloc);
+        for object in &objects {
+            self.push_rows_changed(alloc, &mut rows, *object)?;
+        }
+        Ok(rows)
+    }
+}

@@ -1,0 +1,196 @@
+//! The new objects in the order in which they were added, and the names of their rows.
+
+ghost use Rattle.std.specs.Prelude.{◌≡◌, ◌++◌, [], true, fold, length, map, IfOk, IfErr, OnOk};
+ghost use Rattle.std.specs.List.{All, filter, flat_map};
+ghost use Rattle.std.specs.Map.{values_of};
+ghost use Rattle.base_core.specs.declared.refusal.Refusal.TheVariants.{Memory};
+ghost use Rattle.object_arena.specs.Graph.{IsObject};
+ghost use Rattle.object_arena.specs.Fit.{IsFit};
+ghost use Rattle.class_mapping.specs.Mapped.{tables_of};
+ghost use Rattle.object_rows.specs.Rows.{new_names, row_name, rows_of};
+ghost use Rattle.object_rows.specs.Seen as spec;
+
+use crate::places::RowNames;
+use crate::prepared::Prepared;
+use crate::standing::{is_new, keeps_rows};
+use base_core::{ObjId, Refusal, RowName, TableId};
+use class_mapping::Mapping;
+use object_arena::Arena;
+use std::alloc::Global;
+use std::collections::BTreeMap;
+
+/// The new objects by add number, and then by number.
+type Queue = BTreeMap<(u64, u32), ObjId>;
+
+#[tactic(auto, using(crate::proofs::ObjectSteps::id_steps), unfolding(crate::specs::Seen::object_ids))]
+/// The objects by number. The only refusal is `Memory`.
+pub fn object_ids(alloc: Global, arena: &Arena) -> Result<Vec<ObjId>, Refusal>
+    ensures ids { IfOk result (λ ids. ids.items ≡ spec.object_ids arena.now) }
+    ensures made { IfOk result (λ ids. All (IsObject arena.now) ids.items) }
+    ensures cause { IfErr result (λ e. e ≡ Memory) }
+{
+    let mut ids = Vec::new(alloc);
+    for number in 0..arena.count() {
+        ids.push(ObjId(number + 1))?;
+    }
+    Ok(ids)
+}
+
+/// An object goes to its place in the queue, where its rows are to be made.
+fn put_in_queue(
+    arena: &Arena,
+    prepared: &Prepared,
+    queue: &mut Queue,
+    object: ObjId,
+) -> Result<(), Refusal>
+    requires { IsObject arena.now object }
+    ensures put { OnOk result (queue.new.entries
+        ≡ spec.with_queued arena.now prepared.now queue.old.entries object) }
+    ensures cause { IfErr result (λ e. e ≡ Memory) }
+{
+    if is_new(arena, prepared, object) {
+        queue.insert((arena.object(object).added, object.0), object)?;
+    }
+    Ok(())
+}
+
+#[tactic(auto, using(class_layouts::proofs::Steps::steps))]
+/// The new objects by their rank.
+fn queue(alloc: Global, arena: &Arena, prepared: &Prepared) -> Result<Queue, Refusal>
+    ensures queue { IfOk result (λ queue. queue.entries
+        ≡ fold (spec.with_queued arena.now prepared.now) [] (spec.object_ids arena.now)) }
+    ensures cause { IfErr result (λ e. e ≡ Memory) }
+{
+    let ids = object_ids(alloc, arena)?;
+    let mut queue = BTreeMap::new(alloc);
+    for object in &ids {
+        put_in_queue(arena, prepared, &mut queue, *object)?;
+    }
+    Ok(queue)
+}
+
+#[tactic(auto, unfolding(crate::specs::Seen::new_objects))]
+/// The new objects in the order in which they were added.
+fn new_list(alloc: Global, arena: &Arena, prepared: &Prepared) -> Result<Vec<ObjId>, Refusal>
+    ensures objects { IfOk result
+        (λ objects. objects.items ≡ spec.new_objects arena.now prepared.now) }
+    ensures cause { IfErr result (λ e. e ≡ Memory) }
+{
+    let queue = queue(alloc, arena, prepared)?;
+    Ok(queue.into_values().collect(alloc)?)
+}
+
+/// These objects, which have been made. The only refusal is `Memory`.
+fn new_objects(alloc: Global, arena: &Arena, prepared: &Prepared) -> Result<Vec<ObjId>, Refusal>
+    ensures objects { IfOk result
+        (λ objects. objects.items ≡ spec.new_objects arena.now prepared.now) }
+    ensures made { IfOk result (λ objects. All (IsObject arena.now) objects.items) }
+    ensures cause { IfErr result (λ e. e ≡ Memory) }
+{
+    let objects = new_list(alloc, arena, prepared)?;
+    Ok(objects)
+}
+
+/// The objects that keep their rows.
+fn kept_list(alloc: Global, arena: &Arena, prepared: &Prepared) -> Result<Vec<ObjId>, Refusal>
+    ensures objects { IfOk result (λ objects. objects.items
+        ≡ filter (spec.keeps_rows arena.now prepared.now) (spec.object_ids arena.now)) }
+    ensures cause { IfErr result (λ e. e ≡ Memory) }
+{
+    let ids = object_ids(alloc, arena)?;
+    let mut kept = Vec::new(alloc);
+    for object in &ids {
+        if keeps_rows(arena, prepared, *object) {
+            kept.push(*object)?;
+        }
+    }
+    Ok(kept)
+}
+
+/// These objects, which have been made. The only refusal is `Memory`.
+pub(crate) fn kept_objects(
+    alloc: Global,
+    arena: &Arena,
+    prepared: &Prepared,
+) -> Result<Vec<ObjId>, Refusal>
+    ensures objects { IfOk result (λ objects. objects.items
+        ≡ filter (spec.keeps_rows arena.now prepared.now) (spec.object_ids arena.now)) }
+    ensures made { IfOk result (λ objects. All (IsObject arena.now) objects.items) }
+    ensures cause { IfErr result (λ e. e ≡ Memory) }
+{
+    let objects = kept_list(alloc, arena, prepared)?;
+    Ok(objects)
+}
+
+/// The rows of an object in these tables go behind others.
+fn push_names(out: &mut Vec<RowName>, object: ObjId, tables: &[TableId]) -> Result<(), Refusal>
+    ensures names { OnOk result (out.new.items
+        ≡ out.old.items ++ map (row_name object) tables.now) }
+    ensures cause { IfErr result (λ e. e ≡ Memory) }
+{
+    for table in tables {
+        out.push(RowName {
+            table: *table,
+            object,
+        })?;
+    }
+    Ok(())
+}
+
+/// The rows of an object go behind others.
+fn push_rows_of(
+    out: &mut Vec<RowName>,
+    mapping: &Mapping,
+    arena: &Arena,
+    object: ObjId,
+) -> Result<(), Refusal>
+    requires configured { mapping.now.configured ≡ true }
+    requires fit { IsFit mapping.now arena.now }
+    requires object { IsObject arena.now object }
+    ensures names { OnOk result (out.new.items
+        ≡ out.old.items ++ rows_of mapping.now arena.now object) }
+    ensures cause { IfErr result (λ e. e ≡ Memory) }
+{
+    let class = arena.object(object).class;
+    push_names(out, object, mapping.tables_of(class))
+}
+
+#[tactic(auto, using(class_layouts::proofs::Steps::steps), unfolding(crate::specs::Rows::new_names))]
+/// The rows of the new objects in the order in which they were added.
+fn name_list(
+    alloc: Global,
+    mapping: &Mapping,
+    arena: &Arena,
+    prepared: &Prepared,
+) -> Result<Vec<RowName>, Refusal>
+    requires configured { mapping.now.configured ≡ true }
+    requires fit { IsFit mapping.now arena.now }
+    ensures names { IfOk result
+        (λ names. names.items ≡ new_names mapping.now arena.now prepared.now) }
+    ensures cause { IfErr result (λ e. e ≡ Memory) }
+{
+    let objects = new_objects(alloc, arena, prepared)?;
+    let mut names = Vec::new(alloc);
+    for object in &objects {
+        push_rows_of(&mut names, mapping, arena, *object)?;
+    }
+    Ok(names)
+}
+
+/// These rows, whose objects have been made, found by table and object. The only refusal is `Memory`.
+pub fn new_names(
+    alloc: Global,
+    mapping: &Mapping,
+    arena: &Arena,
+    prepared: &Prepared,
+) -> Result<RowNames, Refusal>
+    requires configured { mapping.now.configured ≡ true }
+    requires fit { IsFit mapping.now arena.now }
+    ensures names { IfOk result
+        (λ names. names ≡ new_names mapping.now arena.now prepared.now) }
+    ensures made { IfOk result (λ names. All (λ row. IsObject arena.now row.object) names) }
+    ensures cause { IfErr result (λ e. e ≡ Memory) }
+{
+    let names = name_list(alloc, mapping, arena, prepared)?;
+    RowNames::new(alloc, names)
+}

@@ -1,0 +1,157 @@
+//! Where objects stand once a flush is prepared, and what their links are.
+
+ghost use Rattle.std.specs.Prelude.{◌≡◌, IfOk, IfErr};
+ghost use Rattle.std.specs.Prelude.{slice_index_or};
+ghost use Rattle.base_core.specs.declared.refusal.Refusal.TheVariants.{Memory};
+ghost use Rattle.base_core.specs.declared.value.Value.TheVariants.{Null};
+ghost use Rattle.object_arena.specs.declared.object.Link.TheVariants.{Unset};
+ghost use Rattle.object_arena.specs.Graph.{is_persistent, object_at};
+ghost use Rattle.object_rows.specs.Seen as spec;
+ghost use Rattle.object_rows.specs.Cells.{key_value};
+
+use crate::prepared::Prepared;
+use base_core::{Copied, Key, ObjId, ObjList, Refusal, RelNo, Value};
+use object_arena::{Arena, Link, State};
+
+/// An object's state; one that has not been made is transient.
+fn state_of(arena: &Arena, object: ObjId) -> State
+    ensures { result ≡ (object_at arena.now object).state }
+{
+    let place = object.0.saturating_sub(1);
+    if place < arena.count() {
+        return arena.state_of(ObjId(place + 1));
+    }
+    State::Transient
+}
+
+/// Whether an object is among others.
+pub fn is_among(objects: &ObjList, object: ObjId) -> bool
+    ensures { result ≡ spec.is_among objects.now object }
+{
+    objects.as_slice().iter().any(|other| other.0 == object.0)
+}
+
+fn is_pending(state: State) -> bool
+    ensures { result ≡ spec.is_pending state }
+{
+    matches!(state, State::Pending)
+}
+
+fn is_persistent(state: State) -> bool
+    ensures { result ≡ is_persistent state }
+{
+    matches!(state, State::Persistent)
+}
+
+/// Whether an object's rows are to be made.
+pub fn is_new(arena: &Arena, prepared: &Prepared, object: ObjId) -> bool
+    ensures { result ≡ spec.is_new arena.now prepared.now object }
+{
+    is_pending(state_of(arena, object)) && !is_among(&prepared.transient, object)
+}
+
+/// Whether an object has rows, and keeps them.
+pub fn keeps_rows(arena: &Arena, prepared: &Prepared, object: ObjId) -> bool
+    ensures { result ≡ spec.keeps_rows arena.now prepared.now object }
+{
+    is_persistent(state_of(arena, object)) && !is_among(&prepared.deleted, object)
+}
+
+/// Whether an object is in the session.
+pub fn is_in_session(arena: &Arena, prepared: &Prepared, object: ObjId) -> bool
+    ensures { result ≡ spec.is_in_session arena.now prepared.now object }
+{
+    is_persistent(state_of(arena, object)) || is_new(arena, prepared, object)
+}
+
+/// Whether an end is none, or in the session.
+pub(crate) fn is_kept_end(arena: &Arena, prepared: &Prepared, end: Option<ObjId>) -> bool
+    ensures { result ≡ spec.is_kept_end arena.now prepared.now end }
+{
+    match end {
+        Some(end) => is_in_session(arena, prepared, end),
+        None => true,
+    }
+}
+
+/// The end of a many-to-one link that was changed.
+fn changed_end(link: &Link) -> Option<Option<ObjId>>
+    ensures { result ≡ spec.changed_end link.now }
+{
+    match link {
+        Link::One { end, changed } => { if *changed { Some(*end) } else { None } }
+        Link::Unset | Link::Unloaded { .. } | Link::Many { .. } => None,
+    }
+}
+
+/// Whether an object's link is to become none.
+fn is_cleared(prepared: &Prepared, object: ObjId, relation: RelNo) -> bool
+    ensures { result ≡ spec.is_cleared prepared.now object relation }
+{
+    prepared.cleared.as_slice().iter().any(|cleared| cleared.0.0 == object.0
+        && cleared.1.0 == relation.0)
+}
+
+/// The end of a many-to-one link of these, where it was changed.
+fn end_among(links: &[Link], relation: RelNo) -> Option<Option<ObjId>>
+    ensures { result ≡ spec.changed_end (slice_index_or links.now relation.0 Unset) }
+{
+    match links.get(relation.0 as usize) {
+        Some(link) => changed_end(link),
+        None => None,
+    }
+}
+
+/// The end of an object's many-to-one link, where it was changed or is to become none.
+pub fn end_put(
+    arena: &Arena,
+    prepared: &Prepared,
+    object: ObjId,
+    relation: RelNo,
+) -> Option<Option<ObjId>>
+    ensures { result ≡ spec.end_put arena.now prepared.now object relation }
+{
+    if is_cleared(prepared, object, relation) {
+        return Some(None);
+    }
+    let place = object.0.saturating_sub(1);
+    if place < arena.count() {
+        return end_among(arena.object(ObjId(place + 1)).links.as_slice(), relation);
+    }
+    None
+}
+
+/// A part of a key, or NULL. The only refusal is `Memory`.
+pub fn part_of_key(key: &Key, part: u32) -> Result<Value, Refusal>
+    ensures value { IfOk result (λ value. value ≡ slice_index_or key.now part Null) }
+    ensures cause { IfErr result (λ e. e ≡ Memory) }
+{
+    match key.get(part as usize) {
+        Some(value) => Ok(value.copied()?),
+        None => Ok(Value::Null),
+    }
+}
+
+/// A part of the key of an identity, or NULL.
+pub(crate) fn key_value(identity: &Option<Key>, part: u32) -> Result<Value, Refusal>
+    ensures value { IfOk result (λ value. value ≡ key_value identity.now part) }
+    ensures cause { IfErr result (λ e. e ≡ Memory) }
+{
+    match identity {
+        Some(key) => part_of_key(key, part),
+        None => Ok(Value::Null),
+    }
+}
+
+/// A part of the key that an object has, or NULL.
+pub(crate) fn identity_value(arena: &Arena, object: ObjId, part: u32) -> Result<Value, Refusal>
+    ensures value { IfOk result
+        (λ value. value ≡ key_value (object_at arena.now object).identity part) }
+    ensures cause { IfErr result (λ e. e ≡ Memory) }
+{
+    let place = object.0.saturating_sub(1);
+    if place < arena.count() {
+        return key_value(&arena.object(ObjId(place + 1)).identity, part);
+    }
+    Ok(Value::Null)
+}
