@@ -1,0 +1,6 @@
+pub mod Firsts
+pub mod Places
+pub mod Folds
+pub mod Operands
+pub mod Equations
+pub mod Joins
