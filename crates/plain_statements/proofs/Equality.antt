@@ -1,6 +1,6 @@
 -- Expressions are told to be one tree exactly where they are equal.
 use Rattle.std.proofs.Common.{◌≡◌, ℕ, Bool, true, false, ◌&&◌, ◌==◌, List, [], ◌∷◌, map, Option, Some, None, refl, sym, ap, ◌∙◌}
-use Rattle.std.proofs.lemmas.Bool.{and_from, and_parts, eq-eqb, eqb-true}
+use Rattle.std.proofs.lemmas.Bool.{and_from, and_parts, eq-eqb, eqb-true, false≢true}
 use Rattle.std.specs.declared.cmp.Ordering.{Ordering}
 use Rattle.std.specs.declared.cmp.Ordering.TheVariants.{Less, Equal, Greater}
 use Rattle.std.specs.Ordering.{is_eq, ordering_reverse}
@@ -29,12 +29,20 @@ same_rolled : (x : Expr-F Expr) (e : Expr) → same (roll-Expr x) e ≡ same_lev
 unfolding same
 same_rolled x e = ap (λ (f : Expr → Bool). f e) (fold-roll-Expr (Expr → Bool) (λ level other. same_level level (out-Expr other)) x)
 
+-- ---- values of functions of several arguments
+
+both_equal : {A B C : Type 0} (f : A → B → C) {a c : A} {b d : B} → a ≡ c → b ≡ d → f a b ≡ f c d
+both_equal f {c = c} {b = b} p q = ap (λ x. f x b) p ∙ ap (f c) q
+
+three_equal : {A B C D : Type 0} (f : A → B → C → D) {a d : A} {b e : B} {c i : C} → a ≡ d → b ≡ e → c ≡ i → f a b c ≡ f d e i
+three_equal f {d = d} {b = b} {c = c} p q r = ap (λ x. f x b c) p ∙ both_equal (f d) q r
+
 -- ---- what stands in a level beside its operands
 
 bool_is : (m n : Bool) → same_bool m n ≡ true → m ≡ n
 bool_is true true h = refl
-bool_is true false h = absurd (cc)
-bool_is false true h = absurd (cc)
+bool_is true false h = absurd (false≢true h)
+bool_is false true h = absurd (false≢true h)
 bool_is false false h = refl
 
 bool_itself : (m : Bool) → same_bool m m ≡ true
@@ -48,13 +56,13 @@ compare_is compare.Less compare.Less h = refl
 compare_is compare.LessEqual compare.LessEqual h = refl
 compare_is compare.Greater compare.Greater h = refl
 compare_is compare.GreaterEqual compare.GreaterEqual h = refl
-compare_is o p h = absurd (cc)
+compare_is o p h = absurd (false≢true h)
 
 arith_is : (o p : ArithOp) → (arith_place o == arith_place p) ≡ true → o ≡ p
 arith_is Add Add h = refl
 arith_is Sub Sub h = refl
 arith_is Mul Mul h = refl
-arith_is o p h = absurd (cc)
+arith_is o p h = absurd (false≢true h)
 
 function_is : (f g : Func) → (function_place f == function_place g) ≡ true → f ≡ g
 function_is Count Count h = refl
@@ -65,12 +73,12 @@ function_is Lower Lower h = refl
 function_is Upper Upper h = refl
 function_is Length Length h = refl
 function_is Coalesce Coalesce h = refl
-function_is f g h = absurd (cc)
+function_is f g h = absurd (false≢true h)
 
 name_is : (n m : List ℕ) → same_name n m ≡ true → n ≡ m
 name_is [] [] h = refl
-name_is [] (c ∷ cs) h = absurd (cc)
-name_is (b ∷ bs) [] h = absurd (cc)
+name_is [] (c ∷ cs) h = absurd (false≢true h)
+name_is (b ∷ bs) [] h = absurd (false≢true h)
 name_is (b ∷ bs) (c ∷ cs) h =
     let both = and_parts (b == c) (same_name bs cs) h in
     ap (λ (d : ℕ). d ∷ bs) (eqb-true b c both.0) ∙ ap (λ (ds : List ℕ). c ∷ ds) (name_is bs cs both.1)
@@ -81,8 +89,8 @@ name_itself (c ∷ cs) = ap (λ b. b && same_name cs cs) (eq-eqb c c refl) ∙ n
 
 alias_is : (a b : Option (List ℕ)) → same_alias a b ≡ true → a ≡ b
 alias_is None None h = refl
-alias_is None (Some b) h = absurd (cc)
-alias_is (Some a) None h = absurd (cc)
+alias_is None (Some b) h = absurd (false≢true h)
+alias_is (Some a) None h = absurd (false≢true h)
 alias_is (Some a) (Some b) h = ap Some (name_is a b h)
 
 alias_itself : (a : Option (List ℕ)) → same_alias a a ≡ true
@@ -102,9 +110,9 @@ origin_itself : (o : Origin) → same_origin o o ≡ true
 origin_itself o = and_from (o.table.0 == o.table.0) (same_alias o.alias o.alias) (eq-eqb o.table.0 o.table.0 refl) (alias_itself o.alias)
 
 tied : (r : Ordering) → is_eq r ≡ true → r ≡ Equal
-tied Less h = absurd (cc)
+tied Less h = absurd (false≢true h)
 tied Equal h = refl
-tied Greater h = absurd (cc)
+tied Greater h = absurd (false≢true h)
 
 reversed_alike : (r : Ordering) → r ≡ ordering_reverse r → is_eq r ≡ true
 reversed_alike Less h = absurd (cc)
@@ -119,8 +127,8 @@ value_itself v = reversed_alike (value_cmp v v) (value_cmp_total.antisymm v v)
 
 values_are : (vs ws : List Value) → pointwise same_value vs ws ≡ true → vs ≡ ws
 values_are [] [] h = refl
-values_are [] (w ∷ ws) h = absurd (cc)
-values_are (v ∷ vs) [] h = absurd (cc)
+values_are [] (w ∷ ws) h = absurd (false≢true h)
+values_are (v ∷ vs) [] h = absurd (false≢true h)
 values_are (v ∷ vs) (w ∷ ws) h =
     let both = and_parts (same_value v w) (pointwise same_value vs ws) h in
     ap (λ (u : Value). u ∷ vs) (value_is v w both.0) ∙ ap (λ (us : List Value). w ∷ us) (values_are vs ws both.1)
@@ -139,8 +147,8 @@ told = map (λ k. k.0)
 
 each_is : (ks : List ((e : Expr) × Told e)) (es : List Expr) → same_all (map same (told ks)) es ≡ true → told ks ≡ es
 each_is [] [] h = refl
-each_is [] (e ∷ es) h = absurd (cc)
-each_is (k ∷ ks) [] h = absurd (cc)
+each_is [] (e ∷ es) h = absurd (false≢true h)
+each_is (k ∷ ks) [] h = absurd (false≢true h)
 each_is (k ∷ ks) (e ∷ es) h =
     let both = and_parts (same k.0 e) (same_all (map same (told ks)) es) h in
     ap (λ (d : Expr). d ∷ told ks) (k.1 e both.0) ∙ ap (λ (ds : List Expr). e ∷ ds) (each_is ks es both.1)
@@ -148,48 +156,48 @@ each_is (k ∷ ks) (e ∷ es) h =
 -- two parts behind a test of the level itself, and three
 two : (own a b : Bool) → (own && a && b) ≡ true → (own ≡ true) × (a ≡ true) × (b ≡ true)
 two true a b h = let both = and_parts a b h in (refl, both.0, both.1)
-two false a b h = absurd (cc)
+two false a b h = absurd (false≢true h)
 
 three : (own a b c : Bool) → (own && a && b && c) ≡ true → (own ≡ true) × (a ≡ true) × (b ≡ true) × (c ≡ true)
 three own a b c h = let last = and_parts (own && a && b) c h in let rest = two own a b last.0 in (rest.0, rest.1, rest.2, last.1)
 
 level_is : (y : Expr-F ((e : Expr) × Told e)) (x : Expr-F Expr) → same_level (map-Expr Expr (Expr → Bool) same (bare y)) x ≡ true → bare y ≡ x
 level_is (Expr-F.Column s c) (Expr-F.Column t d) h =
-    let both = and_parts (s == t) (c.0 == d.0) h in let p : s ≡ t = eqb-true s t both.0 in let q : c ≡ d = column_is c d both.1 in cc
+    let both = and_parts (s == t) (c.0 == d.0) h in both_equal Expr-F.Column (eqb-true s t both.0) (column_is c d both.1)
 level_is (Expr-F.Lit v) (Expr-F.Lit w) h = ap Expr-F.Lit (value_is v w h)
 level_is (Expr-F.Compare o a b) (Expr-F.Compare p c d) h =
     let all = two (compare_place o == compare_place p) (same a.0 c) (same b.0 d) h in
-    let i : o ≡ p = compare_is o p all.0 in let j : a.0 ≡ c = a.1 c all.1 in let k : b.0 ≡ d = b.1 d all.2 in cc
+    three_equal Expr-F.Compare (compare_is o p all.0) (a.1 c all.1) (b.1 d all.2)
 level_is (Expr-F.IsNull m a) (Expr-F.IsNull n c) h =
-    let both = and_parts (same_bool m n) (same a.0 c) h in let i : m ≡ n = bool_is m n both.0 in let j : a.0 ≡ c = a.1 c both.1 in cc
+    let both = and_parts (same_bool m n) (same a.0 c) h in both_equal Expr-F.IsNull (bool_is m n both.0) (a.1 c both.1)
 level_is (Expr-F.And xs) (Expr-F.And ys) h = ap Expr-F.And (each_is xs ys h)
 level_is (Expr-F.Or xs) (Expr-F.Or ys) h = ap Expr-F.Or (each_is xs ys h)
 level_is (Expr-F.Not a) (Expr-F.Not c) h = ap Expr-F.Not (a.1 c h)
 level_is (Expr-F.Arith o a b) (Expr-F.Arith p c d) h =
     let all = two (arith_place o == arith_place p) (same a.0 c) (same b.0 d) h in
-    let i : o ≡ p = arith_is o p all.0 in let j : a.0 ≡ c = a.1 c all.1 in let k : b.0 ≡ d = b.1 d all.2 in cc
+    three_equal Expr-F.Arith (arith_is o p all.0) (a.1 c all.1) (b.1 d all.2)
 level_is (Expr-F.Neg a) (Expr-F.Neg c) h = ap Expr-F.Neg (a.1 c h)
 level_is (Expr-F.Concat a b) (Expr-F.Concat c d) h =
-    let both = and_parts (same a.0 c) (same b.0 d) h in let j : a.0 ≡ c = a.1 c both.0 in let k : b.0 ≡ d = b.1 d both.1 in cc
+    let both = and_parts (same a.0 c) (same b.0 d) h in both_equal Expr-F.Concat (a.1 c both.0) (b.1 d both.1)
 level_is (Expr-F.Like m a b) (Expr-F.Like n c d) h =
-    let all = two (same_bool m n) (same a.0 c) (same b.0 d) h in let i : m ≡ n = bool_is m n all.0 in let j : a.0 ≡ c = a.1 c all.1 in let k : b.0 ≡ d = b.1 d all.2 in cc
+    let all = two (same_bool m n) (same a.0 c) (same b.0 d) h in three_equal Expr-F.Like (bool_is m n all.0) (a.1 c all.1) (b.1 d all.2)
 level_is (Expr-F.Ilike m a b) (Expr-F.Ilike n c d) h =
-    let all = two (same_bool m n) (same a.0 c) (same b.0 d) h in let i : m ≡ n = bool_is m n all.0 in let j : a.0 ≡ c = a.1 c all.1 in let k : b.0 ≡ d = b.1 d all.2 in cc
+    let all = two (same_bool m n) (same a.0 c) (same b.0 d) h in three_equal Expr-F.Ilike (bool_is m n all.0) (a.1 c all.1) (b.1 d all.2)
 level_is (Expr-F.InList m a vs) (Expr-F.InList n c ws) h =
     let all = two (same_bool m n) (same a.0 c) (pointwise same_value vs ws) h in
-    let i : m ≡ n = bool_is m n all.0 in let j : a.0 ≡ c = a.1 c all.1 in let k : vs ≡ ws = values_are vs ws all.2 in cc
+    three_equal Expr-F.InList (bool_is m n all.0) (a.1 c all.1) (values_are vs ws all.2)
 level_is (Expr-F.Between m a b x) (Expr-F.Between n c d y) h =
     let all = three (same_bool m n) (same a.0 c) (same b.0 d) (same x.0 y) h in
-    let i : m ≡ n = bool_is m n all.0 in let j : a.0 ≡ c = a.1 c all.1 in let k : b.0 ≡ d = b.1 d all.2 in let l : x.0 ≡ y = x.1 y all.3 in cc
+    ap (λ l. Expr-F.Between l a.0 b.0 x.0) (bool_is m n all.0) ∙ three_equal (Expr-F.Between n) (a.1 c all.1) (b.1 d all.2) (x.1 y all.3)
 level_is (Expr-F.Distinct m a b) (Expr-F.Distinct n c d) h =
-    let all = two (same_bool m n) (same a.0 c) (same b.0 d) h in let i : m ≡ n = bool_is m n all.0 in let j : a.0 ≡ c = a.1 c all.1 in let k : b.0 ≡ d = b.1 d all.2 in cc
+    let all = two (same_bool m n) (same a.0 c) (same b.0 d) h in three_equal Expr-F.Distinct (bool_is m n all.0) (a.1 c all.1) (b.1 d all.2)
 level_is (Expr-F.Call f xs) (Expr-F.Call g ys) h =
     let both = and_parts (function_place f == function_place g) (same_all (map same (told xs)) ys) h in
-    let i : f ≡ g = function_is f g both.0 in let j : told xs ≡ ys = each_is xs ys both.1 in cc
+    both_equal Expr-F.Call (function_is f g both.0) (each_is xs ys both.1)
 level_is Expr-F.CountAll Expr-F.CountAll h = refl
 level_is (Expr-F.Exists m o a) (Expr-F.Exists n p c) h =
-    let all = two (same_bool m n) (same_origin o p) (same a.0 c) h in let i : m ≡ n = bool_is m n all.0 in let j : o ≡ p = origin_is o p all.1 in let k : a.0 ≡ c = a.1 c all.2 in cc
-level_is y x h = absurd (cc)
+    let all = two (same_bool m n) (same_origin o p) (same a.0 c) h in three_equal Expr-F.Exists (bool_is m n all.0) (origin_is o p all.1) (a.1 c all.2)
+level_is y x h = absurd (false≢true h)
 
 told_step : (y : Expr-F ((e : Expr) × Told e)) → Told (roll-Expr (bare y))
 told_step y e h = ap roll-Expr (level_is y (out-Expr e) (sym (same_rolled (bare y) e) ∙ h)) ∙ roll-out-Expr e
