@@ -103,10 +103,19 @@ fn without_all(
 fn keys_of_entries(alloc: Global, entries: &[(Key, RowValues)]) -> Result<KeyList, AllocError>
     ensures { IfOk result (λ keys. keys ≡ keys_of_entries entries.now) }
 {
-    let mut keys = Vec::new(alloc);
-    for entry in entries {
-        keys.push(entry.0.copied()?)?;
-    }
+    let Some((entry, entries)) = entries.split_first() else {
+        return Ok(ListOf::new(alloc));
+    };
+    let keys = keys_of_entries(alloc, entries)?;
+    with_first_key(&entry.0, keys)
+}
+
+/// The keys with one before them.
+fn with_first_key(key: &Key, keys: KeyList) -> Result<KeyList, AllocError>
+    ensures { IfOk result (λ all. all ≡ key.now ∷ keys) }
+{
+    let mut keys = keys.into_vec();
+    keys.insert(0, key.copied()?)?;
     Ok(ListOf::from_vec(keys))
 }
 
@@ -114,9 +123,7 @@ fn keys_of_entries(alloc: Global, entries: &[(Key, RowValues)]) -> Result<KeyLis
 fn one_key(alloc: Global, key: &Key) -> Result<KeyList, AllocError>
     ensures { IfOk result (λ keys. keys ≡ key.now ∷ []) }
 {
-    let mut keys = Vec::new(alloc);
-    keys.push(key.copied()?)?;
-    Ok(ListOf::from_vec(keys))
+    with_first_key(key, ListOf::new(alloc))
 }
 
 /// The integer above the one that a key is, if there is one.
