@@ -1,0 +1,8 @@
+use Rattle.std.proofs.Common.{◌≡◌, ◌++◌, drop}
+use Rattle.std.specs.List.{flat_map}
+use Rattle.pair_rows.specs.Pairs.{lost_of}
+use Rattle.pair_rows.proofs.pairs.lost_pairs.Given as goal
+
+abbrev pub invariant-loop-object : goal.invariant-loop-object
+invariant-loop-object l =
+    l.pairs.items ++ flat_map (lost_of l.mapping l.arena l.prepared) (drop l.object-index l.object-items) ≡ flat_map (lost_of l.mapping l.arena l.prepared) l.object-items

@@ -1,0 +1,8 @@
+use Rattle.std.proofs.Common.{ap, ◌∙◌}
+use Rattle.std.specs.Prelude.{unwrap_or}
+use Rattle.std.proofs.lemmas.Option.{unwrap_or-slice_get}
+use Rattle.object_arena.specs.declared.object.Link.TheVariants.{Unset}
+use Rattle.pair_rows.proofs.standing.link_or.Goals as goal
+
+pub returns-in-None : goal.returns-in-None
+returns-in-None c = c.requires ∙ ap (λ found. unwrap_or found Unset) c.in-None.ensures ∙ unwrap_or-slice_get c.args.object.now.links c.args.number Unset

@@ -1,0 +1,58 @@
+//! What collections hold, gained and lost.
+
+ghost use Rattle.std.specs.Prelude.{◌≡◌, IfOk, IfErr};
+ghost use Rattle.base_core.specs.declared.refusal.Refusal.TheVariants.{Memory};
+ghost use Rattle.pair_rows.specs.Pairs as spec;
+
+use base_core::{Copied, ListOf, ObjId, ObjList, Refusal};
+use object_arena::Link;
+use object_rows::is_among;
+use std::alloc::Global;
+
+/// The objects of a list that are not in another.
+fn without(alloc: Global, others: &ObjList, objects: &ObjList) -> Result<ObjList, Refusal>
+    ensures rest { IfOk result (λ rest. rest ≡ spec.without others.now objects.now) }
+    ensures cause { IfErr result (λ e. e ≡ Memory) }
+{
+    let mut rest = ListOf::new(alloc);
+    for object in objects.as_slice() {
+        if !is_among(others, *object) {
+            rest.push(*object)?;
+        }
+    }
+    Ok(rest)
+}
+
+/// The members that a collection was given.
+pub(crate) fn members_added(alloc: Global, link: &Link) -> Result<ObjList, Refusal>
+    ensures members { IfOk result (λ members. members ≡ spec.members_added link.now) }
+    ensures cause { IfErr result (λ e. e ≡ Memory) }
+{
+    match link {
+        Link::Unloaded { added, .. } => Ok(added.copied()?),
+        Link::Many { members, base } => without(alloc, base, members),
+        Link::Unset | Link::One { .. } => Ok(ListOf::new(alloc)),
+    }
+}
+
+/// The members that a collection lost.
+pub(crate) fn members_removed(alloc: Global, link: &Link) -> Result<ObjList, Refusal>
+    ensures members { IfOk result (λ members. members ≡ spec.members_removed link.now) }
+    ensures cause { IfErr result (λ e. e ≡ Memory) }
+{
+    match link {
+        Link::Unloaded { removed, .. } => Ok(removed.copied()?),
+        Link::Many { members, base } => without(alloc, members, base),
+        Link::Unset | Link::One { .. } => Ok(ListOf::new(alloc)),
+    }
+}
+
+/// The members that a collection had when it was last read or written.
+pub(crate) fn members_before(link: &Link) -> &[ObjId]
+    ensures { result.now ≡ spec.members_before link.now }
+{
+    match link {
+        Link::Many { base, .. } => base.as_slice(),
+        Link::Unset | Link::Unloaded { .. } | Link::One { .. } => &[],
+    }
+}
