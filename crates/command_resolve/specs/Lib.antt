@@ -1,0 +1,4 @@
+pub mod Attributes
+pub mod Resolving
+pub mod Standing
+pub mod Terms

@@ -1,0 +1,57 @@
+-- What a line asks for, with numbers in the place of its names, or the first refusal that needs no session.
+use Rattle.std.specs.Prelude.{ℕ, List, Ok, Err}
+use Rattle.base_core.specs.declared.refusal.Refusal.TheVariants.{NotBuilt}
+use Rattle.base_core.specs.declared.ids.ObjId.{ObjId}
+use Rattle.base_core.specs.declared.value.Value.{Value}
+use Rattle.class_mapping.specs.Mapped.{Mapped}
+use Rattle.sql_semantics.specs.Checked.{Checked, ◌>>=◌}
+use Rattle.script_types.specs.declared.command.Command.{Command}
+use Rattle.script_types.specs.declared.command.Command.TheVariants as line
+use Rattle.script_types.specs.declared.command.Term.{Term}
+use Rattle.command_resolve.specs.declared.resolved.Resolved.{Resolved}
+use Rattle.command_resolve.specs.declared.resolved.Resolved.TheVariants as resolved
+use Rattle.command_resolve.specs.Attributes.{Giving, attribute_named, cells_of, class_named, unless_fault, value_fault}
+use Rattle.command_resolve.specs.Terms.{Bindings, Named, handle_if_named, object_of, shown_of}
+
+abbrev pub resolved_new : Mapped → List ℕ → List ℕ → List Giving → Checked Resolved
+resolved_new mapped name class given = class_named mapped class >>= λ class. (cells_of mapped class given >>= λ cells. Ok (resolved.New name class cells))
+
+abbrev pub resolved_set_at : Mapped → List ℕ → Value → Named → Checked Resolved
+resolved_set_at mapped member value named =
+    attribute_named mapped named.1 member >>= λ attr. unless_fault (value_fault mapped named.1 attr value) (resolved.SetCell named.0 attr value)
+
+abbrev pub resolved_set : Mapped → Bindings → Term → List ℕ → Value → Checked Resolved
+resolved_set mapped names term member value = object_of names term >>= resolved_set_at mapped member value
+
+abbrev pub resolved_show_at : Mapped → List ℕ → Named → Checked Resolved
+resolved_show_at mapped member named = attribute_named mapped named.1 member >>= λ attr. Ok (resolved.ShowCell named.0 attr)
+
+abbrev pub resolved_show : Mapped → Bindings → Term → List ℕ → Checked Resolved
+resolved_show mapped names term member = object_of names term >>= resolved_show_at mapped member
+
+-- the object that a term stands for, of whatever class
+abbrev pub id_of_term : Bindings → Term → Checked ObjId
+id_of_term names term = object_of names term >>= λ named. Ok named.0
+
+abbrev pub resolved_same : Bindings → Term → Term → Checked Resolved
+resolved_same names term other = id_of_term names term >>= λ first. (id_of_term names other >>= λ second. Ok (resolved.Same first second))
+
+-- what the line asks for; its names are read in the order of the line, and kinds of values behind all of them
+abbrev pub resolve : Mapped → Bindings → Command → Checked Resolved
+resolve mapped names line.CreateAll = Ok resolved.CreateAll
+resolve mapped names line.DropAll = Ok resolved.DropAll
+resolve mapped names line.Dump = Ok resolved.Dump
+resolve mapped names (line.New name class given) = resolved_new mapped name class given
+resolve mapped names (line.BeginNested name) = Ok (resolved.BeginNested name)
+resolve mapped names (line.SetValue term member value) = resolved_set mapped names term member value
+resolve mapped names (line.Add term) = id_of_term names term >>= λ object. Ok (resolved.Add object)
+resolve mapped names (line.Delete term) = id_of_term names term >>= λ object. Ok (resolved.Delete object)
+resolve mapped names (line.Show term) = shown_of names term >>= λ thing. Ok (resolved.Show thing)
+resolve mapped names (line.ShowMember term member) = resolved_show mapped names term member
+resolve mapped names (line.State term) = id_of_term names term >>= λ object. Ok (resolved.State object)
+resolve mapped names (line.Same term other) = resolved_same names term other
+resolve mapped names line.Flush = Ok resolved.Flush
+resolve mapped names (line.Commit name) = handle_if_named names name >>= λ number. Ok (resolved.Commit number)
+resolve mapped names (line.Rollback name) = handle_if_named names name >>= λ number. Ok (resolved.Rollback number)
+resolve mapped names line.Close = Ok resolved.Close
+resolve mapped names other = Err NotBuilt

@@ -1,0 +1,41 @@
+//! Lines of the script with numbers in the place of their names.
+
+use base_core::{AttrNo, ClassId, ListOf, Name, ObjId, Value};
+use shell_parts::Bound;
+
+/// What a line asks for.
+#[derive(Drop)]
+pub enum Resolved {
+    CreateAll,
+    DropAll,
+    Dump,
+    /// An object is to be made and bound to a name.
+    New {
+        name: Name,
+        class: ClassId,
+        /// Each attribute once, and each value NULL or of its attribute's kind.
+        cells: ListOf<(AttrNo, Value)>,
+    },
+    /// The name to which the new savepoint is to be bound.
+    BeginNested(Name),
+    SetCell {
+        object: ObjId,
+        attr: AttrNo,
+        /// NULL or of the attribute's kind.
+        value: Value,
+    },
+    Add(ObjId),
+    Delete(ObjId),
+    /// No savepoint is shown.
+    Show(Bound),
+    ShowCell(ObjId, AttrNo),
+    State(ObjId),
+    /// The line `is`.
+    Same(ObjId, ObjId),
+    Flush,
+    /// The number of a savepoint, or the whole transaction.
+    Commit(Option<u32>),
+    /// The number of a savepoint, or the whole transaction.
+    Rollback(Option<u32>),
+    Close,
+}

@@ -1,0 +1,155 @@
+//! What a line asks for.
+
+ghost use Rattle.std.specs.Prelude.{◌≡◌, ℕ, List, true, IfOk};
+ghost use Rattle.base_core.specs.Answers.{Gives};
+ghost use Rattle.base_core.specs.declared.ids.ClassId.{ClassId};
+ghost use Rattle.class_mapping.specs.Mapped.{Mapped};
+ghost use Rattle.command_resolve.specs.Resolving as spec;
+ghost use Rattle.command_resolve.specs.Standing.{AreOfDeclared, AreThere, IsMade, IsResolved};
+
+use crate::attributes::{attribute_named, class_named, value_fault};
+use crate::cells::cells_of;
+use crate::resolved::Resolved;
+use crate::terms::{handle_if_named, object_of, shown_of};
+use base_core::{Copied, Name, ObjId, Refusal, Value};
+use class_mapping::Mapping;
+use script_types::{Command, Term};
+use shell_parts::Names;
+use std::alloc::Global;
+
+/// A new object.
+fn resolved_new(
+    alloc: Global,
+    mapping: &Mapping,
+    name: &Name,
+    class: &Name,
+    given: &[(Name, Value)],
+) -> Result<Resolved, Refusal>
+    requires configured { mapping.now.configured ≡ true }
+    ensures line { Gives (λ line. line) result
+        (spec.resolved_new mapping.now name.now class.now given.now) }
+    ensures stands { (classes : List ClassId) → (drawn : ℕ)
+        → IfOk result (IsResolved mapping.now classes drawn) }
+{
+    let class = class_named(mapping, class)?;
+    let cells = cells_of(alloc, mapping, class, given)?;
+    Ok(Resolved::New {
+        name: name.copied()?,
+        class,
+        cells,
+    })
+}
+
+/// A value for an attribute of an object.
+fn resolved_set(
+    mapping: &Mapping,
+    names: &Names,
+    term: &Term,
+    member: &Name,
+    value: &Value,
+) -> Result<Resolved, Refusal>
+    requires configured { mapping.now.configured ≡ true }
+    requires declared { AreOfDeclared mapping.now names.now }
+    ensures line { Gives (λ line. line) result
+        (spec.resolved_set mapping.now names.now term.now member.now value.now) }
+    ensures stands { (classes : List ClassId) → (drawn : ℕ) → AreThere classes drawn names.now
+        → IfOk result (IsResolved mapping.now classes drawn) }
+{
+    let (object, class) = object_of(names, term)?;
+    let attr = attribute_named(mapping, class, member)?;
+    match value_fault(mapping, class, attr, value) {
+        Some(fault) => Err(fault),
+        None => Ok(Resolved::SetCell {
+            object,
+            attr,
+            value: value.copied()?,
+        }),
+    }
+}
+
+/// An attribute of an object that is shown.
+fn resolved_show(
+    mapping: &Mapping,
+    names: &Names,
+    term: &Term,
+    member: &Name,
+) -> Result<Resolved, Refusal>
+    requires configured { mapping.now.configured ≡ true }
+    requires declared { AreOfDeclared mapping.now names.now }
+    ensures line { Gives (λ line. line) result
+        (spec.resolved_show mapping.now names.now term.now member.now) }
+    ensures stands { (classes : List ClassId) → (drawn : ℕ) → AreThere classes drawn names.now
+        → IfOk result (IsResolved mapping.now classes drawn) }
+{
+    let (object, class) = object_of(names, term)?;
+    let attr = attribute_named(mapping, class, member)?;
+    Ok(Resolved::ShowCell(object, attr))
+}
+
+/// An object that has been made.
+fn id_of_term(names: &Names, term: &Term) -> Result<ObjId, Refusal>
+    ensures object { Gives (λ object. object) result (spec.id_of_term names.now term.now) }
+    ensures made { (classes : List ClassId) → (drawn : ℕ) → AreThere classes drawn names.now
+        → IfOk result (IsMade classes) }
+{
+    let (object, _class) = object_of(names, term)?;
+    Ok(object)
+}
+
+/// Two objects that may be one.
+fn resolved_same(names: &Names, term: &Term, other: &Term) -> Result<Resolved, Refusal>
+    ensures line { Gives (λ line. line) result
+        (spec.resolved_same names.now term.now other.now) }
+    ensures stands { (mapped : Mapped) (classes : List ClassId) → (drawn : ℕ)
+        → AreThere classes drawn names.now → IfOk result (IsResolved mapped classes drawn) }
+{
+    let first = id_of_term(names, term)?;
+    let second = id_of_term(names, other)?;
+    Ok(Resolved::Same(first, second))
+}
+
+/// What a line asks for. Its names are read in the order of the line, and kinds of values behind all of them.
+///
+/// # Errors
+/// `Unknown` of the first name that is not bound, or that no class or attribute has; `WrongKind` of the first that stands for
+/// something else than its place wants, or that is given twice; then `TypeMismatch` of the first value of another kind than its
+/// attribute. `NotBuilt` of a form that is not built. `Memory`.
+pub fn resolve(
+    alloc: Global,
+    mapping: &Mapping,
+    names: &Names,
+    command: &Command,
+) -> Result<Resolved, Refusal>
+    requires configured { mapping.now.configured ≡ true }
+    requires declared { AreOfDeclared mapping.now names.now }
+    ensures line { Gives (λ line. line) result
+        (spec.resolve mapping.now names.now command.now) }
+    ensures stands { (classes : List ClassId) → (drawn : ℕ) → AreThere classes drawn names.now
+        → IfOk result (IsResolved mapping.now classes drawn) }
+{
+    match command {
+        Command::CreateAll => Ok(Resolved::CreateAll),
+        Command::DropAll => Ok(Resolved::DropAll),
+        Command::Dump => Ok(Resolved::Dump),
+        Command::New { name, class, cells } => {
+            resolved_new(alloc, mapping, name, class, cells.as_slice())
+        }
+        Command::BeginNested(name) => Ok(Resolved::BeginNested(name.copied()?)),
+        Command::SetValue {
+            term,
+            member,
+            value,
+        } => resolved_set(mapping, names, term, member, value),
+        Command::Add(term) => Ok(Resolved::Add(id_of_term(names, term)?)),
+        Command::Delete(term) => Ok(Resolved::Delete(id_of_term(names, term)?)),
+        Command::Show(term) => Ok(Resolved::Show(shown_of(alloc, names, term)?)),
+        Command::ShowMember(term, member) => resolved_show(mapping, names, term, member),
+        Command::State(term) => Ok(Resolved::State(id_of_term(names, term)?)),
+        Command::Same(term, other) => resolved_same(names, term, other),
+        Command::Flush => Ok(Resolved::Flush),
+        Command::Commit(name) => Ok(Resolved::Commit(handle_if_named(names, name)?)),
+        Command::Rollback(name) => Ok(Resolved::Rollback(handle_if_named(names, name)?)),
+        Command::Close => Ok(Resolved::Close),
+        _ => Err(Refusal::NotBuilt),
+    }
+}
