@@ -6,6 +6,7 @@ use Rattle.std.proofs.lemmas.Bool.{and_from, and_parts, eq-eqb, eqb-true}
 use Rattle.base_core.specs.declared.ids.ObjId.{ObjId}
 use Rattle.class_types.specs.declared.mapped.Relation.{Relation}
 use Rattle.class_mapping.specs.Mapped.{partner_of}
+use Rattle.class_mapping.proofs.Having.{true_false}
 use Rattle.object_arena.specs.declared.object.Link.{Link}
 use Rattle.object_arena.specs.declared.object.Link.TheVariants.{One}
 use Rattle.object_arena.specs.Graph.{object_at}
@@ -15,7 +16,7 @@ use Rattle.relations.proofs.ChangeLemmas.{end_taken}
 use Rattle.link_laws.specs.Links.{AppendAdds, Before, IsOfMember, RemoveTakesOut, is_link, is_link_of_end, leads_already, link_after_set, link_back, link_let_go, link_loaded, link_moved, link_paired, link_unpaired, old_parent_of, parent_left, relation_in}
 use Rattle.link_laws.proofs.CollectionLemmas.{false_if, joined_member, left_no_member}
 use Rattle.link_laws.proofs.MemberLemmas.{append_parts, append_tells, back_at, back_is, no_partner, remove_tells}
-use Rattle.link_laws.proofs.MirrorLemmas.{at_place, no_one, same_relation, true_not}
+use Rattle.link_laws.proofs.MirrorLemmas.{at_place, no_one, same_relation}
 use Rattle.link_laws.proofs.SetLemmas.{has_link, is_link_itself}
 
 -- ---- an append
@@ -49,7 +50,7 @@ not_back before member partner of under some far =
     let back = back_at before member partner of.link under some in
     false_if (is_link member (relation_in before).partner before.object before.place)
     (λ same.
-    true_not (relation_in before).many of.link.form
+    true_false (relation_in before).many of.link.form
     (ap (λ (r : Relation). r.many)
     (sym (same_relation before.mapped before.graph member before.object (relation_in before).partner before.place partner (relation_in before) back.0 (at_place true before of.link) same))
     ∙ back.1 far))

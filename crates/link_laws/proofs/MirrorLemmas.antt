@@ -9,6 +9,7 @@ use Rattle.base_core.specs.declared.ids.RelNo.{RelNo}
 use Rattle.class_types.specs.declared.mapped.Relation.{Relation}
 use Rattle.class_mapping.specs.Mapped.{Mapped, relations_of, root_of}
 use Rattle.class_mapping.specs.Paired.{IsAt}
+use Rattle.class_mapping.proofs.Having.{true_false}
 use Rattle.object_arena.specs.declared.object.Link.{Link}
 use Rattle.object_arena.specs.declared.object.Link.TheVariants.{Unset, Unloaded, One, Many}
 use Rattle.object_arena.specs.declared.object.Object.{Object}
@@ -28,9 +29,6 @@ use Rattle.link_laws.specs.Links.{Before, HasJoined, IsLinkOf, IsSetTo, LeadsTo,
 use Rattle.link_laws.proofs.ReadLemmas.{one_object}
 use Rattle.link_laws.proofs.CollectionLemmas.{eqb_turned, false_if, is_one, joined_has, left_lacks}
 use Rattle.link_laws.proofs.SetLemmas.{has_link, is_link_itself, known_by, loaded_leads, not_refused, old_made, set_tells}
-
-pub true_not : {A : Type 0} (b : Bool) → b ≡ true → b ≡ false → A
-true_not b h g = absurd cc
 
 -- ---- links of other forms are other links
 
@@ -53,7 +51,7 @@ pub not_own : (before : Before) (end : ObjId) (partner : Relation) → IsLinkOf 
 not_own before end partner link there many =
     false_if (is_link before.object before.place end (relation_in before).partner)
     (λ same.
-    true_not (relation_in before).many
+    true_false (relation_in before).many
     (ap (λ (r : Relation). r.many) (same_relation before.mapped before.graph before.object end before.place (relation_in before).partner (relation_in before) partner (at_place false before link) there same) ∙ many)
     link.form)
 

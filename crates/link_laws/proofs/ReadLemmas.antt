@@ -7,6 +7,7 @@ use Rattle.std.proofs.lemmas.List.{get_or-set_other, get_or-set_same, length-set
 use Rattle.std.proofs.lemmas.Option.{slice_get-get_or, slice_get_past}
 use Rattle.base_core.specs.declared.ids.ObjId.{ObjId}
 use Rattle.base_core.specs.declared.ids.RelNo.{RelNo}
+use Rattle.class_mapping.proofs.Having.{true_false}
 use Rattle.object_arena.specs.declared.object.Link.{Link}
 use Rattle.object_arena.specs.declared.object.Object.{Object}
 use Rattle.object_arena.specs.Graph.{Graph, IsObject, no_object, object_at, place_of, with_link, with_marks, with_object}
@@ -17,11 +18,8 @@ use Rattle.link_laws.specs.Links.{is_link, rest_of}
 
 -- ---- one item of a list
 
-false_true : {A : Type 0} (b : Bool) → b ≡ true → b ≡ false → A
-false_true b h g = absurd cc
-
 differ_from : (a b : ℕ) → (a == b) ≡ false → b ≢ a
-differ_from a b h e = false_true (a == b) (eq-eqb a b (sym e)) h
+differ_from a b h e = true_false (a == b) (eq-eqb a b (sym e)) h
 
 get_set : {A : Type 0} (xs : List A) (n : ℕ) (x : A) → n < length xs → slice_get (slice_set xs n x) n ≡ Some x
 get_set xs n x less =
@@ -73,7 +71,7 @@ some_within : (links : List Link) (n : ℕ) → is_some (slice_get links n) ≡ 
 some_within links n h =
     ⊎_elim
     (λ (less : n < length links). less)
-    (λ (past : length links ≤ n). false_true (is_some (slice_get links n)) h (ap (λ (o : Option Link). is_some o) (slice_get_past links n past)))
+    (λ (past : length links ≤ n). true_false (is_some (slice_get links n)) h (ap (λ (o : Option Link). is_some o) (slice_get_past links n past)))
     (cases_lt n (length links))
 
 link_put : (g : Graph) (o : ObjId) (p : RelNo) (l : Link) (other : ObjId) (next : RelNo) → IsObject g o → is_some (link_at g o p) ≡ true → IsObject g other
