@@ -208,7 +208,7 @@ is_done moment written (Some bytes) shell own first mid last sink after done end
 
 -- nothing is left of a script that was done to its end
 pub read_through : (done : Result Ending Stop) (refused : Bool) (mid last : Option (Told Store)) (end : Status) (old new : Option (List ℕ))
-    → Concludes done refused mid end last → IfOk done (λ ending. end_unless_too_long ≡ Finished → HasNothingLeft old new) → IsReadThrough end old new
+    → Concludes done refused mid end last → IfOk done (λ ending. ending ≡ Finished → HasNothingLeft old new) → IsReadThrough end old new
 read_through (Ok Finished) true mid last end old new c nothing = subst (λ s. IsReadThrough s old new) (sym c.0) (nothing refl)
 read_through (Ok Finished) false mid last end old new c nothing = subst (λ s. IsReadThrough s old new) (sym c.0) (nothing refl)
 read_through (Ok TooLong) refused mid last end old new c nothing = subst (λ s. IsReadThrough s old new) (sym c.0) tt
@@ -237,7 +237,7 @@ concludes_script (Err stopped.Memory) refused mid last end c = of_script end (su
 -- the status shows the faults that the script counted
 pub concludes_faults : (done : Result Ending Stop) (refused : Bool) (mid last : Option (Told Store)) (end : Status) (source sink keeper source' sink' keeper' keeper'' : ℕ)
     → Concludes done refused mid end last → CountsFaults done (faults source sink keeper) (faults source' sink' keeper') → keeper' ≤ keeper''
-    → IfOk done (λ ending. end_unless_too_long ≡ Finished → keeper'' ≡ keeper') → ShowsFaults end true (faults source sink keeper) (faults source' sink' keeper'')
+    → IfOk done (λ ending. ending ≡ Finished → keeper'' ≡ keeper') → ShowsFaults end true (faults source sink keeper) (faults source' sink' keeper'')
 concludes_faults (Ok Finished) true mid last end s k n s' k' n' n'' c p le same =
     subst (λ e. ShowsFaults e true (faults s k n) (faults s' k' n'')) (sym c.0) (p.0, p.1, same refl ∙ p.2)
 concludes_faults (Ok Finished) false mid last end s k n s' k' n' n'' c p le same =
