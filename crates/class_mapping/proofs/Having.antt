@@ -1,12 +1,13 @@
 -- The items of a list, and what is known of each.
-use Rattle.std.proofs.Common.{◌≡◌, ◌⊎◌, inl, inr, ℕ, zero, suc, ◌+◌, Bool, true, false, cond, not, ◌&&◌, ◌||◌, eqb, List, [], ◌∷◌, ◌++◌, ◌∙◌, length, map, filter, ap, sym, refl, subst, None, Some, nat_lt, arith}
+use Rattle.std.proofs.Common.{◌≡◌, ◌⊎◌, inl, inr, ℕ, zero, suc, ◌+◌, Bool, true, false, cond, not, ◌||◌, List, [], ◌∷◌, ◌++◌, ◌∙◌, length, map, filter, ap, sym, refl, subst, None, Some, nat_lt, arith}
 use Rattle.std.specs.Prelude.{find, slice_get}
 use Rattle.std.specs.List.{AllByRecursion, enumerate_from, flat_map, list_all, list_any, position, position_or_len}
-use Rattle.std.proofs.lemmas.Bool.{eqb-true, eq-eqb, lt-ltb, or_left as or_here, or_right as or_there}
+use Rattle.std.proofs.lemmas.Bool.{lt-ltb, or_left as or_here, or_right as or_there}
 use Rattle.std.proofs.lemmas.List.Folds.{find_at}
 use Rattle.std.proofs.lemmas.Option.{same_Some, slice_get_within}
 use Rattle.schema_core.specs.Catalog.{same_name}
 use Rattle.schema_core.specs.Declaration.{some_two}
+use Rattle.schema_core.proofs.Names.{same_names, name_itself}
 use Rattle.class_mapping.proofs.Lists.{and_left, and_right, or_left, or_none, or_right}
 
 -- the item stands in the list
@@ -135,17 +136,6 @@ all_from P [] f = tt
 all_from P (y ∷ xs) f = (f y (inl refl), all_from P xs (λ x h. f x (inr h)))
 
 -- ---- names
-
-pub same_names : (one other : List ℕ) → same_name one other ≡ true → one ≡ other
-same_names [] [] e = refl
-same_names [] (y ∷ ys) e = absurd cc
-same_names (x ∷ xs) [] e = absurd cc
-same_names (x ∷ xs) (y ∷ ys) e =
-    λ i. eqb-true x y (and_left (eqb x y) (same_name xs ys) e) i ∷ same_names xs ys (and_right (eqb x y) (same_name xs ys) e) i
-
-pub name_itself : (name : List ℕ) → same_name name name ≡ true
-name_itself [] = refl
-name_itself (n ∷ name) = ap (λ b. b && same_name name name) (eq-eqb n n refl) ∙ name_itself name
 
 pub named_alike : (one other : List ℕ) → one ≡ other → same_name one other ≡ true
 named_alike one other e = ap (same_name one) (sym e) ∙ name_itself one

@@ -8,6 +8,7 @@ use Rattle.base_core.specs.declared.ids.ClassId.{ClassId}
 use Rattle.schema_core.specs.declared.table.TableSpec.{TableSpec}
 use Rattle.schema_core.specs.Catalog.{same_name}
 use Rattle.schema_core.specs.Declaration.{some_two}
+use Rattle.schema_core.proofs.Names.{same_names}
 use Rattle.class_types.specs.declared.declared.ClassSpec.{ClassSpec}
 use Rattle.class_types.specs.declared.declared.RelationSpec.{RelationSpec}
 use Rattle.class_types.specs.declared.mapped.Relation.{Relation}
@@ -20,7 +21,7 @@ use Rattle.class_sides.specs.Pairs.{differs, is_class, is_target_in, same_side}
 use Rattle.class_sides.specs.Linking as linking
 use Rattle.class_mapping.specs.Lines.{AreLines, names_at, names_on, is_same_class}
 use Rattle.class_mapping.specs.Mapped.{Mapped}
-use Rattle.class_mapping.proofs.Having.{Has, any_has, from_filter, from_flat, from_map, from_numbered, has_at, has_either, has_map, named_alike, none_of, same_names, true_false, two_before}
+use Rattle.class_mapping.proofs.Having.{Has, any_has, from_filter, from_flat, from_map, from_numbered, has_at, has_either, has_map, named_alike, none_of, true_false, two_before}
 use Rattle.class_mapping.proofs.LineLemmas.{none_at}
 use Rattle.class_mapping.proofs.Lists.{and_both, and_left, and_right, none_append, none_map, or_left, or_none, or_right}
 use Rattle.class_mapping.proofs.RelatedLemmas.{back_apart, class_is, has_class_from, is_class_of, layouts_in, line_for, names_of_list, not_taken, one_side, own_line, same_class, sides_in, target_in}

@@ -33,7 +33,7 @@ use Rattle.class_mapping.proofs.ValidLemmas.{valid_from}
 use Rattle.class_mapping.proofs.OnceLemmas.{stands_once}
 use Rattle.class_mapping.proofs.RelatedLemmas.{Came, back_in, came, has_partner, layouts_in, list_for, own_in, sides_in}
 use Rattle.class_mapping.proofs.RelatedKeys.{found_ends, or_rest, plain_found, target_is}
-use Rattle.class_mapping.proofs.RelatedPairs.{shares_any}
+use Rattle.class_mapping.proofs.RelatedPairs.{none_some, shares_any}
 
 -- the root of a line that goes on is the root of its beginning
 root_kept : (first rest : List ClassId) (class above : ClassId) (n : ℕ) → has_class first n ≡ true → (class_or (root_in (first ++ rest)) class).0 ≡ (class_or (root_in first) above).0
@@ -42,10 +42,6 @@ root_kept (root ∷ first) rest class above n h = refl
 
 false_true : {A : Type 0} (b : Bool) → b ≡ true → b ≡ false → A
 false_true b h g = absurd cc
-
-none_some : {A B : Type 0} (o : Option A) → o ≡ None → is_some o ≡ true → B
-none_some None e h = absurd cc
-none_some (Some x) e h = absurd cc
 
 is_none_if : {A : Type 0} (o : Option A) → is_some o ≡ false → is_none o ≡ true
 is_none_if None h = refl

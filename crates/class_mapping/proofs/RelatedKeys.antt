@@ -9,6 +9,7 @@ use Rattle.base_core.specs.declared.ids.ClassId.{ClassId}
 use Rattle.base_core.specs.declared.ids.TableId.{TableId}
 use Rattle.schema_core.specs.declared.table.TableSpec.{TableSpec}
 use Rattle.schema_core.specs.Catalog.{same_name}
+use Rattle.schema_core.proofs.Names.{same_names}
 use Rattle.class_types.specs.declared.declared.ClassSpec.{ClassSpec}
 use Rattle.class_types.specs.declared.mapped.Relation.{Relation}
 use Rattle.class_layouts.specs.declared.classes.Classes.{Classes}
@@ -25,7 +26,7 @@ use Rattle.class_mapping.specs.Lines.{AreLines}
 use Rattle.class_mapping.specs.Mapped.{IsClass, Mapped, layout_of, relations_of}
 use Rattle.class_mapping.specs.Related.{IsRelated, has_keys, orphans_rightly}
 use Rattle.class_mapping.specs.Valid.{IsValid, covers, covers_both, holds_of, is_covered, is_joined, joins, joins_ends, refers_to_class}
-use Rattle.class_mapping.proofs.Having.{Has, all_from, all_of, none_of, same_names}
+use Rattle.class_mapping.proofs.Having.{Has, all_from, all_of, none_of}
 use Rattle.class_mapping.proofs.Lists.{and_both, and_every, and_left, and_right, none_is, some_is}
 use Rattle.class_mapping.proofs.RelatedLemmas.{Came, IsDeclared, back_in, came, declared_partner, has_partner, layout_here, layouts_in, list_for, one_side as one_of, own_in, same_class, side_from, sides_in, target_declared}
 

@@ -10,6 +10,7 @@ use Rattle.base_core.specs.declared.ids.ClassId.{ClassId}
 use Rattle.schema_core.specs.declared.table.TableSpec.{TableSpec}
 use Rattle.schema_core.specs.Catalog.{same_name}
 use Rattle.schema_core.specs.Declaration.{some_two}
+use Rattle.schema_core.proofs.Names.{same_names}
 use Rattle.class_types.specs.declared.declared.ClassSpec.{ClassSpec}
 use Rattle.class_types.specs.declared.declared.RelationSpec.{RelationSpec}
 use Rattle.class_types.specs.declared.mapped.Relation.{Relation}
@@ -26,7 +27,7 @@ use Rattle.class_mapping.specs.Lines.{AreLines, names_on}
 use Rattle.class_mapping.specs.Mapped.{Mapped, list_or_none, relations_of}
 use Rattle.class_mapping.specs.Related.{ArePartners}
 use Rattle.class_mapping.specs.Valid.{is_paired}
-use Rattle.class_mapping.proofs.Having.{Has, all_of, any_has, found_at_name, from_filter, from_flat, from_map, from_numbered, has_either, has_filter, has_flat, has_left, has_map, has_numbered, has_right, named_alike, none_of, one_of_name, same_names, some_of, true_false}
+use Rattle.class_mapping.proofs.Having.{Has, all_of, any_has, found_at_name, from_filter, from_flat, from_map, from_numbered, has_either, has_filter, has_flat, has_left, has_map, has_numbered, has_right, named_alike, none_of, one_of_name, some_of, true_false}
 use Rattle.class_mapping.proofs.LineLemmas.{none_at}
 use Rattle.class_mapping.proofs.Lists.{and_both, and_left, and_right, some_is}
 

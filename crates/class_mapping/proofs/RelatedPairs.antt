@@ -30,10 +30,11 @@ use Rattle.class_mapping.specs.Lines.{AreLines}
 use Rattle.class_mapping.specs.Mapped.{IsClass, IsValidMapping, Mapped, partner_of, relations_of}
 use Rattle.class_mapping.specs.Related.{AreApart, ArePartners, AreRelated, SharesKey, relation_at, share_key}
 use Rattle.class_mapping.specs.Valid.{IsValid, covers, covers_both, holds_of, is_joined, is_paired, joins_ends}
-use Rattle.class_mapping.proofs.Having.{Has, all_from, all_of, any_has, found_of, has_at, named_alike, none_of, same_names, some_of, true_false}
+use Rattle.class_mapping.proofs.Having.{Has, all_from, all_of, any_has, found_of, has_at, named_alike, none_of, some_of, true_false}
 use Rattle.class_mapping.proofs.MappingLemmas.{all_found, resolved_is}
 use Rattle.class_mapping.proofs.ValidLemmas.{valid_from}
 use Rattle.base_core.proofs.Tests.{or_first, or_then}
+use Rattle.schema_core.proofs.Names.{same_names}
 use Rattle.class_mapping.proofs.Lists.{and_both, and_every, and_left, and_right, or_left, or_right, and_three, three_parts}
 use Rattle.class_mapping.proofs.RelatedLemmas.{Came, IsDeclared, back_in, back_partners, came, declared_partner, layouts_in, list_for, one_side as one_of, own_in, own_partners, side_from, sides_in}
 use Rattle.class_mapping.proofs.RelatedJoins.{join_turned}
@@ -88,7 +89,7 @@ either_holds : (a b : Bool) → (a || b) ≡ true → (a ≡ true) ⊎ (b ≡ tr
 either_holds true b h = inl refl
 either_holds false b h = inr h
 
-none_some : {A B : Type 0} (o : Option A) → o ≡ None → is_some o ≡ true → B
+pub none_some : {A B : Type 0} (o : Option A) → o ≡ None → is_some o ≡ true → B
 none_some None e h = absurd cc
 none_some (Some x) e h = absurd cc
 

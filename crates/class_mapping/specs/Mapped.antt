@@ -1,14 +1,14 @@
 -- A mapping: the tables, the classes over them, and what each class has.
 use Rattle.std.specs.Prelude.{◌≡◌, ℕ, ◌-◌, ◌<◌, ◌≤◌, Bool, true, false, List, [], length, map, nat_lt, slice_get, slice_index_or, ◌==◌, Option, None, Some, if◌then◌else◌}
 use Rattle.std.specs.Option.{option_map}
-use Rattle.std.specs.List.{flat_map, list_all, list_any}
+use Rattle.std.specs.List.{flat_map, list_all, list_any, position}
 use Rattle.base_core.specs.declared.ids.AttrNo.{AttrNo}
 use Rattle.base_core.specs.declared.ids.ClassId.{ClassId}
 use Rattle.base_core.specs.declared.ids.TableId.{TableId}
 use Rattle.base_core.specs.declared.value.Kind.TheVariants.{Integer}
 use Rattle.base_core.specs.declared.refusal.ArgumentKind.{ArgumentKind}
 use Rattle.schema_core.specs.declared.table.TableSpec.{TableSpec}
-use Rattle.schema_core.specs.Catalog.{Catalog, spec_of}
+use Rattle.schema_core.specs.Catalog.{Catalog, same_name, spec_of}
 use Rattle.class_types.specs.declared.declared.ClassSpec.{ClassSpec}
 use Rattle.class_types.specs.declared.mapped.Attribute.{Attribute}
 use Rattle.class_types.specs.declared.mapped.Relation.{Relation}
@@ -41,6 +41,10 @@ class_spec mapped class = slice_index_or mapped.classes.specs class.0 hierarchy.
 -- the class of a name
 abbrev pub find_class : Mapped → List ℕ → Option ClassId
 find_class mapped name = option_map (λ place. record { 0 = place }) (hierarchy.place_of mapped.classes.specs name)
+
+-- the attribute of a name
+abbrev pub find_attribute : List Attribute → List ℕ → Option AttrNo
+find_attribute attributes name = option_map (λ place. record { 0 = place }) (position (λ attribute. same_name attribute.name name) attributes)
 
 -- the root of a class, and so on down to the class itself
 abbrev pub line_of : Mapped → ClassId → List ClassId

@@ -1,18 +1,15 @@
 -- What the names of a class's attributes stand for, and whether values are of their kinds.
 use Rattle.std.specs.Prelude.{ℕ, Bool, List, [], ◌∷◌, ◌++◌, Option, None, Some, Ok, Err, if◌then◌else◌}
-use Rattle.std.specs.Option.{option_map}
-use Rattle.std.specs.List.{list_any, position}
+use Rattle.std.specs.List.{list_any}
 use Rattle.base_core.specs.declared.ids.AttrNo.{AttrNo}
 use Rattle.base_core.specs.declared.ids.ClassId.{ClassId}
-use Rattle.base_core.specs.declared.value.Kind.{Kind}
 use Rattle.base_core.specs.declared.value.Value.{Value}
 use Rattle.base_core.specs.declared.refusal.Refusal.{Refusal}
-use Rattle.base_core.specs.declared.refusal.Refusal.TheVariants.{TypeMismatch}
-use Rattle.schema_core.specs.Catalog.{same_kind, same_name}
+use Rattle.schema_core.specs.Catalog.{same_name}
 use Rattle.schema_core.specs.Tables.{kind_of_value}
-use Rattle.class_types.specs.declared.mapped.Attribute.{Attribute}
+use Rattle.schema_core.specs.Refusals.{kind_fault}
 use Rattle.class_types.specs.declared.mapped.Relation.{Relation}
-use Rattle.class_mapping.specs.Mapped.{Mapped, attribute_of, attributes_of, find_class, relations_of}
+use Rattle.class_mapping.specs.Mapped.{Mapped, attribute_of, attributes_of, find_class, relations_of, find_attribute}
 use Rattle.sql_semantics.specs.Checked.{Checked, ◌>>=◌}
 use Rattle.command_resolve.specs.Terms.{found_or_unknown, unknown, wrong_kind}
 
@@ -21,10 +18,6 @@ use Rattle.command_resolve.specs.Terms.{found_or_unknown, unknown, wrong_kind}
 -- the class of a name
 abbrev pub class_named : Mapped → List ℕ → Checked ClassId
 class_named mapped name = found_or_unknown name (find_class mapped name)
-
--- the attribute of a name
-abbrev pub find_attribute : List Attribute → List ℕ → Option AttrNo
-find_attribute attributes name = option_map (λ place. record { 0 = place }) (position (λ attribute. same_name attribute.name name) attributes)
 
 -- a relationship has the name
 abbrev pub has_relation : List Relation → List ℕ → Bool
@@ -39,11 +32,6 @@ abbrev pub attribute_named : Mapped → ClassId → List ℕ → Checked AttrNo
 attribute_named mapped class name = attribute_or_refusal (relations_of mapped class) name (find_attribute (attributes_of mapped class) name)
 
 -- ---- kinds
-
--- a value of this kind, or NULL, does not go where another kind is wanted
-abbrev pub kind_fault : Kind → Option Kind → Option Refusal
-kind_fault wanted None = None
-kind_fault wanted (Some found) = if same_kind wanted found then None else Some (TypeMismatch wanted found)
 
 -- why a value is none for an attribute of a class: it is not NULL, and of another kind
 abbrev pub value_fault : Mapped → ClassId → AttrNo → Value → Option Refusal

@@ -4,6 +4,7 @@ ghost use Rattle.std.specs.Prelude.{◌≡◌, ◌<◌, length, true, None, Err,
 ghost use Rattle.std.specs.List.{position};
 ghost use Rattle.base_core.specs.Answers.{Gives};
 ghost use Rattle.schema_core.specs.Catalog.{same_name};
+ghost use Rattle.schema_core.specs.Refusals.{kind_fault};
 ghost use Rattle.class_mapping.specs.Mapped.{IsAttribute, IsClass};
 ghost use Rattle.command_resolve.specs.Attributes as spec;
 
@@ -80,7 +81,7 @@ fn no_attribute(relations: &[Relation], name: &Name) -> Result<Refusal, AllocErr
 
 /// The kinds that are wanted and found, where a value goes to a place of another kind.
 fn kind_fault(wanted: Kind, found: Option<Kind>) -> Option<Refusal>
-    ensures { result ≡ spec.kind_fault wanted found }
+    ensures { result ≡ kind_fault wanted found }
 {
     let found = found?;
     if same_kind(wanted, found) {

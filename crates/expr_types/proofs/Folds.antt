@@ -11,10 +11,16 @@ use Rattle.expr_types.specs.declared.expr.Expr.TheOpen.{Expr-F}
 use Rattle.expr_types.specs.declared.expr.Expr.TheFolds.{fold-Expr, fold-roll-Expr, ind-Expr, map-Expr}
 use Rattle.expr_types.specs.declared.expr.Expr.TheVariants as expr
 use Rattle.expr_types.specs.declared.expr.Expr.TheViews.{roll-out-Expr}
+use Rattle.expr_types.specs.Same.{same, same_level}
 
 -- an expression by its level
 pub whole_is : (n : Expr) (x : Expr-F Expr) → out-Expr n ≡ x → n ≡ roll-Expr x
 whole_is n x is = sym (roll-out-Expr n) ∙ ap roll-Expr is
+
+-- two expressions are one tree level by level
+pub same_rolled : (x : Expr-F Expr) (e : Expr) → same (roll-Expr x) e ≡ same_level (map-Expr Expr (Expr → Bool) same x) (out-Expr e)
+unfolding same
+same_rolled x e = ap (λ (f : Expr → Bool). f e) (fold-roll-Expr (Expr → Bool) (λ level other. same_level level (out-Expr other)) x)
 
 -- a level of operands of which something is known, without what is known
 abbrev pub bare : {P : Expr → Type 0} → Expr-F ((e : Expr) × P e) → Expr-F Expr

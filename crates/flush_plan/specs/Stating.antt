@@ -5,18 +5,16 @@ use Rattle.std.specs.Option.{option_and_then, unwrap_or}
 use Rattle.base_core.specs.declared.ids.ColumnNo.{ColumnNo}
 use Rattle.base_core.specs.declared.ids.TableId.{TableId}
 use Rattle.base_core.specs.declared.value.Value.{Value}
-use Rattle.base_core.specs.declared.value.Value.TheVariants.{Null}
 use Rattle.schema_core.specs.declared.changes.ChangedRow.{ChangedRow}
 use Rattle.schema_core.specs.declared.changes.GoneRow.{GoneRow}
 use Rattle.schema_core.specs.declared.changes.RowCell.{RowCell}
-use Rattle.schema_core.specs.declared.changes.RowCell.TheVariants.{Given, KeyOf}
 use Rattle.schema_core.specs.declared.changes.RowChanges.{RowChanges}
 use Rattle.schema_core.specs.declared.table.ColumnSpec.{ColumnSpec}
 use Rattle.schema_core.specs.declared.table.TableSpec.{TableSpec}
 use Rattle.schema_core.specs.Apply.{with_cells, with_own_key}
 use Rattle.schema_core.specs.Catalog.{Catalog, spec_of}
 use Rattle.schema_core.specs.Declaration.{some_two}
-use Rattle.schema_core.specs.Tables.{Rows, Tables, has_null, is_created, key_of, row_under, rows_in, with_row, with_rows, without_row}
+use Rattle.schema_core.specs.Tables.{Rows, Tables, has_null, is_created, key_of, row_under, rows_in, with_row, with_rows, without_row, given_value}
 use Rattle.flush_order.specs.Cells.{first_cells, is_late, known_row, new_at, table_at}
 use Rattle.flush_plan.specs.Flushing.{Keys, Sofar, key_of_new, value_of_cell}
 use Rattle.flush_order.specs.Orders.{place_of_gone}
@@ -144,10 +142,6 @@ unfoldable pub stated_tables : Catalog → Tables → RowChanges → List ℕ �
 stated_tables schema tables changes order = stated_under schema tables changes order (all_placed schema changes tables order)
 
 -- ---- Guess
-
-abbrev pub given_value : RowCell → Value
-given_value (Given value) = value
-given_value (KeyOf place part) = Null
 
 -- a part of the new row's key is generated, or comes from one that is
 abbrev pub is_open : Catalog → RowChanges → ℕ → Bool

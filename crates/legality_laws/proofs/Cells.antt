@@ -19,18 +19,12 @@ use Rattle.schema_core.specs.WellFormed.{is_row, may_hold}
 use Rattle.sql_semantics.specs.Kinds.{column_in}
 use Rattle.sql_semantics.specs.Plain.{are_for, has_kind, is_of_kind}
 use Rattle.sql_semantics.specs.Taken.{inserted_row, column_values}
-use Rattle.sql_semantics.proofs.Typed.{same_kind_is}
+use Rattle.sql_semantics.proofs.Typed.{kind_itself, same_kind_is}
 
 -- ---- one cell
 
-own_kind : (k : Kind) → same_kind k k ≡ true
-own_kind kinds.Integer = refl
-own_kind kinds.Text = refl
-own_kind kinds.Boolean = refl
-own_kind kinds.Bytes = refl
-
 pub kind_turned : (a b : Kind) → same_kind a b ≡ true → same_kind b a ≡ true
-kind_turned a b e = subst (λ (k : Kind). same_kind k a ≡ true) (same_kind_is a b e) (own_kind a)
+kind_turned a b e = subst (λ (k : Kind). same_kind k a ≡ true) (same_kind_is a b e) (kind_itself a)
 
 -- a value of the column's kind, or NULL, may stand in the column
 pub held_by_kind : (c : ColumnSpec) (v : Value) → is_of_kind (kind_of c.kind) v ≡ true → may_hold c v ≡ true

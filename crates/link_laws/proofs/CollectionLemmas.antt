@@ -7,8 +7,9 @@ use Rattle.schema_core.specs.Declaration.{some_two}
 use Rattle.base_core.specs.declared.ids.ObjId.{ObjId}
 use Rattle.object_arena.specs.declared.object.Link.{Link}
 use Rattle.object_arena.specs.declared.object.Link.TheVariants.{Unset, Unloaded, One, Many}
+use Rattle.object_arena.specs.Graph.{is_among}
 use Rattle.relations.specs.Mirror.{is_unloaded, loaded_to, members_in}
-use Rattle.relations.specs.Sides.{added_unless, is_among, joined_by, joined_unloaded, left_by, left_unloaded, without}
+use Rattle.relations.specs.Sides.{added_unless, joined_by, joined_unloaded, left_by, left_unloaded, without}
 use Rattle.link_laws.specs.Links.{HasJoined, has_in, repeats_member, same_object}
 
 pub false_if : (b : Bool) → (b ≡ true → ⊥) → b ≡ false

@@ -9,9 +9,9 @@ use Rattle.class_mapping.specs.Mapped.{partner_of}
 use Rattle.class_mapping.proofs.Having.{true_false}
 use Rattle.object_arena.specs.declared.object.Link.{Link}
 use Rattle.object_arena.specs.declared.object.Link.TheVariants.{One}
-use Rattle.object_arena.specs.Graph.{object_at}
+use Rattle.object_arena.specs.Graph.{is_among, object_at}
 use Rattle.relations.specs.Mirror.{has_member, is_of, is_unloaded, leads_elsewhere, link_at, members_in}
-use Rattle.relations.specs.Sides.{is_among, joined_by, left_by}
+use Rattle.relations.specs.Sides.{joined_by, left_by}
 use Rattle.relations.proofs.ChangeLemmas.{end_taken}
 use Rattle.link_laws.specs.Links.{AppendAdds, Before, IsOfMember, RemoveTakesOut, is_link, is_link_of_end, leads_already, link_after_set, link_back, link_let_go, link_loaded, link_moved, link_paired, link_unpaired, old_parent_of, parent_left, relation_in}
 use Rattle.link_laws.proofs.CollectionLemmas.{false_if, joined_member, left_no_member}

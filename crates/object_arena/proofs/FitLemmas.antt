@@ -16,6 +16,7 @@ use Rattle.base_core.specs.declared.refusal.Refusal.{Refusal}
 use Rattle.base_core.specs.declared.refusal.Refusal.TheVariants.{TypeMismatch}
 use Rattle.schema_core.specs.Catalog.{same_kind}
 use Rattle.schema_core.specs.Tables.{kind_of_value}
+use Rattle.schema_core.specs.Refusals.{kind_fault}
 use Rattle.class_types.specs.declared.mapped.Attribute.{Attribute}
 use Rattle.class_mapping.specs.Mapped.{IsAttribute, IsClass, Mapped, attribute_of, attributes_of, no_attribute, relations_of, root_of}
 use Rattle.object_arena.specs.declared.object.State.{State}
@@ -24,7 +25,7 @@ use Rattle.object_arena.specs.declared.object.Cell.{Cell}
 use Rattle.object_arena.specs.declared.object.Link.{Link}
 use Rattle.object_arena.specs.declared.object.Link.TheVariants.{Unset, Unloaded}
 use Rattle.object_arena.specs.declared.object.Object.{Object}
-use Rattle.object_arena.specs.Graph.{Graph, IsCell, IsLink, IsObject, cell_in, cell_put, either_fault, empty_graph, expired_object, expired_cell, fresh_object, kept_identity, key_fault, kind_fault, no_object, null_cell, object_at, place_of, put_back_object, root_at, no_class_id, settled_object, settled_cell, settled_link, settled_value, value_fault, with_cell, with_fresh, with_link, with_marks, with_object, with_state, with_value}
+use Rattle.object_arena.specs.Graph.{Graph, IsCell, IsLink, IsObject, cell_in, cell_put, either_fault, empty_graph, expired_object, expired_cell, fresh_object, kept_identity, key_fault, no_object, null_cell, object_at, place_of, put_back_object, root_at, no_class_id, settled_object, settled_cell, settled_link, settled_value, value_fault, with_cell, with_fresh, with_link, with_marks, with_object, with_state, with_value}
 use Rattle.object_arena.specs.Identity.{with_identity}
 use Rattle.object_arena.specs.Fit.{IsFit, ObjectFits, cell_fits, identity_fits, is_of_kind, key_fits, link_fits, links_fit, no_relation, relation_of, value_fits}
 use Rattle.object_arena.proofs.ClassLemmas.{settled_class}

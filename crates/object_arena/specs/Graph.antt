@@ -1,18 +1,20 @@
 -- The graph of objects, and the changes of single objects in it.
-use Rattle.std.specs.Prelude.{ℕ, ◌+◌, ◌-◌, ◌<◌, ◌≤◌, Bool, true, false, ◌&&◌, List, [], ◌∷◌, ◌++◌, length, map, slice_index_or, slice_set, nat_lt, Option, None, Some, is_some, Result, Ok, Err, if◌then◌else◌}
+use Rattle.std.specs.Prelude.{ℕ, ◌+◌, ◌-◌, ◌<◌, ◌≤◌, Bool, true, false, ◌&&◌, List, [], ◌∷◌, ◌++◌, length, map, slice_index_or, slice_set, nat_lt, Option, None, Some, is_some, Result, Ok, Err, if◌then◌else◌, ◌==◌}
+use Rattle.std.specs.List.{list_any}
+use Rattle.std.specs.Ordering.{nat_cmp, ordering_then}
+use Rattle.std.specs.declared.cmp.Ordering.{Ordering}
 use Rattle.base_core.specs.declared.ids.ObjId.{ObjId}
 use Rattle.base_core.specs.declared.ids.ClassId.{ClassId}
 use Rattle.base_core.specs.declared.ids.AttrNo.{AttrNo}
 use Rattle.base_core.specs.declared.ids.RelNo.{RelNo}
-use Rattle.base_core.specs.declared.value.Kind.{Kind}
 use Rattle.base_core.specs.declared.value.Value.{Value}
 use Rattle.base_core.specs.declared.value.Value.TheVariants.{Null}
 use Rattle.base_core.specs.declared.refusal.LimitKind.TheVariants.{Objects}
 use Rattle.base_core.specs.declared.refusal.RequestKind.TheVariants.{KeyChange}
 use Rattle.base_core.specs.declared.refusal.Refusal.{Refusal}
-use Rattle.base_core.specs.declared.refusal.Refusal.TheVariants.{InvalidRequestError, LimitReached, TypeMismatch}
-use Rattle.schema_core.specs.Catalog.{same_kind}
+use Rattle.base_core.specs.declared.refusal.Refusal.TheVariants.{InvalidRequestError, LimitReached}
 use Rattle.schema_core.specs.Tables.{kind_of_value, value_or_null}
+use Rattle.schema_core.specs.Refusals.{kind_fault}
 use Rattle.class_mapping.specs.Mapped.{Mapped, attribute_of, attributes_of, is_key_attribute, relations_of, root_of}
 use Rattle.object_arena.specs.declared.object.State.{State}
 use Rattle.object_arena.specs.declared.object.State.TheVariants.{Transient, Pending, Persistent, Deleted, Detached}
@@ -127,11 +129,6 @@ make graph mapped class =
     if nat_lt (length graph.objects) object_limit then Ok (record { 0 = length graph.objects + 1 }, with_fresh graph mapped class)
     else Err (LimitReached Objects)
 
--- the value is NULL or of the kind
-abbrev pub kind_fault : Kind → Option Kind → Option Refusal
-kind_fault wanted None = None
-kind_fault wanted (Some found) = if same_kind wanted found then None else Some (TypeMismatch wanted found)
-
 -- why a value is not taken for an attribute of an object
 abbrev pub value_fault : Mapped → Object → AttrNo → Value → Option Refusal
 value_fault mapped object attr value = kind_fault (attribute_of mapped object.class attr).kind (kind_of_value value)
@@ -172,6 +169,25 @@ has_identity Detached = true
 abbrev pub is_persistent : State → Bool
 is_persistent Persistent = true
 is_persistent state = false
+
+abbrev pub is_pending : State → Bool
+is_pending Pending = true
+is_pending state = false
+
+-- an object is among others
+abbrev pub is_among : List ObjId → ObjId → Bool
+is_among objects object = list_any (λ other. other.0 == object.0) objects
+
+-- where a pending object stands among the others: by its add number, and then by its own number
+abbrev pub Rank : Type 0
+Rank = ℕ × ℕ
+
+abbrev pub rank_cmp : Rank → Rank → Ordering
+rank_cmp one other = ordering_then (nat_cmp one.0 other.0) (nat_cmp one.1 other.1)
+
+-- objects by their rank
+abbrev pub Queue : Type 0
+Queue = List (Rank × ObjId)
 
 -- an identity stays where the state has one
 abbrev pub kept_identity : State → Option (List Value) → Option (List Value)

@@ -11,11 +11,11 @@ use Rattle.std.specs.BTreeMap.{insert_entry}
 use Rattle.base_core.specs.declared.ids.ObjId.{ObjId}
 use Rattle.base_core.specs.declared.refusal.RowName.{RowName}
 use Rattle.class_mapping.specs.Mapped.{Mapped, tables_of}
-use Rattle.object_arena.specs.Graph.{Graph, IsObject, object_at}
+use Rattle.object_arena.specs.Graph.{Graph, IsObject, object_at, Queue, rank_cmp}
 use Rattle.object_arena.specs.Identity.{id_of_place}
 use Rattle.object_rows.specs.declared.prepared.Prepared.{Prepared}
 use Rattle.object_rows.specs.Rows.{new_names, row_name, rows_of}
-use Rattle.object_rows.specs.Seen.{Queue, is_new, new_objects, object_ids, rank_cmp, with_queued}
+use Rattle.object_rows.specs.Seen.{is_new, new_objects, object_ids, with_queued}
 
 ids_length : (graph : Graph) → length (object_ids graph) ≡ length graph.objects
 unfolding object_ids

@@ -1,31 +1,20 @@
 -- The objects of a graph as a flush finds them once it is prepared.
-use Rattle.std.specs.Prelude.{ℕ, Bool, true, false, not, ◌&&◌, ◌||◌, ◌==◌, List, [], map, fold, length, slice_index_or, Option, None, Some, if◌then◌else◌}
+use Rattle.std.specs.Prelude.{Bool, true, false, not, ◌&&◌, ◌||◌, ◌==◌, List, [], map, fold, length, slice_index_or, Option, None, Some, if◌then◌else◌}
 use Rattle.std.specs.List.{All, list_any, range_with_len}
 use Rattle.std.specs.BTreeMap.{insert_entry}
 use Rattle.std.specs.Map.{values_of}
-use Rattle.std.specs.declared.cmp.Ordering.{Ordering}
-use Rattle.std.specs.Ordering.{nat_cmp, ordering_then}
 use Rattle.base_core.specs.declared.ids.ObjId.{ObjId}
 use Rattle.base_core.specs.declared.ids.RelNo.{RelNo}
 use Rattle.object_arena.specs.declared.object.Link.{Link}
 use Rattle.object_arena.specs.declared.object.Link.TheVariants.{Unset, Unloaded, One, Many}
 use Rattle.object_arena.specs.declared.object.Object.{Object}
-use Rattle.object_arena.specs.declared.object.State.{State}
-use Rattle.object_arena.specs.declared.object.State.TheVariants.{Pending}
-use Rattle.object_arena.specs.Graph.{Graph, IsObject, is_persistent, object_at}
+use Rattle.object_arena.specs.Graph.{Graph, IsObject, is_persistent, object_at, Queue, is_among, is_pending, rank_cmp}
 use Rattle.object_arena.specs.Identity.{id_of_place}
 use Rattle.object_rows.specs.declared.prepared.Prepared.{Prepared}
 
 -- the objects by number
 unfoldable pub object_ids : Graph → List ObjId
 object_ids graph = map id_of_place (range_with_len 0 (length graph.objects))
-
-abbrev pub is_among : List ObjId → ObjId → Bool
-is_among objects object = list_any (λ other. other.0 == object.0) objects
-
-abbrev pub is_pending : State → Bool
-is_pending Pending = true
-is_pending state = false
 
 -- the object's rows are to be made: it is pending, and stays so
 abbrev pub is_new : Graph → Prepared → ObjId → Bool
@@ -43,17 +32,6 @@ abbrev pub AreMade : Graph → Prepared → Type 0
 AreMade graph prepared = All (IsObject graph) prepared.deleted
 
 -- ---- the order of adding
-
--- where a new object stands among the others: by its add number, and then by its own number
-abbrev pub Rank : Type 0
-Rank = ℕ × ℕ
-
-abbrev pub rank_cmp : Rank → Rank → Ordering
-rank_cmp one other = ordering_then (nat_cmp one.0 other.0) (nat_cmp one.1 other.1)
-
--- objects by their rank
-abbrev pub Queue : Type 0
-Queue = List (Rank × ObjId)
 
 -- the queue with an object, where its rows are to be made
 abbrev pub with_queued : Graph → Prepared → Queue → ObjId → Queue

@@ -5,7 +5,7 @@ ghost use Rattle.std.specs.Prelude.{slice_index_or};
 ghost use Rattle.base_core.specs.declared.refusal.Refusal.TheVariants.{Memory};
 ghost use Rattle.base_core.specs.declared.value.Value.TheVariants.{Null};
 ghost use Rattle.object_arena.specs.declared.object.Link.TheVariants.{Unset};
-ghost use Rattle.object_arena.specs.Graph.{is_persistent, object_at};
+ghost use Rattle.object_arena.specs.Graph.{is_among, is_pending, is_persistent, object_at};
 ghost use Rattle.object_rows.specs.Seen as spec;
 ghost use Rattle.object_rows.specs.Cells.{key_value};
 
@@ -26,13 +26,13 @@ fn state_of(arena: &Arena, object: ObjId) -> State
 
 /// Whether an object is among others.
 pub fn is_among(objects: &ObjList, object: ObjId) -> bool
-    ensures { result ≡ spec.is_among objects.now object }
+    ensures { result ≡ is_among objects.now object }
 {
     objects.as_slice().iter().any(|other| other.0 == object.0)
 }
 
 fn is_pending(state: State) -> bool
-    ensures { result ≡ spec.is_pending state }
+    ensures { result ≡ is_pending state }
 {
     matches!(state, State::Pending)
 }

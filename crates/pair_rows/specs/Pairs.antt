@@ -7,21 +7,21 @@ use Rattle.std.specs.Ordering.{nat_cmp, ordering_then}
 use Rattle.base_core.specs.declared.ids.ObjId.{ObjId}
 use Rattle.base_core.specs.declared.ids.TableId.{TableId}
 use Rattle.base_core.specs.declared.refusal.RowName.{RowName}
-use Rattle.base_core.specs.declared.value.Value.{Value}
 use Rattle.base_core.specs.declared.value.Value.TheVariants.{Null}
 use Rattle.schema_core.specs.declared.changes.GoneRow.{GoneRow}
 use Rattle.schema_core.specs.declared.changes.NewRow.{NewRow}
 use Rattle.schema_core.specs.declared.changes.RowCell.{RowCell}
-use Rattle.schema_core.specs.declared.changes.RowCell.TheVariants.{Given, KeyOf}
+use Rattle.schema_core.specs.declared.changes.RowCell.TheVariants.{Given}
 use Rattle.schema_core.specs.declared.table.ColumnSpec.{ColumnSpec}
+use Rattle.schema_core.specs.Tables.{given_value}
 use Rattle.class_types.specs.declared.mapped.Relation.{Relation}
 use Rattle.class_layouts.specs.Faults.{foreigns_in}
 use Rattle.class_mapping.specs.Mapped.{Mapped, relations_of}
 use Rattle.object_arena.specs.declared.object.Link.{Link}
 use Rattle.object_arena.specs.declared.object.Link.TheVariants.{Unset, Unloaded, One, Many}
-use Rattle.object_arena.specs.Graph.{Graph, object_at}
+use Rattle.object_arena.specs.Graph.{Graph, is_among, object_at}
 use Rattle.object_rows.specs.declared.prepared.Prepared.{Prepared}
-use Rattle.object_rows.specs.Seen.{is_among, is_in_session, link_of, object_ids}
+use Rattle.object_rows.specs.Seen.{is_in_session, link_of, object_ids}
 use Rattle.object_rows.specs.Cells.{foreign_cell, or_first}
 use Rattle.object_rows.specs.Rows.{columns_at, new_names, row_name}
 
@@ -146,10 +146,6 @@ pair_name pair = row_name pair.1.0 pair.0
 
 abbrev pub made_row : Mapped → Graph → List RowName → Pair → NewRow
 made_row mapped graph rows pair = record { name = pair_name pair; cells = map (pair_cell mapped graph rows pair) (columns_at mapped pair.0) }
-
-abbrev pub given_value : RowCell → Value
-given_value (Given value) = value
-given_value (KeyOf place part) = Null
 
 abbrev pub lost_row : Mapped → Graph → Pair → GoneRow
 lost_row mapped graph pair = record { name = pair_name pair; base = map (λ column. given_value (pair_cell mapped graph [] pair column)) (columns_at mapped pair.0) }

@@ -2,6 +2,7 @@
 
 ghost use Rattle.std.specs.Prelude.{◌≡◌, ◌++◌, ◌∷◌, [], true, map, IfOk, IfErr, OnOk};
 ghost use Rattle.base_core.specs.declared.refusal.Refusal.TheVariants.{Memory};
+ghost use Rattle.schema_core.specs.Tables.{given_value};
 ghost use Rattle.object_arena.specs.Fit.{IsFit};
 ghost use Rattle.object_rows.specs.Ready.{IsReady};
 ghost use Rattle.pair_rows.specs.Pairs as spec;
@@ -26,7 +27,7 @@ fn pair_name(pair: Pair) -> RowName
 
 /// The value that is given, or NULL.
 fn given_value(cell: RowCell) -> Value
-    ensures { result ≡ spec.given_value cell }
+    ensures { result ≡ given_value cell }
 {
     match cell {
         RowCell::Given(value) => value,

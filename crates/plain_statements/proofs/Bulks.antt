@@ -1,6 +1,6 @@
 -- The tests of a bulk statement hold exactly where it fits its table, and where a keeper may be sent it.
-use Rattle.std.proofs.Common.{◌≡◌, ◌<◌, Bool, true, false, not, ◌&&◌, ◌||◌, ◌==◌, ◌↔◌, IsTrue, List, [], ◌∷◌, map, length, Option, Some, None, is_some, Ok, refl, sym, ap, ◌∙◌}
-use Rattle.std.proofs.lemmas.Bool.{and_from, and_parts, ltb-true, lt-ltb}
+use Rattle.std.proofs.Common.{◌≡◌, Bool, true, false, not, ◌&&◌, ◌||◌, ◌==◌, ◌↔◌, IsTrue, List, [], ◌∷◌, map, Option, Some, None, is_some, Ok, refl, sym, ap, ◌∙◌}
+use Rattle.std.proofs.lemmas.Bool.{and_from, and_parts}
 use Rattle.std.specs.List.{list_all, list_any, AllByRecursion}
 use Rattle.std.specs.Cmp.Lexicographic.{pointwise}
 use Rattle.base_core.specs.declared.ids.TableId.{TableId}
@@ -17,7 +17,8 @@ use Rattle.sql_semantics.specs.Kinds.{column_in, expression_kind}
 use Rattle.sql_semantics.specs.Plain.{IfSet, IsFilter, IsPlainBulk, IsWritten, StandsIn, alone, are_apart, are_for, has_column, is_free_column, is_key_column, is_kind_where, lacks_aggregate}
 use Rattle.sql_semantics.specs.PlainStatement.{IsFittingBulk}
 use Rattle.plain_statements.specs.Tested as test
-use Rattle.plain_statements.proofs.Conditions.{Tells, each, if_there, row_condition, standing_as}
+use Rattle.plain_statements.proofs.Conditions.{Tells, each, if_there, row_condition, standing_as, known}
+use Rattle.plain_statements.proofs.Neither.{not_either}
 
 -- ---- columns and values
 
@@ -26,10 +27,6 @@ for_each schema table [] [] = refl
 for_each schema table [] (v ∷ values) = refl
 for_each schema table (c ∷ columns) [] = refl
 for_each schema table (c ∷ columns) (v ∷ values) = ap (λ b. test.is_for schema table c v && b) (for_each schema table columns values)
-
-not_either : (a b : Bool) → (not a && not b) ≡ not (a || b)
-not_either true b = refl
-not_either false b = refl
 
 apart : (columns : List ColumnNo) → not (some_two (λ other column. other.0 == column.0) columns) ≡ are_apart columns
 apart [] = refl
@@ -90,9 +87,6 @@ filtered : (schema : Catalog) (table : TableId) (filter : Option Expr) → Tells
 filtered schema table filter = if_there (test.is_filter schema (table ∷ []) (test.names_alone schema table)) (IsFilter schema (alone table)) (row_condition schema (alone table)) filter
 
 -- ---- statements
-
-known : (schema : Catalog) (table : TableId) → Tells (test.is_known schema table) (table.0 < length schema.tables)
-known schema table = record { told = ltb-true table.0 (length schema.tables); holds = lt-ltb table.0 (length schema.tables) }
 
 abbrev Cells : Catalog → TableId → List (ColumnNo × Option Expr) → Type 0
 Cells schema table cells = AllByRecursion (λ cell. IfSet (IsWritten schema table cell.0) cell.1) cells

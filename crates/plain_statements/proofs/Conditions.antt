@@ -1,17 +1,18 @@
 -- Each test of an expression holds exactly where its condition does.
-use Rattle.std.proofs.Common.{◌≡◌, ℕ, Bool, true, ◌&&◌, List, [], ◌∷◌, Option, Some, None, Ok, Err, is_ok, refl, ap, ◌∙◌}
-use Rattle.std.proofs.lemmas.Bool.{and_from, and_parts}
+use Rattle.std.proofs.Common.{◌≡◌, ℕ, Bool, true, ◌&&◌, List, [], ◌∷◌, Option, Some, None, Ok, Err, is_ok, refl, ap, ◌∙◌, ◌<◌, length}
+use Rattle.std.proofs.lemmas.Bool.{and_from, and_parts, lt-ltb, ltb-true}
 use Rattle.std.specs.List.{list_all, AllByRecursion}
+use Rattle.base_core.specs.declared.ids.TableId.{TableId}
 use Rattle.base_core.specs.declared.value.Kind.{Kind}
 use Rattle.base_core.specs.declared.value.Kind.TheVariants as kinds
-use Rattle.schema_core.specs.Catalog.{Catalog, same_kind}
+use Rattle.schema_core.specs.Catalog.{Catalog}
 use Rattle.expr_types.specs.declared.expr.Expr.{Expr}
 use Rattle.expr_types.specs.declared.expr.Origin.{Origin}
 use Rattle.expr_types.specs.Normal.{normal}
 use Rattle.expr_types.specs.Same.{same}
 use Rattle.sql_semantics.specs.Kinds.{Judged, Scope, expression_kind}
 use Rattle.sql_semantics.specs.Plain.{IfSet, IsCondition, IsFilter, StandsIn, fits, has_full_lists, lacks_aggregate, names_apart}
-use Rattle.sql_semantics.proofs.Typed.{same_kind_is}
+use Rattle.sql_semantics.proofs.Typed.{kind_itself, same_kind_is}
 use Rattle.plain_statements.specs.Tested as test
 use Rattle.plain_statements.proofs.Equality.{same_from, same_is}
 
@@ -33,13 +34,12 @@ pub if_there : (p : Expr → Bool) (P : Expr → Type 0) → ((e : Expr) → Tel
 if_there p P tells (Some e) = tells e
 if_there p P tells None = record { told = λ h. tt; holds = λ h. refl }
 
--- ---- kinds
+-- ---- tables
 
-kind_itself : (k : Kind) → same_kind k k ≡ true
-kind_itself kinds.Integer = refl
-kind_itself kinds.Text = refl
-kind_itself kinds.Boolean = refl
-kind_itself kinds.Bytes = refl
+pub known : (schema : Catalog) (table : TableId) → Tells (test.is_known schema table) (table.0 < length schema.tables)
+known schema table = record { told = ltb-true table.0 (length schema.tables); holds = lt-ltb table.0 (length schema.tables) }
+
+-- ---- kinds
 
 pub of_kind : (kind : Kind) (r : Judged) → Tells (test.is_of kind r) (r ≡ Ok kind)
 of_kind kind (Ok found) = record { told = λ h. ap Ok (same_kind_is found kind h); holds = λ h. ap (test.is_of kind) h ∙ kind_itself kind }

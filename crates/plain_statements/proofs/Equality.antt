@@ -12,7 +12,7 @@ use Rattle.base_core.specs.declared.value.ArithOp.TheVariants.{Add, Sub, Mul}
 use Rattle.base_core.specs.Order.{same_value, value_cmp}
 use Rattle.base_core.specs.OrderLaws.{value_cmp_total}
 use Rattle.base_core.proofs.Exact.{exact_value}
-use Rattle.schema_core.specs.Catalog.{same_name}
+use Rattle.schema_core.proofs.Names.{same_names, name_itself}
 use Rattle.expr_types.specs.declared.expr.CompareOp.{CompareOp}
 use Rattle.expr_types.specs.declared.expr.CompareOp.TheVariants as compare
 use Rattle.expr_types.specs.declared.expr.Func.{Func}
@@ -20,14 +20,10 @@ use Rattle.expr_types.specs.declared.expr.Func.TheVariants.{Count, Sum, Min, Max
 use Rattle.expr_types.specs.declared.expr.Origin.{Origin}
 use Rattle.expr_types.specs.declared.expr.Expr.{Expr, out-Expr, roll-Expr}
 use Rattle.expr_types.specs.declared.expr.Expr.TheOpen.{Expr-F}
-use Rattle.expr_types.specs.declared.expr.Expr.TheFolds.{fold-roll-Expr, map-Expr}
+use Rattle.expr_types.specs.declared.expr.Expr.TheFolds.{map-Expr}
 use Rattle.expr_types.specs.declared.expr.Expr.TheViews.{out-roll-Expr, roll-out-Expr}
 use Rattle.expr_types.specs.Same.{arith_place, compare_place, function_place, same, same_alias, same_all, same_bool, same_level, same_origin}
-use Rattle.expr_types.proofs.Folds.{bare, by_levels}
-
-same_rolled : (x : Expr-F Expr) (e : Expr) → same (roll-Expr x) e ≡ same_level (map-Expr Expr (Expr → Bool) same x) (out-Expr e)
-unfolding same
-same_rolled x e = ap (λ (f : Expr → Bool). f e) (fold-roll-Expr (Expr → Bool) (λ level other. same_level level (out-Expr other)) x)
+use Rattle.expr_types.proofs.Folds.{bare, by_levels, same_rolled}
 
 -- ---- values of functions of several arguments
 
@@ -75,23 +71,11 @@ function_is Length Length h = refl
 function_is Coalesce Coalesce h = refl
 function_is f g h = absurd (false≢true h)
 
-name_is : (n m : List ℕ) → same_name n m ≡ true → n ≡ m
-name_is [] [] h = refl
-name_is [] (c ∷ cs) h = absurd (false≢true h)
-name_is (b ∷ bs) [] h = absurd (false≢true h)
-name_is (b ∷ bs) (c ∷ cs) h =
-    let both = and_parts (b == c) (same_name bs cs) h in
-    ap (λ (d : ℕ). d ∷ bs) (eqb-true b c both.0) ∙ ap (λ (ds : List ℕ). c ∷ ds) (name_is bs cs both.1)
-
-name_itself : (n : List ℕ) → same_name n n ≡ true
-name_itself [] = refl
-name_itself (c ∷ cs) = ap (λ b. b && same_name cs cs) (eq-eqb c c refl) ∙ name_itself cs
-
 alias_is : (a b : Option (List ℕ)) → same_alias a b ≡ true → a ≡ b
 alias_is None None h = refl
 alias_is None (Some b) h = absurd (false≢true h)
 alias_is (Some a) None h = absurd (false≢true h)
-alias_is (Some a) (Some b) h = ap Some (name_is a b h)
+alias_is (Some a) (Some b) h = ap Some (same_names a b h)
 
 alias_itself : (a : Option (List ℕ)) → same_alias a a ≡ true
 alias_itself None = refl

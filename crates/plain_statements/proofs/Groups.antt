@@ -11,6 +11,7 @@ use Rattle.expr_types.specs.Level.{has_aggregate, is_aggregate_function}
 use Rattle.expr_types.specs.Same.{same}
 use Rattle.sql_semantics.specs.Plain.{Found, lacks_aggregate, is_well_grouped, is_well_grouped_level, whole}
 use Rattle.plain_statements.specs.Tested.{found_in, occurs_in, settled_inside}
+use Rattle.plain_statements.proofs.Neither.{not_either}
 
 module _ (grouped : Bool) (groups : List Expr) (own : ℕ) where
   abbrev found : Expr → Found
@@ -45,10 +46,6 @@ settled_at grouped groups own e =
 pub all_found : (grouped : Bool) (groups : List Expr) (own : ℕ) (es : List Expr) → list_all (λ (f : Found). f.1) (map (found_in grouped groups own) es) ≡ list_all (is_well_grouped grouped groups own) es
 all_found grouped groups own [] = refl
 all_found grouped groups own (e ∷ es) = ap (λ b. is_well_grouped grouped groups own e && b) (all_found grouped groups own es)
-
-not_either : (a b : Bool) → (not a && not b) ≡ not (a || b)
-not_either true b = refl
-not_either false b = refl
 
 pub all_lack : (grouped : Bool) (groups : List Expr) (own : ℕ) (es : List Expr) → list_all (λ (f : Found). lacks_aggregate f.0) (map (found_in grouped groups own) es) ≡ not (list_any (λ has. has) (map has_aggregate es))
 all_lack grouped groups own [] = refl

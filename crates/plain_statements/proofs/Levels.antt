@@ -1,5 +1,5 @@
 -- What is tested at every level, at the levels that have lists of operands; and names that stand once.
-use Rattle.std.proofs.Common.{◌≡◌, ℕ, Bool, true, false, not, ◌&&◌, ◌||◌, nat_lt, suc, List, [], ◌∷◌, ◌++◌, map, length, refl, ap, ◌∙◌}
+use Rattle.std.proofs.Common.{◌≡◌, ℕ, Bool, not, ◌&&◌, nat_lt, suc, List, [], ◌∷◌, ◌++◌, map, length, refl, ap, ◌∙◌}
 use Rattle.std.specs.List.{list_all}
 use Rattle.schema_core.specs.Catalog.{Catalog, has_name, same_name}
 use Rattle.schema_core.specs.Declaration.{some_two}
@@ -13,6 +13,7 @@ use Rattle.expr_types.proofs.Folds.{fold-And, fold-Or, fold-Call}
 use Rattle.sql_semantics.specs.Kinds.{Scope}
 use Rattle.sql_semantics.specs.Plain.{adds_name, are_distinct, fits, full_level, has_full_lists, name_of, names_apart, takes}
 use Rattle.sql_semantics.proofs.Equations.{fits-And, fits-Or, fits-Call}
+use Rattle.plain_statements.proofs.Neither.{not_either}
 
 pub fits_and : (schema : Catalog) (scope : Scope) (es : List Expr) → fits schema (expr.And es) scope ≡ list_all (λ holds. holds scope) (map (fits schema) es)
 fits_and schema scope es = fits-And schema scope es
@@ -54,10 +55,6 @@ unfolding names_apart
 apart_call schema names g es = ap (λ (f : Names → Bool). f names) (fold-Call (Names → Bool) (apart_step schema) g es)
 
 pub ruleset apart_lists = (apart_and, apart_or, apart_call)
-
-not_either : (a b : Bool) → (not a && not b) ≡ not (a || b)
-not_either true b = refl
-not_either false b = refl
 
 pub distinct_names : (names : Names) → are_distinct names ≡ not (some_two same_name names)
 distinct_names [] = refl

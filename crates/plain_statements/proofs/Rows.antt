@@ -5,7 +5,6 @@ use Rattle.std.proofs.lemmas.List.{drop_all}
 use Rattle.std.specs.List.{list_all, list_any}
 use Rattle.std.specs.Cmp.Lexicographic.{pointwise}
 use Rattle.base_core.specs.declared.ids.ColumnNo.{ColumnNo}
-use Rattle.base_core.specs.declared.ids.TableId.{TableId}
 use Rattle.base_core.specs.declared.value.Value.{Value}
 use Rattle.schema_core.specs.declared.table.ColumnSpec.{ColumnSpec}
 use Rattle.schema_core.specs.declared.table.TableSpec.{TableSpec}
@@ -16,7 +15,7 @@ use Rattle.schema_core.specs.Catalog.{Catalog, key_columns, spec_of}
 use Rattle.schema_core.specs.Tables.{fits, has_null, is_null, key_cells}
 use Rattle.schema_core.specs.WellFormed.{AreNewRows, IsWellFormed, are_cells, is_key, is_row}
 use Rattle.plain_statements.specs.Tested as test
-use Rattle.plain_statements.proofs.Conditions.{Tells}
+use Rattle.plain_statements.proofs.Conditions.{known, Tells}
 
 -- ---- a NULL in a key
 
@@ -122,9 +121,6 @@ turned E (x ∷ xs) (y ∷ ys) = ap (λ b. E x y && b) (turned E xs ys)
 
 key_is : (spec : TableSpec) (key : List Value) → test.key_fits spec key ≡ is_key spec key
 key_is spec key = turned fits (key_columns spec) key
-
-known : (schema : Catalog) (table : TableId) → Tells (test.is_known schema table) (table.0 < length schema.tables)
-known schema table = record { told = ltb-true table.0 (length schema.tables); holds = lt-ltb table.0 (length schema.tables) }
 
 -- whether one row wants a key, whether all do, whether there is one column, and one row
 alike_told : (some all one single : Bool) → (not some || (all && (not one || single))) ≡ true → ((all || not some) ≡ true) × (one ≡ true → some ≡ true → single ≡ true)

@@ -1,6 +1,5 @@
 -- A row of which some columns are another row's.
-use Rattle.std.proofs.Common.{◌≡◌, ◌⊎◌, inl, inr, ℕ, Bool, true, false, not, cond, ◌&&◌, ◌||◌, List, [], ◌∷◌, map, length, eqb, refl, sym, ap, ◌∙◌, subst}
-use Rattle.std.proofs.lemmas.Bool.{eqb-true}
+use Rattle.std.proofs.Common.{◌≡◌, ◌⊎◌, inl, inr, ℕ, Bool, true, false, not, cond, ◌&&◌, ◌||◌, List, [], ◌∷◌, map, length, refl, ap, ◌∙◌}
 use Rattle.std.specs.List.{AllByRecursion, list_all, list_any}
 use Rattle.std.specs.Cmp.Lexicographic.{pointwise}
 use Rattle.base_core.specs.declared.value.Value.{Value}
@@ -9,17 +8,10 @@ use Rattle.schema_core.specs.declared.table.ColumnSpec.{ColumnSpec}
 use Rattle.schema_core.specs.Judged.{lacks_value}
 use Rattle.schema_core.specs.Catalog.{is_required, same_name}
 use Rattle.schema_core.specs.Tables.{cell_of, fits, has_null, is_null, key_cells}
+use Rattle.schema_core.proofs.Names.{same_names}
 use Rattle.table_laws.proofs.RowFits.{and_true}
 use Rattle.flush_plan.specs.Stating.{blend}
 use Rattle.plan_laws.proofs.Facts.{or_false}
-
-pub same_names : (one other : List ℕ) → same_name one other ≡ true → one ≡ other
-same_names [] [] e = refl
-same_names [] (y ∷ ys) e = cc
-same_names (x ∷ xs) [] e = cc
-same_names (x ∷ xs) (y ∷ ys) e =
-    let both = and_true (eqb x y) (same_name xs ys) e in
-    λ i. eqb-true x y both.0 i ∷ same_names xs ys both.1 i
 
 abbrev pub nulls : List ColumnSpec → List Value
 nulls columns = map (λ column. Null) columns

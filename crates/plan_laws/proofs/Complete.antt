@@ -15,7 +15,7 @@ use Rattle.schema_core.specs.declared.table.ColumnSpec.{ColumnSpec}
 use Rattle.schema_core.specs.declared.table.TableSpec.{TableSpec}
 use Rattle.schema_core.specs.Apply.{next_key, wants_key, with_cells, with_key}
 use Rattle.schema_core.specs.Catalog.{Catalog, spec_of}
-use Rattle.schema_core.specs.Tables.{Legal, Rows, Tables, is_created}
+use Rattle.schema_core.specs.Tables.{Legal, Rows, Tables, is_created, given_value}
 use Rattle.schema_core.specs.WellFormed.{is_row, may_hold}
 use Rattle.base_core.proofs.Lists.{every_append}
 use Rattle.table_laws.proofs.Entries.{all_map}
@@ -27,7 +27,7 @@ use Rattle.flush_order.specs.Refers.{new_refers}
 use Rattle.flush_order.specs.Sorted.{Place}
 use Rattle.flush_plan.specs.Flushing.{Keys, Sofar, value_of_cell}
 use Rattle.flush_plan.specs.Planning.{late_gone, place_of_changed, writes_some}
-use Rattle.flush_plan.specs.Stating.{Edit, all_placed, blend, edit_changed, edit_gone, edit_new, edits, given_value, is_present, old_row, place_of_new, put_cells, row_at, stated_tables, written_rows}
+use Rattle.flush_plan.specs.Stating.{Edit, all_placed, blend, edit_changed, edit_gone, edit_new, edits, is_present, old_row, place_of_new, put_cells, row_at, stated_tables, written_rows}
 use Rattle.plan_laws.proofs.Drawn.{drawn_under}
 use Rattle.plan_laws.specs.Laws.{IsComplete, IsProjected, before}
 use Rattle.plan_laws.specs.Premises.{Ends, IsSorted}

@@ -14,13 +14,13 @@ use Rattle.schema_core.specs.Apply.{next_key, wants_key, with_key, with_own_key}
 use Rattle.schema_core.specs.Catalog.{has_generated_key, has_name, is_free_integer, kind_of, same_kind, same_name}
 use Rattle.base_core.specs.declared.value.Kind.TheVariants as kinds
 use Rattle.schema_core.specs.Tables.{Rows, cell_of, cells_of, has_null, is_null, key_cells, key_of}
+use Rattle.schema_core.proofs.Names.{same_names}
 use Rattle.table_laws.proofs.Entries.{all_map}
 use Rattle.table_laws.proofs.RowFits.{and_true, only_key}
 use Rattle.flush_order.specs.Cells.{cells_cleared, key_parts}
 use Rattle.flush_plan.specs.Flushing.{Keys, value_of_cell}
 use Rattle.plan_laws.proofs.Drawn.{drawn_under}
 use Rattle.plan_laws.specs.Laws.{AreLoose, cell_named, is_given}
-use Rattle.plan_laws.proofs.Blend.{same_names}
 use Rattle.plan_laws.proofs.Referring.{Drawn, all_named, key_map, null_is}
 use Rattle.plan_laws.proofs.Facts.{none_some, not_true, or_false, same_some, true_false}
 

@@ -13,7 +13,7 @@ use Rattle.schema_core.specs.declared.changes.RowChanges.{RowChanges}
 use Rattle.schema_core.specs.declared.table.ColumnSpec.{ColumnSpec}
 use Rattle.schema_core.specs.declared.table.ForeignSpec.{ForeignSpec}
 use Rattle.schema_core.specs.Catalog.{Catalog, same_name, spec_of}
-use Rattle.schema_core.specs.Tables.{Tables, cells_of, has_null, key_of}
+use Rattle.schema_core.specs.Tables.{Tables, cells_of, has_null, key_of, given_value}
 use Rattle.base_core.proofs.Lists.{get_beyond}
 use Rattle.base_core.proofs.Tests.{or_then}
 use Rattle.table_laws.proofs.Entries.{all_map, any_none, none_any}
@@ -24,10 +24,11 @@ use Rattle.flush_order.specs.Refers.{comes_from, names, new_refers, refers_to}
 use Rattle.flush_order.specs.Sorted.{Place}
 use Rattle.flush_plan.specs.Flushing.{Keys, Sofar, key_of_new, value_of_cell}
 use Rattle.schema_core.specs.Apply.{with_cells, with_own_key}
-use Rattle.flush_plan.specs.Stating.{given_value, guess, guesses, is_open, old_row, place_of_new, put_cells, row_at, written_rows}
+use Rattle.schema_core.proofs.Names.{same_names}
+use Rattle.flush_plan.specs.Stating.{guess, guesses, is_open, old_row, place_of_new, put_cells, row_at, written_rows}
 use Rattle.plan_laws.specs.Laws.{AreLoose, IsOneKind, before, cell_named, cells_named}
 use Rattle.plan_laws.proofs.Between.{early_part}
-use Rattle.plan_laws.proofs.Blend.{Long, blend_late, nulls, nulls_are_long, nulls_null, same_names, test}
+use Rattle.plan_laws.proofs.Blend.{Long, blend_late, nulls, nulls_are_long, nulls_null, test}
 use Rattle.plan_laws.proofs.Complete.{IsStated, found_placed, leads, new_long, news, once, stands, told_long, within}
 use Rattle.plan_laws.proofs.Drawing.{LongCells, foreign_drawn, key_drawn, long_cleared, loose_cleared}
 use Rattle.plan_laws.proofs.Inserting.{InOrder, NamesNot}

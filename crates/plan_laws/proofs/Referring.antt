@@ -14,12 +14,12 @@ use Rattle.schema_core.specs.declared.changes.RowChanges.{RowChanges}
 use Rattle.schema_core.specs.declared.table.ColumnSpec.{ColumnSpec}
 use Rattle.schema_core.specs.declared.table.ForeignSpec.{ForeignSpec}
 use Rattle.schema_core.specs.Catalog.{Catalog, same_name, spec_of, target_of}
-use Rattle.schema_core.specs.Tables.{cell_of, cells_of, has_null, is_null, key_cells, key_of, same_values}
+use Rattle.schema_core.specs.Tables.{cell_of, cells_of, given_value, has_null, is_null, key_cells, key_of, same_values}
 use Rattle.flush_order.specs.Cells.{first_cells, key_parts, known_value, known_row, part_at, table_at}
 use Rattle.flush_order.specs.Refers.{comes_from, is_table, names}
 use Rattle.flush_plan.specs.Flushing.{Keys, key_of_new, value_of_cell}
 use Rattle.flush_plan.specs.Planning.{key_at}
-use Rattle.flush_plan.specs.Stating.{given_value, is_open}
+use Rattle.flush_plan.specs.Stating.{is_open}
 use Rattle.plan_laws.specs.Laws.{IsOneKind, cell_named, cells_named, is_given}
 use Rattle.plan_laws.proofs.Facts.{or_false, true_false}
 use Rattle.base_core.proofs.Exact.{values_total}

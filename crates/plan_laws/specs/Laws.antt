@@ -16,7 +16,7 @@ use Rattle.schema_core.specs.declared.table.ColumnSpec.{ColumnSpec}
 use Rattle.schema_core.specs.declared.table.ForeignSpec.{ForeignSpec}
 use Rattle.schema_core.specs.Catalog.{Catalog, IsTable, has_name, same_name, spec_of, target_of}
 use Rattle.schema_core.specs.Declaration.{some_two}
-use Rattle.schema_core.specs.Tables.{Legal, Tables, cells_of, is_created}
+use Rattle.schema_core.specs.Tables.{Legal, Tables, cells_of, is_created, given_value}
 use Rattle.schema_core.specs.WellFormed.{IsWellFormed, is_row}
 use Rattle.flush_order.specs.Cells.{is_late, table_at}
 use Rattle.flush_order.specs.Orders.{insert_order, place_of_gone}
@@ -24,7 +24,7 @@ use Rattle.flush_order.specs.Sorted.{same_place}
 use Rattle.flush_plan.specs.Flushing.{Sofar, send_all, send, statement_sent}
 use Rattle.schema_core.specs.declared.changes.Planned.TheVariants.{Insert}
 use Rattle.flush_plan.specs.Planning.{key_at, place_of_changed, plan, writes_some}
-use Rattle.flush_plan.specs.Stating.{all_placed, blend, given_value, guess, row_at, stated_tables}
+use Rattle.flush_plan.specs.Stating.{all_placed, blend, guess, row_at, stated_tables}
 use Rattle.plan_laws.specs.Premises.{IsClear, IsFit, IsSorted}
 
 -- the INSERT of one row

@@ -1,12 +1,9 @@
 -- What a collection becomes where a member leaves it or joins it.
 use Rattle.std.specs.Prelude.{Bool, true, false, not, ◌==◌, List, [], ◌∷◌, ◌++◌, filter}
-use Rattle.std.specs.List.{list_any}
 use Rattle.base_core.specs.declared.ids.ObjId.{ObjId}
 use Rattle.object_arena.specs.declared.object.Link.{Link}
 use Rattle.object_arena.specs.declared.object.Link.TheVariants.{Unset, Unloaded, One, Many}
-
-abbrev pub is_among : List ObjId → ObjId → Bool
-is_among objects object = list_any (λ other. other.0 == object.0) objects
+use Rattle.object_arena.specs.Graph.{is_among}
 
 abbrev pub without : List ObjId → ObjId → List ObjId
 without objects object = filter (λ other. not (other.0 == object.0)) objects

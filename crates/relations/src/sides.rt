@@ -2,6 +2,7 @@
 
 ghost use Rattle.std.specs.Prelude.{◌≡◌, IfOk, IfErr};
 ghost use Rattle.base_core.specs.declared.refusal.Refusal.TheVariants.{Memory};
+ghost use Rattle.object_arena.specs.Graph.{is_among};
 ghost use Rattle.relations.specs.Sides as spec;
 
 use base_core::{Copied, ListOf, ObjId, ObjList, Refusal};
@@ -37,7 +38,7 @@ fn left_unloaded(
 ) -> Result<Link, Refusal>
     ensures left { IfOk result
         (λ new. new ≡ spec.left_unloaded
-        (spec.is_among added.now member) added.now removed.now member) }
+        (is_among added.now member) added.now removed.now member) }
     ensures cause { IfErr result (λ e. e ≡ Memory) }
 {
     if is_among(added.as_slice(), member) {
@@ -92,7 +93,7 @@ fn joined_unloaded(
 ) -> Result<Link, Refusal>
     ensures joined { IfOk result
         (λ new. new ≡ spec.joined_unloaded
-        (spec.is_among removed.now member) added.now removed.now member) }
+        (is_among removed.now member) added.now removed.now member) }
     ensures cause { IfErr result (λ e. e ≡ Memory) }
 {
     if is_among(removed.as_slice(), member) {
@@ -107,7 +108,7 @@ fn joined_unloaded(
 
 /// Whether an object is among others.
 pub(crate) fn is_among(objects: &[ObjId], object: ObjId) -> bool
-    ensures { result ≡ spec.is_among objects.now object }
+    ensures { result ≡ is_among objects.now object }
 {
     objects.iter().any(|other| other.0 == object.0)
 }
@@ -129,7 +130,7 @@ fn without(alloc: Global, objects: &[ObjId], object: ObjId) -> Result<ObjList, R
 /// The objects with one behind them, unless it is among them.
 fn added_to(objects: &ObjList, object: ObjId) -> Result<ObjList, Refusal>
     ensures all { IfOk result (λ all. all
-        ≡ spec.added_unless (spec.is_among objects.now object) objects.now object) }
+        ≡ spec.added_unless (is_among objects.now object) objects.now object) }
     ensures cause { IfErr result (λ e. e ≡ Memory) }
 {
     let mut all = objects.copied()?;

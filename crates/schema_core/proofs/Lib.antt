@@ -1,5 +1,6 @@
 pub mod AnySteps
 pub mod ApplySteps
+pub mod Names
 pub mod NewKeys
 pub mod NextKey
 pub mod Placing

@@ -15,6 +15,8 @@ use Rattle.base_core.specs.declared.value.Kind.TheVariants as kinds
 use Rattle.base_core.specs.declared.value.Value.{Value}
 use Rattle.base_core.specs.declared.value.Value.TheVariants.{Null, Bool as BoolValue, Int, Text, Bytes}
 use Rattle.base_core.specs.Order.{values_cmp}
+use Rattle.schema_core.specs.declared.changes.RowCell.{RowCell}
+use Rattle.schema_core.specs.declared.changes.RowCell.TheVariants.{Given, KeyOf}
 use Rattle.schema_core.specs.declared.table.ColumnSpec.{ColumnSpec}
 use Rattle.schema_core.specs.declared.table.ForeignSpec.{ForeignSpec}
 use Rattle.schema_core.specs.declared.table.TableSpec.{TableSpec}
@@ -62,6 +64,11 @@ is_null value = false
 abbrev pub value_or_null : Option Value → Value
 value_or_null None = Null
 value_or_null (Some value) = value
+
+-- the value that a cell of a flush gives; NULL where it is a part of a new row's key
+abbrev pub given_value : RowCell → Value
+given_value (Given value) = value
+given_value (KeyOf place part) = Null
 
 -- the value's kind; NULL has none
 abbrev pub kind_of_value : Value → Option Kind

@@ -10,11 +10,7 @@ use Rattle.expr_types.specs.declared.expr.Expr.TheFolds.{fold-roll-Expr, map-Exp
 use Rattle.expr_types.specs.declared.expr.Expr.TheViews.{roll-out-Expr}
 use Rattle.expr_types.specs.Level.{aggregate_level, has_aggregate, is_aggregate_function}
 use Rattle.expr_types.specs.Same.{function_place, same, same_all, same_level}
-use Rattle.expr_types.proofs.Folds.{bare, by_levels}
-
-same_rolled : (x : Expr-F Expr) (e : Expr) → same (roll-Expr x) e ≡ same_level (map-Expr Expr (Expr → Bool) same x) (out-Expr e)
-unfolding same
-same_rolled x e = ap (λ (f : Expr → Bool). f e) (fold-roll-Expr (Expr → Bool) (λ level other. same_level level (out-Expr other)) x)
+use Rattle.expr_types.proofs.Folds.{bare, by_levels, same_rolled}
 
 pub aggregate_rolled : (x : Expr-F Expr) → has_aggregate (roll-Expr x) ≡ aggregate_level (map-Expr Expr Bool has_aggregate x)
 unfolding has_aggregate

@@ -8,8 +8,8 @@ use Rattle.std.proofs.lemmas.List.Elements.{All-nil}
 use Rattle.std.proofs.lemmas.Map.Views.{All-values-insert_entry}
 use Rattle.base_core.specs.declared.ids.ObjId.{ObjId}
 use Rattle.object_arena.specs.declared.object.Object.{Object}
-use Rattle.object_arena.specs.Graph.{Graph, IsObject, no_object, object_at}
-use Rattle.session_core.specs.Flush.{Queue, is_pending, pending_in_order, with_queued, rank_cmp}
+use Rattle.object_arena.specs.Graph.{Graph, is_pending, IsObject, no_object, object_at, Queue, rank_cmp}
+use Rattle.session_core.specs.Flush.{pending_in_order, with_queued}
 
 -- what is left begins with the next object
 pub queue_next : (queue : Queue) (objects : List Object) (i : ℕ) → i < length objects

@@ -1,8 +1,6 @@
 -- What a flush writes, and what becomes of the objects at its end and at the end of the transaction.
-use Rattle.std.specs.Prelude.{◌≡◌, ℕ, Bool, true, false, List, [], ◌∷◌, map, fold, slice_index_or, ◌==◌, Option, None, Some, if◌then◌else◌}
+use Rattle.std.specs.Prelude.{◌≡◌, ℕ, true, false, List, [], ◌∷◌, map, fold, slice_index_or, ◌==◌, Option, None, Some, if◌then◌else◌}
 use Rattle.std.specs.List.{enumerate_from, position}
-use Rattle.std.specs.declared.cmp.Ordering.{Ordering}
-use Rattle.std.specs.Ordering.{nat_cmp, ordering_then}
 use Rattle.std.specs.BTreeMap.{insert_entry}
 use Rattle.base_core.specs.declared.ids.AttrNo.{AttrNo}
 use Rattle.base_core.specs.declared.ids.ObjId.{ObjId}
@@ -15,27 +13,12 @@ use Rattle.object_arena.specs.declared.object.Object.{Object}
 use Rattle.object_arena.specs.declared.object.State.{State}
 use Rattle.object_arena.specs.declared.object.State.TheVariants.{Transient, Pending, Persistent, Deleted, Detached}
 use Rattle.schema_core.specs.Tables.{value_or_null}
-use Rattle.object_arena.specs.Graph.{Graph, IsObject, expired_object, kept_identity, object_at, root_at, row_of, with_object, with_state}
+use Rattle.object_arena.specs.Graph.{Graph, IsObject, expired_object, kept_identity, object_at, root_at, row_of, with_object, with_state, Queue, is_pending, rank_cmp}
 use Rattle.object_arena.specs.Identity.{find_identity, with_identity}
 use Rattle.object_arena.specs.Fit.{IsFit, key_fits}
 use Rattle.object_arena.specs.Every.{classes_of}
 
 -- ---- what is written
-
-abbrev pub is_pending : State → Bool
-is_pending Pending = true
-is_pending state = false
-
--- where a pending object stands among the others: by its add number, and then by its own number
-abbrev pub Rank : Type 0
-Rank = ℕ × ℕ
-
-abbrev pub rank_cmp : Rank → Rank → Ordering
-rank_cmp one other = ordering_then (nat_cmp one.0 other.0) (nat_cmp one.1 other.1)
-
--- objects by their rank
-abbrev pub Queue : Type 0
-Queue = List (Rank × ObjId)
 
 -- the queue with the object of a number, where it is pending
 abbrev pub with_queued : Queue → ℕ × Object → Queue

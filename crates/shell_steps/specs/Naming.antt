@@ -1,7 +1,6 @@
 -- What the names of a command stand for.
 use Rattle.std.specs.Prelude.{◌≡◌, ℕ, Bool, ◌==◌, List, [], ◌∷◌, ◌++◌, Option, None, Some, Result, Ok, Err, if◌then◌else◌}
-use Rattle.std.specs.Option.{option_map}
-use Rattle.std.specs.List.{list_any, position}
+use Rattle.std.specs.List.{list_any}
 use Rattle.base_core.specs.declared.ids.AttrNo.{AttrNo}
 use Rattle.base_core.specs.declared.ids.ClassId.{ClassId}
 use Rattle.base_core.specs.declared.ids.ObjId.{ObjId}
@@ -9,9 +8,8 @@ use Rattle.base_core.specs.declared.value.Value.{Value}
 use Rattle.base_core.specs.declared.refusal.RequestKind.TheVariants.{NotConfigured, Unknown, WrongKind}
 use Rattle.base_core.specs.declared.refusal.Refusal.{Refusal}
 use Rattle.base_core.specs.declared.refusal.Refusal.TheVariants.{InvalidRequestError}
-use Rattle.schema_core.specs.Catalog.{same_name}
 use Rattle.class_types.specs.declared.mapped.Attribute.{Attribute}
-use Rattle.class_mapping.specs.Mapped.{attributes_of, find_class}
+use Rattle.class_mapping.specs.Mapped.{attributes_of, find_attribute, find_class}
 use Rattle.programs.specs.Programs.{Run, each, ask}
 use Rattle.session_core.specs.SessionState.{SessionState}
 use Rattle.shell_parts.specs.declared.names.Bound.{Bound}
@@ -56,10 +54,6 @@ found_or_unknown name (Some a) = Ok a
 
 abbrev pub class_named : List ℕ → ShellState → Result ClassId Refusal
 class_named name shell = of_session (λ session. found_or_unknown name (find_class session.mapping name)) shell.stage
-
--- the attribute of a name
-abbrev pub find_attribute : List Attribute → List ℕ → Option AttrNo
-find_attribute attributes name = option_map (λ place. record { 0 = place }) (position (λ attribute. same_name attribute.name name) attributes)
 
 -- values for attributes
 abbrev pub Cells : Type 0

@@ -5,7 +5,7 @@ ghost use Rattle.std.specs.List.{position};
 ghost use Rattle.std.specs.Option.{option_copied};
 ghost use Rattle.programs.specs.Moment.{Runs};
 ghost use Rattle.schema_core.specs.Catalog.{same_name};
-ghost use Rattle.class_mapping.specs.Mapped.{IsClass, find_class};
+ghost use Rattle.class_mapping.specs.Mapped.{IsClass, find_class, find_attribute};
 ghost use Rattle.programs.specs.Alone.{Tells, alone};
 ghost use Rattle.programs.specs.Programs.{ask};
 ghost use Rattle.shell_steps.specs.Naming as naming;
@@ -67,7 +67,7 @@ fn place_of(attributes: &[Attribute], name: &Name) -> Option<usize>
 
 /// The attribute of a name. Places past 32 bits have no memory.
 fn find_attribute(attributes: &[Attribute], name: &Name) -> Result<Option<AttrNo>, Refusal>
-    ensures found { IfOk result (λ found. found ≡ naming.find_attribute attributes.now name.now) }
+    ensures found { IfOk result (λ found. found ≡ find_attribute attributes.now name.now) }
     ensures cause { IfErr result (λ e. e ≡ Refusal.Memory) }
 {
     let Some(place) = place_of(attributes, name) else {

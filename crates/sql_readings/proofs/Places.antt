@@ -1,32 +1,21 @@
 -- A name is found at its place among names of which no two are the same.
-use Rattle.std.proofs.Common.{◌≡◌, ℕ, zero, suc, ◌++◌, ◌==◌, Bool, true, false, not, cond, ◌&&◌, ◌||◌, if◌then◌else◌, List, [], ◌∷◌, map, length, Some, refl, sym, ap, subst, ◌∙◌}
+use Rattle.std.proofs.Common.{◌≡◌, ℕ, zero, suc, ◌++◌, Bool, true, false, not, cond, ◌||◌, if◌then◌else◌, List, [], ◌∷◌, map, length, Some, refl, sym, ap, subst, ◌∙◌}
 use Rattle.std.specs.Prelude.{nat_lt, slice_get, slice_index_or}
 use Rattle.std.specs.List.{list_all}
 use Rattle.std.specs.Option.{option_map}
-use Rattle.std.proofs.lemmas.Bool.{eq-eqb, eqb-true, ltb-true, not-true, and_from, and_parts, not_from_false, or_parts}
+use Rattle.std.proofs.lemmas.Bool.{ltb-true, not-true, and_from, and_parts, not_from_false, or_parts}
 use Rattle.std.proofs.lemmas.Option.{slice_get-map, slice_get-get_or}
 use Rattle.schema_core.specs.Catalog.{same_name, has_name}
+use Rattle.schema_core.proofs.Names.{same_names, name_itself}
 use Rattle.sql_semantics.specs.Plain.{are_distinct}
 use Rattle.sql_readings.proofs.Agreeing.{no_some, some_is, true_false}
-
-names_equal : (one other : List ℕ) → same_name one other ≡ true → one ≡ other
-names_equal [] [] e = refl
-names_equal [] (y ∷ ys) e = absurd (cc)
-names_equal (x ∷ xs) [] e = absurd (cc)
-names_equal (x ∷ xs) (y ∷ ys) e =
-    let both = and_parts (x == y) (same_name xs ys) e in
-    ap (λ (c : ℕ). c ∷ xs) (eqb-true x y both.0) ∙ ap (λ (cs : List ℕ). y ∷ cs) (names_equal xs ys both.1)
-
-name_same : (n : List ℕ) → same_name n n ≡ true
-name_same [] = refl
-name_same (c ∷ cs) = ap (λ b. b && same_name cs cs) (eq-eqb c c refl) ∙ name_same cs
 
 pub unlike : (n m : List ℕ) → same_name n m ≡ false → same_name m n ≡ false
 unlike n m e = by (same_name m n) refl
   where
     by : (b : Bool) → same_name m n ≡ b → same_name m n ≡ false
     by false is = is
-    by true is = true_false (sym (name_same n) ∙ (sym (ap (λ (k : List ℕ). same_name n k) (names_equal m n is)) ∙ e))
+    by true is = true_false (sym (name_itself n) ∙ (sym (ap (λ (k : List ℕ). same_name n k) (same_names m n is)) ∙ e))
 
 -- the first place of a name
 abbrev pub place : List ℕ → List (List ℕ) → ℕ
@@ -40,7 +29,7 @@ other_name (m ∷ ns) n (suc i) name h e = other_name ns n i name (or_parts (sam
 
 pub place_is : (ns : List (List ℕ)) (i : ℕ) (name : List ℕ) → are_distinct ns ≡ true → slice_get ns i ≡ Some name → place name ns ≡ i
 place_is [] i name d e = no_some (sym e)
-place_is (n ∷ ns) zero name d e = ap (λ b. cond b 0 (suc (place name ns))) (subst (λ (m : List ℕ). same_name n m ≡ true) (some_is e) (name_same n))
+place_is (n ∷ ns) zero name d e = ap (λ b. cond b 0 (suc (place name ns))) (subst (λ (m : List ℕ). same_name n m ≡ true) (some_is e) (name_itself n))
 place_is (n ∷ ns) (suc i) name d e =
     let both = and_parts (not (has_name ns n)) (are_distinct ns) d in
     ap (λ b. cond b 0 (suc (place name ns))) (unlike name n (other_name ns n i name (not-true (has_name ns n) both.0) e)) ∙ ap suc (place_is ns i name both.1 e)

@@ -30,6 +30,12 @@ same_kind_is kinds.Boolean kinds.Boolean e = refl
 same_kind_is kinds.Bytes kinds.Bytes e = refl
 same_kind_is a b e = absurd (cc)
 
+pub kind_itself : (k : Kind) → same_kind k k ≡ true
+kind_itself kinds.Integer = refl
+kind_itself kinds.Text = refl
+kind_itself kinds.Boolean = refl
+kind_itself kinds.Bytes = refl
+
 pub all_of_each : (wanted k : Kind) (js : List Judged) → all_of wanted js ≡ Ok k → (k ≡ wanted) × AllByRecursion (λ j. j ≡ Ok wanted) js
 all_of_each wanted k [] e = (cc, tt)
 all_of_each wanted k (j ∷ js) e =

@@ -1,6 +1,6 @@
 use Rattle.std.proofs.Common.{◌≡◌, not, take}
 use Rattle.std.specs.List.{filter}
-use Rattle.object_rows.specs.Seen.{is_among}
+use Rattle.object_arena.specs.Graph.{is_among}
 use Rattle.pair_rows.proofs.members.without.Given as goal
 
 abbrev pub invariant-loop-object : goal.invariant-loop-object

@@ -1,5 +1,6 @@
 use Rattle.std.proofs.Common.{◌≡◌, [], map, take}
-use Rattle.pair_rows.specs.Pairs.{given_value, pair_cell}
+use Rattle.schema_core.specs.Tables.{given_value}
+use Rattle.pair_rows.specs.Pairs.{pair_cell}
 use Rattle.pair_rows.proofs.rows.lost_row.Given as goal
 
 abbrev pub invariant-loop-column : goal.invariant-loop-column
