@@ -1,0 +1,6 @@
+pub mod Runs
+pub mod Quotes
+pub mod Words
+pub mod Reached
+pub mod Right
+pub mod Lines
