@@ -33,13 +33,13 @@ tie Less h = absurd cc
 tie Equal h = refl
 tie Greater h = absurd cc
 
-value_is : (a b : Value) → same_value a b ≡ true → a ≡ b
+pub value_is : (a b : Value) → same_value a b ≡ true → a ≡ b
 value_is a b h = exact_value a b (tie (value_cmp a b) h)
 
 key_is : (a b : List Value) → same_values a b ≡ true → a ≡ b
 key_is a b h = exact_values a b (tie (values_cmp a b) h)
 
-option_is : {A : Type 0} (alike : A → A → Bool) → ((a b : A) → alike a b ≡ true → a ≡ b) → (o p : Option A) → both_alike alike o p ≡ true → o ≡ p
+pub option_is : {A : Type 0} (alike : A → A → Bool) → ((a b : A) → alike a b ≡ true → a ≡ b) → (o p : Option A) → both_alike alike o p ≡ true → o ≡ p
 option_is alike is None None h = refl
 option_is alike is None (Some b) h = absurd cc
 option_is alike is (Some a) None h = absurd cc
@@ -187,7 +187,7 @@ state_itself Persistent = refl
 state_itself Deleted = refl
 state_itself Detached = refl
 
-value_itself : (a : Value) → same_value a a ≡ true
+pub value_itself : (a : Value) → same_value a a ≡ true
 value_itself a = (eq_by_cmp_equiv value_cmp_total).refl a
 
 key_itself : (a : List Value) → same_values a a ≡ true

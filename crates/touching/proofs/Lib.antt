@@ -1,2 +1,4 @@
 mod Exact
 mod OneObject
+mod Scopes
+mod Differing

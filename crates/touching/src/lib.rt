@@ -5,4 +5,4 @@ mod same;
 mod touched;
 
 pub use same::{same_cell, same_object};
-pub use touched::touch_if;
+pub use touched::{touch_for_mark, touch_for_value, touch_if};
