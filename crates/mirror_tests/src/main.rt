@@ -27,7 +27,7 @@ fn answers(alloc: Global, text: &str) -> Result<String, Refusal> {
     let mapping = mapping::made(alloc)?;
     let mut said = String::new(alloc);
     for line in text.lines() {
-        said.push_str(&answer(alloc, &*mapping, line)?)?;
+        answer(alloc, &*mapping, line, &mut said)?;
         said.push('\n')?;
     }
     Ok(said)

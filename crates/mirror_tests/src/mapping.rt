@@ -1,85 +1,39 @@
-//! The classes of the graphs.
+//! The classes of the graphs, from lines.
 
-use base_core::{ListOf, Name, Refusal, Value};
+use base_core::{ListOf, Name, Refusal, Value, both};
 use class_mapping::{Cascade, ClassSpec, Mapping, RelationSpec};
 use class_types::Hooks;
-use schema_core::{ColumnKind, ColumnSpec, ForeignSpec, TableSpec};
+use notations::{name, named, table};
 use std::alloc::{AllocError, Global};
 
-fn name(alloc: Global, text: &str) -> Result<Name, AllocError> {
-    Ok(Name::new(String::from_str(alloc, text)?))
-}
+/// The tables.
+const TABLES: [&str; 8] = [
+    "users id:ik kind:i",
+    "addresses id:ik user_id:i user_id>users",
+    "parts user_id:ik no:ik user_id>users",
+    "tags id:ik",
+    "enrol u:ik t:ik u>users t>tags",
+    "nodes id:ik next_id:i next_id>nodes",
+    "admins id:ik id>users",
+    "logs id:ik admin_id:i admin_id>admins",
+];
 
-/// The name of what is left out where the text is empty.
-fn maybe(alloc: Global, text: &str) -> Result<Option<Name>, AllocError> {
-    if text.is_empty() {
-        return Ok(None);
-    }
-    Ok(Some(name(alloc, text)?))
-}
+/// The classes: a name, a table, the class that it extends and its discriminator, `-` for none; then the relationships, each
+/// with its target behind `>` and its partner behind a dot. A collection has `*` before it, `!` behind it where it has orphans,
+/// and behind `/` its secondary table, if there is one.
+const CLASSES: [&str; 7] = [
+    "User users - kind *addresses>Address.user! *parts>Part.owner! *tags>Tag.users/enrol",
+    "Admin admins User - *logs>Log.admin",
+    "Address addresses - - user>User.addresses",
+    "Part parts - - owner>User.parts",
+    "Tag tags - - *users>User.tags/enrol",
+    "Node nodes - - next>Node.prevs *prevs>Node.next",
+    "Log logs - - admin>Admin.logs",
+];
 
-fn names(alloc: Global, text: &str) -> Result<ListOf<Name>, Refusal> {
-    let mut names = ListOf::new(alloc);
-    names.push(name(alloc, text)?)?;
-    Ok(names)
-}
-
-/// Columns of integers, each by its name and whether it is of the key.
-fn columns(alloc: Global, named: &[(&str, bool)]) -> Result<ListOf<ColumnSpec>, Refusal> {
-    let mut columns = ListOf::new(alloc);
-    for (text, key) in named {
-        columns.push(ColumnSpec {
-            name: name(alloc, text)?,
-            kind: ColumnKind::Integer,
-            key: *key,
-            not_null: false,
-        })?;
-    }
-    Ok(columns)
-}
-
-/// Foreign keys, each by its column and the table that it refers to.
-fn foreigns(alloc: Global, named: &[(&str, &str)]) -> Result<ListOf<ForeignSpec>, Refusal> {
-    let mut foreigns = ListOf::new(alloc);
-    for (column, target) in named {
-        foreigns.push(ForeignSpec {
-            columns: names(alloc, column)?,
-            target: name(alloc, target)?,
-        })?;
-    }
-    Ok(foreigns)
-}
-
-/// Declares a table.
-fn table(
-    alloc: Global,
-    mapping: &mut Mapping,
-    text: &str,
-    named: &[(&str, bool)],
-    keys: &[(&str, &str)],
-) -> Result<(), Refusal> {
-    let spec = TableSpec {
-        name: name(alloc, text)?,
-        columns: columns(alloc, named)?,
-        uniques: ListOf::new(alloc),
-        foreigns: foreigns(alloc, keys)?,
-    };
-    if mapping.schema().count() < u32::MAX {
-        mapping.declare_table(spec)?;
-    }
-    Ok(())
-}
-
-/// A relationship: its name, its target, its partner, and the name of its secondary table, if there is one. A collection
-/// has orphans where that is said.
-#[derive(Clone, Copy)]
-struct Side<'a> {
-    many: bool,
-    name: &'a str,
-    target: &'a str,
-    partner: &'a str,
-    secondary: &'a str,
-    orphans: bool,
+/// What stands before a mark and behind it.
+fn split<'x>(text: &'x str, mark: char) -> (&'x str, &'x str) {
+    text.split_once(mark).unwrap_or((text, ""))
 }
 
 /// The flags of a collection with orphans.
@@ -98,175 +52,139 @@ fn cascade(orphans: bool) -> Option<Cascade> {
     }
 }
 
-fn relation(alloc: Global, side: &Side) -> Result<RelationSpec, Refusal> {
+/// The names of a relationship, of its target and of its partner.
+fn sides(
+    alloc: Global,
+    shown: &str,
+    target: &str,
+    partner: &str,
+) -> Result<(Name, (Name, Name)), AllocError> {
+    both(
+        name(alloc, shown),
+        both(name(alloc, target), name(alloc, partner)),
+    )
+}
+
+fn relation(alloc: Global, word: &str) -> Result<RelationSpec, AllocError> {
+    let (shown, rest) = split(word, '>');
+    let (target, rest) = split(rest, '.');
+    let (rest, secondary) = split(rest, '/');
+    let partner = rest.trim_end_matches('!');
+    let secondary = named(alloc, secondary)?;
+    let (name, (target, partner)) = sides(alloc, shown.trim_start_matches('*'), target, partner)?;
     Ok(RelationSpec {
-        many: side.many,
-        name: name(alloc, side.name)?,
-        target: name(alloc, side.target)?,
-        secondary: maybe(alloc, side.secondary)?,
-        partner: name(alloc, side.partner)?,
+        many: shown.starts_with('*'),
+        name,
+        target,
+        secondary,
+        partner,
         backref: false,
         using: ListOf::new(alloc),
-        cascade: cascade(side.orphans),
+        cascade: cascade(rest.ends_with('!')),
         post_update: false,
     })
 }
 
-fn relations(alloc: Global, sides: &[Side]) -> Result<ListOf<RelationSpec>, Refusal> {
+fn push_relation(
+    alloc: Global,
+    relations: &mut ListOf<RelationSpec>,
+    word: &str,
+) -> Result<(), Refusal> {
+    relations.push(relation(alloc, word)?)
+}
+
+fn relations(alloc: Global, words: &str) -> Result<ListOf<RelationSpec>, Refusal> {
     let mut relations = ListOf::new(alloc);
-    for side in sides {
-        relations.push(relation(alloc, side)?)?;
+    for word in words.split(' ') {
+        push_relation(alloc, &mut relations, word)?;
     }
     Ok(relations)
 }
 
-/// Declares a class over a table; with a base or a discriminator it has an identity.
-fn class(
+/// A name, none for a dash.
+fn maybe(alloc: Global, word: &str) -> Result<Option<Name>, AllocError> {
+    named(alloc, word.trim_start_matches('-'))
+}
+
+/// What a class extends, and its discriminator.
+type Extends = (Option<Name>, Option<Name>);
+
+/// A class; with a base or a discriminator it has an identity.
+fn class(alloc: Global, line: &str, number: u32) -> Result<ClassSpec, Refusal> {
+    let (shown, rest) = split(line, ' ');
+    let (table, rest) = split(rest, ' ');
+    let (base, rest) = split(rest, ' ');
+    let (discriminator, rest) = split(rest, ' ');
+    let relations = relations(alloc, rest)?;
+    let (extends, (name, table)) = both(
+        both(maybe(alloc, base), maybe(alloc, discriminator)),
+        both(name(alloc, shown), maybe(alloc, table)),
+    )?;
+    Ok(of_parts(alloc, number, extends, (name, table), relations))
+}
+
+fn of_parts(
     alloc: Global,
-    mapping: &mut Mapping,
-    text: &str,
-    table: &str,
-    base: &str,
-    discriminator: &str,
-    sides: &[Side],
-) -> Result<(), Refusal> {
-    let identity = if base.is_empty() && discriminator.is_empty() {
-        None
+    number: u32,
+    extends: Extends,
+    named: (Name, Option<Name>),
+    relations: ListOf<RelationSpec>,
+) -> ClassSpec {
+    let (base, discriminator) = extends;
+    let (name, table) = named;
+    let identity = if base.is_some() || discriminator.is_some() {
+        Some(Value::Int(i64::from(number)))
     } else {
-        Some(Value::Int(mapping.count() as i64))
+        None
     };
-    let spec = ClassSpec {
-        name: name(alloc, text)?,
-        base: maybe(alloc, base)?,
-        table: maybe(alloc, table)?,
-        discriminator: maybe(alloc, discriminator)?,
+    ClassSpec {
+        name,
+        base,
+        table,
+        discriminator,
         identity,
         owned: ListOf::new(alloc),
-        relations: relations(alloc, sides)?,
+        relations,
         validators: ListOf::new(alloc),
-    };
-    if mapping.count() < u32::MAX {
-        mapping.declare_class(spec, &Hooks::new(alloc))?;
+    }
+}
+
+/// Declares the table of a line, where a number is left for it.
+fn declare_table(alloc: Global, mapping: &mut Mapping, line: &str) -> Result<(), Refusal> {
+    let spec = table(alloc, line)?;
+    if mapping.schema().count() < u32::MAX {
+        mapping.declare_table(spec)?;
     }
     Ok(())
 }
 
-fn tables(alloc: Global, mapping: &mut Mapping) -> Result<(), Refusal> {
-    let id = ("id", true);
-    table(alloc, mapping, "users", &[id, ("kind", false)], &[])?;
-    table(
-        alloc,
-        mapping,
-        "addresses",
-        &[id, ("user_id", false)],
-        &[("user_id", "users")],
-    )?;
-    table(
-        alloc,
-        mapping,
-        "parts",
-        &[("user_id", true), ("no", true)],
-        &[("user_id", "users")],
-    )?;
-    table(alloc, mapping, "tags", &[id], &[])?;
-    table(
-        alloc,
-        mapping,
-        "enrol",
-        &[("u", true), ("t", true)],
-        &[("u", "users"), ("t", "tags")],
-    )
-}
-
-fn more_tables(alloc: Global, mapping: &mut Mapping) -> Result<(), Refusal> {
-    let id = ("id", true);
-    table(
-        alloc,
-        mapping,
-        "nodes",
-        &[id, ("next_id", false)],
-        &[("next_id", "nodes")],
-    )?;
-    table(alloc, mapping, "admins", &[id], &[("id", "users")])?;
-    table(
-        alloc,
-        mapping,
-        "logs",
-        &[id, ("admin_id", false)],
-        &[("admin_id", "admins")],
-    )
-}
-
-/// A collection, or a many-to-one link.
-fn plain<'a>(many: bool, name: &'a str, target: &'a str, partner: &'a str) -> Side<'a> {
-    Side {
-        many,
-        name,
-        target,
-        partner,
-        secondary: "",
-        orphans: false,
+/// Declares the class of a line, where a number is left for it.
+fn declare_class(
+    alloc: Global,
+    mapping: &mut Mapping,
+    hooks: &Hooks,
+    line: &str,
+) -> Result<(), Refusal> {
+    let spec = class(alloc, line, mapping.count())?;
+    if mapping.count() < u32::MAX {
+        mapping.declare_class(spec, hooks)?;
     }
+    Ok(())
 }
 
-/// A collection with orphans.
-fn owning<'a>(name: &'a str, target: &'a str, partner: &'a str) -> Side<'a> {
-    Side {
-        many: true,
-        name,
-        target,
-        partner,
-        secondary: "",
-        orphans: true,
+fn declare_all(alloc: Global, mapping: &mut Mapping, hooks: &Hooks) -> Result<(), Refusal> {
+    for line in TABLES.as_slice() {
+        declare_table(alloc, mapping, line)?;
     }
-}
-
-/// A collection over the secondary table.
-fn across<'a>(name: &'a str, target: &'a str, partner: &'a str) -> Side<'a> {
-    Side {
-        many: true,
-        name,
-        target,
-        partner,
-        secondary: "enrol",
-        orphans: false,
+    for line in CLASSES.as_slice() {
+        declare_class(alloc, mapping, hooks, line)?;
     }
-}
-
-fn users(alloc: Global, mapping: &mut Mapping) -> Result<(), Refusal> {
-    let sides = [
-        owning("addresses", "Address", "user"),
-        owning("parts", "Part", "owner"),
-        across("tags", "Tag", "users"),
-    ];
-    class(alloc, mapping, "User", "users", "", "kind", &sides)?;
-    let sides = [plain(true, "logs", "Log", "admin")];
-    class(alloc, mapping, "Admin", "admins", "User", "", &sides)
-}
-
-fn others(alloc: Global, mapping: &mut Mapping) -> Result<(), Refusal> {
-    let sides = [plain(false, "user", "User", "addresses")];
-    class(alloc, mapping, "Address", "addresses", "", "", &sides)?;
-    let sides = [plain(false, "owner", "User", "parts")];
-    class(alloc, mapping, "Part", "parts", "", "", &sides)?;
-    let sides = [across("users", "User", "tags")];
-    class(alloc, mapping, "Tag", "tags", "", "", &sides)?;
-    let sides = [
-        plain(false, "next", "Node", "prevs"),
-        plain(true, "prevs", "Node", "next"),
-    ];
-    class(alloc, mapping, "Node", "nodes", "", "", &sides)?;
-    let sides = [plain(false, "admin", "Admin", "logs")];
-    class(alloc, mapping, "Log", "logs", "", "", &sides)
+    mapping.configure()
 }
 
 /// The mapping: users with addresses, parts and tags, administrators with logs, and nodes with a next one.
 pub(crate) fn made(alloc: Global) -> Result<Box<Mapping>, Refusal> {
     let mut mapping = Box::new(alloc, Mapping::new(alloc))?;
-    tables(alloc, &mut *mapping)?;
-    more_tables(alloc, &mut *mapping)?;
-    users(alloc, &mut *mapping)?;
-    others(alloc, &mut *mapping)?;
-    mapping.configure()?;
+    declare_all(alloc, &mut *mapping, &Hooks::new(alloc))?;
     Ok(mapping)
 }

@@ -7,7 +7,7 @@ ghost use Rattle.object_arena.specs.Graph.{IsObject};
 ghost use Rattle.relations.specs.Mirror.{is_unloaded, link_at};
 
 use crate::fits::{key_fits, link_fits};
-use crate::told::{reached, told};
+use crate::told::{reached, told, word};
 use base_core::{AttrNo, ClassId, Key, ListOf, ObjId, ObjList, ObjSet, Refusal, RelNo, Value};
 use cascades::{delete_closure, expire_closure, expunge_closure, save_closure};
 use class_mapping::Mapping;
@@ -233,7 +233,6 @@ fn prepare(alloc: Global, arena: &mut Arena, mapping: &Mapping, act: &[u8]) -> R
 fn change(alloc: Global, arena: &mut Arena, mapping: &Mapping, act: &[u8]) -> Result<(), Refusal>
     requires configured { mapping.now.configured ≡ true }
     requires fit { IsFit mapping.now arena.old }
-    ensures { IsFit mapping.now arena.new }
 {
     let object = ObjId(digit_at(act, 1));
     let place = RelNo(digit_at(act, 2));
@@ -293,8 +292,8 @@ fn closure(
     }
 }
 
-/// Says the closure of an object.
-fn reach(
+/// Tells the closure of an object.
+fn tell_closure(
     alloc: Global,
     arena: &Arena,
     mapping: &Mapping,
@@ -309,8 +308,7 @@ fn reach(
         return Err(Refusal::NotBuilt);
     }
     let objects = closure(alloc, arena, mapping, byte_at(act, 1), object)?;
-    reached(&objects, said)?;
-    Ok(())
+    Ok(reached(&objects, said)?)
 }
 
 /// Whether an act changes a link.
@@ -319,32 +317,56 @@ fn is_change(act: &[u8]) -> bool {
     letter == b's' || letter == b'a' || letter == b'r'
 }
 
-/// The graph after the acts of a line, and the answer to the last one, or the closure for which it asks.
-fn play(alloc: Global, mapping: &Mapping, line: &str, said: &mut String) -> Result<(), Refusal>
-    requires { mapping.now.configured ≡ true }
+/// Changes the graph, and tells the answer and the graph then.
+fn tell_change(
+    alloc: Global,
+    arena: &mut Arena,
+    mapping: &Mapping,
+    act: &[u8],
+    said: &mut String,
+) -> Result<(), Refusal>
+    requires configured { mapping.now.configured ≡ true }
+    requires fit { IsFit mapping.now arena.old }
 {
-    let mut arena = Arena::new(alloc);
+    let word = word(change(alloc, arena, mapping, act));
+    said.push_str(word)?;
+    Ok(told(arena, said)?)
+}
+
+/// The graph after the acts of a line, and the answer to the last one, or the closure for which it asks.
+fn play(
+    alloc: Global,
+    arena: &mut Arena,
+    mapping: &Mapping,
+    line: &str,
+    said: &mut String,
+) -> Result<(), Refusal>
+    requires configured { mapping.now.configured ≡ true }
+    requires fit { IsFit mapping.now arena.old }
+{
     for text in line.split(';') {
         let act = text.as_bytes();
         if is_change(act) {
-            let answer = change(alloc, &mut arena, mapping, act);
-            told(&arena, &answer, said)?;
-            return Ok(());
+            return tell_change(alloc, arena, mapping, act, said);
         }
         if byte_at(act, 0) == b'g' {
-            reach(alloc, &arena, mapping, act, said)?;
-            return Ok(());
+            return tell_closure(alloc, arena, mapping, act, said);
         }
-        prepare(alloc, &mut arena, mapping, act)?;
+        prepare(alloc, arena, mapping, act)?;
     }
     Ok(())
 }
 
 /// What is said of a line.
-pub(crate) fn answer(alloc: Global, mapping: &Mapping, line: &str) -> Result<String, Refusal> {
-    let mut said = String::new(alloc);
-    if mapping.is_configured() {
-        play(alloc, mapping, line, &mut said)?;
+pub(crate) fn answer(
+    alloc: Global,
+    mapping: &Mapping,
+    line: &str,
+    said: &mut String,
+) -> Result<(), Refusal> {
+    if !mapping.is_configured() {
+        return Ok(());
     }
-    Ok(said)
+    let mut arena = Arena::new(alloc);
+    play(alloc, &mut arena, mapping, line, said)
 }

@@ -69,15 +69,21 @@ fn say_object(said: &mut String, number: u32, object: &Object) -> Result<(), All
 }
 
 /// The answer to a change.
-fn word(answer: &Result<(), Refusal>) -> &'static str {
+pub(crate) fn word(answer: Result<(), Refusal>) -> &'static str {
     match answer {
         Ok(()) => "Ok",
-        Err(Refusal::InvalidRequestError(kind)) => word_of(kind),
-        Err(_) => "?",
+        Err(refusal) => word_of(&refusal),
     }
 }
 
-fn word_of(kind: &RequestKind) -> &'static str {
+fn word_of(refusal: &Refusal) -> &'static str {
+    match refusal {
+        Refusal::InvalidRequestError(kind) => word_of_kind(kind),
+        _ => "?",
+    }
+}
+
+fn word_of_kind(kind: &RequestKind) -> &'static str {
     match kind {
         RequestKind::BadOwner => "BadOwner",
         RequestKind::BadMember => "BadMember",
@@ -87,13 +93,8 @@ fn word_of(kind: &RequestKind) -> &'static str {
     }
 }
 
-/// An answer and the objects with their links.
-pub(crate) fn told(
-    arena: &Arena,
-    answer: &Result<(), Refusal>,
-    said: &mut String,
-) -> Result<(), AllocError> {
-    said.push_str(word(answer))?;
+/// The objects with their links.
+pub(crate) fn told(arena: &Arena, said: &mut String) -> Result<(), AllocError> {
     for number in 0..arena.count() {
         say_object(said, number + 1, arena.object(ObjId(number + 1)))?;
     }
