@@ -13,8 +13,8 @@ use Rattle.script_lex.specs.Content.{content}
 use Rattle.script_lex.specs.Lex.{same_kind, is_blank, token_or_bad, first_token, tokens_from, tokens}
 use Rattle.script_tokens.proofs.Alike.{same, other}
 use Rattle.script_tokens.specs.Input.{first_of}
-use Rattle.script_laws.specs.Steady.{closes, IsClosed}
-use Rattle.script_laws.proofs.Steps.{false_true}
+use Rattle.line_laws.proofs.Steady.Settling.{closes, IsClosed}
+use Rattle.line_laws.proofs.Steady.Steps.{false_true}
 
 -- ---- a minus that digits must follow
 

@@ -9,11 +9,11 @@ use Rattle.script_blocks.specs.Classes as r
 use Rattle.script_forms.specs.Form.{sequence, says, ◌or◌}
 use Rattle.script_forms.specs.Basics as basic
 use Rattle.script_forms.specs.ClassHeads as form
-use Rattle.grammar_laws.proofs.Taking.{Mode}
-use Rattle.grammar_laws.proofs.Filling.{Complete, always, both, then_any, less, made, expected, taken, on_word, either, introduced, word_opens, first_opens}
-use Rattle.grammar_laws.proofs.FillingBasics.{named, names_read}
-use Rattle.expression_laws.proofs.FillingSteps.{unlike}
-use Rattle.expression_laws.proofs.FillingLiterals.{literal_read}
+use Rattle.line_laws.proofs.Forms.Taking.{Mode}
+use Rattle.line_laws.proofs.Forms.Filling.{Complete, always, both, then_any, less, made, expected, taken, on_word, either, introduced, word_opens, first_opens}
+use Rattle.line_laws.proofs.Forms.FillingBasics.{named, names_read}
+use Rattle.line_laws.proofs.Expressions.FillingSteps.{unlike}
+use Rattle.line_laws.proofs.Expressions.FillingLiterals.{literal_read}
 use Rattle.line_laws.proofs.SomeKinds.{among}
 use Rattle.line_laws.proofs.FillingParts.{Stands, instead, link, done, clause_stands, list_stands}
 use Rattle.line_laws.proofs.FillingSelects.{ends}

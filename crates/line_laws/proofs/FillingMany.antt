@@ -5,10 +5,10 @@ use Rattle.script_lex.specs.declared.token.Token.{Token}
 use Rattle.script_tokens.specs.Input.{Reader, and_then, first_of}
 use Rattle.script_forms.specs.Form.{Form}
 use Rattle.script_forms.specs.Expressions.{many}
-use Rattle.grammar_laws.proofs.Taking.{Mode, Enough}
-use Rattle.grammar_laws.proofs.Steps.{budget_none, budget_more}
-use Rattle.grammar_laws.proofs.Filling.{Read, Complete, Opens, always, enough_first, enough_then}
-use Rattle.grammar_laws.proofs.FillingBasics.{Solid}
+use Rattle.line_laws.proofs.Forms.Taking.{Mode, Enough}
+use Rattle.line_laws.proofs.Forms.Steps.{budget_none, budget_more}
+use Rattle.line_laws.proofs.Forms.Filling.{Read, Complete, Opens, always, enough_first, enough_then}
+use Rattle.line_laws.proofs.Forms.FillingBasics.{Solid}
 use Rattle.script_tokens.specs.Many.{many_by, many_from}
 
 -- a turn reads an item, or nothing where none comes

@@ -7,12 +7,12 @@ use Rattle.script_lex.specs.Lex.{same_kind}
 use Rattle.script_tokens.proofs.Alike.{alike}
 use Rattle.script_tokens.specs.Input.{Input, Reader, ◌>>=◌, pure, peek, eat, clause, head, sees, first_of}
 use Rattle.script_forms.specs.Form.{Form, sequence, says, word, maybe, ◌or◌}
-use Rattle.grammar_laws.proofs.Taking.{Mode, Enough}
-use Rattle.grammar_laws.proofs.Sequences.{then_value}
-use Rattle.grammar_laws.proofs.Filling.{Read, Complete, Opens, both, less, made, either, absent, introduced, if_word, made_opens, word_opens, then_opens, first_opens, maybe_opens, either_opens}
-use Rattle.expression_laws.proofs.FillingSteps.{unlike, only, onto, seen, unseen, uneaten, eaten_then}
+use Rattle.line_laws.proofs.Forms.Taking.{Mode, Enough}
+use Rattle.line_laws.proofs.Forms.Sequences.{then_value}
+use Rattle.line_laws.proofs.Forms.Filling.{Read, Complete, Opens, both, less, made, either, absent, introduced, if_word, made_opens, word_opens, then_opens, first_opens, maybe_opens, either_opens}
+use Rattle.line_laws.proofs.Expressions.FillingSteps.{unlike, only, onto, seen, unseen, uneaten, eaten_then}
 use Rattle.line_laws.proofs.SomeKinds.{false_true, among, first_among, rest_among, other_than, end_kind}
-use Rattle.grammar_laws.proofs.Steps.{is_end}
+use Rattle.line_laws.proofs.Forms.Steps.{is_end}
 
 not_true : (b : Bool) → not b ≡ true → b ≡ false
 not_true true e = absurd (false_true e)

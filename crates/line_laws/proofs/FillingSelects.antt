@@ -18,13 +18,13 @@ use Rattle.script_forms.specs.Expressions.{many, expression_to, source}
 use Rattle.script_forms.specs.Selects as form
 use Rattle.script_forms.specs.Queries as query
 use Rattle.script_forms.specs.Bulk as statement
-use Rattle.grammar_laws.proofs.Taking.{Mode, Enough}
-use Rattle.grammar_laws.proofs.Steps.{budget_none}
-use Rattle.grammar_laws.proofs.Filling.{Read, Complete, Opens, Begun, always, both, then_any, less, made, expected, taken, on_word, either, eaten, by_kind_read, mapped_run, word_begun, then_begun, made_opens, word_opens, then_opens, first_opens, whether_opens, either_opens}
-use Rattle.grammar_laws.proofs.FillingBasics.{Solid, named, names_read, listed}
-use Rattle.expression_laws.proofs.FillingSteps.{unlike, opens_less, solid_of, separated_opens}
-use Rattle.expression_laws.proofs.FillingKinds.{is_name}
-use Rattle.expression_laws.proofs.FillingLiterals.{ends_source, source_read}
+use Rattle.line_laws.proofs.Forms.Taking.{Mode, Enough}
+use Rattle.line_laws.proofs.Forms.Steps.{budget_none}
+use Rattle.line_laws.proofs.Forms.Filling.{Read, Complete, Opens, Begun, always, both, then_any, less, made, expected, taken, on_word, either, eaten, by_kind_read, mapped_run, word_begun, then_begun, made_opens, word_opens, then_opens, first_opens, whether_opens, either_opens}
+use Rattle.line_laws.proofs.Forms.FillingBasics.{Solid, named, names_read, listed}
+use Rattle.line_laws.proofs.Expressions.FillingSteps.{unlike, opens_less, solid_of, separated_opens}
+use Rattle.line_laws.proofs.Expressions.FillingKinds.{is_name}
+use Rattle.line_laws.proofs.Expressions.FillingLiterals.{ends_source, source_read}
 use Rattle.line_laws.proofs.SomeKinds.{among, all_in, within, first_among, rest_among, not_this, false_true}
 use Rattle.line_laws.proofs.FillingParts.{Stands, instead, mapped, word_or, link, then_stands, done, clause_run, no_clause, clause_stands, list_stands}
 use Rattle.line_laws.proofs.FillingValues as values

@@ -36,12 +36,12 @@ use Rattle.script_forms.specs.Bulk.{bulk}
 use Rattle.script_forms.specs.ClassHeads as heads
 use Rattle.script_forms.specs.Bindings as bindings
 use Rattle.script_forms.specs.TopLines as form
-use Rattle.grammar_laws.proofs.Taking.{Mode, Enough}
-use Rattle.grammar_laws.proofs.Filling.{Read, Complete, Opens, always, both, then_any, less, made, expected, taken, on_word, either, if_word, made_opens, word_opens, then_opens, first_opens, maybe_opens, whether_opens, either_opens}
-use Rattle.grammar_laws.proofs.FillingBasics.{named, listed}
-use Rattle.expression_laws.proofs.FillingSteps.{unlike, opens_less, solid_of, separated_opens}
-use Rattle.expression_laws.proofs.FillingKinds.{is_name}
-use Rattle.expression_laws.proofs.FillingLiterals.{literal_read, literal_solid}
+use Rattle.line_laws.proofs.Forms.Taking.{Mode, Enough}
+use Rattle.line_laws.proofs.Forms.Filling.{Read, Complete, Opens, always, both, then_any, less, made, expected, taken, on_word, either, if_word, made_opens, word_opens, then_opens, first_opens, maybe_opens, whether_opens, either_opens}
+use Rattle.line_laws.proofs.Forms.FillingBasics.{named, listed}
+use Rattle.line_laws.proofs.Expressions.FillingSteps.{unlike, opens_less, solid_of, separated_opens}
+use Rattle.line_laws.proofs.Expressions.FillingKinds.{is_name}
+use Rattle.line_laws.proofs.Expressions.FillingLiterals.{literal_read, literal_solid}
 use Rattle.line_laws.proofs.SomeKinds.{false_true, among, other_than, not_this, end_within}
 use Rattle.line_laws.proofs.FillingParts.{instead, mapped, decided, unless_end, perhaps}
 use Rattle.line_laws.proofs.FillingValues as values
@@ -49,7 +49,7 @@ use Rattle.line_laws.proofs.FillingValues.{begins_value, name_opens, term_opens}
 use Rattle.line_laws.proofs.FillingSelects.{ends, opening, behind_expression, select_read, query_read, bulk_read}
 use Rattle.line_laws.proofs.FillingHeads.{class_head}
 use Rattle.line_laws.proofs.Tops.{same_flat}
-use Rattle.grammar_laws.proofs.Steps.{is_end}
+use Rattle.line_laws.proofs.Forms.Steps.{is_end}
 
 -- a name begins with no such token
 name_is_no : (kd : Kind) → is_name kd ≡ false → {t : Kind → Bool} → Opens basic.name t (other_than kd)

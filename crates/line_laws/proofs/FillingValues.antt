@@ -17,13 +17,13 @@ use Rattle.script_forms.specs.Form.{sequence, says, word, maybe}
 use Rattle.script_forms.specs.Basics as form
 use Rattle.script_forms.specs.Bindings as bindings
 use Rattle.script_forms.specs.TopLines as top
-use Rattle.grammar_laws.proofs.Taking.{Mode}
-use Rattle.grammar_laws.proofs.Steps.{budget_none}
-use Rattle.grammar_laws.proofs.Filling.{Read, Complete, Opens, always, both, then_any, less, made, expected, introduced, word_opens, first_opens, made_opens, either_opens}
-use Rattle.grammar_laws.proofs.FillingBasics.{Solid, named}
-use Rattle.expression_laws.proofs.FillingSteps.{unlike, only, opens_less, solid_of}
-use Rattle.expression_laws.proofs.FillingKinds.{is_name}
-use Rattle.expression_laws.proofs.FillingLiterals.{literal_read, literal_opens, name_opens as any_name_opens}
+use Rattle.line_laws.proofs.Forms.Taking.{Mode}
+use Rattle.line_laws.proofs.Forms.Steps.{budget_none}
+use Rattle.line_laws.proofs.Forms.Filling.{Read, Complete, Opens, always, both, then_any, less, made, expected, introduced, word_opens, first_opens, made_opens, either_opens}
+use Rattle.line_laws.proofs.Forms.FillingBasics.{Solid, named}
+use Rattle.line_laws.proofs.Expressions.FillingSteps.{unlike, only, opens_less, solid_of}
+use Rattle.line_laws.proofs.Expressions.FillingKinds.{is_name}
+use Rattle.line_laws.proofs.Expressions.FillingLiterals.{literal_read, literal_opens, name_opens as any_name_opens}
 use Rattle.line_laws.proofs.Flat.{through, clause_same}
 use Rattle.line_laws.proofs.SomeKinds.{false_true, not_this}
 use Rattle.line_laws.proofs.FillingParts.{instead, word_or}
@@ -121,9 +121,6 @@ pub member : {mode : Mode} → Complete mode always r.member bindings.member
 unfolding r.member same_kind
 member =
     both (term {t = only k.Dot} refl) (λ owner. then_any (expected k.Dot) (λ _. then_any named (λ called. made _))) (λ owner. first_opens (word_opens k.Dot refl))
-
-pub member_opens : {t : Kind → Bool} → Opens bindings.member t is_name
-member_opens = first_opens (first_opens name_opens)
 
 pub linked : {mode : Mode} {t : Kind → Bool} → t k.LBracket ≡ false → Complete mode t r.member_and_term top.member_and_term
 unfolding r.member_and_term

@@ -5,12 +5,12 @@ use Rattle.script_lex.specs.declared.kind.Kind.TheVariants as k
 use Rattle.script_tokens.proofs.Alike.{same}
 use Rattle.script_tokens.specs.Input.{Input, Outcome, Reader, ◌>>=◌, and_then, pure, peek, take_token, eat, expect, clause, kind, sees, after, separated_from}
 use Rattle.script_forms.specs.Form.{Form, sequence, says, word, maybe, whether, separated_list, ◌or◌}
-use Rattle.grammar_laws.proofs.Taking.{Mode, Behind, TooDeep, Kept, Out, Whole, Sound, Inhabited}
-use Rattle.grammar_laws.proofs.Steps as step
-use Rattle.grammar_laws.proofs.Steps.{budget_none, within_out, is_end}
-use Rattle.expression_laws.proofs.Steps as expressions
-use Rattle.grammar_laws.proofs.Lists as lists
-use Rattle.grammar_laws.proofs.Options as options
+use Rattle.line_laws.proofs.Forms.Taking.{Mode, Behind, TooDeep, Kept, Out, Whole, Sound, Inhabited}
+use Rattle.line_laws.proofs.Forms.Steps as step
+use Rattle.line_laws.proofs.Forms.Steps.{budget_none, within_out, is_end}
+use Rattle.line_laws.proofs.Expressions.Steps as expressions
+use Rattle.line_laws.proofs.Forms.Lists as lists
+use Rattle.line_laws.proofs.Forms.Options as options
 
 pub record Follows {A : Type 0} (mode : Mode) (p : Reader A) (form : Form A) : Type 0 where
   pub sound : Sound mode p form

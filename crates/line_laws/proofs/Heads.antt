@@ -10,8 +10,8 @@ use Rattle.script_blocks.specs.Classes as r
 use Rattle.script_forms.specs.Form.{sequence, says, word, maybe, ◌or◌}
 use Rattle.script_forms.specs.Basics as basic
 use Rattle.script_forms.specs.ClassHeads as form
-use Rattle.grammar_laws.proofs.Taking.{Mode, Plain, Out, Whole, Inhabited}
-use Rattle.grammar_laws.proofs.Steps.{left_of, right_of, refused_at, some_left}
+use Rattle.line_laws.proofs.Forms.Taking.{Mode, Plain, Out, Whole, Inhabited}
+use Rattle.line_laws.proofs.Forms.Steps.{left_of, right_of, refused_at, some_left}
 use Rattle.line_laws.proofs.Flat.{through, clause_same}
 use Rattle.line_laws.proofs.Following.{Follows, link, made, token, instead, introduced, word_or, on_kind, behind_word, lead}
 use Rattle.line_laws.proofs.Terms.{named, names, literal}

@@ -10,10 +10,10 @@ use Rattle.script_tokens.specs.declared.fault.Fault.{Fault}
 use Rattle.script_tokens.specs.Input.{Outcome, start_of}
 use Rattle.script_read.specs.Line.{line, line_of, answer_of, refusal_of}
 use Rattle.script_forms.specs.Lines.{Says}
-use Rattle.grammar_laws.specs.Exact.{ReadsWhatIsSaid, ReadsAllThatIsSaid}
-use Rattle.grammar_laws.proofs.Lines.{tables_read, tables_all_read, classes_read, classes_all_read}
-use Rattle.line_laws.specs.Language.{line_form, form_of_kind, TellsTheColumn, AnswersWhatIsSaid, AnswersAllThatIsSaid, RefusesByColumn}
-use Rattle.line_laws.proofs.Lines.{reads_what_is_said, reads_all_that_is_said}
+use Rattle.line_laws.proofs.Forms.Exact.{ReadsWhatIsSaid, ReadsAllThatIsSaid}
+use Rattle.line_laws.proofs.Forms.Lines.{tables_read, tables_all_read, tables_say_one_thing, classes_read, classes_all_read, classes_say_one_thing}
+use Rattle.line_laws.specs.Language.{line_form, form_of_kind, TellsTheColumn, AnswersWhatIsSaid, AnswersAllThatIsSaid, SayOneThing, RefusesByColumn}
+use Rattle.line_laws.proofs.Lines.{reads_what_is_said, reads_all_that_is_said, says_one_thing}
 use Rattle.line_laws.proofs.Prefixes.{LongestPrefix, outer_prefix, table_prefix, class_prefix}
 
 read_at : (inside : Inside) → ReadsWhatIsSaid (line_of inside) (line_form inside)
@@ -25,6 +25,11 @@ all_at : (inside : Inside) → ReadsAllThatIsSaid (line_of inside) (line_form in
 all_at Top = reads_all_that_is_said
 all_at Table = tables_all_read
 all_at Class = classes_all_read
+
+pub say_one_thing : SayOneThing
+say_one_thing Top = says_one_thing
+say_one_thing Table = tables_say_one_thing
+say_one_thing Class = classes_say_one_thing
 
 refused_at : (inside : Inside) (bytes : List ℕ) (e : Fault) → line_of inside (start_of (tokens bytes)) ≡ Err e
     → LongestPrefix (form_of_kind inside 101 (tokens bytes)) (form_of_kind inside 100 (tokens bytes)) (tokens bytes) e

@@ -1,3 +1,7 @@
+pub mod Steady
+pub mod Forms
+pub mod Expressions
+pub mod Exact
 pub mod Flat
 pub mod Following
 pub mod Many

@@ -17,22 +17,22 @@ use Rattle.script_forms.specs.Lines.{Says}
 use Rattle.script_forms.specs.Expressions.{expression_to}
 use Rattle.script_forms.specs.Bindings.{binding_line}
 use Rattle.script_forms.specs.TopLines.{top_line, outer_line}
-use Rattle.grammar_laws.specs.Exact.{EndsAViablePrefix, ReadsWhatIsSaid, ReadsAllThatIsSaid, SaysOneThing}
-use Rattle.grammar_laws.proofs.Taking.{Plain, Around, Took, Behind, TooDeep, Kept}
-use Rattle.grammar_laws.proofs.Filling.{Complete, Opens, always, less}
-use Rattle.grammar_laws.proofs.Lines.{line_is_whole, ends_read, ends_refused, begun, refused_by, refused_yields, fault_same, all_is_read, one_thing}
-use Rattle.expression_laws.specs.Exact.{EndsInDepth}
-use Rattle.expression_laws.proofs.Whole.{whole_sound, wider_sound, some_expression_to}
-use Rattle.expression_laws.proofs.FillingKinds.{ends_expression, begins_expression}
-use Rattle.expression_laws.proofs.FillingExpressions.{whole_plain, expression_opens}
-use Rattle.line_laws.specs.Exact.{outer_reader, binding_or_other, RefusesNoSooner, RefusesSoonerInDepthAlone}
+use Rattle.line_laws.proofs.Forms.Exact.{EndsAViablePrefix, ReadsWhatIsSaid, ReadsAllThatIsSaid, SaysOneThing}
+use Rattle.line_laws.proofs.Forms.Taking.{Plain, Around, Took, Behind, TooDeep, Kept}
+use Rattle.line_laws.proofs.Forms.Filling.{Complete, Opens, always, less}
+use Rattle.line_laws.proofs.Forms.Lines.{line_is_whole, ends_read, ends_refused, begun, refused_by, refused_yields, fault_same, all_is_read, one_thing}
+use Rattle.line_laws.proofs.Expressions.Whole.{whole_sound, wider_sound, some_expression_to}
+use Rattle.line_laws.proofs.Expressions.FillingKinds.{ends_expression, begins_expression}
+use Rattle.line_laws.proofs.Expressions.FillingExpressions.{whole_plain, expression_opens}
+use Rattle.line_laws.proofs.Exact.{outer_reader, RefusesNoSooner, RefusesSoonerInDepthAlone, EndsInDepth}
+use Rattle.line_laws.specs.Language.{binding_or_other}
 use Rattle.line_laws.proofs.SomeKinds.{false_true, among, all_in, within}
 use Rattle.line_laws.proofs.Following.{Follows}
 use Rattle.line_laws.proofs.Tops.{binding_read, top_read}
-use Rattle.expression_laws.proofs.FillingSteps.{opens_less}
+use Rattle.line_laws.proofs.Expressions.FillingSteps.{opens_less}
 use Rattle.line_laws.proofs.FillingSelects.{behind_expression, opening}
 use Rattle.line_laws.proofs.FillingTops.{outer_read}
-use Rattle.grammar_laws.proofs.Steps.{is_end}
+use Rattle.line_laws.proofs.Forms.Steps.{is_end}
 
 -- ---- expressions
 

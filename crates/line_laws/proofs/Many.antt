@@ -6,8 +6,8 @@ use Rattle.script_tokens.specs.Input.{Input, Outcome, Reader, and_then}
 use Rattle.script_tokens.specs.Many.{many_by, many_from}
 use Rattle.script_forms.specs.Form.{Form, maybe}
 use Rattle.script_forms.specs.Expressions.{many}
-use Rattle.grammar_laws.proofs.Taking.{Mode, Took, Refused, Behind, TooDeep, Kept, Whole, Sound}
-use Rattle.grammar_laws.proofs.Steps.{whole_rest, budget_none, budget_more, enough_more, deep_behind}
+use Rattle.line_laws.proofs.Forms.Taking.{Mode, Took, Refused, Behind, TooDeep, Kept, Whole, Sound}
+use Rattle.line_laws.proofs.Forms.Steps.{whole_rest, budget_none, budget_more, enough_more, deep_behind}
 use Rattle.line_laws.proofs.Following.{Follows}
 
 -- the items that were read are behind those found before

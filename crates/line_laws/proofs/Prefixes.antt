@@ -19,16 +19,15 @@ use Rattle.script_forms.specs.Bindings.{binding_line}
 use Rattle.script_forms.specs.TopLines.{top_line}
 use Rattle.script_forms.specs.TableLines as tables
 use Rattle.script_forms.specs.ClassLines as classes
-use Rattle.grammar_laws.specs.Exact.{EndsAViablePrefix, ReadsAllThatIsSaid, table_reader, class_reader}
-use Rattle.grammar_laws.proofs.Taking.{Plain}
-use Rattle.grammar_laws.proofs.Lines.{all_is_read, refused_yields, tables_all_read, tables_refused, classes_all_read, classes_refused}
-use Rattle.grammar_laws.specs.Nesting.{openings, nests}
-use Rattle.expression_laws.specs.Exact.{EndsInDepth}
-use Rattle.script_laws.specs.Steady.{closes, IsClosed}
-use Rattle.script_laws.specs.Refusals.{place, IsRefusedForGood, whole_binding, whole_top, whole_table_line, whole_class_line}
-use Rattle.script_laws.proofs.Settled.{binding_refused, top_refused, table_refused, class_refused}
-use Rattle.line_laws.specs.Exact.{outer_reader, binding_or_other, form_for}
-use Rattle.line_laws.specs.Language.{EndDeep}
+use Rattle.line_laws.proofs.Forms.Exact.{EndsAViablePrefix, ReadsAllThatIsSaid, table_reader, class_reader}
+use Rattle.line_laws.proofs.Forms.Taking.{Plain}
+use Rattle.line_laws.proofs.Forms.Lines.{all_is_read, refused_yields, tables_all_read, tables_refused, classes_all_read, classes_refused}
+use Rattle.line_laws.specs.Nesting.{openings, nests}
+use Rattle.line_laws.proofs.Steady.Settling.{closes, IsClosed}
+use Rattle.line_laws.proofs.Steady.Refusals.{place, IsRefusedForGood, whole_binding, whole_top, whole_table_line, whole_class_line}
+use Rattle.line_laws.proofs.Steady.Settled.{binding_refused, top_refused, table_refused, class_refused}
+use Rattle.line_laws.proofs.Exact.{outer_reader, EndsInDepth}
+use Rattle.line_laws.specs.Language.{EndDeep, binding_or_other, form_for}
 use Rattle.line_laws.proofs.SomeKinds.{false_true}
 use Rattle.line_laws.proofs.FillingTops.{binding_filled, top_filled}
 use Rattle.line_laws.proofs.Lines.{filled, opened, refuses_no_sooner, refuses_sooner_in_depth_alone}

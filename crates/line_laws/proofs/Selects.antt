@@ -18,9 +18,9 @@ use Rattle.script_forms.specs.Expressions.{many, expression_to, source}
 use Rattle.script_forms.specs.Selects as form
 use Rattle.script_forms.specs.Queries as query
 use Rattle.script_forms.specs.Bulk as statement
-use Rattle.grammar_laws.proofs.Taking.{Mode, Out, Whole, Inhabited}
-use Rattle.grammar_laws.proofs.Steps.{is_end, budget_none, left_of, right_of, refused_at, some_left}
-use Rattle.expression_laws.proofs.Steps.{within_at, with_word, without_word}
+use Rattle.line_laws.proofs.Forms.Taking.{Mode, Out, Whole, Inhabited}
+use Rattle.line_laws.proofs.Forms.Steps.{is_end, budget_none, left_of, right_of, refused_at, some_left}
+use Rattle.line_laws.proofs.Expressions.Steps.{within_at, with_word, without_word}
 use Rattle.line_laws.proofs.Following.{Follows, link, made, token, mapped, instead, listed, introduced, eaten, word_or, one_of, on_kind, behind_word, lead, some_maybe}
 use Rattle.line_laws.proofs.Many.{all_read}
 use Rattle.line_laws.proofs.Terms as terms

@@ -5,8 +5,8 @@ use Rattle.script_lex.specs.declared.kind.Kind.{Kind}
 use Rattle.script_lex.specs.declared.kind.Kind.TheVariants as k
 use Rattle.script_lex.specs.Lex.{same_kind}
 use Rattle.script_tokens.proofs.Alike.{same, alike}
-use Rattle.expression_laws.proofs.FillingSteps.{unlike}
-use Rattle.grammar_laws.proofs.Steps.{is_end}
+use Rattle.line_laws.proofs.Expressions.FillingSteps.{unlike}
+use Rattle.line_laws.proofs.Forms.Steps.{is_end}
 
 pub false_true : false ≡ true → ⊥
 false_true e = cc

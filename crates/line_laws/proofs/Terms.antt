@@ -12,11 +12,11 @@ use Rattle.script_forms.specs.Basics as form
 use Rattle.script_forms.specs.Expressions as expressions
 use Rattle.script_forms.specs.Bindings as bindings
 use Rattle.script_forms.specs.TopLines as top
-use Rattle.grammar_laws.proofs.Taking.{Mode, Sound}
-use Rattle.grammar_laws.proofs.Steps.{both, some_made}
-use Rattle.grammar_laws.proofs.Steps as step
-use Rattle.grammar_laws.proofs.Options.{if_word, bracket_up}
-use Rattle.grammar_laws.proofs.Basics as basics
+use Rattle.line_laws.proofs.Forms.Taking.{Mode, Sound}
+use Rattle.line_laws.proofs.Forms.Steps.{both, some_made}
+use Rattle.line_laws.proofs.Forms.Steps as step
+use Rattle.line_laws.proofs.Forms.Options.{if_word, bracket_up}
+use Rattle.line_laws.proofs.Forms.Basics as basics
 use Rattle.line_laws.proofs.Following.{Follows, link, made, token, introduced, word_or, some_maybe}
 
 pub named : {c : Mode} → Follows c n.name form.name

@@ -18,8 +18,8 @@ use Rattle.script_forms.specs.Basics as basic
 use Rattle.script_forms.specs.Expressions.{expression_to}
 use Rattle.script_forms.specs.Bindings as bindings
 use Rattle.script_forms.specs.TopLines as form
-use Rattle.grammar_laws.proofs.Taking.{Mode, Plain, Out, Whole, Inhabited}
-use Rattle.grammar_laws.proofs.Steps.{left_of, right_of, refused_at, some_left}
+use Rattle.line_laws.proofs.Forms.Taking.{Mode, Plain, Out, Whole, Inhabited}
+use Rattle.line_laws.proofs.Forms.Steps.{left_of, right_of, refused_at, some_left}
 use Rattle.line_laws.proofs.Following.{Follows, link, made, token, mapped, listed, instead, word_or, decided, unless_end, of_first, perhaps, on_kind, behind_word, at, lead}
 use Rattle.line_laws.proofs.Terms.{named, literal, value, term, member, linked, cell}
 use Rattle.line_laws.proofs.Flat.{through}

@@ -1,27 +1,41 @@
 -- What is answered to a line of bytes, wherever it stands.
-use Rattle.std.specs.Prelude.{◌≡◌, ◌⊎◌, ℕ, ◌≤◌, true, false, List, [], ◌∷◌, ◌++◌, length, Ok, Err}
+use Rattle.std.specs.Prelude.{◌≡◌, ◌⊎◌, ℕ, ◌≤◌, Bool, true, false, List, [], ◌∷◌, ◌++◌, length, drop, Ok, Err}
 use Rattle.base_core.specs.declared.refusal.Refusal.{Refusal}
 use Rattle.base_core.specs.declared.refusal.Refusal.TheVariants.{ScriptError}
 use Rattle.script_types.specs.declared.command.Command.{Command}
 use Rattle.script_types.specs.declared.command.Inside.{Inside}
 use Rattle.script_types.specs.declared.command.Inside.TheVariants.{Top, Table, Class}
+use Rattle.script_lex.specs.declared.kind.Kind.TheVariants as k
 use Rattle.script_lex.specs.declared.token.Token.{Token}
-use Rattle.script_lex.specs.Lex.{is_ignored, tokens}
+use Rattle.script_lex.specs.Lex.{is_ignored, same_kind, tokens}
 use Rattle.script_tokens.specs.Input.{first_of}
 use Rattle.script_read.specs.Line.{line, column}
 use Rattle.script_forms.specs.Form.{Form}
 use Rattle.script_forms.specs.Lines.{Says, Begins}
 use Rattle.script_forms.specs.TableLines.{table_line}
 use Rattle.script_forms.specs.ClassLines.{class_line}
-use Rattle.script_forms.specs.TopLines.{outer_line}
-use Rattle.grammar_laws.specs.Nesting.{openings, nests}
-use Rattle.line_laws.specs.Exact.{form_for}
+use Rattle.script_forms.specs.Bindings.{binding_line}
+use Rattle.script_forms.specs.TopLines.{top_line, outer_line}
+use Rattle.line_laws.specs.Nesting.{openings, nests}
 
 -- the form of the lines that stand there
 abbrev pub line_form : Inside → Form Command
 line_form Top = outer_line 100
 line_form Table = table_line
 line_form Class = class_line
+
+-- whether the second token is `=`
+abbrev pub binds : List Token → Bool
+binds line = same_kind (first_of (drop 1 line)).kind k.Assign
+
+-- lines that bind a name, or those that do not, in whose expressions so many may nest
+abbrev pub binding_or_other : Bool → ℕ → Form Command
+binding_or_other true most = binding_line most
+binding_or_other false most = top_line most
+
+-- the form of the lines of this one's kind: a line that is refused is held against these alone
+abbrev pub form_for : ℕ → List Token → Form Command
+form_for most line = binding_or_other (binds line) most
 
 -- the form of the lines that stand there and are of this one's kind, in whose expressions so many may nest
 abbrev pub form_of_kind : Inside → ℕ → List Token → Form Command
@@ -61,6 +75,10 @@ AnswersWhatIsSaid = (bytes : List ℕ) (number : ℕ) (inside : Inside) (command
 abbrev pub AnswersAllThatIsSaid : Type 0
 AnswersAllThatIsSaid = (bytes : List ℕ) (number : ℕ) (inside : Inside) (command : Command) → is_ignored bytes ≡ false → Says (line_form inside) (tokens bytes) command
     → line bytes number inside ≡ Ok command
+
+-- The tokens of a line say one command at most.
+abbrev pub SayOneThing : Type 0
+SayOneThing = (inside : Inside) (line : List Token) (c d : Command) → Says (line_form inside) line c → Says (line_form inside) line d → c ≡ d
 
 -- A refusal tells the number of the line and the column of the token at which no line of this kind goes on.
 abbrev pub RefusesByColumn : Type 0

@@ -1,0 +1,15 @@
+pub mod Steps
+pub mod Nesting
+pub mod Chains
+pub mod Atoms
+pub mod Sums
+pub mod Tests
+pub mod Levels
+pub mod Whole
+pub mod FillingSteps
+pub mod FillingKinds
+pub mod FillingChains
+pub mod FillingLiterals
+pub mod FillingAtoms
+pub mod FillingTests
+pub mod FillingExpressions

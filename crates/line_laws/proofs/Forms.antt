@@ -1,0 +1,14 @@
+pub mod Exact
+pub mod Taking
+pub mod Steps
+pub mod Sequences
+pub mod Options
+pub mod Lists
+pub mod Basics
+pub mod TableLines
+pub mod Lines
+pub mod ClassLines
+pub mod Filling
+pub mod FillingBasics
+pub mod FillingTables
+pub mod FillingClasses

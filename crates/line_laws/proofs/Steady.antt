@@ -1,0 +1,11 @@
+pub mod Settling
+pub mod Refusals
+pub mod Steps
+pub mod Loops
+pub mod Marked
+pub mod Many
+pub mod Reading
+pub mod Expressions
+pub mod Selects
+pub mod Lines
+pub mod Settled
