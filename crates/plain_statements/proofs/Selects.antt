@@ -1,5 +1,5 @@
 -- The test of a select holds exactly where the select is plain.
-use Rattle.std.proofs.Common.{◌≡◌, ℕ, Bool, true, false, ◌&&◌, ◌||◌, ◌↔◌, IsTrue, nat_lt, List, [], ◌∷◌, ◌++◌, map, length, Option, Some, None, is_some, refl, sym, ap, subst, ◌∙◌}
+use Rattle.std.proofs.Common.{◌≡◌, ℕ, ◌+◌, Bool, true, false, ◌&&◌, ◌||◌, ◌↔◌, IsTrue, nat_lt, List, [], ◌∷◌, ◌++◌, map, length, Option, Some, None, is_some, refl, sym, ap, subst, ◌∙◌, arith}
 use Rattle.std.proofs.lemmas.Bool.{and_from, and_parts}
 use Rattle.std.proofs.lemmas.List.{length-map, map-append}
 use Rattle.std.proofs.lemmas.List.Folds.{list_all-append, list_all-map, list_any-append}
@@ -99,6 +99,16 @@ settled_is s =
     ap (λ g. test.are_settled g s.groups (length (test.tables_of (sources_of s))) s) (grouped s)
     ∙ ap (λ (n : ℕ). test.are_settled (is_grouped s) s.groups n s) (length-map (sources_of s) (λ (o : Origin). o.table))
     ∙ all_settled (is_grouped s) s.groups (length (sources_of s)) s
+
+-- the same where the number of sources is counted by the joins
+pub select_settled : (s : Select) → test.are_settled (test.groups_rows s) s.groups (length s.joins + 1) s ≡ list_all (is_well_grouped (is_grouped s) s.groups (length (sources_of s))) (and_having s.having (outputs s))
+select_settled s =
+    ap (λ g. test.are_settled g s.groups (length s.joins + 1) s) (grouped s)
+    ∙ ap (λ (n : ℕ). test.are_settled (is_grouped s) s.groups n s) (counted s)
+    ∙ all_settled (is_grouped s) s.groups (length (sources_of s)) s
+  where
+    counted : (s : Select) → length s.joins + 1 ≡ length (sources_of s)
+    counted s = let long = length-map s.joins (λ (j : Joined). j.origin) in omega arith
 
 -- ---- groups
 

@@ -13,6 +13,7 @@ mod standing;
 mod statement;
 
 pub use bulk::{is_fitting_bulk, is_plain_bulk};
+pub use naming::{are_distinct, name_of, names_apart, table_name};
 pub use row::is_well_formed;
-pub use select::is_plain_select;
+pub use select::{is_plain_select, is_settled_select};
 pub use statement::is_plain;

@@ -13,7 +13,7 @@ use sqlite_items::Boxed;
 use std::alloc::{AllocError, Global};
 
 /// The name of a source: its own, or else its table's.
-pub(crate) fn name_of(alloc: Global, schema: &Schema, origin: &Origin) -> Result<Name, AllocError>
+pub fn name_of(alloc: Global, schema: &Schema, origin: &Origin) -> Result<Name, AllocError>
     ensures { IfOk result (λ name. name ≡ spec.name_of schema.now origin.now) }
 {
     match &origin.alias {
@@ -23,7 +23,7 @@ pub(crate) fn name_of(alloc: Global, schema: &Schema, origin: &Origin) -> Result
 }
 
 /// The name of a table; one that is not declared has none.
-pub(crate) fn table_name(alloc: Global, schema: &Schema, table: TableId) -> Result<Name, AllocError>
+pub fn table_name(alloc: Global, schema: &Schema, table: TableId) -> Result<Name, AllocError>
     ensures { IfOk result (λ name. name
         ≡ spec.name_of schema.now (record { table = table; alias = None })) }
 {
@@ -56,7 +56,7 @@ fn repeats(names: &[Name]) -> bool
 
 /// Whether each name stands once.
 #[tactic(auto, using(crate::proofs::Levels::distinct_names))]
-pub(crate) fn are_distinct(names: &[Name]) -> bool
+pub fn are_distinct(names: &[Name]) -> bool
     ensures { result ≡ spec.are_distinct names.now }
 {
     !repeats(names)
@@ -77,7 +77,7 @@ fn entered(alloc: Global, names: &[Name], name: Name) -> Result<Vec<Name>, Alloc
 /// Whether no source of an `exists` has the name of a source around it.
 #[tactic(auto, unfolding(sql_semantics::specs::Plain::names_apart), using(crate::proofs::Levels::apart_lists))]
 #[cycle(apart)]
-pub(crate) fn names_apart(
+pub fn names_apart(
     alloc: Global,
     schema: &Schema,
     names: &[Name],

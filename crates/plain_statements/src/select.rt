@@ -208,6 +208,23 @@ fn are_settled(query: &Grouping<'_>, select: &Select) -> bool
         && keys_settled(query, select.order.as_slice())
 }
 
+/// Whether the columns and aggregates of what is evaluated for each row or group stand where groups let them: aggregates in
+/// no other one and in no `exists`, and in a grouped query the columns of its sources in aggregates and in occurrences of
+/// its group expressions alone.
+#[tactic(auto, using(crate::proofs::Selects::select_settled))]
+pub fn is_settled_select(select: &Select) -> bool
+    ensures { result ≡ list_all
+        (plain.is_well_grouped (plain.is_grouped select.now) select.now.groups (length (plain.sources_of select.now)))
+        (plain.and_having select.now.having (plain.outputs select.now)) }
+{
+    let query = Grouping {
+        grouped: groups_rows(select),
+        groups: select.groups.as_slice(),
+        own: select.joins.as_slice().len() + 1,
+    };
+    are_settled(&query, select)
+}
+
 fn all_known(schema: &Schema, tables: &[TableId]) -> bool
     ensures { result ≡ list_all (spec.is_known schema.now) tables.now }
 {
