@@ -1,6 +1,5 @@
 pub mod CellLemmas
 pub mod MakeLemmas
-pub mod ObjectLemmas
 mod OneRow
 mod PlainObjects
 pub mod QueueLemmas

@@ -1,5 +1,5 @@
 -- What every session keeps, as its objects change and its scopes start and end.
-use Rattle.std.proofs.Common.{◌≡◌, ◌<◌, ◌≤◌, true, List, [], ◌∷◌, length, Result, Ok, Err, OnOk, refl, sym, ap, ◌∙◌, subst, arith}
+use Rattle.std.proofs.Common.{◌≡◌, ◌<◌, ◌≤◌, true, List, [], ◌∷◌, length, Result, Ok, Err, OnOk, sym, ap, ◌∙◌, subst, arith}
 use Rattle.std.proofs.lemmas.List.{get_or_append_left, length-append}
 use Rattle.std.specs.List.{All}
 use Rattle.std.proofs.lemmas.List.Elements.{All-nil}
@@ -17,7 +17,8 @@ use Rattle.savepoints.specs.declared.scope.Scope.{Scope}
 use Rattle.savepoints.specs.Scopes.{Framed, HasKeys, begun_at, push}
 use Rattle.object_arena.proofs.ClassLemmas.{classes_long}
 use Rattle.savepoints.proofs.KeyLemmas.{all_kept, all_made, class_at}
-use Rattle.session_core.specs.SessionState.{IsOfClass, IsSession, KeepsScopes, ObjectsStay, SessionState, Stay, has_scope}
+use Rattle.session_parts.proofs.ScopeLemmas.{inside, outside}
+use Rattle.session_core.specs.SessionState.{IsOfClass, IsSession, KeepsScopes, ObjectsStay, SessionState, Stay}
 
 -- objects that change, each in its class
 pub session_kept : (mapped : Mapped) (old new : Graph) (frames : Framed) → IsFit mapped new → classes_of new ≡ classes_of old → IsSession mapped old frames.scopes → IsSession mapped new frames.scopes
@@ -66,15 +67,6 @@ keeps_more first second = record {
 }
 
 -- ---- scopes
-
--- a scope is in progress or none is
-pub inside : (scopes : List Scope) → 0 < length scopes → has_scope scopes ≡ true
-inside [] less = absurd (omega arith)
-inside (scope ∷ scopes) less = refl
-
-pub outside : (scopes : List Scope) → length scopes ≤ 0 → scopes ≡ []
-outside [] less = refl
-outside (scope ∷ scopes) less = absurd (omega arith)
 
 -- the transaction is the only scope
 pub alone : (scopes : List Scope) → length scopes ≤ 1 → 0 < length scopes → length scopes ≡ 1

@@ -11,7 +11,8 @@ use Rattle.programs.specs.Beside.{changes, moment_beside, on_store, no_note}
 use Rattle.programs.proofs.Sequence.{done, then_ok}
 use Rattle.programs.proofs.Lifting.{chosen}
 use Rattle.savepoints.specs.declared.scope.Scope.{Scope}
-use Rattle.session_core.specs.SessionState.{SessionState, has_scope, in_transaction}
+use Rattle.session_parts.specs.Depths.{has_scope}
+use Rattle.session_core.specs.SessionState.{SessionState, in_transaction}
 use Rattle.session_core.specs.Flush.{Written, pending_in_order}
 use Rattle.session_core.specs.Steps.{session_begun, close, session_closed, commit, session_committed, enter, refuse_or_begin, session_failed, flush, session_flushed, give_up, rollback_when_begun, write_pending}
 use Rattle.programs.proofs.Lifting.{then_ends}

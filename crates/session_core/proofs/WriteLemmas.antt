@@ -24,7 +24,7 @@ use Rattle.object_arena.specs.declared.object.State.TheVariants.{Detached, Persi
 use Rattle.object_arena.specs.Fit.{IsFit, cell_fits, is_just_of_kind, is_of_kind, key_fits, key_value_fits, value_fits}
 use Rattle.object_arena.proofs.FitLemmas.{fit_at, fit_cells}
 use Rattle.object_arena.proofs.PartLemmas.{pointwise_at}
-use Rattle.session_core.proofs.ObjectLemmas.{class_still, made_still}
+use Rattle.session_parts.proofs.ObjectLemmas.{class_still, made_still}
 use Rattle.session_core.specs.Flush.{IsUnderKey, StaysFit, Written, holder_freed, held_cell, graph_settled, value_under, written_object, written_value}
 
 -- ---- the cells

@@ -1,5 +1,5 @@
--- What a flush writes, and what becomes of the objects at its end and at the end of the transaction.
-use Rattle.std.specs.Prelude.{◌≡◌, ℕ, true, false, List, [], ◌∷◌, map, fold, slice_index_or, ◌==◌, Option, None, Some, if◌then◌else◌}
+-- What a flush writes, and what becomes of the objects at its end.
+use Rattle.std.specs.Prelude.{◌≡◌, ℕ, true, List, [], ◌∷◌, map, fold, slice_index_or, ◌==◌, Option, None, Some, if◌then◌else◌}
 use Rattle.std.specs.List.{enumerate_from, position}
 use Rattle.std.specs.BTreeMap.{insert_entry}
 use Rattle.base_core.specs.declared.ids.AttrNo.{AttrNo}
@@ -10,10 +10,9 @@ use Rattle.schema_core.specs.declared.statement.RowStmt.TheVariants.{Insert}
 use Rattle.class_mapping.specs.Mapped.{Mapped, key_attributes, root_table}
 use Rattle.object_arena.specs.declared.object.Cell.{Cell}
 use Rattle.object_arena.specs.declared.object.Object.{Object}
-use Rattle.object_arena.specs.declared.object.State.{State}
-use Rattle.object_arena.specs.declared.object.State.TheVariants.{Transient, Pending, Persistent, Deleted, Detached}
+use Rattle.object_arena.specs.declared.object.State.TheVariants.{Detached}
 use Rattle.schema_core.specs.Tables.{value_or_null}
-use Rattle.object_arena.specs.Graph.{Graph, IsObject, expired_object, kept_identity, object_at, root_at, row_of, with_object, with_state, Queue, is_pending, rank_cmp}
+use Rattle.object_arena.specs.Graph.{Graph, IsObject, object_at, root_at, row_of, with_object, with_state, Queue, is_pending, rank_cmp}
 use Rattle.object_arena.specs.Identity.{find_identity, with_identity}
 use Rattle.object_arena.specs.Fit.{IsFit, key_fits}
 use Rattle.object_arena.specs.Every.{classes_of}
@@ -83,27 +82,3 @@ graph_settled mapped graph written = with_written mapped (under_key graph writte
 pub record StaysFit (mapped : Mapped) (old new : Graph) : Type 0 where
   pub fit : IsFit mapped new
   pub classes : classes_of new ≡ classes_of old
-
--- ---- at a commit and at a close
-
-abbrev pub object_unmarked : Object → Object
-object_unmarked object = record object { marked = false }
-
-abbrev pub object_committed_in : State → Object → Object
-object_committed_in Persistent object = expired_object object
-object_committed_in Deleted object = record object { state = Detached }
-object_committed_in state object = object
-
--- an object after a commit: a persistent one is expired, a deleted one detached
-abbrev pub object_committed : Object → Object
-object_committed object = object_committed_in object.state object
-
--- where an object stands once it has left the session
-abbrev pub left_state : State → State
-left_state Transient = Transient
-left_state Pending = Transient
-left_state state = Detached
-
--- an object after the session was closed: a pending one is transient, a persistent or deleted one detached, with its cells and links as they are
-abbrev pub object_left : Object → Object
-object_left object = record object { state = left_state object.state; identity = kept_identity (left_state object.state) object.identity; marked = false }

@@ -1,5 +1,5 @@
 -- What is seen of a session, and how a keeper stands beside it.
-use Rattle.std.specs.Prelude.{◌≡◌, ℕ, ◌+◌, ◌≤◌, Bool, true, false, List, [], ◌∷◌, length, Result, Ok, Err, if◌then◌else◌}
+use Rattle.std.specs.Prelude.{◌≡◌, ℕ, ◌+◌, ◌≤◌, Bool, true, false, List, [], length, Result, if◌then◌else◌}
 use Rattle.std.specs.List.{All}
 use Rattle.base_core.specs.declared.refusal.Refusal.{Refusal}
 use Rattle.base_core.specs.declared.ids.ClassId.{ClassId}
@@ -12,8 +12,8 @@ use Rattle.object_arena.specs.Fit.{IsFit}
 use Rattle.savepoints.specs.declared.scope.Scope.{Scope}
 use Rattle.savepoints.specs.declared.traces.Trace.{Trace}
 use Rattle.savepoints.specs.Scopes.{Framed, HasKeys}
-use Rattle.programs.specs.Programs.{ends_early}
 use Rattle.programs.specs.Moment.{Moment}
+use Rattle.session_parts.specs.Depths.{HasDepth, StaysAt, has_scope}
 
 -- a session: its mapping and objects, the scopes in progress, the innermost first, what is kept of each object inside
 -- them, whether a flush failed that was not rolled back yet, and how many add numbers were given
@@ -42,10 +42,6 @@ new_session mapping = record { mapping = mapping; graph = empty_graph; scopes = 
 abbrev pub frames_of : SessionState → Framed
 frames_of session = record { scopes = session.scopes; traces = session.traces }
 
-abbrev pub has_scope : List Scope → Bool
-has_scope [] = false
-has_scope (scope ∷ scopes) = true
-
 -- a transaction is in progress
 abbrev pub in_transaction : SessionState → Bool
 in_transaction session = has_scope session.scopes
@@ -54,18 +50,13 @@ in_transaction session = has_scope session.scopes
 abbrev pub depth_of : SessionState → ℕ
 depth_of session = if session.failed then length session.scopes + 1 else length session.scopes
 
--- the keeper took its target, and has so many scopes open
-abbrev pub HasDepth : {W : Type 0} → ℕ → Moment W → Type 0
-HasDepth depth moment = (moment.attached ≡ true) × (moment.depth ≡ depth)
-
 -- the keeper took its target, and has the session's scopes open
 abbrev pub IsInStep : {W : Type 0} → SessionState → Moment W → Type 0
 IsInStep session moment = HasDepth (length session.scopes) moment
 
 -- a call keeps the keeper in step, unless memory or the store ended it early
 abbrev pub StaysInStep : {A W : Type 0} → Result A Refusal → SessionState → Moment W → Type 0
-StaysInStep (Ok x) session moment = IsInStep session moment
-StaysInStep (Err e) session moment = ends_early e ≡ false → IsInStep session moment
+StaysInStep result session moment = StaysAt result (length session.scopes) moment
 
 -- the same mapping and the same objects, each of its class
 pub record SameObjects (old new : SessionState) : Type 0 where

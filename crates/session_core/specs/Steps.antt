@@ -17,7 +17,8 @@ use Rattle.object_arena.specs.Graph.{object_at, with_marks, with_state}
 use Rattle.object_arena.specs.Every.{each_object}
 use Rattle.savepoints.specs.Scopes.{around, begun_at, restored_graph}
 use Rattle.session_core.specs.SessionState.{SessionState, frames_of, in_transaction}
-use Rattle.session_core.specs.Flush.{Written, graph_settled, insert_of, key_alone, object_committed, object_left, pending_in_order}
+use Rattle.session_parts.specs.Ends.{object_committed, object_left}
+use Rattle.session_core.specs.Flush.{Written, graph_settled, insert_of, key_alone, pending_in_order}
 use Rattle.session_core.specs.Making.{object_made}
 
 -- the world of a session's calls

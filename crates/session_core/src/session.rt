@@ -8,18 +8,20 @@ ghost use Rattle.programs.specs.Programs.{ends_early};
 ghost use Rattle.programs.specs.Beside.{moment_beside, on_store, no_note};
 ghost use Rattle.keeper_core.specs.Calls as call;
 ghost use Rattle.programs.specs.Moment.{Runs};
-ghost use Rattle.session_core.specs.SessionState.{HasDepth, IsInStep, IsKept, IsOfClass, KeepsScopes, ObjectsStay, SameObjects, depth_of, in_transaction, new_session};
+ghost use Rattle.session_parts.specs.Depths.{HasDepth};
+ghost use Rattle.session_core.specs.SessionState.{IsInStep, IsKept, IsOfClass, KeepsScopes, ObjectsStay, SameObjects, depth_of, in_transaction, new_session};
 ghost use Rattle.session_core.specs.Making as making;
 ghost use Rattle.programs.specs.Alone.{IsQuiet};
 ghost use Rattle.session_core.specs.Steps as steps;
 
 use crate::making::{mismatch, put_values, values_of};
-use crate::settling::{commit_all, let_go_all, put_pending, unmark};
+use crate::settling::put_pending;
 use base_core::{AttrNo, ClassId, ObjId, Refusal, RequestKind, Value};
 use class_mapping::Mapping;
 use keeper_core::{Keeper, calls};
 use object_arena::{Arena, State};
 use savepoints::Frames;
+use session_parts::{commit_all, let_go_all, unmark};
 use std::alloc::Global;
 use std::marker::Model;
 
@@ -72,13 +74,6 @@ impl Session {
         &self.mapping
     }
 
-    /// How many objects there are; they are numbered from 1.
-    pub fn count(&self) -> u32
-        ensures { result ≡ length self.now.graph.objects }
-    {
-        self.arena.count()
-    }
-
     /// An object's state.
     pub fn state_of(&self, object: ObjId) -> State
         requires { IsObject self.now.graph object }
@@ -93,6 +88,13 @@ impl Session {
         ensures { result ≡ (object_at self.now.graph object).class }
     {
         self.arena.class_of(object)
+    }
+
+    /// How many objects there are; they are numbered from 1.
+    pub fn count(&self) -> u32
+        ensures { result ≡ length self.now.graph.objects }
+    {
+        self.arena.count()
     }
 
     /// How many scopes are in progress, a failed one included.

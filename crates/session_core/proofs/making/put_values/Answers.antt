@@ -8,7 +8,7 @@ use Rattle.class_mapping.specs.Mapped.{Mapped, attributes_of}
 use Rattle.object_arena.specs.Graph.{Graph, object_at}
 use Rattle.session_core.specs.Making.{mismatch, mismatch_at, with_values}
 use Rattle.session_core.proofs.MakeLemmas.{mismatch_cons}
-use Rattle.session_core.proofs.ObjectLemmas.{class_still, made_still}
+use Rattle.session_parts.proofs.ObjectLemmas.{class_still, made_still}
 use Rattle.session_core.proofs.making.put_values.Goals as goal
 
 pub loop-attr-preserved : goal.loop-attr-preserved

@@ -1,6 +1,6 @@
 use Rattle.std.proofs.Common.{◌∙◌, sym, ap}
 use Rattle.object_arena.specs.Graph.{Graph, root_at}
-use Rattle.session_core.proofs.ObjectLemmas.{on_ok, on_both}
+use Rattle.session_parts.proofs.ObjectLemmas.{on_ok, on_both}
 use Rattle.session_core.proofs.WriteLemmas.{freed_none, freed_some, not_taken}
 use Rattle.session_core.proofs.settling.free.Goals as goal
 

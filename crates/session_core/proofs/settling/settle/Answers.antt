@@ -2,7 +2,7 @@ use Rattle.std.proofs.Common.{◌≡◌, List, true, subst, sym}
 use Rattle.base_core.specs.declared.value.Value.{Value}
 use Rattle.object_arena.specs.Graph.{object_at}
 use Rattle.object_arena.specs.Fit.{key_fits}
-use Rattle.session_core.proofs.ObjectLemmas.{made_still}
+use Rattle.session_parts.proofs.ObjectLemmas.{made_still}
 use Rattle.session_core.proofs.WriteLemmas.{key_still, stays_then}
 use Rattle.session_core.proofs.settling.settle.Goals as goal
 

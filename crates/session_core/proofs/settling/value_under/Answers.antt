@@ -1,6 +1,6 @@
 use Rattle.std.proofs.Common.{◌≡◌, ◌∙◌}
 use Rattle.schema_core.specs.Tables.{value_or_null}
-use Rattle.session_core.proofs.ObjectLemmas.{if_ok}
+use Rattle.session_parts.proofs.ObjectLemmas.{if_ok}
 use Rattle.session_core.proofs.WriteLemmas.{past_key}
 use Rattle.session_core.proofs.settling.value_under.Goals as goal
 

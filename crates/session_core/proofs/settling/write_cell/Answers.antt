@@ -3,7 +3,7 @@ use Rattle.base_core.specs.declared.value.Value.{Value}
 use Rattle.class_mapping.specs.Mapped.{attribute_of, key_attributes}
 use Rattle.object_arena.specs.Graph.{cell_at, object_at}
 use Rattle.session_core.specs.Flush.{written_value}
-use Rattle.session_core.proofs.ObjectLemmas.{on_ok}
+use Rattle.session_parts.proofs.ObjectLemmas.{on_ok}
 use Rattle.session_core.proofs.WriteLemmas.{cell_is_fit, cell_written, copy_fits, value_is, written_fits}
 use Rattle.session_core.proofs.settling.write_cell.Goals as goal
 

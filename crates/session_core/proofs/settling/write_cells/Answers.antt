@@ -3,7 +3,7 @@ use Rattle.base_core.specs.declared.ids.AttrNo.{AttrNo}
 use Rattle.object_arena.specs.declared.object.Object.{Object}
 use Rattle.object_arena.specs.Graph.{object_at}
 use Rattle.session_core.proofs.CellLemmas.{written_more}
-use Rattle.session_core.proofs.ObjectLemmas.{made_still}
+use Rattle.session_parts.proofs.ObjectLemmas.{made_still}
 use Rattle.session_core.proofs.WriteLemmas.{cells_still, key_still, stays_then}
 use Rattle.session_core.proofs.settling.write_cells.Goals as goal
 

@@ -1,7 +1,7 @@
 use Rattle.std.proofs.Common.{ℕ, ◌<◌, ◌≤◌, ◌∙◌, ap, sym, subst}
 use Rattle.session_core.specs.SessionState.{SessionState, in_transaction}
 use Rattle.session_core.proofs.StepLemmas.{enters, stays_in}
-use Rattle.session_core.proofs.SessionLemmas.{inside, outside}
+use Rattle.session_parts.proofs.ScopeLemmas.{inside, outside}
 use Rattle.session_core.proofs.session.Session.enter.Goals as goal
 
 pub returns-then-depth-gt0-clause-step : goal.returns-then-depth-gt0-clause-step

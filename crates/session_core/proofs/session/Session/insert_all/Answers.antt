@@ -2,7 +2,7 @@ use Rattle.std.proofs.Common.{◌<◌, List, length, refl, subst}
 use Rattle.base_core.specs.declared.ids.ObjId.{ObjId}
 use Rattle.programs.proofs.Sequence.{each_err, each_turn, passed_on}
 use Rattle.session_core.specs.Steps.{insert_one}
-use Rattle.session_core.proofs.ObjectLemmas.{read_same}
+use Rattle.session_parts.proofs.ObjectLemmas.{read_same}
 use Rattle.session_core.proofs.session.Session.insert_all.Goals as goal
 
 pub returns-in_err-insert_one-clause-step : goal.returns-in_err-insert_one-clause-step

@@ -5,7 +5,7 @@ use Rattle.base_core.specs.declared.value.Value.{Value}
 use Rattle.object_arena.specs.Graph.{object_at}
 use Rattle.object_arena.specs.Fit.{key_fits}
 use Rattle.session_core.specs.Flush.{IsUnderKey, Written}
-use Rattle.session_core.proofs.ObjectLemmas.{on_ok}
+use Rattle.session_parts.proofs.ObjectLemmas.{on_ok}
 use Rattle.session_core.proofs.session.Session.insert_one.Goals as goal
 
 pub returns-clause-keys : goal.returns-clause-keys

@@ -1,8 +1,8 @@
 use Rattle.std.proofs.Common.{◌≡◌, length}
 use Rattle.object_arena.specs.Fit.{Keeps}
 use Rattle.object_arena.proofs.TurnLemmas.{changed_before}
-use Rattle.session_core.specs.Flush.{object_committed}
-use Rattle.session_core.proofs.settling.commit_all.Given as goal
+use Rattle.session_parts.specs.Ends.{object_committed}
+use Rattle.session_parts.proofs.ends.commit_all.Given as goal
 
 abbrev pub invariant-loop-number : goal.invariant-loop-number
 invariant-loop-number l = (l.arena ≡ changed_before object_committed l.fn.arena l.number) × (length l.arena.objects ≡ length l.fn.arena.objects) × Keeps l.fn.arena l.arena

@@ -1,5 +1,5 @@
-use Rattle.session_core.proofs.ObjectLemmas.{left_is, on_ok}
-use Rattle.session_core.proofs.settling.let_go.Goals as goal
+use Rattle.session_parts.proofs.ObjectLemmas.{left_is, on_ok}
+use Rattle.session_parts.proofs.ends.let_go.Goals as goal
 
 pub returns-clause-ok : goal.returns-clause-ok
 returns-clause-ok c =

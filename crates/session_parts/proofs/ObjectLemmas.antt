@@ -9,7 +9,7 @@ use Rattle.object_arena.specs.Graph.{Graph, IsObject, kept_identity, object_at, 
 use Rattle.object_arena.proofs.ClassLemmas.{classes_long}
 use Rattle.object_arena.proofs.TurnLemmas.{written_twice}
 use Rattle.savepoints.proofs.KeyLemmas.{class_at}
-use Rattle.session_core.specs.Flush.{object_left, left_state, object_unmarked}
+use Rattle.session_parts.specs.Ends.{object_left, left_state, object_unmarked}
 
 -- ---- where each object is of its class
 

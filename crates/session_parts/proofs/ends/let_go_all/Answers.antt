@@ -2,8 +2,8 @@ use Rattle.std.proofs.Common.{ℕ, ◌<◌, ◌∙◌, ◌+◌, length, refl, su
 use Rattle.object_arena.proofs.ClassLemmas.{classes_long}
 use Rattle.object_arena.proofs.KeepLemmas.{keeps_then}
 use Rattle.object_arena.proofs.TurnLemmas.{changed_more}
-use Rattle.session_core.specs.Flush.{object_left}
-use Rattle.session_core.proofs.settling.let_go_all.Goals as goal
+use Rattle.session_parts.specs.Ends.{object_left}
+use Rattle.session_parts.proofs.ends.let_go_all.Goals as goal
 
 pub loop-number-preserved : goal.loop-number-preserved
 loop-number-preserved c =

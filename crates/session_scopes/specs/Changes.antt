@@ -1,0 +1,56 @@
+-- What a session does to one object in the transaction, or why it does not.
+use Rattle.std.specs.Prelude.{Bool, true, not, ◌&&◌, Option, None, Some, is_some, Result, Ok, Err, if◌then◌else◌}
+use Rattle.std.specs.List.{list_all}
+use Rattle.base_core.specs.declared.ids.AttrNo.{AttrNo}
+use Rattle.base_core.specs.declared.ids.ObjId.{ObjId}
+use Rattle.base_core.specs.declared.refusal.Refusal.{Refusal}
+use Rattle.base_core.specs.declared.refusal.Refusal.TheVariants.{DetachedInstanceError, InvalidRequestError, NotBuilt}
+use Rattle.base_core.specs.declared.refusal.RequestKind.TheVariants.{NotPersistent}
+use Rattle.base_core.specs.declared.value.Value.{Value}
+use Rattle.class_mapping.specs.Mapped.{Mapped, is_key_attribute}
+use Rattle.object_arena.specs.declared.object.Cell.{Cell}
+use Rattle.object_arena.specs.declared.object.Object.{Object}
+use Rattle.object_arena.specs.declared.object.State.{State}
+use Rattle.object_arena.specs.declared.object.State.TheVariants.{Persistent}
+use Rattle.object_arena.specs.Graph.{Graph, cell_at, is_persistent, key_fault, object_at, with_object, with_value}
+use Rattle.programs.specs.Programs.{Run, quiet}
+use Rattle.session_scopes.specs.SessionState.{SessionState, with_graph}
+
+-- the objects become these, unless there is a fault
+abbrev pub changed_unless : Option Refusal → Graph → SessionState → Run SessionState (Unit {0})
+changed_unless (Some fault) graph session = quiet (Err fault) session
+changed_unless None graph session = quiet (Ok tt) (with_graph graph session)
+
+-- the cell is of the key of an object with an identity
+abbrev pub is_kept_cell : Mapped → Object → AttrNo → Bool
+is_kept_cell mapped object attr = is_some object.identity && is_key_attribute mapped object.class attr
+
+-- a cell gets a value; an object with an identity keeps the cells of its key
+unfoldable pub value_put : ObjId → AttrNo → Value → SessionState → Run SessionState (Unit {0})
+value_put object attr value session = changed_unless (key_fault session.mapping (object_at session.graph object) attr) (with_value session.graph object attr value) session
+
+-- what the cell holds and what its row holds are known
+abbrev pub is_known : Cell → Bool
+is_known cell = is_some cell.value && is_some cell.base
+
+-- of an object to be deleted each cell must be known: one that is not is to be read first, which is not built
+abbrev pub delete_fault : Object → Option Refusal
+delete_fault object =
+    if not (is_persistent object.state) then Some (InvalidRequestError NotPersistent)
+    else if not (list_all is_known object.cells) then Some NotBuilt
+    else None
+
+-- the next flush deletes a persistent object
+unfoldable pub deletion_marked : ObjId → SessionState → Run SessionState (Unit {0})
+deletion_marked object session =
+    changed_unless (delete_fault (object_at session.graph object)) (with_object session.graph object (record (object_at session.graph object) { marked = true })) session
+
+-- what is read of a cell: its value; an expired one of a persistent object is to be read from its row, which is not built, and
+-- of any other object no row is read
+abbrev pub read_of : Option Value → State → ObjId → Result Value Refusal
+read_of (Some value) state object = Ok value
+read_of None Persistent object = Err NotBuilt
+read_of None state object = Err (DetachedInstanceError object)
+
+unfoldable pub cell_read : ObjId → AttrNo → SessionState → Run SessionState Value
+cell_read object attr session = quiet (read_of (cell_at session.graph object attr).value (object_at session.graph object).state object) session

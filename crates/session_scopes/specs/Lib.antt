@@ -1,0 +1,4 @@
+pub mod Handles
+pub mod SessionState
+pub mod Scoping
+pub mod Changes

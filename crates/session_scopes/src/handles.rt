@@ -1,0 +1,98 @@
+//! The handles of the savepoints in progress.
+
+ghost use Rattle.std.specs.Prelude.{◌≡◌, ◌<◌, ◌≤◌, ◌+◌, drop, length, IfErr, IfOk, IfSome, OnErr, OnOk};
+ghost use Rattle.base_core.specs.declared.refusal.Refusal.TheVariants.{Memory};
+ghost use Rattle.session_scopes.specs.Handles as spec;
+
+use base_core::Refusal;
+use std::alloc::Global;
+use std::marker::Model;
+
+/// The handles of the savepoints in progress. Contracts see them with the innermost first, and how many were drawn.
+#[derive(Drop)]
+pub struct Handles {
+    /// The innermost first.
+    handles: Vec<u32>,
+    drawn: u32,
+}
+
+impl Model for Handles {
+    ghost use Rattle.session_scopes.specs.Handles.{Drawn, IsFalling};
+
+    ghost Value = { Drawn };
+
+    ghost view = { λ h. record { handles = h.handles.items; drawn = h.drawn } };
+
+    ghost invariant = { λ h. IsFalling h.drawn h.handles.items };
+}
+
+impl Handles {
+    /// No handle was drawn.
+    pub fn new(alloc: Global) -> Handles
+        ensures { result ≡ spec.no_handles }
+    {
+        Handles {
+            handles: Vec::new(alloc),
+            drawn: 0,
+        }
+    }
+
+    /// How many savepoints are in progress.
+    pub fn len(&self) -> usize
+        ensures { result ≡ length self.now.handles }
+    {
+        self.handles.len()
+    }
+
+    /// How many handles were drawn. Those of the savepoints in progress are among them.
+    pub fn drawn(&self) -> u32
+        ensures drawn { result ≡ self.now.drawn }
+        ensures falling { spec.IsFalling self.now.drawn self.now.handles }
+    {
+        self.drawn
+    }
+
+    /// Draws the next handle, of a savepoint inside those in progress. The only refusal is `Memory`, which numbers past 32 bits
+    /// have too, and it changes nothing.
+    #[tactic(auto, using(crate::proofs::Falling::falling))]
+    pub fn draw(&mut self) -> Result<u32, Refusal>
+        ensures ok { OnOk result (self.new ≡ spec.with_next_handle self.old) }
+        ensures handle { IfOk result (λ handle. handle ≡ self.old.drawn + 1) }
+        ensures err { OnErr result (self.new ≡ self.old) }
+        ensures cause { IfErr result (λ e. e ≡ Memory) }
+    {
+        let Some(next) = self.drawn.checked_add(1) else {
+            return Err(Refusal::Memory);
+        };
+        self.handles.insert(0, next)?;
+        self.drawn = next;
+        Ok(next)
+    }
+
+    /// The place of a handle among those in progress, the innermost at 0.
+    pub fn place_of(&self, handle: u32) -> Option<usize>
+        ensures place { result ≡ spec.place_of_handle self.now handle }
+        ensures inside { IfSome result (λ place. place < length self.now.handles) }
+    {
+        self.handles.iter().position(|other| *other == handle)
+    }
+
+    /// So many of the innermost savepoints end. Takes no memory.
+    #[tactic(auto, using(crate::proofs::Falling::falling))]
+    pub fn end(&mut self, count: usize)
+        requires { count ≤ length self.old.handles }
+        ensures { self.new ≡ spec.without_innermost count self.old }
+    {
+        leave_out(&mut self.handles, count);
+    }
+}
+
+/// The list without so many at its front.
+fn leave_out(handles: &mut Vec<u32>, count: usize)
+    requires { count ≤ length handles.old.items }
+    ensures { handles.new.items ≡ drop count handles.old.items }
+{
+    for _ in 0..count {
+        let _ended = handles.remove(0);
+    }
+}

@@ -1,0 +1,409 @@
+//! The session, and what becomes of it as scopes begin and end and single objects change.
+
+ghost use Rattle.std.specs.Prelude.{◌≡◌, ◌<◌, ◌≤◌, ◌+◌, ◌-◌, [], None, true, false, length, IfErr, IfOk, IfSome, OnErr, OnOk};
+ghost use Rattle.base_core.specs.declared.refusal.Refusal.TheVariants.{Memory};
+ghost use Rattle.class_mapping.specs.Mapped.{IsAttribute, IsClass, attributes_of, is_key_attribute};
+ghost use Rattle.class_mapping.specs.PlainClass.{ArePlain};
+ghost use Rattle.object_arena.specs.Graph.{IsCell, IsObject, is_persistent, object_at, value_fault};
+ghost use Rattle.std.specs.List.{list_all};
+ghost use Rattle.programs.specs.Alone.{IsQuiet};
+ghost use Rattle.savepoints.specs.Scopes.{scope_limit};
+ghost use Rattle.session_scopes.specs.Changes as changes;
+ghost use Rattle.session_scopes.specs.Handles.{place_of_handle};
+ghost use Rattle.session_scopes.specs.Scoping as scoping;
+ghost use Rattle.session_scopes.specs.SessionState.{SameObjects, depth_of, in_transaction, new_session, with_note};
+
+use crate::Handles;
+use base_core::{AttrNo, ClassId, Copied, ObjId, Refusal, RequestKind, Value};
+use class_mapping::Mapping;
+use keeper_core::{Note, Notes, Sent};
+use object_arena::{Arena, Cell, Object, State};
+use savepoints::Frames;
+use session_parts::{commit_all, let_go_all};
+use std::alloc::Global;
+use std::marker::Model;
+use touching::{touch_for_mark, touch_for_value};
+
+/// A session over a configured mapping of plain roots: its objects, the scopes in progress with the handles of the savepoints,
+/// whether a flush failed that was not rolled back yet, and what the command did so far.
+#[derive(Drop)]
+pub struct Session {
+    alloc: Global,
+    mapping: Mapping,
+    arena: Arena,
+    frames: Frames,
+    failed: bool,
+    handles: Handles,
+    /// How many add numbers were given.
+    added: u64,
+    notes: Notes,
+}
+
+impl Model for Session {
+    ghost use Rattle.std.specs.Coded.{codes};
+    ghost use Rattle.expr_types.specs.contracts.expr.Expr as e;
+    ghost use Rattle.session_scopes.specs.SessionState.{IsSession, SessionState};
+
+    ghost Value = { SessionState };
+
+    ghost coded = { Prim.hlevel (codes, e.the_row.coded) };
+
+    ghost view = { λ s. record { mapping = s.mapping; graph = s.arena; frames = s.frames; failed = s.failed; drawn = s.handles; added = s.added; notes = s.notes } };
+
+    ghost invariant = { λ s. IsSession s.mapping s.arena s.frames.scopes s.failed s.handles };
+}
+
+impl Session {
+    /// No objects and no transaction. Each class is to be a plain root.
+    pub fn new(alloc: Global, mapping: Mapping) -> Session
+        requires configured { mapping.configured ≡ true }
+        requires plain { ArePlain mapping }
+        ensures { result ≡ new_session mapping }
+    {
+        Session {
+            notes: Notes::new(alloc),
+            handles: Handles::new(alloc),
+            frames: Frames::new(alloc),
+            arena: Arena::new(alloc),
+            added: 0,
+            failed: false,
+            mapping,
+            alloc,
+        }
+    }
+
+    /// The allocator with which the session was made.
+    pub fn alloc(&self) -> Global {
+        self.alloc
+    }
+
+    /// The mapping.
+    pub fn mapping(&self) -> &Mapping
+        ensures mapping { result.now ≡ self.now.mapping }
+        ensures configured { self.now.mapping.configured ≡ true }
+        ensures plain { ArePlain self.now.mapping }
+    {
+        &self.mapping
+    }
+
+    /// How many objects there are; they are numbered from 1.
+    pub fn count(&self) -> u32
+        ensures { result ≡ length self.now.graph.objects }
+    {
+        self.arena.count()
+    }
+
+    /// An object's record. It has one cell for each attribute of its class.
+    pub fn object(&self, object: ObjId) -> &Object
+        requires { IsObject self.now.graph object }
+        ensures is { result.now ≡ object_at self.now.graph object }
+        ensures class { IsClass self.now.mapping (object_at self.now.graph object).class }
+        ensures cells { length (object_at self.now.graph object).cells
+            ≡ length (attributes_of self.now.mapping (object_at self.now.graph object).class) }
+    {
+        self.arena.object(object)
+    }
+
+    /// Whether a flush failed that was not rolled back yet.
+    pub fn is_failed(&self) -> bool
+        ensures { result ≡ self.now.failed }
+    {
+        self.failed
+    }
+
+    /// How many scopes are in progress, a failed one left out: the transaction is 1.
+    pub fn open_scopes(&self) -> u32
+        ensures scopes { result ≡ length self.now.frames.scopes }
+        ensures few { length self.now.frames.scopes ≤ scope_limit }
+    {
+        self.frames.depth()
+    }
+
+    /// Whether a transaction is in progress.
+    #[tactic(auto, using(session_parts::proofs::ScopeLemmas::open_scopes))]
+    pub fn is_in_transaction(&self) -> bool
+        ensures { result ≡ in_transaction self.now }
+    {
+        self.frames.depth() > 0
+    }
+
+    /// How many scopes are in progress, a failed one included.
+    pub fn depth(&self) -> u32
+        ensures { result ≡ depth_of self.now }
+    {
+        let open = self.frames.depth();
+        if self.failed { open + 1 } else { open }
+    }
+
+    /// How many savepoints are in progress, a failed one included.
+    pub fn savepoints(&self) -> usize
+        ensures count { result ≡ length self.now.drawn.handles }
+        ensures depth { length self.now.drawn.handles ≡ depth_of self.now - 1 }
+        ensures few { length self.now.drawn.handles ≤ scope_limit }
+    {
+        let _open = self.frames.depth();
+        self.handles.len()
+    }
+
+    /// The place of a handle among those of the savepoints in progress, the innermost at 0.
+    pub fn place_of_handle(&self, handle: u32) -> Option<usize>
+        ensures place { result ≡ place_of_handle self.now.drawn handle }
+        ensures inside { IfSome result (λ place. place < length self.now.drawn.handles) }
+    {
+        self.handles.place_of(handle)
+    }
+
+    /// What the command did so far, in the order of its happening.
+    pub fn notes(&self) -> &Notes
+        ensures { result.now ≡ self.now.notes }
+    {
+        &self.notes
+    }
+
+    /// The next command begins.
+    pub fn clear_notes(&mut self)
+        ensures { self.new ≡ record self.old { notes = [] } }
+    {
+        self.notes.clear();
+    }
+
+    /// Notes a statement that was sent. The only refusal is `Memory`.
+    pub fn note(&mut self, sent: Sent) -> Result<(), Refusal>
+        ensures ok { OnOk result (self.new ≡ with_note sent self.old) }
+        ensures err { OnErr result (self.new ≡ self.old) }
+        ensures cause { IfErr result (λ e. e ≡ Memory) }
+    {
+        self.notes.push(Note::Sent(sent))
+    }
+
+    /// The transaction's scope starts, with the objects as they stand now. The only refusal is `Memory`.
+    pub fn begin(&mut self) -> Result<(), Refusal>
+        requires outside { self.old.frames.scopes ≡ [] }
+        requires well { self.old.failed ≡ false }
+        ensures ok { OnOk result (self.new ≡ scoping.session_begun self.old) }
+        ensures cause { IfErr result (λ e. e ≡ Memory) }
+        ensures same { SameObjects self.old self.new }
+    {
+        self.frames.push(&self.arena)
+    }
+
+    /// A savepoint's scope starts, with the objects as they stand now, under the next handle, which is answered. The only
+    /// refusal is `Memory`.
+    pub fn nest(&mut self) -> Result<u32, Refusal>
+        requires inside { 0 < length self.old.frames.scopes }
+        requires room { length self.old.frames.scopes < scope_limit }
+        requires well { self.old.failed ≡ false }
+        ensures ok { OnOk result (self.new ≡ scoping.session_nested self.old) }
+        ensures handle { IfOk result (λ handle. handle ≡ self.old.drawn.drawn + 1) }
+        ensures cause { IfErr result (λ e. e ≡ Memory) }
+        ensures same { SameObjects self.old self.new }
+    {
+        let handle = self.handles.draw()?;
+        if let Err(refusal) = self.frames.push(&self.arena) {
+            self.handles.end(1);
+            return Err(refusal);
+        }
+        Ok(handle)
+    }
+
+    /// The innermost savepoint ends, and what was done inside stays. Takes no memory.
+    pub fn release(&mut self)
+        requires inside { 1 < length self.old.frames.scopes }
+        requires well { self.old.failed ≡ false }
+        ensures ok { self.new ≡ scoping.session_released self.old }
+        ensures scopes { length self.new.frames.scopes ≡ length self.old.frames.scopes - 1 }
+        ensures same { SameObjects self.old self.new }
+    {
+        self.frames.release();
+        self.handles.end(1);
+    }
+
+    /// Each object stands where it stood at the start of the scope at a depth; the transaction is at depth 1. The scope ends with
+    /// those inside it, and with them so many savepoints. No rollback is awaited then. Takes no memory.
+    pub fn go_back(&mut self, depth: u32, count: usize)
+        requires depth { (1 ≤ depth) × (depth ≤ length self.old.frames.scopes) }
+        requires count { count ≤ length self.old.drawn.handles }
+        requires left { length self.old.drawn.handles - count ≡ depth - 2 }
+        ensures ok { self.new
+            ≡ scoping.session_rolled_back count (scoping.session_restored depth self.old) }
+        ensures scopes { length self.new.frames.scopes ≡ depth - 1 }
+        ensures same { SameObjects self.old self.new }
+    {
+        self.frames.restore(&mut self.arena, depth);
+        self.handles.end(count);
+        self.failed = false;
+    }
+
+    /// The scope of a failed flush, which has ended, was rolled back, and with it so many savepoints have ended. Takes no
+    /// memory.
+    pub fn recover(&mut self, count: usize)
+        requires count { count ≤ length self.old.drawn.handles }
+        requires left { length self.old.drawn.handles - count
+            ≡ length self.old.frames.scopes - 1 }
+        ensures ok { self.new ≡ scoping.session_rolled_back count self.old }
+        ensures same { SameObjects self.old self.new }
+    {
+        self.handles.end(count);
+        self.failed = false;
+    }
+
+    /// The transaction was committed: no scope is in progress, and every persistent object is expired. The only refusal is
+    /// `Memory`.
+    pub fn end_transaction(&mut self) -> Result<(), Refusal>
+        requires inside { length self.old.frames.scopes ≡ 1 }
+        requires well { self.old.failed ≡ false }
+        ensures ok { OnOk result (self.new ≡ scoping.session_committed self.old) }
+        ensures cause { IfErr result (λ e. e ≡ Memory) }
+        ensures same { SameObjects self.old self.new }
+    {
+        self.frames.clear();
+        commit_all(&mut self.arena)
+    }
+
+    /// No transaction is in progress, and every object leaves the session. The only refusal is `Memory`.
+    pub fn let_go(&mut self) -> Result<(), Refusal>
+        ensures ok { OnOk result (self.new ≡ scoping.session_closed self.old) }
+        ensures cause { IfErr result (λ e. e ≡ Memory) }
+        ensures same { SameObjects self.old self.new }
+    {
+        self.frames.clear();
+        self.handles.end(self.handles.len());
+        self.failed = false;
+        let_go_all(&mut self.arena)
+    }
+
+    /// Gives a cell a value of its attribute's kind, or NULL, and touches the object in the innermost scope where its record
+    /// comes to differ.
+    ///
+    /// # Errors
+    /// `InvalidRequestError(KeyChange)` for a cell of the key of an object with an identity, and it changes nothing.
+    #[tactic(auto, unfolding(crate::specs::Changes::value_put))]
+    pub fn put_value(&mut self, object: ObjId, attr: AttrNo, value: Value) -> Result<(), Refusal>
+        requires object { IsObject self.old.graph object }
+        requires attr { IsAttribute self.old.mapping (object_at self.old.graph object).class attr }
+        requires fits { value_fault self.old.mapping (object_at self.old.graph object) attr value
+            ≡ None }
+        ensures step { IsQuiet
+            (λ u. u) (changes.value_put object attr value self.old) result self.new }
+        ensures same { SameObjects self.old self.new }
+        ensures scopes { self.new.frames.scopes ≡ self.old.frames.scopes }
+    {
+        if self.is_kept(object, attr) {
+            return Err(Refusal::InvalidRequestError(RequestKind::KeyChange));
+        }
+        touch_for_value(&mut self.frames, &self.arena, object, attr, &value)?;
+        match self.arena.set_cell(&self.mapping, object, attr, value) {
+            Ok(()) => Ok(()),
+            Err(_full) => Err(Refusal::Memory),
+        }
+    }
+
+    /// Whether a cell is of the key of an object with an identity.
+    fn is_kept(&self, object: ObjId, attr: AttrNo) -> bool
+        requires object { IsObject self.now.graph object }
+        requires attr { IsAttribute self.now.mapping (object_at self.now.graph object).class attr }
+        ensures kept { result
+            ≡ changes.is_kept_cell self.now.mapping (object_at self.now.graph object) attr }
+        ensures cell { IsCell self.now.graph object attr }
+    {
+        is_of_kept_key(&self.mapping, self.object(object), attr)
+    }
+
+    /// The next flush deletes a persistent object each of whose cells is known. It is touched in the innermost scope where its
+    /// record comes to differ.
+    ///
+    /// # Errors
+    /// `InvalidRequestError(NotPersistent)`, and `NotBuilt` where a cell is expired or its row's value is not known. They change
+    /// nothing.
+    #[tactic(auto, unfolding(crate::specs::Changes::deletion_marked))]
+    pub fn mark_deletion(&mut self, object: ObjId) -> Result<(), Refusal>
+        requires object { IsObject self.old.graph object }
+        ensures step { IsQuiet
+            (λ u. u) (changes.deletion_marked object self.old) result self.new }
+        ensures same { SameObjects self.old self.new }
+        ensures scopes { self.new.frames.scopes ≡ self.old.frames.scopes }
+    {
+        let record = self.arena.object(object);
+        let (added, orphan) = (record.added, record.orphan);
+        if let Some(fault) = delete_fault(record) {
+            return Err(fault);
+        }
+        touch_for_mark(&mut self.frames, &self.arena, object)?;
+        self.arena.put_marks(object, added, true, orphan)
+    }
+
+    /// The value of a cell.
+    ///
+    /// # Errors
+    /// `NotBuilt` for an expired cell of a persistent object, `DetachedInstanceError` for one of any other object.
+    #[tactic(auto, unfolding(crate::specs::Changes::cell_read))]
+    pub fn read(&self, object: ObjId, attr: AttrNo) -> Result<Value, Refusal>
+        requires object { IsObject self.now.graph object }
+        requires attr { IsAttribute self.now.mapping (object_at self.now.graph object).class attr }
+        ensures { IsQuiet
+            (λ value. value) (changes.cell_read object attr self.now) result self.now }
+    {
+        let record = self.object(object);
+        match &record.cells.at(attr.0 as usize).value {
+            Some(value) => Ok(value.copied()?),
+            None => match record.state {
+                State::Persistent => Err(Refusal::NotBuilt),
+                State::Transient | State::Pending | State::Deleted | State::Detached => Err(
+                    Refusal::DetachedInstanceError(object),
+                ),
+            },
+        }
+    }
+}
+
+/// Whether an object has an identity and an attribute is of its key.
+fn is_of_kept_key(mapping: &Mapping, object: &Object, attr: AttrNo) -> bool
+    requires declared { IsClass mapping.now object.now.class }
+    requires configured { mapping.now.configured ≡ true }
+    ensures { result ≡ changes.is_kept_cell mapping.now object.now attr }
+{
+    object.identity.is_some() && is_of_key(mapping, object.class, attr)
+}
+
+/// Whether an attribute of a class is of its key.
+fn is_of_key(mapping: &Mapping, class: ClassId, attr: AttrNo) -> bool
+    requires declared { IsClass mapping.now class }
+    requires configured { mapping.now.configured ≡ true }
+    ensures { result ≡ is_key_attribute mapping.now class attr }
+{
+    let keys = mapping.key_attributes(class);
+    keys.iter().any(|key| key.0 == attr.0)
+}
+
+/// Whether what a cell holds and what its row holds are known.
+fn is_known(cell: &Cell) -> bool
+    ensures { result ≡ changes.is_known cell.now }
+{
+    cell.value.is_some() && cell.base.is_some()
+}
+
+/// Whether all of these cells are known.
+fn are_known(cells: &[Cell]) -> bool
+    ensures { result ≡ list_all changes.is_known cells.now }
+{
+    cells.iter().all(is_known)
+}
+
+fn is_persistent(state: State) -> bool
+    ensures { result ≡ is_persistent state }
+{
+    matches!(state, State::Persistent)
+}
+
+/// Why an object is not deleted.
+fn delete_fault(object: &Object) -> Option<Refusal>
+    ensures { result ≡ changes.delete_fault object.now }
+{
+    if !is_persistent(object.state) {
+        return Some(Refusal::InvalidRequestError(RequestKind::NotPersistent));
+    }
+    if !are_known(object.cells.as_slice()) {
+        return Some(Refusal::NotBuilt);
+    }
+    None
+}
