@@ -1,0 +1,204 @@
+//! All that a flush of a prepared graph changes.
+
+ghost use Rattle.std.specs.Prelude.{◌≡◌, ◌≤◌, true, length, IsTrue, IfOk, IfErr};
+ghost use Rattle.std.specs.List.{All};
+ghost use Rattle.base_core.specs.declared.refusal.Refusal.TheVariants.{Memory};
+ghost use Rattle.flush_order.specs.Ready.{AreInRange};
+ghost use Rattle.object_arena.specs.Fit.{IsFit};
+ghost use Rattle.object_rows.specs.Seen.{AreMade};
+ghost use Rattle.row_project.specs.Changes as spec;
+ghost use Rattle.row_project.specs.Ready.{AreFew, IsSwitch};
+ghost use Rattle.row_project.specs.Switch.{changes_by, project, with_switches};
+
+use crate::cells::{Switch, numbers_among};
+use crate::partners::partners;
+use crate::staying::rows_left;
+use base_core::{Copied, Refusal, TableId};
+use class_mapping::Mapping;
+use flush_order::{NewRows, ready_rows};
+use object_arena::Arena;
+use object_rows::{Prepared, Projection, gone_rows, late_keys, new_names};
+use pair_rows::{push_lost_rows, push_made_rows, warnings};
+use schema_core::{RowChanges, Schema};
+use std::alloc::Global;
+
+/// What the objects of a prepared graph and their links change, where each new row stands among the new ones and each deleted
+/// row among the deleted ones, also if both have one key.
+///
+/// New is a row for each table of each pending object that stays pending, in the order in which the objects were added, the
+/// root's table first. The key of a joined table's row is the key of the row before it, and the discriminator holds the
+/// class's identity. Behind them stands a row for each pair of a many-to-many relationship that was added, of which both
+/// objects are in the session and neither is to be deleted; a pair that was added at both sides makes one.
+///
+/// Changed is a row for each table of a persistent object that is not to be deleted in which a cell outside the key changes,
+/// with these cells alone: one changes where it is not what was last read or written, and one that is expired does not.
+///
+/// A foreign key's cells come from a changed link whose end is none or in the session, and are parts of the end's key where
+/// the end is new; every other cell is what the object holds.
+///
+/// Deleted is a row for each table of each object that is to be deleted, as it was last read or written; a row for each pair
+/// that was removed, of which both objects are in the session and have rows; and one for each pair that stood, of which one
+/// object is to be deleted.
+///
+/// Written after all rows are the foreign keys of which a relationship says `post_update`. Objects outside the session that
+/// changed links name are skipped with a warning, by owner, relationship and member.
+///
+/// # Errors
+/// `Memory` alone.
+pub fn object_changes(
+    alloc: Global,
+    arena: &Arena,
+    mapping: &Mapping,
+    prepared: &Prepared,
+) -> Result<RowChanges, Refusal>
+    requires configured { mapping.now.configured ≡ true }
+    requires fit { IsFit mapping.now arena.now }
+    requires made { AreMade arena.now prepared.now }
+    ensures changes { IfOk result
+        (λ changes. changes ≡ spec.object_changes mapping.now arena.now prepared.now) }
+    ensures cause { IfErr result (λ e. e ≡ Memory) }
+{
+    let names = new_names(alloc, mapping, arena, prepared)?;
+    let projection = Projection {
+        mapping,
+        arena,
+        prepared,
+        names: &names,
+    };
+    let mut fresh = projection.new_rows(alloc)?;
+    push_made_rows(&mut fresh, &projection, alloc)?;
+    let changed = projection.changed_rows(alloc)?;
+    let mut gone = gone_rows(alloc, arena, mapping, prepared)?;
+    push_lost_rows(&mut gone, alloc, arena, mapping, prepared)?;
+    let post = late_keys(alloc, mapping)?;
+    let warnings = warnings(alloc, arena, mapping, prepared)?;
+    Ok(RowChanges {
+        fresh,
+        changed,
+        gone,
+        post,
+        warnings,
+    })
+}
+
+impl<'a> Switch<'a> {
+    /// All changes with their switched rows.
+    fn changes(&self, alloc: Global) -> Result<RowChanges, Refusal>
+        requires { IsSwitch self.now }
+        ensures changes { IfOk result (λ changes. changes ≡ changes_by self.now.mapping.now
+            self.now.arena.now self.now.new.now.changes.now self.now.partners.now) }
+        ensures cause { IfErr result (λ e. e ≡ Memory) }
+    {
+        let fresh = self.rows_staying(alloc)?;
+        let mut changed = self.rows_kept(alloc)?;
+        self.push_rows_switched(&mut changed, alloc)?;
+        let gone = rows_left(alloc, self.new.changes, self.partners)?;
+        let post = self.new.changes.post.copied()?;
+        let warnings = self.new.changes.warnings.copied()?;
+        Ok(RowChanges {
+            fresh,
+            changed,
+            gone,
+            post,
+            warnings,
+        })
+    }
+}
+
+/// Changes with their switched rows.
+fn with_switches(
+    alloc: Global,
+    arena: &Arena,
+    mapping: &Mapping,
+    changes: &RowChanges,
+) -> Result<RowChanges, Refusal>
+    requires configured { mapping.now.configured ≡ true }
+    requires fit { IsFit mapping.now arena.now }
+    requires range { AreInRange mapping.now.schema changes.now }
+    ensures changes { IfOk result
+        (λ all. all ≡ with_switches mapping.now arena.now changes.now) }
+    ensures cause { IfErr result (λ e. e ≡ Memory) }
+{
+    let schema = mapping.schema();
+    let rows = ready_rows(alloc, schema, changes)?;
+    let new = NewRows {
+        schema,
+        changes,
+        rows: rows.as_slice(),
+    };
+    let partners = partners(alloc, &new)?;
+    let numbers = numbers_among(alloc, partners.as_slice())?;
+    let switch = Switch {
+        mapping,
+        arena,
+        new: &new,
+        partners: partners.as_slice(),
+        numbers: numbers.as_slice(),
+    };
+    switch.changes(alloc)
+}
+
+/// Whether there are no more rows than have numbers.
+fn are_few(changes: &RowChanges) -> bool
+    ensures { IsTrue result → AreFew changes.now }
+{
+    let old = changes.changed.len().saturating_add(changes.gone.len());
+    changes.fresh.len() <= u32::MAX as usize && old <= u32::MAX as usize
+}
+
+#[tactic(auto, using(crate::proofs::Range::all_narrow))]
+/// Whether no table has more columns than have numbers.
+fn are_narrow(schema: &Schema) -> bool
+    ensures narrow { IsTrue result
+        → All (λ spec. length spec.columns ≤ 4294967295) schema.now.tables }
+    ensures few { length schema.now.tables ≤ 4294967295 }
+{
+    for table in 0..schema.count() {
+        if schema.spec(TableId(table)).columns.len() > u32::MAX as usize {
+            return false;
+        }
+    }
+    true
+}
+
+#[tactic(auto, using(crate::proofs::Range::range_steps))]
+/// What a flush of a prepared graph changes: what the objects and their links change (`object_changes`), where a key that
+/// passes from a deleted row to a new one makes one changed row of both.
+///
+/// A new row's key is known where each of its cells is a value, or comes through a link or a join from a row whose key is
+/// known. Where it is the key of a deleted row of the same table, the two are switched, and both leave their lists; of several
+/// new rows with this key the first in order is switched. In their place stands a changed row under the key, with the new
+/// row's name, behind the other changed rows. Its cells are those of the new row outside the key that name a new row's key,
+/// or are other than the deleted row held, or are of a column that is no attribute of the deleted object's class. It may have none.
+///
+/// In all lists a cell that named the key of a switched row is that key's value, and a changed row keeps only the cells that
+/// it does not hold already. The tables and columns of all rows are declared, so a plan can be made of the changes.
+///
+/// # Errors
+/// `Memory` alone; it is also told where there are more rows, or more columns of a table, than have numbers.
+pub fn project(
+    alloc: Global,
+    arena: &Arena,
+    mapping: &Mapping,
+    prepared: &Prepared,
+) -> Result<RowChanges, Refusal>
+    requires configured { mapping.now.configured ≡ true }
+    requires fit { IsFit mapping.now arena.now }
+    requires made { AreMade arena.now prepared.now }
+    ensures changes { IfOk result
+        (λ changes. changes ≡ project mapping.now arena.now prepared.now) }
+    ensures range { IfOk result (λ changes. AreInRange mapping.now.schema changes) }
+    ensures cause { IfErr result (λ e. e ≡ Memory) }
+{
+    // It is configured, so the relationships have their keys.
+    let _configured = mapping.is_configured();
+    let plain = object_changes(alloc, arena, mapping, prepared)?;
+    if !are_narrow(mapping.schema()) || !are_few(&plain) {
+        return Err(Refusal::Memory);
+    }
+    let changes = with_switches(alloc, arena, mapping, &plain)?;
+    if !are_few(&changes) {
+        return Err(Refusal::Memory);
+    }
+    Ok(changes)
+}
