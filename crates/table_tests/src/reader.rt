@@ -1,17 +1,17 @@
 //! The answer to a line.
 
 use crate::show::{legality, push_answer, push_order};
-use crate::tables::table;
-use crate::words::{created, statement, table_of, values};
+use crate::words::{created, statement};
 use base_core::{ListOf, Refusal, TableId};
+use notations::{Reader, declare, row, table_of};
 use plain_tables::PlainTables;
 use schema_core::Schema;
-use std::alloc::Global;
+use std::alloc::{AllocError, Global};
 use std::mem::{self, drop};
 
 /// Answers lines over the tables so far and the rows that were given last.
 #[derive(Drop)]
-pub(crate) struct Reader {
+struct Statements {
     schema: Schema,
     given: PlainTables,
 }
@@ -25,10 +25,10 @@ fn in_order(alloc: Global, schema: &mut Schema) -> Result<Vec<TableId>, Refusal>
     schema.tables_in_order(alloc)
 }
 
-impl Reader {
+impl Statements {
     /// No tables.
-    pub(crate) fn new(alloc: Global) -> Reader {
-        Reader {
+    fn new(alloc: Global) -> Statements {
+        Statements {
             schema: Schema::new(alloc),
             given: ListOf::new(alloc),
         }
@@ -36,14 +36,6 @@ impl Reader {
 
     fn forget(&mut self, alloc: Global) {
         drop(mem::replace(&mut self.schema, Schema::new(alloc)));
-    }
-
-    fn declare(&mut self, alloc: Global, line: &str) -> Result<(), Refusal> {
-        let spec = table(alloc, line)?;
-        if self.schema.count() < 1000 {
-            self.schema.declare_table(spec)?;
-        }
-        Ok(())
     }
 
     fn give(&mut self, alloc: Global, words: &str) -> Result<(), Refusal> {
@@ -61,7 +53,7 @@ impl Reader {
     fn judge(&self, alloc: Global, words: &str, shown: &mut String) -> Result<(), Refusal> {
         let (table, cells) = words.split_once(' ').unwrap_or((words, ""));
         let table = table_of(alloc, &self.schema, table)?;
-        let row = values(alloc, cells)?;
+        let row = row(alloc, cells)?;
         shown.push_str(legality(&self.schema, table, &row))?;
         Ok(())
     }
@@ -80,29 +72,37 @@ impl Reader {
         Ok(())
     }
 
-    /// What is written for a line.
-    pub(crate) fn answer(&mut self, alloc: Global, line: &str) -> Result<String, Refusal> {
+    /// What is written for a line that asks, or for a heading.
+    fn tell(&mut self, alloc: Global, line: &str, shown: &mut String) -> Result<(), Refusal> {
         let (head, rest) = line.split_once(' ').unwrap_or((line, ""));
-        let mut shown = String::new(alloc);
+        match head {
+            "order" => self.show_order(alloc, shown)?,
+            "legal" => self.judge(alloc, rest, shown)?,
+            "#" => shown.push_str(line)?,
+            _ => self.send(alloc, head, rest, shown)?,
+        }
+        shown.push('\n')?;
+        Ok(())
+    }
+}
+
+impl Reader for Statements {
+    fn answer(&mut self, alloc: Global, line: &str, shown: &mut String) -> Result<(), Refusal> {
+        let (head, rest) = line.split_once(' ').unwrap_or((line, ""));
         match head {
             "tables" => {
                 self.forget(alloc);
-                return Ok(shown);
+                Ok(())
             }
-            "table" => {
-                self.declare(alloc, rest)?;
-                return Ok(shown);
-            }
-            "given" => {
-                self.give(alloc, rest)?;
-                return Ok(shown);
-            }
-            "order" => self.show_order(alloc, &mut shown)?,
-            "legal" => self.judge(alloc, rest, &mut shown)?,
-            "#" => shown.push_str(line)?,
-            _ => self.send(alloc, head, rest, &mut shown)?,
+            "table" => declare(alloc, &mut self.schema, rest),
+            "given" => self.give(alloc, rest),
+            _ => self.tell(alloc, line, shown),
         }
-        shown.push('\n')?;
-        Ok(shown)
     }
+}
+
+/// What is written for lines.
+pub(crate) fn answers(alloc: Global, text: &str) -> Result<String, AllocError> {
+    let mut statements = Statements::new(alloc);
+    notations::answers(alloc, &mut statements, text)
 }
