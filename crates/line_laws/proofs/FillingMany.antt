@@ -2,12 +2,12 @@
 use Rattle.std.proofs.Common.{◌≡◌, ℕ, zero, suc, ◌+◌, ◌≤◌, Bool, true, List, [], ◌∷◌, ◌++◌, length, Option, Some, None, refl, ap, sym, subst, ◌∙◌, append_assoc, append-nil, length-append, arith}
 use Rattle.script_lex.specs.declared.kind.Kind.{Kind}
 use Rattle.script_lex.specs.declared.token.Token.{Token}
-use Rattle.script_tokens.specs.Input.{Reader, and_then, first_of}
+use Rattle.script_tokens.specs.Input.{Reader, first_of}
 use Rattle.script_forms.specs.Form.{Form}
 use Rattle.script_forms.specs.Expressions.{many}
 use Rattle.line_laws.proofs.Forms.Taking.{Mode, Enough}
 use Rattle.line_laws.proofs.Forms.Steps.{budget_none, budget_more}
-use Rattle.line_laws.proofs.Forms.Filling.{Read, Complete, Opens, always, enough_first, enough_then}
+use Rattle.line_laws.proofs.Forms.Filling.{given, given_map, given_then, Read, Complete, Opens, always, enough_first, enough_then}
 use Rattle.line_laws.proofs.Forms.FillingBasics.{Solid}
 use Rattle.script_tokens.specs.Many.{many_by, many_from}
 
@@ -43,10 +43,10 @@ many_opens {item = item} {s = s} {t = t} og within = record { run = λ tokens re
 module _ {A : Type 0} (mode : Mode) (s t : Kind → Bool) (turn : Reader (Option A)) (item : Form A) (turns : Turns mode s t turn item) where
   ended_by : (n : ℕ) (found : List A) (rest : List Token) (o : ℕ) → t (first_of rest).kind ≡ true → Read mode (many_from turn n found) rest rest 0 o found
   unfolding many_from
-  ended_by zero found rest o stop = record { left = o; budget = budget_none mode o; is = refl }
+  ended_by zero found rest o stop = record { left = o; budget = budget_none mode o; is = given refl }
   ended_by (suc n) found rest o stop =
       let read = turns.none_read rest o stop in
-      record { left = read.left; budget = read.budget; is = ap (λ out. and_then out (many_by (many_from turn n) found)) read.is }
+      record { left = read.left; budget = read.budget; is = given_map (many_by (many_from turn n) found) refl read.is }
 
   ended : (n : ℕ) (found : List A) (prefix rest : List Token) (count o : ℕ) → prefix ≡ [] → count ≡ 0 → t (first_of rest).kind ≡ true
       → Read mode (many_from turn n found) (prefix ++ rest) rest count o (found ++ [])
@@ -55,13 +55,13 @@ module _ {A : Type 0} (mode : Mode) (s t : Kind → Bool) (turn : Reader (Option
       (subst (λ m. Read mode (many_from turn n found) rest rest m o (found ++ [])) (sym counts)
       (subst (λ all. Read mode (many_from turn n found) rest rest 0 o all) (sym (append-nil found)) (ended_by n found rest o stop)))
 
-  step : (n : ℕ) (found : List A) (a : A) (xs ys rest : List Token) (l m o : ℕ) (all : List A) → (one : Read mode turn xs ys l o (Some a))
-      → Read mode (many_from turn n (found ++ a ∷ [])) ys rest m one.left all → Read mode (many_from turn (suc n) found) xs rest (l + m) o all
+  step : (n : ℕ) (found : List A) (a : A) (fs ys rest : List Token) (l m o : ℕ) (all : List A) → (one : Read mode turn (fs ++ ys) ys l o (Some a))
+      → Read mode (many_from turn n (found ++ a ∷ [])) ys rest m one.left all → Read mode (many_from turn (suc n) found) (fs ++ ys) rest (l + m) o all
   unfolding many_from
-  step n found a xs ys rest l m o all one two = record {
+  step n found a fs ys rest l m o all one two = record {
     left = two.left;
     budget = budget_more mode l m o one.left two.left one.budget two.budget;
-    is = ap (λ out. and_then out (many_by (many_from turn n) found)) one.is ∙ two.is;
+    is = given_then fs ys (many_by (many_from turn n) found) one.is two.is;
   }
 
   all_read : (n : ℕ) (all found : List A) (prefix rest : List Token) (count o : ℕ) → length all ≤ n → many item prefix count all → Enough mode count o → t (first_of rest).kind ≡ true
@@ -79,7 +79,7 @@ module _ {A : Type 0} (mode : Mode) (s t : Kind → Bool) (turn : Reader (Option
       let rec : Read mode (many_from turn n (found ++ a ∷ [])) (w.rest ++ rest) rest w.rest_count one.left ((found ++ a ∷ []) ++ more) =
       all_read n more (found ++ a ∷ []) w.rest rest w.rest_count one.left less w.second (enough_then mode w.prefix_count w.rest_count o one.left enough_all one.budget) stop in
       let whole : Read mode (many_from turn (suc n) found) (w.prefix ++ (w.rest ++ rest)) rest (w.prefix_count + w.rest_count) o ((found ++ a ∷ []) ++ more) =
-      step n found a (w.prefix ++ (w.rest ++ rest)) (w.rest ++ rest) rest w.prefix_count w.rest_count o ((found ++ a ∷ []) ++ more) one rec in
+      step n found a w.prefix (w.rest ++ rest) rest w.prefix_count w.rest_count o ((found ++ a ∷ []) ++ more) one rec in
       subst (λ ts. Read mode (many_from turn (suc n) found) ts rest count o (found ++ a ∷ more)) tokens
       (subst (λ m. Read mode (many_from turn (suc n) found) (w.prefix ++ (w.rest ++ rest)) rest m o (found ++ a ∷ more)) (sym w.counted)
       (subst (λ xs. Read mode (many_from turn (suc n) found) (w.prefix ++ (w.rest ++ rest)) rest (w.prefix_count + w.rest_count) o xs) (append_assoc found (a ∷ []) more) whole))

@@ -9,7 +9,7 @@ use Rattle.script_tokens.specs.Input.{Input, Reader, ◌>>=◌, pure, peek, eat,
 use Rattle.script_forms.specs.Form.{Form, sequence, says, word, maybe, ◌or◌}
 use Rattle.line_laws.proofs.Forms.Taking.{Mode, Enough}
 use Rattle.line_laws.proofs.Forms.Sequences.{then_value}
-use Rattle.line_laws.proofs.Forms.Filling.{Read, Complete, Opens, both, less, made, either, absent, introduced, if_word, made_opens, word_opens, then_opens, first_opens, maybe_opens, either_opens}
+use Rattle.line_laws.proofs.Forms.Filling.{given_as, Read, Complete, Opens, both, less, made, either, absent, introduced, if_word, made_opens, word_opens, then_opens, first_opens, maybe_opens, either_opens}
 use Rattle.line_laws.proofs.Expressions.FillingSteps.{unlike, only, onto, seen, unseen, uneaten, eaten_then}
 use Rattle.line_laws.proofs.SomeKinds.{false_true, among, first_among, rest_among, other_than, end_kind}
 use Rattle.line_laws.proofs.Forms.Steps.{is_end}
@@ -24,7 +24,7 @@ other_out kd = ap not (alike {a = kd} {b = kd} refl)
 -- ---- readers and their forms
 
 same_read : {A : Type 0} (mode : Mode) (p q : Reader A) (xs rest : List Token) (n o : ℕ) (a : A) → ((i : Input) → p i ≡ q i) → Read mode p xs rest n o a → Read mode q xs rest n o a
-same_read mode p q xs rest n o a same read = record { left = read.left; budget = read.budget; is = sym (same (record { ahead = xs; operators = o })) ∙ read.is }
+same_read mode p q xs rest n o a same read = record { left = read.left; budget = read.budget; is = given_as (sym (same (record { ahead = xs; operators = o }))) read.is }
 
 -- a reader that does the same
 pub instead : {A : Type 0} {mode : Mode} {t : Kind → Bool} {p q : Reader A} {g : Form A} → ((i : Input) → p i ≡ q i) → Complete mode t p g → Complete mode t q g
@@ -48,7 +48,7 @@ unfolding head
 decided_by mode by p q r xs rest n o a b is chosen read = record {
   left = read.left;
   budget = read.budget;
-  is = ap (λ c. (if c then p else q) (record { ahead = xs; operators = o })) is ∙ ap (λ x. x (record { ahead = xs; operators = o })) chosen ∙ read.is;
+  is = given_as (ap (λ c. (if c then p else q) (record { ahead = xs; operators = o })) is ∙ ap (λ x. x (record { ahead = xs; operators = o })) chosen) read.is;
 }
 
 decided_run : {A : Type 0} (mode : Mode) (t by : Kind → Bool) (p q : Reader A) (g h : Form A) → Complete mode t p g → Complete mode t q h → Opens g t by → Opens h t (λ kd. not (by kd))

@@ -20,7 +20,7 @@ use Rattle.script_forms.specs.Queries as query
 use Rattle.script_forms.specs.Bulk as statement
 use Rattle.line_laws.proofs.Forms.Taking.{Mode, Enough}
 use Rattle.line_laws.proofs.Forms.Steps.{budget_none}
-use Rattle.line_laws.proofs.Forms.Filling.{Read, Complete, Opens, Begun, always, both, then_any, less, made, expected, taken, on_word, either, eaten, by_kind_read, mapped_run, word_begun, then_begun, made_opens, word_opens, then_opens, first_opens, whether_opens, either_opens}
+use Rattle.line_laws.proofs.Forms.Filling.{given, given_as, Read, Complete, Opens, Begun, always, both, then_any, less, made, expected, taken, on_word, either, eaten, by_kind_read, mapped_run, word_begun, then_begun, made_opens, word_opens, then_opens, first_opens, whether_opens, either_opens}
 use Rattle.line_laws.proofs.Forms.FillingBasics.{Solid, named, names_read, listed}
 use Rattle.line_laws.proofs.Expressions.FillingSteps.{unlike, opens_less, solid_of, separated_opens}
 use Rattle.line_laws.proofs.Expressions.FillingKinds.{is_name}
@@ -164,7 +164,7 @@ module _ (mode : Mode) (most : ℕ) (whole : Complete mode (among behind_express
       let read = mapped_run mode (among behind_source) (take_token >> (expect k.Join >> s.join true)) (sequence (word k.Left) (λ _. sequence (word k.Join) (λ _. join_rest true))) Some
       (then_any (taken k.Left) (λ _. then_any (expected k.Join) (λ _. joined true))) prefix rest count o a said enough stop in
       behind_first k.Left prefix rest count o a (then_begun k.Left (word k.Left) (λ _. sequence (word k.Join) (λ _. join_rest true)) (word_begun k.Left) prefix count a said)
-      (record { left = read.left; budget = read.budget; is = sym (two_words_same (next (record { ahead = prefix ++ rest; operators = o }))) ∙ read.is })
+      (record { left = read.left; budget = read.budget; is = given_as (sym (two_words_same (next (record { ahead = prefix ++ rest; operators = o })))) read.is })
 
   join_run : (prefix rest : List Token) (count o : ℕ) (a : SynJoin) (left : Bool) → (w : Both (λ ts n. whether (word k.Left) ts n left) (λ ts n. sequence (word k.Join) (λ _. join_rest left) ts n a) prefix count)
       → Enough mode count o → among behind_source (first_of rest).kind ≡ true → Read mode s.join_if_any (prefix ++ rest) rest count o (Some a)
@@ -186,7 +186,7 @@ module _ (mode : Mode) (most : ℕ) (whole : Complete mode (among behind_express
   no_join_read : (rest : List Token) (o : ℕ) → among behind_joins (first_of rest).kind ≡ true → Read mode s.join_if_any rest rest 0 o None
   unfolding head
   no_join_read rest o stop =
-      record { left = o; budget = budget_none mode o; is = ap (λ r. and_then (r (record { ahead = rest; operators = o })) s.joined_by) (no_join (first_of rest).kind stop) }
+      record { left = o; budget = budget_none mode o; is = given (ap (λ r. and_then (r (record { ahead = rest; operators = o })) s.joined_by) (no_join (first_of rest).kind stop)) }
 
   join_opens : {t : Kind → Bool} → Opens (form.join most) t (among (k.Join ∷ k.Left ∷ []))
   unfolding among all_in same_kind

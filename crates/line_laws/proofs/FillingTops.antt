@@ -37,7 +37,7 @@ use Rattle.script_forms.specs.ClassHeads as heads
 use Rattle.script_forms.specs.Bindings as bindings
 use Rattle.script_forms.specs.TopLines as form
 use Rattle.line_laws.proofs.Forms.Taking.{Mode, Enough}
-use Rattle.line_laws.proofs.Forms.Filling.{Read, Complete, Opens, always, both, then_any, less, made, expected, taken, on_word, either, if_word, made_opens, word_opens, then_opens, first_opens, maybe_opens, whether_opens, either_opens}
+use Rattle.line_laws.proofs.Forms.Filling.{given_as, Read, Complete, Opens, always, both, then_any, less, made, expected, taken, on_word, either, if_word, made_opens, word_opens, then_opens, first_opens, maybe_opens, whether_opens, either_opens}
 use Rattle.line_laws.proofs.Forms.FillingBasics.{named, listed}
 use Rattle.line_laws.proofs.Expressions.FillingSteps.{unlike, opens_less, solid_of, separated_opens}
 use Rattle.line_laws.proofs.Expressions.FillingKinds.{is_name}
@@ -175,7 +175,7 @@ unfolding outer second_kind
 outer_binding mode xs rest n o a is read = record {
   left = read.left;
   budget = read.budget;
-  is = ap (λ c. if c then b.binding (record { ahead = xs; operators = o }) else r.top (record { ahead = xs; operators = o })) is ∙ read.is;
+  is = given_as (ap (λ c. if c then b.binding (record { ahead = xs; operators = o }) else r.top (record { ahead = xs; operators = o })) is) read.is;
 }
 
 outer_top : (mode : Mode) (xs rest : List Token) (n o : ℕ) (a : Command) → same_kind (first_of (drop 1 xs)).kind k.Assign ≡ false → Read mode r.top xs rest n o a
@@ -184,7 +184,7 @@ unfolding outer second_kind
 outer_top mode xs rest n o a is read = record {
   left = read.left;
   budget = read.budget;
-  is = ap (λ c. if c then b.binding (record { ahead = xs; operators = o }) else r.top (record { ahead = xs; operators = o })) is ∙ read.is;
+  is = given_as (ap (λ c. if c then b.binding (record { ahead = xs; operators = o }) else r.top (record { ahead = xs; operators = o })) is) read.is;
 }
 
 -- lines that are no bindings: read where the second token decides what is read, and where it does not

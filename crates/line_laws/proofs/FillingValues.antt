@@ -19,7 +19,7 @@ use Rattle.script_forms.specs.Bindings as bindings
 use Rattle.script_forms.specs.TopLines as top
 use Rattle.line_laws.proofs.Forms.Taking.{Mode}
 use Rattle.line_laws.proofs.Forms.Steps.{budget_none}
-use Rattle.line_laws.proofs.Forms.Filling.{Read, Complete, Opens, always, both, then_any, less, made, expected, introduced, word_opens, first_opens, made_opens, either_opens}
+use Rattle.line_laws.proofs.Forms.Filling.{given, Read, Complete, Opens, always, both, then_any, less, made, expected, introduced, word_opens, first_opens, made_opens, either_opens}
 use Rattle.line_laws.proofs.Forms.FillingBasics.{Solid, named}
 use Rattle.line_laws.proofs.Expressions.FillingSteps.{unlike, only, opens_less, solid_of}
 use Rattle.line_laws.proofs.Expressions.FillingKinds.{is_name}
@@ -47,7 +47,7 @@ int_by mode t rest o m is holds fits =
     record {
       left = o;
       budget = budget_none mode o;
-      is = ap (λ y. l.int_by (l.whole_number y t.content) i) is ∙ ap (λ y. l.int_by (l.whole_number k.Number y) i) holds ∙ ap (λ b. l.int_by (if b then Some m else None) i) fits;
+      is = given (ap (λ y. l.int_by (l.whole_number y t.content) i) is ∙ ap (λ y. l.int_by (l.whole_number k.Number y) i) holds ∙ ap (λ b. l.int_by (if b then Some m else None) i) fits);
     }
 
 int_run : (mode : Mode) (prefix rest : List Token) (count o m : ℕ) → form.int prefix count m → Read mode l.int (prefix ++ rest) rest count o m

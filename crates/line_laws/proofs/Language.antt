@@ -95,6 +95,7 @@ told_by bytes number inside refusal (Err f) is e =
       told = sym (same_refusal e) ∙ ap (refusal_of number) prefix.at;
       begins = prefix.begins;
       stops = prefix.stops;
+      stops_deeper = prefix.stops_deeper;
     }
 
 refused_by : (bytes : List ℕ) (number : ℕ) (inside : Inside) (refusal : Refusal) (b : Bool)

@@ -23,7 +23,7 @@ use Rattle.line_laws.proofs.Forms.Filling.{Complete, Opens, always, less}
 use Rattle.line_laws.proofs.Forms.Lines.{line_is_whole, ends_read, ends_refused, begun, refused_by, refused_yields, fault_same, all_is_read, one_thing}
 use Rattle.line_laws.proofs.Expressions.Whole.{whole_sound, wider_sound, some_expression_to}
 use Rattle.line_laws.proofs.Expressions.FillingKinds.{ends_expression, begins_expression}
-use Rattle.line_laws.proofs.Expressions.FillingExpressions.{whole_plain, expression_opens}
+use Rattle.line_laws.proofs.Expressions.FillingExpressions.{whole_plain, expression_opens, whole_wider, wider_opens}
 use Rattle.line_laws.proofs.Exact.{outer_reader, RefusesNoSooner, RefusesSoonerInDepthAlone, EndsInDepth}
 use Rattle.line_laws.specs.Language.{binding_or_other}
 use Rattle.line_laws.proofs.SomeKinds.{false_true, among, all_in, within}
@@ -56,6 +56,14 @@ begins_opening _ e = refl
 
 pub opened : Opens (expression_to 100) always opening
 opened = opens_less expression_opens begins_opening
+
+-- in whose expressions one more may nest than is read
+pub wider_filled : Complete Around (among behind_expression) whole (expression_to 101)
+unfolding all_in
+wider_filled = less whole_wider (within behind_expression ends_expression refl)
+
+pub wider_opened : Opens (expression_to 101) always opening
+wider_opened = opens_less wider_opens begins_opening
 
 complete : Complete Plain is_end outer (outer_line 100)
 complete = outer_read Plain 100 filled opened

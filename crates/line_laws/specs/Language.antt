@@ -1,5 +1,5 @@
 -- What is answered to a line of bytes, wherever it stands.
-use Rattle.std.specs.Prelude.{◌≡◌, ◌⊎◌, ℕ, ◌≤◌, Bool, true, false, List, [], ◌∷◌, ◌++◌, length, drop, Ok, Err}
+use Rattle.std.specs.Prelude.{◌≡◌, ◌≢◌, ◌⊎◌, ℕ, ◌≤◌, Bool, true, false, List, [], ◌∷◌, ◌++◌, length, drop, Ok, Err}
 use Rattle.base_core.specs.declared.refusal.Refusal.{Refusal}
 use Rattle.base_core.specs.declared.refusal.Refusal.TheVariants.{ScriptError}
 use Rattle.script_types.specs.declared.command.Command.{Command}
@@ -55,8 +55,15 @@ pub record EndDeep (tokens : List Token) : Type 0 where
 abbrev pub BeginOne : Inside → List Token → List Token → Type 0
 BeginOne inside line tokens = Begins (form_of_kind inside 100 line) tokens ⊎ (EndDeep tokens × Begins (form_of_kind inside 101 line) tokens)
 
+-- some line of the form begins with these tokens and this one, and no token behind it stands at its place
+pub record GoesOn (form : Form Command) (tokens : List Token) (t : Token) : Type 0 where
+  pub more : List Token
+  pub command : Command
+  pub said : form ((tokens ++ t ∷ []) ++ more) 0 command
+  pub apart : (before after : List Token) (u : Token) → more ≡ before ++ u ∷ after → u.at ≢ t.at
+
 -- The column of a token, which stands one past the longest prefix of the line with which some line of its kind begins: such a line begins with the tokens
--- before it, and none begins with these and the token itself.
+-- before it, and none begins with these and the token itself; where this is an `in` or `exists`, not even one in which one more may nest.
 pub record TellsTheColumn (inside : Inside) (line : List Token) (number : ℕ) (refusal : Refusal) : Type 0 where
   pub before : List Token
   pub after : List Token
@@ -65,6 +72,7 @@ pub record TellsTheColumn (inside : Inside) (line : List Token) (number : ℕ) (
   pub told : refusal ≡ ScriptError number (column (first_of after).at)
   pub begins : BeginOne inside line before
   pub stops : Begins (form_of_kind inside 100 line) (before ++ first_of after ∷ []) → ⊥
+  pub stops_deeper : nests (first_of after).kind ≡ true → GoesOn (form_of_kind inside 101 line) before (first_of after) → ⊥
 
 -- The command that is answered to a line, which is neither blank nor a comment, is what its tokens say.
 abbrev pub AnswersWhatIsSaid : Type 0

@@ -9,7 +9,8 @@ ghost use Rattle.line_laws.specs.Language.{AnswersAllThatIsSaid, AnswersWhatIsSa
 ///
 /// That token stands one past the longest prefix of the line with which some line of its kind begins: such a line begins with the tokens before it, and none
 /// begins with these and the token itself. Where they end with an `in` or `exists` before which there are a hundred of `(`, `not` and `-`, the line that
-/// begins with them may be one in which 101 of parentheses, `not` and unary minus nest.
+/// begins with them may be one in which 101 of parentheses, `not` and unary minus nest: the fault is at the parenthesis there. It is at no `in` or `exists`
+/// itself that could stand if one more might nest.
 pub fn lines_are_answered_as_the_language_says()
     ensures answers { AnswersWhatIsSaid }
     ensures all { AnswersAllThatIsSaid }

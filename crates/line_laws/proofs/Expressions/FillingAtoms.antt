@@ -1,5 +1,5 @@
 -- What the forms of expressions say is read: from single operands to sums.
-use Rattle.std.proofs.Common.{◌≡◌, ◌≢◌, ℕ, zero, suc, Bool, true, false, if◌then◌else◌, ◌==◌, List, [], ◌∷◌, ◌++◌, Option, Some, None, refl, ap, sym, subst, ◌∙◌, append-nil, inl, inr, arith}
+use Rattle.std.proofs.Common.{◌≡◌, ◌≢◌, ℕ, zero, suc, ◌-◌, ◌≤◌, Bool, true, false, if◌then◌else◌, ◌==◌, List, [], ◌∷◌, ◌++◌, Option, Some, None, refl, ap, sym, subst, ◌∙◌, append-nil, inl, inr, arith}
 use Rattle.std.proofs.Math.Dec.{eqb-suc-zero}
 use Rattle.base_core.specs.declared.value.ArithOp.TheVariants as op
 use Rattle.expr_types.specs.declared.expr.Func.{Func}
@@ -10,7 +10,7 @@ use Rattle.script_lex.specs.declared.kind.Kind.{Kind}
 use Rattle.script_lex.specs.declared.kind.Kind.TheVariants as k
 use Rattle.script_lex.specs.declared.token.Token.{Token}
 use Rattle.script_lex.specs.Lex.{same_kind}
-use Rattle.script_tokens.specs.Input.{Input, Reader, ◌>>=◌, ◌>>◌, pure, refuse, peek, take_token, expect}
+use Rattle.script_tokens.specs.Input.{Input, Reader, ◌>>=◌, ◌>>◌, pure, refuse, peek, take_token, expect, and_then, head, first_of}
 use Rattle.script_tokens.specs.Names as n
 use Rattle.script_tokens.specs.Names.{is_no_name}
 use Rattle.script_tokens.specs.Literals as l
@@ -23,10 +23,11 @@ use Rattle.script_expr.specs.Expr as r
 use Rattle.script_forms.specs.Form.{Form, sequence, says, word, separated_list}
 use Rattle.script_forms.specs.Basics as basic
 use Rattle.script_forms.specs.Expressions as form
-use Rattle.line_laws.proofs.Forms.Taking.{Enough}
-use Rattle.line_laws.proofs.Forms.Filling.{Read, Complete, Opens, Begun, always, both, then_any, made, expected, taken, on_word, on_first, by_kind_read, word_begun, then_begun, either, word_opens, first_opens, either_opens}
+use Rattle.line_laws.proofs.Forms.Taking.{Inside, Enough}
+use Rattle.line_laws.specs.Nesting.{opens}
+use Rattle.line_laws.proofs.Forms.Filling.{given_as, Read, Complete, Opens, Begun, always, both, then_any, made, expected, taken, on_word, on_first, by_kind_read, word_begun, then_begun, either, word_opens, first_opens, either_opens}
 use Rattle.line_laws.proofs.Forms.FillingBasics.{Solid, listed, named, closes}
-use Rattle.line_laws.proofs.Expressions.FillingSteps.{inside, unlike, only, onto, opens_onto, opens_less, solid_of, first_onto, separated_opens, on_opening, any_kind, seen, unseen, uneaten, eaten_then, Sign, sign, either_sign}
+use Rattle.line_laws.proofs.Expressions.FillingSteps.{unlike, only, onto, opens_onto, opens_less, solid_of, first_onto, separated_opens, on_opening, any_kind, seen, unseen, uneaten, eaten_then, Sign, sign, either_sign}
 use Rattle.line_laws.proofs.Expressions.FillingKinds.{is_name, begins_atom, begins_sum, begins_expression, literal_begins_atom, name_begins_atom, atom_begins_sum, ends_product, ends_sum, ends_expression, sum_ends_product, closes_ends_expression, ends_product_joint, ends_sum_joint, sum_joint_ends_product}
 use Rattle.line_laws.proofs.Expressions.FillingChains.{chain_read}
 use Rattle.line_laws.proofs.Expressions.FillingLiterals.{literal_read, literal_opens, name_opens, source_read}
@@ -49,16 +50,64 @@ nesting_up depth kd tokens count u said = (said.0, said.1, said.2, said.4)
 pub nesting_opens : (depth : ℕ) (kd : Kind) {next these : Kind → Bool} → these kd ≡ true → Opens (form.nesting_token depth kd) next these
 nesting_opens depth kd is = opens_onto (nesting_up depth kd) (word_opens kd is)
 
-deeper_run : (depth : ℕ) (expr : Level → Reader Syn) (kd : Kind) (prefix rest : List Token) (count o : ℕ) (u : Unit {0}) → form.nesting_token depth kd prefix count u → Enough inside count o
-    → Read inside (r.deeper depth expr kd) (prefix ++ rest) rest count o u
-unfolding r.deeper
-deeper_run depth expr kd prefix rest count o u said enough =
-    let i : Input = record { ahead = prefix ++ rest; operators = o } in
-    let read = (expected {mode = inside} kd).run prefix rest count o u (nesting_up depth kd prefix count u said) enough refl in
-    record { left = read.left; budget = read.budget; is = ap (λ b. if b then refuse i else expect kd i) (deeper_by depth said.3) ∙ read.is }
+-- A reader in which `depth` more may nest, and a form in which `room` more may: as many, or one more, where it is refused at a token behind which an expression
+-- would nest.
+pub data Fit (near depth room : ℕ) : Type 0 where
+  Same : room ≡ depth → Fit near depth room
+  OneMore : (n : ℕ) → near ≡ suc n → Fit near depth room
 
-pub deeper_read : (depth : ℕ) (expr : Level → Reader Syn) (kd : Kind) → Complete inside always (r.deeper depth expr kd) (form.nesting_token depth kd)
-deeper_read depth expr kd = record { run = λ prefix rest count o u said enough stop. deeper_run depth expr kd prefix rest count o u said enough }
+enter_run : (near depth room : ℕ) → depth ≢ 0 → (expr : Level → Reader Syn) (kd : Kind) (prefix rest : List Token) (count o : ℕ) (u : Unit {0})
+    → form.nesting_token room kd prefix count u → Enough (Inside near) count o → Read (Inside near) (r.deeper depth expr kd) (prefix ++ rest) rest count o u
+unfolding r.deeper
+enter_run near depth room some expr kd prefix rest count o u said enough =
+    let i : Input = record { ahead = prefix ++ rest; operators = o } in
+    let read = (expected {mode = Inside near} kd).run prefix rest count o u (nesting_up room kd prefix count u said) enough refl in
+    record { left = read.left; budget = read.budget; is = given_as (ap (λ b. if b then refuse i else expect kd i) (deeper_by depth some)) read.is }
+
+enter_read : (near depth room : ℕ) → depth ≢ 0 → (expr : Level → Reader Syn) (kd : Kind) → Complete (Inside near) always (r.deeper depth expr kd) (form.nesting_token room kd)
+enter_read near depth room some expr kd =
+    record { run = λ prefix rest count o u said enough stop. enter_run near depth room some expr kd prefix rest count o u said enough }
+
+-- where none may nest, this is refused
+escape_by : {A : Type 0} (n : ℕ) (expr : Level → Reader Syn) (kd : Kind) → opens kd ≡ 1 → (p : Reader A) (t : Token) (ts rest : List Token) (count o : ℕ) (a : A) → t.kind ≡ kd
+    → count ≤ o → Read (Inside (suc n)) (λ i. and_then (r.deeper zero expr kd i) (λ _. p)) (t ∷ ts) rest count o a
+unfolding r.deeper head
+escape_by n expr kd one p t ts rest count o a is few = record {
+  left = o - count;
+  budget = omega (arith, few);
+  is = record { gives = inr (record { before = []; token = t; after = ts; joined = refl; nests = ap opens is ∙ one; is = refl }) };
+}
+
+none_run : {A : Type 0} (n room : ℕ) (expr : Level → Reader Syn) (kd : Kind) → opens kd ≡ 1 → (p : Reader A) (g : Form A) (prefix rest : List Token) (count o : ℕ) (a : A)
+    → sequence (form.nesting_token room kd) (λ _. g) prefix count a → count ≤ o
+    → Read (Inside (suc n)) (λ i. and_then (r.deeper zero expr kd i) (λ _. p)) (prefix ++ rest) rest count o a
+none_run n room expr kd one p g prefix rest count o a said few =
+    let w = said.1 in
+    let t = w.first.0 in
+    let tokens : prefix ≡ t ∷ w.rest = w.joined ∙ ap (λ ts. ts ++ w.rest) w.first.1 in
+    subst (λ ts. Read (Inside (suc n)) (λ i. and_then (r.deeper zero expr kd i) (λ _. p)) (ts ++ rest) rest count o a) (sym tokens)
+    (escape_by n expr kd one p t (w.rest ++ rest) rest count o a w.first.2 few)
+
+nested_run : {A : Type 0} (near depth room : ℕ) → Fit near depth room → (expr : Level → Reader Syn) (kd : Kind) → opens kd ≡ 1 → (next : Kind → Bool) (p : Reader A) (g : Form A)
+    → (depth ≢ 0 → Complete (Inside near) next p g) → (prefix rest : List Token) (count o : ℕ) (a : A)
+    → sequence (form.nesting_token room kd) (λ _. g) prefix count a → count ≤ o → next (first_of rest).kind ≡ true
+    → Read (Inside near) (λ i. and_then (r.deeper depth expr kd i) (λ _. p)) (prefix ++ rest) rest count o a
+nested_run near depth room (Same is) expr kd one next p g cp prefix rest count o a said few stop =
+    let some : depth ≢ 0 = λ none. said.1.first.3 (is ∙ none) in
+    (then_any (enter_read near depth room some expr kd) (λ _. cp some)).run prefix rest count o a said few stop
+nested_run near zero room (OneMore n is) expr kd one next p g cp prefix rest count o a said few stop =
+    subst (λ m. Read (Inside m) (λ i. and_then (r.deeper zero expr kd i) (λ _. p)) (prefix ++ rest) rest count o a) (sym is)
+    (none_run n room expr kd one p g prefix rest count o a said few)
+nested_run near (suc depth) room (OneMore n is) expr kd one next p g cp prefix rest count o a said few stop =
+    let some : suc depth ≢ 0 = omega arith in
+    (then_any (enter_read near (suc depth) room some expr kd) (λ _. cp some)).run prefix rest count o a said few stop
+
+-- a token that nests, and what stands behind it
+pub nested : {A : Type 0} (near depth room : ℕ) → Fit near depth room → (expr : Level → Reader Syn) (kd : Kind) → opens kd ≡ 1 → {next : Kind → Bool} {p : Reader A} {g : Form A}
+    → (depth ≢ 0 → Complete (Inside near) next p g)
+    → Complete (Inside near) next (λ i. and_then (r.deeper depth expr kd i) (λ _. p)) (sequence (form.nesting_token room kd) (λ _. g))
+nested near depth room fit expr kd one {next = next} {p = p} {g = g} cp =
+    record { run = λ prefix rest count o a said few stop. nested_run near depth room fit expr kd one next p g cp prefix rest count o a said few stop }
 
 -- ---- the functions
 
@@ -150,25 +199,26 @@ module _ (depth : ℕ) (inner : form.Place → Form Syn) where
 
 -- ---- operands. What nests in them is read where it ends, and begins as expressions do.
 
-module _ (depth : ℕ) (inner : form.Place → Form Syn) (expr : Level → Reader Syn) (wholes : Complete inside ends_expression (expr level.Whole) (inner form.Anywhere))
-    (unaries : Complete inside always (expr level.Unary) (inner form.BehindMinus)) (opens : Opens (inner form.Anywhere) always begins_expression) where
-  close : {A : Type 0} (a : A) → Complete inside always (expect k.RParen >> pure a) (sequence (word k.RParen) (λ _. says a))
+module _ (near depth room : ℕ) (fit : Fit near depth room) (inner : form.Place → Form Syn) (expr : Level → Reader Syn)
+    (wholes : depth ≢ 0 → Complete (Inside near) ends_expression (expr level.Whole) (inner form.Anywhere))
+    (unaries : depth ≢ 0 → Complete (Inside near) always (expr level.Unary) (inner form.BehindMinus)) (begins : Opens (inner form.Anywhere) always begins_expression) where
+  close : {A : Type 0} (a : A) → Complete (Inside near) always (expect k.RParen >> pure a) (sequence (word k.RParen) (λ _. says a))
   close a = then_any (expected k.RParen) (λ _. made a)
 
-  parenthesized_read : Complete inside always (r.parenthesized depth expr) (form.parenthesized depth inner)
+  parenthesized_read : Complete (Inside near) always (r.parenthesized depth expr) (form.parenthesized room inner)
   unfolding r.parenthesized
-  parenthesized_read = then_any (deeper_read depth expr k.LParen) (λ _. both wholes (λ found. close found) (λ found. first_opens (word_opens k.RParen refl)))
+  parenthesized_read = nested near depth room fit expr k.LParen refl (λ some. both (wholes some) (λ found. close found) (λ found. first_opens (word_opens k.RParen refl)))
 
   -- behind `exists`
   abbrev such : Form Syn
   such =
-      sequence (form.nesting_token depth k.LParen) (λ _. sequence form.source (λ from. sequence (word k.Where) (λ _. sequence (inner form.Anywhere) (λ found.
+      sequence (form.nesting_token room k.LParen) (λ _. sequence form.source (λ from. sequence (word k.Where) (λ _. sequence (inner form.Anywhere) (λ found.
       sequence (word k.RParen) (λ _. says (e.Exists from found))))))
 
-  such_read : Complete inside always (r.exists depth expr) such
+  such_read : Complete (Inside near) always (r.exists depth expr) such
   unfolding r.exists
   such_read =
-      then_any (deeper_read depth expr k.LParen) (λ _. both source_read (λ from. then_any (expected k.Where) (λ _. both wholes (λ found. close (e.Exists from found))
+      nested near depth room fit expr k.LParen refl (λ some. both source_read (λ from. then_any (expected k.Where) (λ _. both (wholes some) (λ found. close (e.Exists from found))
       (λ found. first_opens (word_opens k.RParen refl)))) (λ from. first_opens (word_opens k.Where refl)))
 
   -- ---- calls
@@ -177,45 +227,45 @@ module _ (depth : ℕ) (inner : form.Place → Form Syn) (expr : Level → Reade
   operands f = sequence (separated_list k.Comma (inner form.Anywhere)) (λ found. sequence (word k.RParen) (λ _. says (e.Call f found)))
 
   abbrev all_rows : Form Syn
-  all_rows = sequence (form.nesting_token depth k.LParen) (λ _. sequence (word k.Star) (λ _. sequence (word k.RParen) (λ _. says e.CountAll)))
+  all_rows = sequence (form.nesting_token room k.LParen) (λ _. sequence (word k.Star) (λ _. sequence (word k.RParen) (λ _. says e.CountAll)))
 
   inner_solid : Solid (inner form.Anywhere)
   unfolding is_no_name
-  inner_solid = solid_of begins_expression opens refl
+  inner_solid = solid_of begins_expression begins refl
 
-  operands_read : (f : Func) → Complete inside always (r.arguments depth expr >>= (λ found. expect k.RParen >> pure (e.Call f found))) (operands f)
+  operands_read : depth ≢ 0 → (f : Func) → Complete (Inside near) always (r.arguments depth expr >>= (λ found. expect k.RParen >> pure (e.Call f found))) (operands f)
   unfolding r.arguments
-  operands_read f =
-      both (listed k.Comma ends_expression closes wholes inner_solid refl closes_ends_expression (λ y e. unlike closes k.Comma refl y e)) (λ found. close (e.Call f found))
+  operands_read some f =
+      both (listed k.Comma ends_expression closes (wholes some) inner_solid refl closes_ends_expression (λ y e. unlike closes k.Comma refl y e)) (λ found. close (e.Call f found))
       (λ found. first_opens (word_opens k.RParen refl))
 
   operands_open : (f : Func) → Opens (operands f) always begins_expression
-  operands_open f = first_opens (separated_opens k.Comma opens)
+  operands_open f = first_opens (separated_opens k.Comma begins)
 
   abbrev star_or_operands : Func → Bool → Reader Syn
   star_or_operands f is_all = if is_all then expect k.RParen >> pure e.CountAll else (r.arguments depth expr >>= (λ found. expect k.RParen >> pure (e.Call f found)))
 
-  inside_read : (f : Func) → Complete inside always (r.takes_all f >>= star_or_operands f) (operands f)
+  inside_read : depth ≢ 0 → (f : Func) → Complete (Inside near) always (r.takes_all f >>= star_or_operands f) (operands f)
   unfolding r.takes_all is_no_name
-  inside_read func.Count = uneaten begins_expression k.Star (star_or_operands func.Count) (operands_open func.Count) refl (operands_read func.Count)
-  inside_read func.Sum = operands_read func.Sum
-  inside_read func.Min = operands_read func.Min
-  inside_read func.Max = operands_read func.Max
-  inside_read func.Lower = operands_read func.Lower
-  inside_read func.Upper = operands_read func.Upper
-  inside_read func.Length = operands_read func.Length
-  inside_read func.Coalesce = operands_read func.Coalesce
+  inside_read some func.Count = uneaten begins_expression k.Star (star_or_operands func.Count) (operands_open func.Count) refl (operands_read some func.Count)
+  inside_read some func.Sum = operands_read some func.Sum
+  inside_read some func.Min = operands_read some func.Min
+  inside_read some func.Max = operands_read some func.Max
+  inside_read some func.Lower = operands_read some func.Lower
+  inside_read some func.Upper = operands_read some func.Upper
+  inside_read some func.Length = operands_read some func.Length
+  inside_read some func.Coalesce = operands_read some func.Coalesce
 
-  operands_called : (f : Func) → Complete inside always (r.call depth expr f) (sequence (form.nesting_token depth k.LParen) (λ _. operands f))
+  operands_called : (f : Func) → Complete (Inside near) always (r.call depth expr f) (sequence (form.nesting_token room k.LParen) (λ _. operands f))
   unfolding r.call
-  operands_called f = then_any (deeper_read depth expr k.LParen) (λ _. inside_read f)
+  operands_called f = nested near depth room fit expr k.LParen refl (λ some. inside_read some f)
 
-  all_called : Complete inside always (r.call depth expr func.Count) all_rows
+  all_called : Complete (Inside near) always (r.call depth expr func.Count) all_rows
   unfolding r.call r.takes_all
-  all_called = then_any (deeper_read depth expr k.LParen) (λ _. eaten_then k.Star (star_or_operands func.Count) (close e.CountAll))
+  all_called = nested near depth room fit expr k.LParen refl (λ some. eaten_then k.Star (star_or_operands func.Count) (close e.CountAll))
 
-  called_read : (f : Func) (bytes : List ℕ) (g : Form Syn) → Opens g always (only k.LParen) → Complete inside always (r.call depth expr f) g
-      → Complete inside always (r.called depth expr f bytes) g
+  called_read : (f : Func) (bytes : List ℕ) (g : Form Syn) → Opens g always (only k.LParen) → Complete (Inside near) always (r.call depth expr f) g
+      → Complete (Inside near) always (r.called depth expr f bytes) g
   unfolding r.called
   called_read f bytes g og cp = seen k.LParen (r.call depth expr f) (r.path bytes) og cp
 
@@ -224,47 +274,47 @@ module _ (depth : ℕ) (inner : form.Place → Form Syn) (expr : Level → Reade
 
   -- ---- names
 
-  dotted_read : (first : List ℕ) → Complete inside always (r.path first) (sequence (word k.Dot) (λ _. sequence basic.name (λ second. says (e.Path first second))))
+  dotted_read : (first : List ℕ) → Complete (Inside near) always (r.path first) (sequence (word k.Dot) (λ _. sequence basic.name (λ second. says (e.Path first second))))
   dotted_read first = then_any (expected k.Dot) (λ _. then_any named (λ second. made (e.Path first second)))
 
   path_by : (first : List ℕ) (f : Option Func)
-      → Complete inside always (r.named_by depth expr first f) (sequence (word k.Dot) (λ _. sequence basic.name (λ second. says (e.Path first second))))
+      → Complete (Inside near) always (r.named_by depth expr first f) (sequence (word k.Dot) (λ _. sequence basic.name (λ second. says (e.Path first second))))
   unfolding r.called same_kind
   path_by first None = dotted_read first
   path_by first (Some f) = unseen (only k.Dot) k.LParen (r.call depth expr f) (r.path first) (first_opens (word_opens k.Dot refl)) refl (dotted_read first)
 
-  path_read : Complete inside always (r.named depth expr) (form.path depth inner)
+  path_read : Complete (Inside near) always (r.named depth expr) (form.path room inner)
   unfolding r.named
   path_read = any_kind named_at (λ kd. then_any named (λ first. path_by first (r.function kd)))
 
-  count_all_read : Complete inside always (r.named depth expr) (form.count_all depth inner)
+  count_all_read : Complete (Inside near) always (r.named depth expr) (form.count_all room inner)
   unfolding r.named same_kind
   count_all_read =
       on_first named_at k.Count (then_begun k.Count (form.free_word k.Count) (λ _. all_rows) (λ ts m u said. word_begun k.Count ts m u said.0))
       (onto (first_onto (form.free_word k.Count) basic.name all_rows (λ ts m u said. said.1))
-      (then_any named (λ first. called_read func.Count first all_rows (first_opens (nesting_opens depth k.LParen refl)) all_called)))
+      (then_any named (λ first. called_read func.Count first all_rows (first_opens (nesting_opens room k.LParen refl)) all_called)))
 
-  call_by : (f : Func) → Complete inside always (n.name >>= (λ first. r.called depth expr f first)) (sequence basic.name (λ _. sequence (form.nesting_token depth k.LParen) (λ _. operands f)))
+  call_by : (f : Func) → Complete (Inside near) always (n.name >>= (λ first. r.called depth expr f first)) (sequence basic.name (λ _. sequence (form.nesting_token room k.LParen) (λ _. operands f)))
   unfolding same_kind
   call_by f =
-      then_any named (λ first. called_read f first (sequence (form.nesting_token depth k.LParen) (λ _. operands f)) (first_opens (nesting_opens depth k.LParen refl)) (operands_called f))
+      then_any named (λ first. called_read f first (sequence (form.nesting_token room k.LParen) (λ _. operands f)) (first_opens (nesting_opens room k.LParen refl)) (operands_called f))
 
-  call_run : (prefix rest : List Token) (count o : ℕ) (a : Syn) → form.call depth inner prefix count a → Enough inside count o
-      → Read inside (peek >>= named_at) (prefix ++ rest) rest count o a
+  call_run : (prefix rest : List Token) (count o : ℕ) (a : Syn) → form.call room inner prefix count a → Enough (Inside near) count o
+      → Read (Inside near) (peek >>= named_at) (prefix ++ rest) rest count o a
   call_run prefix rest count o a said enough =
       let f = said.0 in
       let w = said.1 in
       let c = function_called w.prefix w.prefix_count f w.first in
       let tokens : prefix ≡ c.first ∷ w.rest = w.joined ∙ ap (λ ts. ts ++ w.rest) c.joined in
-      let found : sequence basic.name (λ _. sequence (form.nesting_token depth k.LParen) (λ _. operands f)) prefix count a =
+      let found : sequence basic.name (λ _. sequence (form.nesting_token room k.LParen) (λ _. operands f)) prefix count a =
       (c.bytes, record { prefix = w.prefix; rest = w.rest; prefix_count = w.prefix_count; rest_count = w.rest_count; joined = w.joined; counted = w.counted; first = c.named; second = w.second }) in
-      let known : Read inside (n.name >>= (λ first. r.called depth expr f first)) (prefix ++ rest) rest count o a = (call_by f).run prefix rest count o a found enough refl in
-      let read : Read inside (named_at c.first.kind) (prefix ++ rest) rest count o a =
-      subst (λ x. Read inside (n.name >>= (λ first. r.named_by depth expr first x)) (prefix ++ rest) rest count o a) (sym c.is) known in
-      subst (λ ts. Read inside (peek >>= named_at) (ts ++ rest) rest count o a) (sym tokens)
-      (by_kind_read inside named_at c.first.kind c.first (w.rest ++ rest) rest count o a refl (subst (λ ts. Read inside (named_at c.first.kind) (ts ++ rest) rest count o a) tokens read))
+      let known : Read (Inside near) (n.name >>= (λ first. r.called depth expr f first)) (prefix ++ rest) rest count o a = (call_by f).run prefix rest count o a found enough refl in
+      let read : Read (Inside near) (named_at c.first.kind) (prefix ++ rest) rest count o a =
+      subst (λ x. Read (Inside near) (n.name >>= (λ first. r.named_by depth expr first x)) (prefix ++ rest) rest count o a) (sym c.is) known in
+      subst (λ ts. Read (Inside near) (peek >>= named_at) (ts ++ rest) rest count o a) (sym tokens)
+      (by_kind_read (Inside near) named_at c.first.kind c.first (w.rest ++ rest) rest count o a refl (subst (λ ts. Read (Inside near) (named_at c.first.kind) (ts ++ rest) rest count o a) tokens read))
 
-  call_read : Complete inside always (r.named depth expr) (form.call depth inner)
+  call_read : Complete (Inside near) always (r.named depth expr) (form.call room inner)
   unfolding r.named
   call_read = record { run = λ prefix rest count o a said enough stop. call_run prefix rest count o a said enough }
 
@@ -291,10 +341,10 @@ module _ (depth : ℕ) (inner : form.Place → Form Syn) (expr : Level → Reade
   name_kinds k.False e = absurd (false_true e)
   name_kinds _ e = refl
 
-  existence_read : Complete inside always (take_token >> r.exists depth expr) (form.existence depth inner)
+  existence_read : Complete (Inside near) always (take_token >> r.exists depth expr) (form.existence room inner)
   existence_read = then_any (taken k.Exists) (λ _. such_read)
 
-  atom_read : Complete inside always (r.atom depth expr) (form.atom depth inner)
+  atom_read : Complete (Inside near) always (r.atom depth expr) (form.atom room inner)
   unfolding r.atom
   atom_read =
       either (on_opening begins_literal (r.atom_by depth expr) (first_opens literal_opens) literal_kinds (then_any literal_read (λ x. made (e.Lit x))))
@@ -302,7 +352,7 @@ module _ (depth : ℕ) (inner : form.Place → Form Syn) (expr : Level → Reade
       (either (on_opening is_name (r.atom_by depth expr) (first_opens (free_opens k.Count)) name_kinds count_all_read)
       (either (on_opening is_name (r.atom_by depth expr) (first_opens function_opens) name_kinds call_read)
       (either (on_word (r.atom_by depth expr) k.Exists existence_read)
-      (on_first (r.atom_by depth expr) k.LParen (then_begun k.LParen (form.nesting_token depth k.LParen) _ (nesting_begun depth k.LParen)) parenthesized_read)))))
+      (on_first (r.atom_by depth expr) k.LParen (then_begun k.LParen (form.nesting_token room k.LParen) _ (nesting_begun room k.LParen)) parenthesized_read)))))
 
   -- ---- UN, PROD, SUM
 
@@ -311,21 +361,21 @@ module _ (depth : ℕ) (inner : form.Place → Form Syn) (expr : Level → Reade
   atom_kinds k.Minus e = absurd (false_true e)
   atom_kinds _ e = refl
 
-  pub unary_read : Complete inside always (r.unary depth expr) (form.unary depth inner)
+  pub unary_read : Complete (Inside near) always (r.unary depth expr) (form.unary room inner)
   unfolding r.unary
   unary_read =
-      either (on_first (r.unary_by depth expr) k.Minus (then_begun k.Minus (form.nesting_token depth k.Minus) _ (nesting_begun depth k.Minus))
-      (then_any (deeper_read depth expr k.Minus) (λ _. then_any unaries (λ x. made (e.Neg x)))))
-      (on_opening begins_atom (r.unary_by depth expr) (atom_opens depth inner) atom_kinds atom_read)
+      either (on_first (r.unary_by depth expr) k.Minus (then_begun k.Minus (form.nesting_token room k.Minus) _ (nesting_begun room k.Minus))
+      (nested near depth room fit expr k.Minus refl (λ some. then_any (unaries some) (λ x. made (e.Neg x)))))
+      (on_opening begins_atom (r.unary_by depth expr) (atom_opens room inner) atom_kinds atom_read)
 
-  product_read : Complete inside ends_product (r.product depth expr) (form.product depth inner)
+  product_read : Complete (Inside near) ends_product (r.product depth expr) (form.product room inner)
   unfolding r.product r.factors
   product_read =
-      chain_read r.product_joint form.product_joint reader_joint (r.unary depth expr) (form.unary depth inner) always ends_product unary_read product_sign (λ kd j is. refl)
+      chain_read near r.product_joint form.product_joint reader_joint (r.unary depth expr) (form.unary room inner) always ends_product unary_read product_sign (λ kd j is. refl)
       (λ y e. refl) ends_product_joint joined_alike
 
-  pub sum_read : Complete inside ends_sum (r.sum depth expr) (form.sum depth inner)
+  pub sum_read : Complete (Inside near) ends_sum (r.sum depth expr) (form.sum room inner)
   unfolding r.sum r.summands
   sum_read =
-      chain_read r.sum_joint form.sum_joint reader_joint (r.product depth expr) (form.product depth inner) ends_product ends_sum product_read sum_sign sum_joint_ends_product
+      chain_read near r.sum_joint form.sum_joint reader_joint (r.product depth expr) (form.product room inner) ends_product ends_sum product_read sum_sign sum_joint_ends_product
       sum_ends_product ends_sum_joint joined_alike

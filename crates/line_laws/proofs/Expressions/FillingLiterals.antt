@@ -17,7 +17,7 @@ use Rattle.script_forms.specs.Expressions.{source}
 use Rattle.line_laws.proofs.Forms.Taking.{Mode}
 use Rattle.line_laws.proofs.Forms.Steps.{budget_none}
 use Rattle.line_laws.proofs.Forms.Options.{none_same}
-use Rattle.line_laws.proofs.Forms.Filling.{Read, Complete, Opens, always, both, then_any, made, either, introduced, less, made_opens}
+use Rattle.line_laws.proofs.Forms.Filling.{given, Read, Complete, Opens, always, both, then_any, made, either, introduced, less, made_opens}
 use Rattle.line_laws.proofs.Forms.FillingBasics.{named, Solid}
 use Rattle.line_laws.proofs.Expressions.FillingSteps.{unlike, solid_of}
 use Rattle.line_laws.proofs.Expressions.FillingKinds.{is_name}
@@ -38,7 +38,7 @@ literal_by : (mode : Mode) (t : Token) (ts rest : List Token) (o : ℕ) (a : Val
 unfolding l.literal l.next_literal head
 literal_by mode t ts rest o a is past =
     let i : Input = record { ahead = t ∷ ts; operators = o } in
-    record { left = o; budget = budget_none mode o; is = ap (λ found. l.literal_by found i) is ∙ ap (λ j. Ok (a, j)) past }
+    record { left = o; budget = budget_none mode o; is = given (ap (λ found. l.literal_by found i) is ∙ ap (λ j. Ok (a, j)) past) }
 
 unsigned : (t : Token) (b : Bool) → t.kind ≢ k.Signed → same_kind t.kind k.Signed ≡ b → b ≡ false
 unsigned t false other is = refl

@@ -8,14 +8,10 @@ use Rattle.script_tokens.proofs.Alike.{same, alike}
 use Rattle.script_tokens.specs.Input.{Input, Reader, ◌>>=◌, pure, eat, peek, take_token, head, next, sees, after, first_of, separated_from}
 use Rattle.script_forms.specs.Form.{Form, Both, sequence, says, word, whether, separated_list, ◌or◌}
 use Rattle.script_forms.specs.Expressions.{several}
-use Rattle.line_laws.proofs.Forms.Taking.{Mode, Inside, Enough}
+use Rattle.line_laws.proofs.Forms.Taking.{Mode, Enough}
 use Rattle.line_laws.proofs.Forms.Sequences.{then_to, regrouped}
-use Rattle.line_laws.proofs.Forms.Filling.{Read, Complete, Opens, always, both, less, made, made_opens, if_word, first_opens, word_opens, either_opens}
+use Rattle.line_laws.proofs.Forms.Filling.{given_as, given_behind, Read, Complete, Opens, always, both, less, made, made_opens, if_word, first_opens, word_opens, either_opens}
 use Rattle.line_laws.proofs.Forms.FillingBasics.{Solid, items_fit, all_read}
-
--- inside an expression; how many may nest there matters to refusals alone
-abbrev pub inside : Mode
-inside = Inside 0
 
 false_true : false ≡ true → ⊥
 false_true e = cc
@@ -134,7 +130,7 @@ unfolding sees head
 seen_run mode next kd p q g og cp prefix rest count o a said enough stop =
     let i : Input = record { ahead = prefix ++ rest; operators = o } in
     let r = cp.run prefix rest count o a said enough stop in
-    record { left = r.left; budget = r.budget; is = ap (λ b. if b then p i else q i) (og.run prefix rest count a said stop) ∙ r.is }
+    record { left = r.left; budget = r.budget; is = given_as (ap (λ b. if b then p i else q i) (og.run prefix rest count a said stop)) r.is }
 
 pub seen : {A : Type 0} {mode : Mode} {next : Kind → Bool} (kd : Kind) (p q : Reader A) {g : Form A} → Opens g next (only kd) → Complete mode next p g
     → Complete mode next (λ i. if sees kd i then p i else q i) g
@@ -148,7 +144,7 @@ unseen_run mode next these kd p q g og out cp prefix rest count o a said enough 
     let i : Input = record { ahead = prefix ++ rest; operators = o } in
     let r = cp.run prefix rest count o a said enough stop in
     let other = unlike these kd out (first_of (prefix ++ rest)).kind (og.run prefix rest count a said stop) in
-    record { left = r.left; budget = r.budget; is = ap (λ b. if b then p i else q i) other ∙ r.is }
+    record { left = r.left; budget = r.budget; is = given_as (ap (λ b. if b then p i else q i) other) r.is }
 
 pub unseen : {A : Type 0} {mode : Mode} {next : Kind → Bool} (these : Kind → Bool) (kd : Kind) (p q : Reader A) {g : Form A} → Opens g next these → these kd ≡ false
     → Complete mode next q g → Complete mode next (λ i. if sees kd i then p i else q i) g
@@ -164,7 +160,7 @@ uneaten_run mode next these kd f g og out cp prefix rest count o a said enough s
     let i : Input = record { ahead = prefix ++ rest; operators = o } in
     let r = cp.run prefix rest count o a said enough stop in
     let other = unlike these kd out (first_of (prefix ++ rest)).kind (og.run prefix rest count a said stop) in
-    record { left = r.left; budget = r.budget; is = ap (λ b. f b (if b then record { ahead = drop 1 (prefix ++ rest); operators = o } else i)) other ∙ r.is }
+    record { left = r.left; budget = r.budget; is = given_as (ap (λ b. f b (if b then record { ahead = drop 1 (prefix ++ rest); operators = o } else i)) other) r.is }
 
 pub uneaten : {A : Type 0} {mode : Mode} {next : Kind → Bool} (these : Kind → Bool) (kd : Kind) (f : Bool → Reader A) {g : Form A} → Opens g next these → these kd ≡ false
     → Complete mode next (f false) g → Complete mode next (eat kd >>= f) g
@@ -186,7 +182,7 @@ eaten_then_run mode next kd f g cp prefix rest count o a said enough stop =
     subst (λ ts. Read mode (eat kd >>= f) (ts ++ rest) rest count o a) (sym tokens) (record {
       left = r.left;
       budget = r.budget;
-      is = ap (λ b. f b (if b then record { ahead = w.rest ++ rest; operators = o } else record { ahead = t ∷ (w.rest ++ rest); operators = o })) (alike w.first.2) ∙ r.is;
+      is = given_as (ap (λ b. f b (if b then record { ahead = w.rest ++ rest; operators = o } else record { ahead = t ∷ (w.rest ++ rest); operators = o })) (alike w.first.2)) (given_behind r.is);
     })
 
 pub eaten_then : {A : Type 0} {mode : Mode} {next : Kind → Bool} (kd : Kind) (f : Bool → Reader A) {g : Form A} → Complete mode next (f true) g
@@ -269,7 +265,7 @@ sign_run mode next g tells h by q sg is cp prefix rest count o b said enough sto
     ((cp said.0).run w.rest rest w.rest_count o b w.second (subst (λ n. Enough mode n o) (sym counts) enough) stop) in
     let i : Input = record { ahead = t ∷ (w.rest ++ rest); operators = o } in
     subst (λ ts. Read mode (peek >>= by) (ts ++ rest) rest count o b) (sym tokens)
-    (record { left = r.left; budget = r.budget; is = ap (λ p. p i) (is t.kind said.0 one.is) ∙ r.is })
+    (record { left = r.left; budget = r.budget; is = given_as (ap (λ p. p i) (is t.kind said.0 one.is)) (given_behind r.is) })
 
 pub on_sign : {A B : Type 0} {mode : Mode} {next : Kind → Bool} {g : Form A} {tells : Kind → A → Type 0} {h : A → Form B} (by : Kind → Reader B) (q : A → Reader B) → Sign g tells 0
     → ((kd : Kind) (a : A) → tells kd a → by kd ≡ (take_token >>= (λ _. q a))) → ((a : A) → Complete mode next (q a) (h a)) → Complete mode next (peek >>= by) (sequence g h)

@@ -1,20 +1,110 @@
 -- What a form says is read: steps of readers.
-use Rattle.std.proofs.Common.{◌≡◌, ℕ, ◌+◌, Bool, true, false, if◌then◌else◌, List, [], ◌∷◌, ◌++◌, drop, Option, Some, None, Ok, Err, refl, ap, sym, subst, ◌∙◌, append_assoc, inl, inr, arith}
+use Rattle.std.proofs.Common.{◌≡◌, ◌⊎◌, ℕ, zero, suc, ◌+◌, Bool, true, false, if◌then◌else◌, List, [], ◌∷◌, ◌++◌, drop, Option, Some, None, Ok, Err, refl, ap, sym, subst, ◌∙◌, append_assoc, inl, inr, arith}
 use Rattle.script_lex.specs.declared.kind.Kind.{Kind}
 use Rattle.script_lex.specs.declared.token.Token.{Token}
 use Rattle.script_lex.specs.Lex.{same_kind}
 use Rattle.script_tokens.proofs.Alike.{alike}
 use Rattle.script_tokens.specs.declared.fault.Fault.TheVariants.{At}
-use Rattle.script_tokens.specs.Input.{Reader, ◌>>=◌, ◌>>◌, and_then, pure, peek, take_token, eat, expect, clause, head, kind, next, sees, after, first_of}
+use Rattle.script_tokens.specs.Input.{Input, Outcome, Reader, ◌>>=◌, ◌>>◌, and_then, pure, peek, take_token, eat, expect, clause, head, kind, next, sees, after, first_of}
 use Rattle.script_forms.specs.Form.{Form, sequence, says, word, maybe, whether, ◌or◌}
+use Rattle.line_laws.specs.Nesting.{opens}
 use Rattle.line_laws.proofs.Forms.Taking.{Mode, Plain, Around, Inside, Budget, Enough}
 use Rattle.line_laws.proofs.Forms.Steps.{budget_none, budget_more}
+
+-- a reader is refused at one of these tokens, behind which an expression would nest
+pub record Escapes {A : Type 0} (tokens : List Token) (out : Outcome A) : Type 0 where
+  pub before : List Token
+  pub token : Token
+  pub after : List Token
+  pub joined : tokens ≡ before ++ token ∷ after
+  pub nests : opens token.kind ≡ 1
+  pub is : out ≡ Err (At token.at)
+
+-- what is given where expressions stand: this alone, or where they may nest deeper than is read, also a refusal at a token behind which one would nest
+abbrev pub Gives : {A : Type 0} → Mode → List Token → Outcome A → Outcome A → Type 0
+Gives Plain tokens out wanted = out ≡ wanted
+Gives Around tokens out wanted = (out ≡ wanted) ⊎ Escapes tokens out
+Gives (Inside zero) tokens out wanted = out ≡ wanted
+Gives (Inside (suc deeper)) tokens out wanted = (out ≡ wanted) ⊎ Escapes tokens out
+
+pub record Given {A : Type 0} (mode : Mode) (tokens : List Token) (out wanted : Outcome A) : Type 0 where
+  pub gives : Gives mode tokens out wanted
+
+given_by : {A : Type 0} (mode : Mode) (tokens : List Token) (out wanted : Outcome A) → out ≡ wanted → Gives mode tokens out wanted
+given_by Plain tokens out wanted e = e
+given_by Around tokens out wanted e = inl e
+given_by (Inside zero) tokens out wanted e = e
+given_by (Inside (suc deeper)) tokens out wanted e = inl e
+
+pub given : {A : Type 0} {mode : Mode} {tokens : List Token} {out wanted : Outcome A} → out ≡ wanted → Given mode tokens out wanted
+given {mode = mode} {tokens = tokens} {out = out} {wanted = wanted} e = record { gives = given_by mode tokens out wanted e }
+
+near_as : {A : Type 0} (tokens : List Token) (out mid wanted : Outcome A) → out ≡ mid → (mid ≡ wanted) ⊎ Escapes tokens mid → (out ≡ wanted) ⊎ Escapes tokens out
+near_as tokens out mid wanted e (inl same) = inl (e ∙ same)
+near_as tokens out mid wanted e (inr s) =
+    inr (record { before = s.before; token = s.token; after = s.after; joined = s.joined; nests = s.nests; is = e ∙ s.is })
+
+as_by : {A : Type 0} (mode : Mode) (tokens : List Token) (out mid wanted : Outcome A) → out ≡ mid → Gives mode tokens mid wanted → Gives mode tokens out wanted
+as_by Plain tokens out mid wanted e g = e ∙ g
+as_by Around tokens out mid wanted e g = near_as tokens out mid wanted e g
+as_by (Inside zero) tokens out mid wanted e g = e ∙ g
+as_by (Inside (suc deeper)) tokens out mid wanted e g = near_as tokens out mid wanted e g
+
+-- where the same outcome is
+pub given_as : {A : Type 0} {mode : Mode} {tokens : List Token} {out mid wanted : Outcome A} → out ≡ mid → Given mode tokens mid wanted → Given mode tokens out wanted
+given_as {mode = mode} {tokens = tokens} {out = out} {mid = mid} {wanted = wanted} e g = record { gives = as_by mode tokens out mid wanted e g.gives }
+
+near_behind : {A : Type 0} (fs ts : List Token) (out wanted : Outcome A) → (out ≡ wanted) ⊎ Escapes ts out → (out ≡ wanted) ⊎ Escapes (fs ++ ts) out
+near_behind fs ts out wanted (inl same) = inl same
+near_behind fs ts out wanted (inr s) = inr (record {
+  before = fs ++ s.before;
+  token = s.token;
+  after = s.after;
+  joined = ap (λ us. fs ++ us) s.joined ∙ sym (append_assoc fs s.before (s.token ∷ s.after));
+  nests = s.nests;
+  is = s.is;
+})
+
+behind_by : {A : Type 0} (mode : Mode) (fs ts : List Token) (out wanted : Outcome A) → Gives mode ts out wanted → Gives mode (fs ++ ts) out wanted
+behind_by Plain fs ts out wanted g = g
+behind_by Around fs ts out wanted g = near_behind fs ts out wanted g
+behind_by (Inside zero) fs ts out wanted g = g
+behind_by (Inside (suc deeper)) fs ts out wanted g = near_behind fs ts out wanted g
+
+-- with a token before
+pub given_behind : {A : Type 0} {mode : Mode} {t : Token} {ts : List Token} {out wanted : Outcome A} → Given mode ts out wanted → Given mode (t ∷ ts) out wanted
+given_behind {mode = mode} {t = t} {ts = ts} {out = out} {wanted = wanted} g = record { gives = behind_by mode (t ∷ []) ts out wanted g.gives }
+
+near_then : {A B : Type 0} (tokens : List Token) (out : Outcome A) (f : A → Reader B) (a : A) (j : Input) (wanted : Outcome B) → (out ≡ Ok (a, j)) ⊎ Escapes tokens out
+    → (f a j ≡ wanted) ⊎ Escapes tokens (f a j) → (and_then out f ≡ wanted) ⊎ Escapes tokens (and_then out f)
+near_then tokens out f a j wanted (inl same) two = near_as tokens (and_then out f) (f a j) wanted (ap (λ o. and_then o f) same) two
+near_then tokens out f a j wanted (inr s) two =
+    inr (record { before = s.before; token = s.token; after = s.after; joined = s.joined; nests = s.nests; is = ap (λ o. and_then o f) s.is })
+
+then_by : {A B : Type 0} (mode : Mode) (tokens : List Token) (out : Outcome A) (f : A → Reader B) (a : A) (j : Input) (wanted : Outcome B) → Gives mode tokens out (Ok (a, j))
+    → Gives mode tokens (f a j) wanted → Gives mode tokens (and_then out f) wanted
+then_by Plain tokens out f a j wanted one two = ap (λ o. and_then o f) one ∙ two
+then_by Around tokens out f a j wanted one two = near_then tokens out f a j wanted one two
+then_by (Inside zero) tokens out f a j wanted one two = ap (λ o. and_then o f) one ∙ two
+then_by (Inside (suc deeper)) tokens out f a j wanted one two = near_then tokens out f a j wanted one two
+
+-- one reader behind another
+pub given_then : {A B : Type 0} {mode : Mode} (fs ys : List Token) {out : Outcome A} (f : A → Reader B) {a : A} {j : Input} {wanted : Outcome B}
+    → Given mode (fs ++ ys) out (Ok (a, j)) → Given mode ys (f a j) wanted → Given mode (fs ++ ys) (and_then out f) wanted
+given_then {mode = mode} fs ys {out = out} f {a = a} {j = j} {wanted = wanted} one two =
+    record { gives = then_by mode (fs ++ ys) out f a j wanted one.gives (behind_by mode fs ys (f a j) wanted two.gives) }
+
+-- what is made of a value
+pub given_map : {A B : Type 0} {mode : Mode} {tokens : List Token} {out : Outcome A} (f : A → Reader B) {a : A} {j : Input} {wanted : Outcome B} → f a j ≡ wanted
+    → Given mode tokens out (Ok (a, j)) → Given mode tokens (and_then out f) wanted
+given_map {mode = mode} {tokens = tokens} {out = out} f {a = a} {j = j} {wanted = wanted} e one =
+    record { gives = then_by mode tokens out f a j wanted one.gives (given_by mode tokens (f a j) wanted e) }
 
 -- a reader reads these tokens before the rest, and gives this
 pub record Read {A : Type 0} (mode : Mode) (p : Reader A) (tokens rest : List Token) (count operators : ℕ) (a : A) : Type 0 where
   pub left : ℕ
   pub budget : Budget mode count operators left
-  pub is : p (record { ahead = tokens; operators = operators }) ≡ Ok (a, record { ahead = rest; operators = left })
+  pub is : Given mode tokens (p (record { ahead = tokens; operators = operators })) (Ok (a, record { ahead = rest; operators = left }))
 
 -- Whatever the form says is read, where the next token is of a kind before which the reader stops.
 pub record Complete {A : Type 0} (mode : Mode) (stops : Kind → Bool) (p : Reader A) (form : Form A) : Type 0 where
@@ -38,12 +128,12 @@ enough_then Plain m n o p h b = omega arith
 enough_then Around m n o p h b = omega arith
 enough_then (Inside d) m n o p h b = omega arith
 
-both_read : {A B : Type 0} (mode : Mode) (p : Reader A) (f : A → Reader B) (xs ys rest : List Token) (m n o : ℕ) (a : A) (b : B) → (one : Read mode p xs ys m o a)
-    → Read mode (f a) ys rest n one.left b → Read mode (p >>= f) xs rest (m + n) o b
-both_read mode p f xs ys rest m n o a b one two = record {
+both_read : {A B : Type 0} (mode : Mode) (p : Reader A) (f : A → Reader B) (fs ys rest : List Token) (m n o : ℕ) (a : A) (b : B) → (one : Read mode p (fs ++ ys) ys m o a)
+    → Read mode (f a) ys rest n one.left b → Read mode (p >>= f) (fs ++ ys) rest (m + n) o b
+both_read mode p f fs ys rest m n o a b one two = record {
   left = two.left;
   budget = budget_more mode m n o one.left two.left one.budget two.budget;
-  is = ap (λ out. and_then out f) one.is ∙ two.is;
+  is = given_then fs ys f one.is two.is;
 }
 
 both_by : {A B : Type 0} (mode : Mode) (s t : Kind → Bool) (p : Reader A) (g : Form A) (f : A → Reader B) (h : A → Form B) → Complete mode s p g
@@ -51,7 +141,7 @@ both_by : {A B : Type 0} (mode : Mode) (s t : Kind → Bool) (p : Reader A) (g :
     → g fs m a → h a rs n b → Enough mode (m + n) o → t (first_of rest).kind ≡ true → Read mode (p >>= f) (fs ++ (rs ++ rest)) rest (m + n) o b
 both_by mode s t p g f h cp cf opens rest o a b fs rs m n one two enough stop =
     let first : Read mode p (fs ++ (rs ++ rest)) (rs ++ rest) m o a = cp.run fs (rs ++ rest) m o a one (enough_first mode m n o enough) ((opens a).run rs rest n b two stop) in
-    both_read mode p f (fs ++ (rs ++ rest)) (rs ++ rest) rest m n o a b first ((cf a).run rs rest n first.left b two (enough_then mode m n o first.left enough first.budget) stop)
+    both_read mode p f fs (rs ++ rest) rest m n o a b first ((cf a).run rs rest n first.left b two (enough_then mode m n o first.left enough first.budget) stop)
 
 both_run : {A B : Type 0} (mode : Mode) (s t : Kind → Bool) (p : Reader A) (g : Form A) (f : A → Reader B) (h : A → Form B) → Complete mode s p g
     → ((a : A) → Complete mode t (f a) (h a)) → ((a : A) → Opens (h a) t s) → (prefix rest : List Token) (count o : ℕ) (b : B) → sequence g h prefix count b
@@ -78,7 +168,7 @@ less {t = t} cp within = record { run = λ prefix rest count o a said enough sto
 made_by : {A : Type 0} (mode : Mode) (a b : A) (prefix rest : List Token) (count o : ℕ) → says a prefix count b → Enough mode count o → Read mode (pure a) (prefix ++ rest) rest count o b
 made_by mode a b prefix rest count o said enough =
     subst (λ ts. Read mode (pure a) (ts ++ rest) rest count o b) (sym said.0) (subst (λ n. Read mode (pure a) rest rest n o b) (sym said.1)
-    (subst (λ c. Read mode (pure a) rest rest 0 o c) (sym said.2) (record { left = o; budget = budget_none mode o; is = refl })))
+    (subst (λ c. Read mode (pure a) rest rest 0 o c) (sym said.2) (record { left = o; budget = budget_none mode o; is = given refl })))
 
 pub made : {A : Type 0} {mode : Mode} (a : A) → Complete mode always (pure a) (says a)
 made {mode = mode} a = record { run = λ prefix rest count o b said enough stop. made_by mode a b prefix rest count o said enough }
@@ -90,7 +180,7 @@ unfolding expect sees head next
 expected_by mode kd t rest o u is = record {
   left = o;
   budget = budget_none mode o;
-  is = ap (λ b. if b then Ok (tt, record { ahead = rest; operators = o }) else Err (At t.at)) (alike is);
+  is = given (ap (λ b. if b then Ok (tt, record { ahead = rest; operators = o }) else Err (At t.at)) (alike is));
 }
 
 word_run : {A : Type 0} (mode : Mode) (p : Reader A) (kd : Kind) (a : A) → ((t : Token) (rest : List Token) (o : ℕ) → t.kind ≡ kd → Read mode p (t ∷ rest) rest 0 o a)
@@ -105,7 +195,7 @@ expected {mode = mode} kd =
 pub taken : {mode : Mode} (kd : Kind) → Complete mode always take_token (word kd)
 unfolding next
 taken {mode = mode} kd = record {
-  run = λ prefix rest count o u said enough stop. word_run mode take_token kd u (λ t ts p is. record { left = p; budget = budget_none mode p; is = refl }) prefix rest count o u said;
+  run = λ prefix rest count o u said enough stop. word_run mode take_token kd u (λ t ts p is. record { left = p; budget = budget_none mode p; is = given refl }) prefix rest count o u said;
 }
 
 -- ---- the kind of the next token decides
@@ -181,7 +271,7 @@ unfolding sees after head next
 absent_by mode kd p x rest o is = record {
   left = o;
   budget = budget_none mode o;
-  is = ap (λ b. (if b then p else pure x) (if b then record { ahead = drop 1 rest; operators = o } else record { ahead = rest; operators = o })) is;
+  is = given (ap (λ b. (if b then p else pure x) (if b then record { ahead = drop 1 rest; operators = o } else record { ahead = rest; operators = o })) is);
 }
 
 pub present_by : {A : Type 0} (mode : Mode) (kd : Kind) (p : Reader A) (x : A) (t : Token) (ts rest : List Token) (n o : ℕ) (a : A) → t.kind ≡ kd → Read mode p ts rest n o a
@@ -190,7 +280,7 @@ unfolding sees after head next
 present_by mode kd p x t ts rest n o a is read = record {
   left = read.left;
   budget = read.budget;
-  is = ap (λ b. (if b then p else pure x) (if b then record { ahead = ts; operators = o } else record { ahead = t ∷ ts; operators = o })) (alike is) ∙ read.is;
+  is = given_as (ap (λ b. (if b then p else pure x) (if b then record { ahead = ts; operators = o } else record { ahead = t ∷ ts; operators = o })) (alike is)) (given_behind read.is);
 }
 
 -- a word and what it introduces
@@ -218,7 +308,7 @@ pub mapped_run : {A B : Type 0} (mode : Mode) (next : Kind → Bool) (p : Reader
     → Read mode (p >>= (λ x. pure (f x))) (prefix ++ rest) rest count o (f a)
 mapped_run mode next p g f cp prefix rest count o a said enough stop =
     let read = cp.run prefix rest count o a said enough stop in
-    record { left = read.left; budget = read.budget; is = ap (λ out. and_then out (λ x. pure (f x))) read.is }
+    record { left = read.left; budget = read.budget; is = given_map (λ x. pure (f x)) refl read.is }
 
 clause_run : {A : Type 0} (mode : Mode) (next : Kind → Bool) (kd : Kind) (p : Reader A) (g : Form A) → Complete mode next p g → ((x : Kind) → next x ≡ true → same_kind x kd ≡ false)
     → (prefix rest : List Token) (count o : ℕ) (a : Option A) → maybe (sequence (word kd) (λ _. g)) prefix count a → Enough mode count o → next (first_of rest).kind ≡ true
@@ -262,14 +352,14 @@ eaten_run mode next kd other prefix rest count o false said enough stop =
     subst (λ ts. Read mode (eat kd) (ts ++ rest) rest count o false) (sym said.0) (subst (λ n. Read mode (eat kd) rest rest n o false) (sym said.1) (record {
       left = o;
       budget = budget_none mode o;
-      is = ap (λ b. Ok (b, if b then record { ahead = drop 1 rest; operators = o } else record { ahead = rest; operators = o })) (other (first_of rest).kind stop);
+      is = given (ap (λ b. Ok (b, if b then record { ahead = drop 1 rest; operators = o } else record { ahead = rest; operators = o })) (other (first_of rest).kind stop));
     }))
 eaten_run mode next kd other prefix rest count o true said enough stop =
     let t = said.0 in
     subst (λ ts. Read mode (eat kd) (ts ++ rest) rest count o true) (sym said.1) (subst (λ n. Read mode (eat kd) (t ∷ rest) rest n o true) (sym said.3) (record {
       left = o;
       budget = budget_none mode o;
-      is = ap (λ b. Ok (b, if b then record { ahead = rest; operators = o } else record { ahead = t ∷ rest; operators = o })) (alike said.2);
+      is = given (ap (λ b. Ok (b, if b then record { ahead = rest; operators = o } else record { ahead = t ∷ rest; operators = o })) (alike said.2));
     }))
 
 pub eaten : {mode : Mode} {next : Kind → Bool} (kd : Kind) → ((y : Kind) → next y ≡ true → same_kind y kd ≡ false) → Complete mode next (eat kd) (whether (word kd))

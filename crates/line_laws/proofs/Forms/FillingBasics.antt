@@ -6,14 +6,14 @@ use Rattle.script_lex.specs.declared.token.Content.TheVariants as content
 use Rattle.script_lex.specs.declared.token.Token.{Token}
 use Rattle.script_lex.specs.Lex.{same_kind}
 use Rattle.script_tokens.proofs.Alike.{alike}
-use Rattle.script_tokens.specs.Input.{Input, Reader, ◌>>=◌, and_then, pure, eat, head, next, sees, after, first_of, separated_from}
+use Rattle.script_tokens.specs.Input.{Input, Reader, ◌>>=◌, pure, eat, head, next, sees, after, first_of, separated_from}
 use Rattle.script_tokens.specs.Names as n
 use Rattle.script_tokens.specs.Names.{is_no_name, has_length, name_in}
 use Rattle.script_forms.specs.Form.{Form, sequence, word, separated_list}
 use Rattle.script_forms.specs.Basics as form
 use Rattle.line_laws.proofs.Forms.Taking.{Mode, Enough}
 use Rattle.line_laws.proofs.Forms.Steps.{budget_none, budget_more}
-use Rattle.line_laws.proofs.Forms.Filling.{Read, Complete, always, enough_first, enough_then, both, then_any, made, expected, first_opens, word_opens}
+use Rattle.line_laws.proofs.Forms.Filling.{given, given_as, given_behind, given_then, Read, Complete, always, enough_first, enough_then, both, then_any, made, expected, first_opens, word_opens}
 
 -- ---- names
 
@@ -25,7 +25,7 @@ named_by mode t rest o found is holds fits =
     record {
       left = o;
       budget = budget_none mode o;
-      is = ap (λ b. n.named_by (name_in (not b) t.content) i) is ∙ ap (λ held. n.named_by (name_in true held) i) holds ∙ ap (λ b. n.named_by (if b then Some found else None) i) fits;
+      is = given (ap (λ b. n.named_by (name_in (not b) t.content) i) is ∙ ap (λ held. n.named_by (name_in true held) i) holds ∙ ap (λ b. n.named_by (if b then Some found else None) i) fits);
     }
 
 name_run : (mode : Mode) (excluded : Kind → Bool) (prefix rest : List Token) (count o : ℕ) (found : List ℕ) → form.name_but excluded prefix count found
@@ -84,8 +84,8 @@ module _ {A : Type 0} (mode : Mode) (mark : Kind) (item : Reader A) (form : Form
   last_by n found a rest o is = record {
     left = o;
     budget = budget_none mode o;
-    is = ap (λ b. (if b then separated_from mark item n (found ++ a ∷ []) else pure (found ++ a ∷ []))
-        (if b then record { ahead = drop 1 rest; operators = o } else record { ahead = rest; operators = o })) is;
+    is = given (ap (λ b. (if b then separated_from mark item n (found ++ a ∷ []) else pure (found ++ a ∷ []))
+        (if b then record { ahead = drop 1 rest; operators = o } else record { ahead = rest; operators = o })) is);
   }
 
   more_by : (n : ℕ) (found : List A) (a : A) (t : Token) (ts rest : List Token) (count o : ℕ) (all : List A) → t.kind ≡ mark
@@ -95,18 +95,18 @@ module _ {A : Type 0} (mode : Mode) (mark : Kind) (item : Reader A) (form : Form
   more_by n found a t ts rest count o all is read = record {
     left = read.left;
     budget = read.budget;
-    is = ap (λ b. (if b then separated_from mark item n (found ++ a ∷ []) else pure (found ++ a ∷ []))
-        (if b then record { ahead = ts; operators = o } else record { ahead = t ∷ ts; operators = o })) (alike is) ∙ read.is;
+    is = given_as (ap (λ b. (if b then separated_from mark item n (found ++ a ∷ []) else pure (found ++ a ∷ []))
+        (if b then record { ahead = ts; operators = o } else record { ahead = t ∷ ts; operators = o })) (alike is)) (given_behind read.is);
   }
 
-  step : (n : ℕ) (found : List A) (a : A) (xs ys rest : List Token) (l m o : ℕ) (all : List A) → (one : Read mode item xs ys l o a)
+  step : (n : ℕ) (found : List A) (a : A) (fs ys rest : List Token) (l m o : ℕ) (all : List A) → (one : Read mode item (fs ++ ys) ys l o a)
       → Read mode (eat mark >>= (λ more. if more then separated_from mark item n (found ++ a ∷ []) else pure (found ++ a ∷ []))) ys rest m one.left all
-      → Read mode (separated_from mark item (suc n) found) xs rest (l + m) o all
+      → Read mode (separated_from mark item (suc n) found) (fs ++ ys) rest (l + m) o all
   unfolding separated_from
-  step n found a xs ys rest l m o all one two = record {
+  step n found a fs ys rest l m o all one two = record {
     left = two.left;
     budget = budget_more mode l m o one.left two.left one.budget two.budget;
-    is = ap (λ out. and_then out (λ x. eat mark >>= (λ more. if more then separated_from mark item n (found ++ x ∷ []) else pure (found ++ x ∷ [])))) one.is ∙ two.is;
+    is = given_then fs ys (λ x. eat mark >>= (λ more. if more then separated_from mark item n (found ++ x ∷ []) else pure (found ++ x ∷ []))) one.is two.is;
   }
 
   enough_last : (n l o : ℕ) (found : List A) (a : A) (prefix rest : List Token) → form prefix l a → Enough mode l o → t (first_of rest).kind ≡ true
@@ -115,7 +115,7 @@ module _ {A : Type 0} (mode : Mode) (mark : Kind) (item : Reader A) (form : Form
       let one = cp.run prefix rest l o a said enough (within (first_of rest).kind stop) in
       let counts : l + 0 ≡ l = omega arith in
       subst (λ m. Read mode (separated_from mark item (suc n) found) (prefix ++ rest) rest m o (found ++ a ∷ [])) counts
-      (step n found a (prefix ++ rest) rest rest l 0 o (found ++ a ∷ []) one (last_by n found a rest one.left (other (first_of rest).kind stop)))
+      (step n found a prefix rest rest l 0 o (found ++ a ∷ []) one (last_by n found a rest one.left (other (first_of rest).kind stop)))
 
   -- items behind those that were found
   pub all_read : (n : ℕ) (all found : List A) (prefix rest : List Token) (count o : ℕ) → length all ≤ n → separated_list mark form prefix count all → Enough mode count o
@@ -142,7 +142,7 @@ module _ {A : Type 0} (mode : Mode) (mark : Kind) (item : Reader A) (form : Form
       all_read n (b ∷ more) (found ++ a ∷ []) v.rest rest v.rest_count one.left less v.second more_enough stop in
       let two = more_by n found a u (v.rest ++ rest) rest v.rest_count one.left ((found ++ a ∷ []) ++ (b ∷ more)) v.first.2 rec in
       let whole : Read mode (separated_from mark item (suc n) found) (w.prefix ++ (u ∷ (v.rest ++ rest))) rest (w.prefix_count + v.rest_count) o ((found ++ a ∷ []) ++ (b ∷ more)) =
-      step n found a (w.prefix ++ (u ∷ (v.rest ++ rest))) (u ∷ (v.rest ++ rest)) rest w.prefix_count v.rest_count o ((found ++ a ∷ []) ++ (b ∷ more)) one two in
+      step n found a w.prefix (u ∷ (v.rest ++ rest)) rest w.prefix_count v.rest_count o ((found ++ a ∷ []) ++ (b ∷ more)) one two in
       let counts : w.prefix_count + v.rest_count ≡ count = omega (arith, w.counted) in
       subst (λ ts. Read mode (separated_from mark item (suc n) found) ts rest count o (found ++ a ∷ b ∷ more)) tokens
       (subst (λ m. Read mode (separated_from mark item (suc n) found) (w.prefix ++ (u ∷ (v.rest ++ rest))) rest m o (found ++ a ∷ b ∷ more)) counts

@@ -8,7 +8,7 @@ use Rattle.script_lex.specs.declared.token.Token.{Token}
 use Rattle.script_lex.specs.Lex.{same_kind}
 use Rattle.script_tokens.proofs.Alike.{alike}
 use Rattle.script_tokens.specs.declared.fault.Fault.TheVariants.{At}
-use Rattle.script_tokens.specs.Input.{Reader, ◌>>=◌, ◌>>◌, and_then, pure, eat, expect, take_token, head, next, sees, after, first_of}
+use Rattle.script_tokens.specs.Input.{Reader, ◌>>=◌, ◌>>◌, pure, eat, expect, take_token, head, next, sees, after, first_of}
 use Rattle.script_blocks.specs.Classes as r
 use Rattle.script_forms.specs.Form.{Form, sequence, says, word, maybe, whether, separated_list}
 use Rattle.script_forms.specs.Basics as basic
@@ -18,7 +18,7 @@ use Rattle.line_laws.proofs.Forms.Steps.{budget_none, budget_more, is_end}
 use Rattle.line_laws.proofs.Forms.Options.{mapped_of}
 use Rattle.line_laws.proofs.Forms.Sequences.{then_to, says_to, regrouped}
 use Rattle.line_laws.proofs.Forms.ClassLines.{save_update, merge, refresh_expire, expunge, delete, delete_orphan, all}
-use Rattle.line_laws.proofs.Forms.Filling.{Read, Complete, Opens, Begun, always, enough_first, enough_then, both, then_any, less, made, expected, taken, on_word, on_first, word_begun, then_begun, either, eaten, introduced, if_word, made_opens, word_opens, then_opens, first_opens, maybe_opens, whether_opens, either_opens}
+use Rattle.line_laws.proofs.Forms.Filling.{given, given_as, given_behind, given_then, Read, Complete, Opens, Begun, always, enough_first, enough_then, both, then_any, less, made, expected, taken, on_word, on_first, word_begun, then_begun, either, eaten, introduced, if_word, made_opens, word_opens, then_opens, first_opens, maybe_opens, whether_opens, either_opens}
 use Rattle.line_laws.proofs.Forms.FillingBasics.{Solid, named, names_read, items_fit, word_solid, first_solid}
 
 false_true : false ≡ true → ⊥
@@ -32,7 +32,7 @@ unfolding r.dash sees head next
 dash_by mode t rest o u is = record {
   left = o;
   budget = budget_none mode o;
-  is = ap (λ b. if b then Ok (tt, record { ahead = rest; operators = o }) else Err (At t.at)) is;
+  is = given (ap (λ b. if b then Ok (tt, record { ahead = rest; operators = o }) else Err (At t.at)) is);
 }
 
 or_true : (a : Bool) → (a || true) ≡ true
@@ -103,8 +103,8 @@ unfolding r.eat_dash sees head next
 deleting_by mode so_far rest o is = record {
   left = o;
   budget = budget_none mode o;
-  is = ap (λ b. (if b then (expect k.Orphan >> pure (adds so_far delete_orphan)) else pure (adds so_far delete))
-      (if b then record { ahead = drop 1 rest; operators = o } else record { ahead = rest; operators = o })) is;
+  is = given (ap (λ b. (if b then (expect k.Orphan >> pure (adds so_far delete_orphan)) else pure (adds so_far delete))
+      (if b then record { ahead = drop 1 rest; operators = o } else record { ahead = rest; operators = o })) is);
 }
 
 -- `delete-orphan`
@@ -115,8 +115,8 @@ unfolding r.eat_dash sees head next
 orphan_by mode so_far d ts rest n o is read = record {
   left = read.left;
   budget = read.budget;
-  is = ap (λ b. (if b then (expect k.Orphan >> pure (adds so_far delete_orphan)) else pure (adds so_far delete))
-      (if b then record { ahead = ts; operators = o } else record { ahead = d ∷ ts; operators = o })) is ∙ read.is;
+  is = given_as (ap (λ b. (if b then (expect k.Orphan >> pure (adds so_far delete_orphan)) else pure (adds so_far delete))
+      (if b then record { ahead = ts; operators = o } else record { ahead = d ∷ ts; operators = o })) is) (given_behind read.is);
 }
 
 widen : {A : Type 0} {mode : Mode} {t : Kind → Bool} {p : Reader A} {g h : Form A} → Complete mode t p h → ((ts : List Token) (n : ℕ) (a : A) → g ts n a → h ts n a) → Complete mode t p g
@@ -233,7 +233,7 @@ module _ (mode : Mode) where
   last_by n longer rest o is = record {
     left = o;
     budget = budget_none mode o;
-    is = ap (λ b. (if b then r.cascade_from n longer else pure longer) (if b then record { ahead = drop 1 rest; operators = o } else record { ahead = rest; operators = o })) is;
+    is = given (ap (λ b. (if b then r.cascade_from n longer else pure longer) (if b then record { ahead = drop 1 rest; operators = o } else record { ahead = rest; operators = o })) is);
   }
 
   more_by : (n : ℕ) (longer : Cascade) (t : Token) (ts rest : List Token) (count o : ℕ) (total : Cascade) → t.kind ≡ k.Comma → Read mode (r.cascade_from n longer) ts rest count o total
@@ -242,16 +242,16 @@ module _ (mode : Mode) where
   more_by n longer t ts rest count o total is read = record {
     left = read.left;
     budget = read.budget;
-    is = ap (λ b. (if b then r.cascade_from n longer else pure longer) (if b then record { ahead = ts; operators = o } else record { ahead = t ∷ ts; operators = o })) (alike is) ∙ read.is;
+    is = given_as (ap (λ b. (if b then r.cascade_from n longer else pure longer) (if b then record { ahead = ts; operators = o } else record { ahead = t ∷ ts; operators = o })) (alike is)) (given_behind read.is);
   }
 
-  step : (n : ℕ) (so_far longer : Cascade) (xs ys rest : List Token) (l m o : ℕ) (total : Cascade) → (one : Read mode (r.cascade_word so_far) xs ys l o longer)
-      → Read mode (eat k.Comma >>= (λ more. if more then r.cascade_from n longer else pure longer)) ys rest m one.left total → Read mode (r.cascade_from (suc n) so_far) xs rest (l + m) o total
+  step : (n : ℕ) (so_far longer : Cascade) (fs ys rest : List Token) (l m o : ℕ) (total : Cascade) → (one : Read mode (r.cascade_word so_far) (fs ++ ys) ys l o longer)
+      → Read mode (eat k.Comma >>= (λ more. if more then r.cascade_from n longer else pure longer)) ys rest m one.left total → Read mode (r.cascade_from (suc n) so_far) (fs ++ ys) rest (l + m) o total
   unfolding r.cascade_from
-  step n so_far longer xs ys rest l m o total one two = record {
+  step n so_far longer fs ys rest l m o total one two = record {
     left = two.left;
     budget = budget_more mode l m o one.left two.left one.budget two.budget;
-    is = ap (λ out. and_then out (λ longer. eat k.Comma >>= (λ more. if more then r.cascade_from n longer else pure longer))) one.is ∙ two.is;
+    is = given_then fs ys (λ longer. eat k.Comma >>= (λ more. if more then r.cascade_from n longer else pure longer)) one.is two.is;
   }
 
   words_from : (n : ℕ) (ws : List Cascade) (so_far : Cascade) (prefix rest : List Token) (count o : ℕ) → length ws ≤ n → separated_list k.Comma form.cascade_word prefix count ws
@@ -262,7 +262,7 @@ module _ (mode : Mode) where
       let one = word_read mode so_far prefix rest count o w said enough (cascade_no_dash (first_of rest).kind stop) in
       let counts : count + 0 ≡ count = omega arith in
       subst (λ m. Read mode (r.cascade_from (suc n) so_far) (prefix ++ rest) rest m o (adds so_far w)) counts
-      (step n so_far (adds so_far w) (prefix ++ rest) rest rest count 0 o (adds so_far w) one (last_by n (adds so_far w) rest one.left (cascade_no_comma (first_of rest).kind stop)))
+      (step n so_far (adds so_far w) prefix rest rest count 0 o (adds so_far w) one (last_by n (adds so_far w) rest one.left (cascade_no_comma (first_of rest).kind stop)))
   words_from (suc n) (w ∷ v ∷ ws) so_far prefix rest count o fits said enough stop =
       let p = said in
       let q = p.second in
@@ -281,7 +281,7 @@ module _ (mode : Mode) where
       words_from n (v ∷ ws) (adds so_far w) q.rest rest q.rest_count one.left less_words q.second more_enough stop in
       let two = more_by n (adds so_far w) u (q.rest ++ rest) rest q.rest_count one.left (form.all_of (adds so_far w) (v ∷ ws)) q.first.2 rec in
       let whole : Read mode (r.cascade_from (suc n) so_far) (p.prefix ++ (u ∷ (q.rest ++ rest))) rest (p.prefix_count + q.rest_count) o (form.all_of (adds so_far w) (v ∷ ws)) =
-      step n so_far (adds so_far w) (p.prefix ++ (u ∷ (q.rest ++ rest))) (u ∷ (q.rest ++ rest)) rest p.prefix_count q.rest_count o (form.all_of (adds so_far w) (v ∷ ws)) one two in
+      step n so_far (adds so_far w) p.prefix (u ∷ (q.rest ++ rest)) rest p.prefix_count q.rest_count o (form.all_of (adds so_far w) (v ∷ ws)) one two in
       let counts : p.prefix_count + q.rest_count ≡ count = omega (arith, p.counted) in
       subst (λ ts. Read mode (r.cascade_from (suc n) so_far) ts rest count o (form.all_of (adds so_far w) (v ∷ ws))) tokens
       (subst (λ m. Read mode (r.cascade_from (suc n) so_far) (p.prefix ++ (u ∷ (q.rest ++ rest))) rest m o (form.all_of (adds so_far w) (v ∷ ws))) counts whole)

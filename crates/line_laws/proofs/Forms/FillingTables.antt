@@ -16,7 +16,7 @@ use Rattle.script_forms.specs.TableLines as form
 use Rattle.line_laws.proofs.Forms.Taking.{Mode, Enough}
 use Rattle.line_laws.proofs.Forms.Steps.{budget_none, is_end}
 use Rattle.line_laws.proofs.Forms.Sequences.{then_to, says_to}
-use Rattle.line_laws.proofs.Forms.Filling.{Read, Complete, always, both, then_any, less, made, expected, taken, on_word, either, two_words, present_by, absent, made_opens, word_opens, then_opens, first_opens, whether_opens, by_kind_read}
+use Rattle.line_laws.proofs.Forms.Filling.{given, Read, Complete, always, both, then_any, less, made, expected, taken, on_word, either, two_words, present_by, absent, made_opens, word_opens, then_opens, first_opens, whether_opens, by_kind_read}
 use Rattle.line_laws.proofs.Forms.FillingBasics.{name_but_read, named, names_read}
 
 false_true : false ≡ true → ⊥
@@ -32,7 +32,7 @@ length_by mode t rest o m is holds fits =
     record {
       left = o;
       budget = budget_none mode o;
-      is = ap (λ x. int_by (r.length_in x t.content) i) is ∙ ap (λ x. int_by (r.length_in k.Number x) i) holds ∙ ap (λ b. int_by (if b then Some m else None) i) fits;
+      is = given (ap (λ x. int_by (r.length_in x t.content) i) is ∙ ap (λ x. int_by (r.length_in k.Number x) i) holds ∙ ap (λ b. int_by (if b then Some m else None) i) fits);
     }
 
 length_run : (mode : Mode) (prefix rest : List Token) (count o m : ℕ) → form.length prefix count m → Read mode r.text_length (prefix ++ rest) rest count o m

@@ -151,11 +151,11 @@ ends_there : (command : Command) (j : Input) → (first_of j.ahead).kind ≡ k.L
 unfolding sees head ends
 ends_there command j e = ap (λ b. if b then Ok (command, j) else Err (At (first_of j.ahead).at)) (alike e)
 
-filled_by : (p : Reader Command) (prefix rest : List Token) (command : Command) → (first_of rest).kind ≡ k.LineEnd → Read Plain p (prefix ++ rest) rest 0 0 command
+pub filled_by : (p : Reader Command) (prefix rest : List Token) (command : Command) → (first_of rest).kind ≡ k.LineEnd → Read Plain p (prefix ++ rest) rest 0 0 command
     → (left : Input) × ((p >>= ends) (start_of (prefix ++ rest)) ≡ Ok (command, left))
 filled_by p prefix rest command is read =
     let j : Input = record { ahead = rest; operators = read.left } in
-    (j, ap (λ out. and_then out ends) read.is ∙ ends_there command j is)
+    (j, ap (λ out. and_then out ends) read.is.gives ∙ ends_there command j is)
 
 pub filled : (p : Reader Command) (form : Form Command) → Complete Plain is_end p form → (line : List Token) (command : Command) → Says form line command
     → (left : Input) × ((p >>= ends) (start_of line) ≡ Ok (command, left))
