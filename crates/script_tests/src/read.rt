@@ -171,7 +171,7 @@ const LINES: [(Inside, &[u8], u32); 140] = [
 ];
 
 /// Lines outside every block, each as its start, a piece, how often that piece stands, its end, and the column of its fault or 0.
-const REPEATED: [(&[u8], &[u8], usize, &[u8], u32); 14] = [
+const REPEATED: [(&[u8], &[u8], usize, &[u8], u32); 25] = [
     (b"rows ", b"(", 101, b"", 106),
     (b"rows ", b"(", 100, b"", 106),
     (b"show ", b"n", 255, b"", 0),
@@ -182,6 +182,29 @@ const REPEATED: [(&[u8], &[u8], usize, &[u8], u32); 14] = [
     (b"rows ", b"not ", 101, b"t.a from t", 406),
     (b"rows ", b"- ", 100, b"t.a from t", 0),
     (b"rows ", b"- ", 101, b"t.a from t", 206),
+    (b"rows ", b"not ", 99, b"t.a in (1) from t", 0),
+    (b"rows ", b"not ", 100, b"t.a in (1) from t", 413),
+    (b"rows ", b"not ", 100, b"t.a not in () from t", 417),
+    (b"rows ", b"not ", 100, b"t.a in 1 from t", 413),
+    (
+        b"rows ",
+        b"not ",
+        99,
+        b"exists (t where t.a == 1) from t",
+        0,
+    ),
+    (
+        b"rows ",
+        b"not ",
+        100,
+        b"exists (t where t.a == 1) from t",
+        413,
+    ),
+    (b"rows ", b"not ", 100, b"exists t from t", 413),
+    (b"rows ", b"not ", 99, b"count(*) == 1 from t", 0),
+    (b"rows ", b"not ", 100, b"count(*) == 1 from t", 411),
+    (b"rows ", b"not ", 100, b"lower(t.a) == 'x' from t", 411),
+    (b"rows ", b"not ", 100, b"count.a == 1 from t", 0),
     (b"rows 1", b"+1", 1000, b" from t", 0),
     (b"rows 1", b"*1", 1001, b" from t", 2007),
     (b"rows 1", b"-1", 1000, b", 2 + 2 from t", 0),
