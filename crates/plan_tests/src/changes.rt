@@ -1,22 +1,16 @@
 //! Changes from their words.
 
-use crate::cells::{cells, numbered_cells, small, values};
-use crate::tables::name;
+use crate::cells::{cells, numbered_cells};
 use base_core::{ListOf, ObjId, Refusal, RowName, TableId};
+use notations::{number, row, table_of};
 use schema_core::{ChangedRow, GoneRow, NewRow, RowChanges, Schema};
 use std::alloc::{AllocError, Global};
-
-/// The table of a name; where there is none, a number that no table has.
-fn table_of(alloc: Global, schema: &Schema, word: &str) -> Result<TableId, AllocError> {
-    let name = name(alloc, word)?;
-    Ok(schema.find(&name).unwrap_or(TableId(u32::MAX)))
-}
 
 fn row_name(alloc: Global, schema: &Schema, word: &str) -> Result<RowName, AllocError> {
     let (table, object) = word.split_once('@').unwrap_or((word, ""));
     Ok(RowName {
         table: table_of(alloc, schema, table)?,
-        object: ObjId(small(object)),
+        object: ObjId(number(object)),
     })
 }
 
@@ -40,8 +34,8 @@ fn push_many(
 ) -> Result<(), Refusal> {
     let (word, words) = words.split_once(':').unwrap_or((words, ""));
     let first = row_name(alloc, schema, word)?;
-    for number in 0..small(count) {
-        let object = ObjId(first.object.0.saturating_add(number));
+    for place in 0..number(count) {
+        let object = ObjId(first.object.0.saturating_add(place));
         push_new(
             alloc,
             fresh,
@@ -62,7 +56,7 @@ fn push_changed(
     words: &str,
 ) -> Result<(), Refusal> {
     let (key, words) = words.split_once(':').unwrap_or((words, ""));
-    let key = values(alloc, key)?;
+    let key = row(alloc, key)?;
     let cells = numbered_cells(alloc, words)?;
     changed.push(ChangedRow { name, key, cells })
 }
@@ -73,7 +67,7 @@ fn push_gone(
     name: RowName,
     words: &str,
 ) -> Result<(), Refusal> {
-    let base = values(alloc, words)?;
+    let base = row(alloc, words)?;
     gone.push(GoneRow { name, base })
 }
 
@@ -89,7 +83,7 @@ fn take(
     match kind {
         "late" => {
             let table = table_of(alloc, schema, word)?;
-            changes.post.push((table, small(rest)))
+            changes.post.push((table, number(rest)))
         }
         "many" => push_many(alloc, schema, &mut changes.fresh, word, rest),
         "new" => push_new(

@@ -18,20 +18,15 @@ mod changes;
 mod range;
 mod reader;
 mod show;
-mod tables;
 
-use reader::Reader;
+use reader::answers;
 use std::io;
 
 fn main(rt: HostRuntime) -> io::Result<()> {
     let alloc = rt.alloc();
     let text = io::read_to_string(alloc, rt.reader())?;
-    let mut reader = Reader::new(alloc);
-    for line in text.lines() {
-        match reader.answer(alloc, line) {
-            Ok(shown) => rt.print(shown)?,
-            Err(_) => rt.println("refused")?,
-        }
+    match answers(alloc, &text) {
+        Ok(shown) => rt.print(shown),
+        Err(_) => rt.println("refused"),
     }
-    Ok(())
 }

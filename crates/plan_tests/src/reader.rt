@@ -3,16 +3,16 @@
 use crate::changes::{fill, no_changes};
 use crate::range::is_in_range;
 use crate::show::{push_cycle, push_plan};
-use crate::tables::table;
 use base_core::Refusal;
 use flush_plan::plan;
+use notations::{Reader, declare};
 use schema_core::{RowChanges, Schema};
-use std::alloc::Global;
+use std::alloc::{AllocError, Global};
 use std::mem::{self, drop};
 
 /// Makes the plans of what lines tell, over the tables so far.
 #[derive(Drop)]
-pub(crate) struct Reader {
+struct Plans {
     schema: Schema,
 }
 
@@ -37,24 +37,16 @@ fn show(
     Ok(())
 }
 
-impl Reader {
+impl Plans {
     /// No tables.
-    pub(crate) fn new(alloc: Global) -> Reader {
-        Reader {
+    fn new(alloc: Global) -> Plans {
+        Plans {
             schema: Schema::new(alloc),
         }
     }
 
     fn forget(&mut self, alloc: Global) {
         drop(mem::replace(&mut self.schema, Schema::new(alloc)));
-    }
-
-    fn declare(&mut self, alloc: Global, line: &str) -> Result<(), Refusal> {
-        let spec = table(alloc, line)?;
-        if self.schema.count() < 1000 {
-            self.schema.declare_table(spec)?;
-        }
-        Ok(())
     }
 
     /// The plan of the changes that a line tells.
@@ -65,20 +57,26 @@ impl Reader {
         shown.push('\n')?;
         Ok(())
     }
+}
 
-    /// What is written for a line.
-    pub(crate) fn answer(&mut self, alloc: Global, line: &str) -> Result<String, Refusal> {
+impl Reader for Plans {
+    fn answer(&mut self, alloc: Global, line: &str, shown: &mut String) -> Result<(), Refusal> {
         let (head, rest) = line.split_once(' ').unwrap_or((line, ""));
-        let mut shown = String::new(alloc);
         match head {
             "tables" => self.forget(alloc),
-            "table" => self.declare(alloc, rest)?,
-            "plan" => self.plan(alloc, rest, &mut shown)?,
+            "table" => declare(alloc, &mut self.schema, rest)?,
+            "plan" => self.plan(alloc, rest, shown)?,
             _ => {
                 shown.push_str(line)?;
                 shown.push('\n')?;
             }
         }
-        Ok(shown)
+        Ok(())
     }
+}
+
+/// What is written for lines.
+pub(crate) fn answers(alloc: Global, text: &str) -> Result<String, AllocError> {
+    let mut plans = Plans::new(alloc);
+    notations::answers(alloc, &mut plans, text)
 }
