@@ -396,6 +396,10 @@ pub ruleset attaching = (attach_failed, attach_taken)
 pub depth_here : (kept : Kept) → is_taken kept.attachment ≡ true → depth_by kept.attachment kept ≡ length kept.store.scopes
 depth_here kept taken = depth_taken kept.attachment kept taken
 
+-- outside a transaction there is no scope
+pub no_scopes : (old mid : Kept) → is_taken old.attachment ≡ true → depth_by old.attachment old ≡ 0 → mid ≡ one_call_more old → length mid.store.scopes ≡ 0
+no_scopes old mid taken outside is = ap (λ (kept : Kept). length kept.store.scopes) is ∙ outside_none old taken outside
+
 pub ruleset ends = (faulted, ran_out, depth_here)
 
 pub ruleset beginning = (began, ends)
@@ -410,9 +414,9 @@ pub ruleset rolling_back = (rolled_back, ends)
 
 pub ruleset committing = (committed, ends)
 
-pub ruleset creating = (made, not_made, ends)
+pub ruleset creating = (no_scopes, made, not_made, ends)
 
-pub ruleset dropping = (removed, not_removed, ends)
+pub ruleset dropping = (no_scopes, removed, not_removed, ends)
 
 pub ruleset scanning = (scanned, ends)
 

@@ -30,7 +30,7 @@ use schema_core::{RowStmt, Schema};
 use statement_log::StatementLog;
 use std::alloc::{AllocError, Global};
 use std::marker::Model;
-use table_store::TableStore;
+use table_log::TableLog;
 
 /// Whether a keeper was given its target, and took it.
 #[derive(Drop)]
@@ -44,7 +44,7 @@ pub enum Attachment {
 /// those whose numbers it was given, and a target that is a file.
 #[derive(Drop)]
 pub struct MemKeeper {
-    store: TableStore,
+    store: TableLog,
     log: StatementLog,
     calls: u64,
     faults: u64,
@@ -76,7 +76,7 @@ impl MemKeeper {
     {
         let failing = Vec::from_slice(alloc, failing)?;
         Ok(MemKeeper {
-            store: TableStore::new(alloc),
+            store: TableLog::new(alloc),
             log: StatementLog::new(alloc),
             calls: 0,
             faults: 0,
@@ -134,7 +134,7 @@ impl MemKeeper {
     pub(crate) fn take_target(&mut self, alloc: Global, target: Target)
         ensures { self.new ≡ taken_by self.old target }
     {
-        self.store = TableStore::new(alloc);
+        self.store = TableLog::new(alloc);
         self.log.clear();
         self.attachment = Attachment::Taken(target);
     }
@@ -169,7 +169,7 @@ impl MemKeeper {
             ≡ option_map (λ rows. map (λ entry. entry.1) rows)
             (rows_in self.now.store.tables table)) }
     {
-        self.store.rows(alloc, table)
+        table_store::rows(alloc, &self.store, table)
     }
 
     /// Starts a scope, if there is memory for it and for a statement that ends it.
@@ -193,6 +193,7 @@ impl MemKeeper {
 
     /// Makes a table, if there is memory for it.
     pub(crate) fn create_table(&mut self, alloc: Global, table: TableId) -> Result<(), AllocError>
+        requires outside { length self.old.store.scopes ≡ 0 }
         ensures ok { OnOk result (self.new ≡ sent_by
             self.old (sent.Create table)
             (record {
@@ -209,6 +210,7 @@ impl MemKeeper {
 
     /// Drops a table, if there is memory for the statement.
     pub(crate) fn remove_table(&mut self, table: TableId) -> Result<(), AllocError>
+        requires outside { length self.old.store.scopes ≡ 0 }
         ensures ok { OnOk result (self.new ≡ sent_by
             self.old (sent.Drop table)
             (record {
@@ -285,7 +287,7 @@ impl MemKeeper {
             (as_refusal (write_refusal (table_of statement.now)) result)
             (RefusesRow statement.now) }
     {
-        match self.store.write(alloc, schema, statement) {
+        match table_store::write(alloc, schema, &mut self.store, statement) {
             Ok(keys) => {
                 let Ok(()) = self.log.write(statement) else {
                     go_back(&mut self.store, &mut self.log);
@@ -323,7 +325,7 @@ impl MemKeeper {
             (as_refusal (write_refusal (bulk.table_of statement.now)) result)
             (RefusesBulk schema.now statement.now) }
     {
-        match self.store.bulk(alloc, schema, statement) {
+        match table_store::write_bulk(alloc, schema, &mut self.store, statement) {
             Ok(count) => {
                 let Ok(()) = self.log.bulk(alloc, statement) else {
                     go_back(&mut self.store, &mut self.log);
@@ -364,7 +366,7 @@ impl MemKeeper {
         ensures refuses { IfErr
             (as_refusal query_refusal result) (RefusesSelect schema.now select.now) }
     {
-        match self.store.query(alloc, schema, select) {
+        match table_store::query(alloc, schema, &self.store, select) {
             Ok(rows) => {
                 let Ok(()) = self.log.query(alloc, select) else {
                     go_back(&mut self.store, &mut self.log);
@@ -389,7 +391,7 @@ impl MemKeeper {
 }
 
 /// Ends all scopes with no statement, and goes back to the tables at the start of the outermost.
-fn go_back(store: &mut TableStore, log: &mut StatementLog)
+fn go_back(store: &mut TableLog, log: &mut StatementLog)
     ensures store { store.new ≡ given_up store.old }
     ensures log { log.new ≡ record log.old { scopes = 0 } }
 {

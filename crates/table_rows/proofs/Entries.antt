@@ -97,24 +97,3 @@ found_put {R = R} o k v (e ∷ es) = at (R k e.0) refl (found_put o k v es)
     at Less is rest = rw (is, same_key o k) refl
     at Equal is rest = rw (is, is) refl
     at Greater is rest = rw (is, is) rest
-
--- a new value put in, and the old one written in its place
-pub put_back : {K X : Type 0} {R : K → K → Ordering} (o : IsTotalOrder R) (k : K) (v w : X) (es : List (K × X)) → IsStrictlySortedBy R (keys_of es)
-    → lookup (is_at (R k)) es ≡ Some v → set_value (is_at (R k)) (insert_entry R es k w) v ≡ es
-put_back o k v w [] sorted found = cc
-put_back {R = R} o k v w (e ∷ es) sorted found = at (R k e.0) refl (λ h. put_back o k v w es (sorted_tail R e.0 (keys_of es) sorted) h)
-  where
-    at : (r : Ordering) → R k e.0 ≡ r → (lookup (is_at (R k)) es ≡ Some v → set_value (is_at (R k)) (insert_entry R es k w) v ≡ es)
-        → set_value (is_at (R k)) (insert_entry R (e ∷ es) k w) v ≡ e ∷ es
-    at Less is rest = let none : lookup (is_at (R k)) (e ∷ es) ≡ None = lookup-none (is_at (R k)) (e ∷ es) (none_below_head o k e es sorted is) in cc
-    at Equal is rest = let here : Some e.1 ≡ Some v = rw is at found in let value : v ≡ e.1 = cc in rw (is, is) (ap (λ x. (e.0, x) ∷ es) value)
-    at Greater is rest = rw (is, is) (ap (λ t. e ∷ t) (rest (rw is at found)))
-
--- there is no place to write in
-pub set_absent : {K X : Type 0} (test : K → Bool) (w : X) (es : List (K × X)) → lookup test es ≡ None → es ≡ set_value test es w
-set_absent test w [] absent = refl
-set_absent test w (e ∷ es) absent = at (test e.0) refl (set_absent test w es)
-  where
-    at : (b : Bool) → test e.0 ≡ b → (lookup test es ≡ None → es ≡ set_value test es w) → e ∷ es ≡ set_value test (e ∷ es) w
-    at true is rest = let here : Some e.1 ≡ None = rw is at absent in cc
-    at false is rest = rw is (ap (λ t. e ∷ t) (rest (rw is at absent)))

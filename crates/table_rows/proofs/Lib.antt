@@ -1,6 +1,8 @@
 mod CellSteps
-mod Copies
 pub mod Entries
 pub mod Gone
 mod HolderSteps
 pub mod Laws
+mod Places
+mod Seen
+mod Standing

@@ -1,5 +1,5 @@
 -- Rows that refer to rows that were taken out.
-use Rattle.std.specs.Prelude.{Bool, true, false, ◌&&◌, List, Option, None, Some}
+use Rattle.std.specs.Prelude.{Bool, true, false, ◌&&◌, List, Option, None, Some, is_some}
 use Rattle.std.specs.List.{list_any}
 use Rattle.std.specs.Ordering.{is_eq}
 use Rattle.base_core.specs.declared.ids.TableId.{TableId}
@@ -7,7 +7,8 @@ use Rattle.base_core.specs.declared.value.Value.{Value}
 use Rattle.schema_core.specs.declared.table.ForeignSpec.{ForeignSpec}
 use Rattle.schema_core.specs.declared.table.TableSpec.{TableSpec}
 use Rattle.schema_core.specs.Catalog.{Catalog, spec_of, target_of}
-use Rattle.schema_core.specs.Tables.{Tables, cells_of, dangles, names_row, same_values, table_cmp}
+use Rattle.schema_core.specs.Tables.{Tables, cells_of, dangles, row_under, same_values, table_cmp}
+use Rattle.table_rows.specs.Rows.{rows_present}
 use Rattle.table_rows.specs.declared.judging.Before.{Before}
 use Rattle.table_rows.specs.declared.judging.Before.TheVariants as before
 
@@ -19,10 +20,10 @@ is_table table (Some target) = is_eq (table_cmp target table)
 abbrev pub refers_to : Catalog → ForeignSpec → TableId → Bool
 refers_to schema foreign table = is_table table (target_of schema foreign)
 
--- a key named a row of the table to which a foreign key refers: the row that was taken out, or any
+-- a key named a row that was taken out of the table to which a foreign key refers
 abbrev pub was_named : Catalog → Before → ForeignSpec → List Value → Bool
 was_named schema (before.Row table key) foreign cells = refers_to schema foreign table && same_values cells key.now
-was_named schema (before.Tables tables) foreign cells = names_row schema tables.now foreign cells
+was_named schema (before.Rows table rows) foreign cells = refers_to schema foreign table && is_some (row_under (rows_present rows.now) cells)
 
 -- a row's foreign key named a row before, and names none of the tables that are left
 abbrev pub is_lost : Catalog → Before → Tables → TableSpec → List Value → ForeignSpec → Bool

@@ -6,6 +6,7 @@ ghost use Rattle.schema_core.specs.Catalog.{spec_of, IsTable};
 ghost use Rattle.schema_core.specs.Judged.{some_repeats, some_written_dangles};
 ghost use Rattle.schema_core.specs.Tables.{collide, dangles, names_row, repeats_unique, same_values, some_dangles};
 ghost use Rattle.table_rows.specs.Lost.{is_lost, refers_to, some_lost, was_named};
+ghost use Rattle.table_rows.specs.Rows.{rows_present, tables_present};
 
 use crate::cells::{cells_of, has_null};
 use crate::rows::TableRows;
@@ -41,7 +42,7 @@ fn collide(
 
 /// Whether a key names a row of the table to which a foreign key refers.
 fn names_row(schema: &Schema, tables: &TableMap, foreign: &ForeignSpec, key: &Key) -> bool
-    ensures { result ≡ names_row schema.now tables.now foreign.now key.now }
+    ensures { result ≡ names_row schema.now (tables_present tables.now) foreign.now key.now }
 {
     let Some(target) = schema.find(&foreign.target) else {
         return false;
@@ -62,7 +63,7 @@ fn dangles(
     foreign: &ForeignSpec,
 ) -> Result<bool, AllocError>
     ensures { IfOk result (λ yes. yes
-        ≡ dangles schema.now tables.now spec.now row.now foreign.now) }
+        ≡ dangles schema.now (tables_present tables.now) spec.now row.now foreign.now) }
 {
     let key = cells_of(
         alloc,
@@ -85,7 +86,7 @@ fn some_dangles(
     spec: &TableSpec,
     row: &[Value],
 ) -> Result<bool, AllocError>
-    ensures { IfOk result (λ yes. yes ≡ some_dangles schema.now tables.now spec.now row.now) }
+    ensures { IfOk result (λ yes. yes ≡ some_dangles schema.now (tables_present tables.now) spec.now row.now) }
 {
     for foreign in spec.foreigns.as_slice() {
         if dangles(alloc, schema, tables, spec, row, foreign)? {
@@ -105,7 +106,7 @@ pub fn some_written_dangles(
     entries: &[(Key, RowValues)],
 ) -> Result<bool, AllocError>
     ensures { IfOk result (λ yes. yes
-        ≡ some_written_dangles schema.now left.now spec.now entries.now) }
+        ≡ some_written_dangles schema.now (tables_present left.now) spec.now entries.now) }
 {
     for entry in entries {
         if some_dangles(alloc, schema, left, spec, entry.1.as_slice())? {
@@ -115,11 +116,11 @@ pub fn some_written_dangles(
     Ok(false)
 }
 
-/// What was there before rows were taken out: the row of a key of one table, beside the tables that are left, or all tables.
+/// What was there before rows were taken out, beside the tables that are left: the row of a key of one table, or rows of it.
 #[derive(Clone, Copy)]
 pub enum Before<'a> {
     Row(TableId, &'a Key),
-    Tables(&'a TableMap),
+    Rows(TableId, &'a TableRows),
 }
 
 /// Whether a foreign key refers to a table.
@@ -138,7 +139,9 @@ fn was_named(schema: &Schema, before: &Before, foreign: &ForeignSpec, cells: &Ke
 {
     match before {
         Before::Row(table, key) => { refers_to(schema, foreign, *table) && same_values(cells, key) }
-        Before::Tables(tables) => names_row(schema, tables, foreign, cells),
+        Before::Rows(table, rows) => {
+            refers_to(schema, foreign, *table) && rows.get(cells).is_some()
+        }
     }
 }
 
@@ -153,7 +156,7 @@ fn is_lost(
     foreign: &ForeignSpec,
 ) -> Result<bool, AllocError>
     ensures { IfOk result (λ yes. yes
-        ≡ is_lost schema.now before.now left.now spec.now row.now foreign.now) }
+        ≡ is_lost schema.now before.now (tables_present left.now) spec.now row.now foreign.now) }
 {
     let names = foreign.columns.as_slice();
     let cells = cells_of(alloc, spec.columns.as_slice(), row, names)?;
@@ -175,7 +178,7 @@ fn row_lost(
     row: &[Value],
 ) -> Result<bool, AllocError>
     ensures { IfOk result (λ yes. yes
-        ≡ list_any (is_lost schema.now before.now left.now spec.now row.now) spec.now.foreigns) }
+        ≡ list_any (is_lost schema.now before.now (tables_present left.now) spec.now row.now) spec.now.foreigns) }
 {
     for foreign in spec.foreigns.as_slice() {
         if is_lost(alloc, schema, before, left, spec, row, foreign)? {
@@ -196,14 +199,17 @@ fn table_lost(
 ) -> Result<bool, AllocError>
     ensures { IfOk result (λ yes. yes
         ≡ list_any (λ row. list_any
-        (is_lost schema.now before.now left.now (spec_of schema.now table) row.1)
-        (spec_of schema.now table).foreigns) rows.now) }
+        (is_lost schema.now before.now (tables_present left.now) (spec_of schema.now table) row.1)
+        (spec_of schema.now table).foreigns) (rows_present rows.now)) }
 {
     if schema.count() <= table.0 {
         return Ok(false);
     }
     let spec = schema.spec(table);
-    for (_, row) in rows.entries() {
+    for (_, place) in rows.places() {
+        let Some(row) = place else {
+            continue;
+        };
         if row_lost(alloc, schema, before, left, spec, row.as_slice())? {
             return Ok(true);
         }
@@ -218,7 +224,7 @@ pub fn some_lost(
     before: &Before,
     left: &TableMap,
 ) -> Result<bool, AllocError>
-    ensures { IfOk result (λ yes. yes ≡ some_lost schema.now before.now left.now) }
+    ensures { IfOk result (λ yes. yes ≡ some_lost schema.now before.now (tables_present left.now)) }
 {
     for (table, rows) in left.entries() {
         if table_lost(alloc, schema, before, left, *table, rows)? {
@@ -239,9 +245,12 @@ fn some_collides(
 ) -> Result<bool, AllocError>
     ensures { IfOk result (λ yes. yes
         ≡ list_any (λ other. not
-        (same_values key.now other.0) && collide spec.now unique.now row.now other.1) rows.now) }
+        (same_values key.now other.0) && collide spec.now unique.now row.now other.1) (rows_present rows.now)) }
 {
-    for (other_key, other) in rows.entries() {
+    for (other_key, place) in rows.places() {
+        let Some(other) = place else {
+            continue;
+        };
         if !same_values(key, other_key) && collide(alloc, spec, unique, row, other.as_slice())? {
             return Ok(true);
         }
@@ -258,7 +267,7 @@ fn repeats_unique(
     key: &Key,
     row: &[Value],
 ) -> Result<bool, AllocError>
-    ensures { IfOk result (λ yes. yes ≡ repeats_unique spec.now rows.now key.now row.now) }
+    ensures { IfOk result (λ yes. yes ≡ repeats_unique spec.now (rows_present rows.now) key.now row.now) }
 {
     for unique in spec.uniques.as_slice() {
         if some_collides(alloc, spec, unique.as_slice(), rows, key, row)? {
@@ -276,7 +285,7 @@ pub(crate) fn repeats_by_scan(
     left: &TableRows,
     entries: &[(Key, RowValues)],
 ) -> Result<bool, AllocError>
-    ensures { IfOk result (λ yes. yes ≡ some_repeats spec.now left.now entries.now) }
+    ensures { IfOk result (λ yes. yes ≡ some_repeats spec.now (rows_present left.now) entries.now) }
 {
     for entry in entries {
         if repeats_unique(alloc, spec, left, &entry.0, entry.1.as_slice())? {

@@ -1,19 +1,19 @@
 //! The created tables.
 
-ghost use Rattle.std.specs.Prelude.{◌≡◌, [], true, is_some, IfOk, OnOk, OnErr};
-ghost use Rattle.std.specs.Option.{option_copied};
+ghost use Rattle.std.specs.Prelude.{◌≡◌, [], true, is_some, IfOk, IfSome, OnOk, OnErr};
+ghost use Rattle.std.specs.Option.{option_copied, option_map};
 ghost use Rattle.programs.specs.Store.{with_empty_table, without_table};
 ghost use Rattle.schema_core.specs.Tables.{rows_in, row_under, with_row, with_rows, without_row};
 ghost use Rattle.sql_semantics.specs.Created.{bare};
-ghost use Rattle.table_rows.specs.Rows.{AreSorted, rows_at, with_former_row};
+ghost use Rattle.table_rows.specs.Rows.{AreSorted, IsPlaced, KeepsAllPlaces, rows_present, with_former_row, rows_at, tables_present};
 
 use crate::rows::TableRows;
-use base_core::{Copied, Key, ListOf, RowList, RowValues, TableId};
+use base_core::{Key, ListOf, RowList, RowValues, TableId};
 use std::alloc::{AllocError, Global};
 use std::collections::BTreeMap;
 use std::marker::Model;
 
-/// The created tables, by number.
+/// The created tables, by number, each with its rows in their places.
 #[derive(Drop)]
 pub struct TableMap {
     tables: BTreeMap<TableId, TableRows>,
@@ -22,9 +22,10 @@ pub struct TableMap {
 impl Model for TableMap {
     ghost use Rattle.std.specs.Map.{keys_of};
     ghost use Rattle.std.specs.List.Sorted.{IsStrictlySortedBy};
-    ghost use Rattle.schema_core.specs.Tables.{Tables, table_cmp};
+    ghost use Rattle.schema_core.specs.Tables.{table_cmp};
+    ghost use Rattle.table_rows.specs.Rows.{Held};
 
-    ghost Value = { Tables };
+    ghost Value = { Held };
 
     ghost view = { λ t. t.tables.entries };
 
@@ -43,7 +44,7 @@ impl TableMap {
 
     /// The rows of a table.
     pub fn get(&self, table: TableId) -> Option<&TableRows>
-        ensures { option_copied result ≡ rows_in self.now table }
+        ensures { option_map rows_present (option_copied result) ≡ rows_in (tables_present self.now) table }
     {
         self.tables.get(&table)
     }
@@ -57,7 +58,7 @@ impl TableMap {
 
     /// Each table with copies of its rows, rising by key, as a select sees them.
     pub fn bare(&self, alloc: Global) -> Result<ListOf<(TableId, RowList)>, AllocError>
-        ensures { IfOk result (λ tables. tables ≡ bare self.now) }
+        ensures { IfOk result (λ tables. tables ≡ bare (tables_present self.now)) }
     {
         let mut tables = Vec::new(alloc);
         for (table, rows) in &self.tables {
@@ -66,32 +67,25 @@ impl TableMap {
         Ok(ListOf::from_vec(tables))
     }
 
+    #[tactic(auto, using(crate::proofs::Seen::seeing))]
     /// Makes a table that has no rows. At an error nothing changes.
     pub fn create(&mut self, alloc: Global, table: TableId) -> Result<(), AllocError>
-        ensures ok { OnOk result (self.new ≡ with_empty_table self.old table) }
+        ensures ok { OnOk result (tables_present self.new ≡ with_empty_table (tables_present self.old) table) }
         ensures err { OnErr result (self.new ≡ self.old) }
     {
         self.tables.insert(table, TableRows::new(alloc))?;
         Ok(())
     }
 
-    /// Puts rows in the place of a table's. At an error nothing changes.
-    pub fn set(&mut self, table: TableId, rows: TableRows) -> Result<(), AllocError>
-        ensures ok { OnOk result (self.new ≡ with_rows self.old table rows) }
-        ensures err { OnErr result (self.new ≡ self.old) }
-    {
-        self.tables.insert(table, rows)?;
-        Ok(())
-    }
-
+    #[tactic(auto, using(crate::proofs::Seen::seeing))]
     /// Drops a table.
     pub fn drop_table(&mut self, table: TableId)
-        ensures { self.new ≡ without_table self.old table }
+        ensures { tables_present self.new ≡ without_table (tables_present self.old) table }
     {
         self.tables.remove(&table);
     }
 
-    #[tactic(auto, using(crate::proofs::Laws::writing_rows))]
+    #[tactic(auto, using(crate::proofs::Seen::seeing))]
     /// Puts a row under a key of a created table, and gives what stood there. At an error nothing changes.
     pub fn put(
         &mut self,
@@ -99,12 +93,15 @@ impl TableMap {
         key: Key,
         row: RowValues,
     ) -> Result<Option<RowValues>, AllocError>
-        requires { is_some (rows_in self.old table) ≡ true }
-        ensures ok { OnOk result
-            (self.new ≡ with_rows self.old table (with_row (rows_at self.old table) key row)) }
-        ensures before { IfOk result (λ before. before ≡ row_under (rows_at self.old table) key) }
+        requires { is_some (rows_in (tables_present self.old) table) ≡ true }
+        ensures ok { OnOk result (tables_present self.new
+            ≡ with_rows (tables_present self.old) table (with_row (rows_at (tables_present self.old) table) key row)) }
+        ensures before { IfOk result (λ before. before
+            ≡ row_under (rows_at (tables_present self.old) table) key) }
+        ensures place { OnOk result (IsPlaced self.new table key) }
+        ensures places { KeepsAllPlaces self.old self.new }
         ensures err { OnErr result (self.new ≡ self.old) }
-        ensures sorted { AreSorted self.old table }
+        ensures sorted { AreSorted (tables_present self.old) table }
     {
         let Some(rows) = self.tables.get_mut(&table) else {
             return Ok(None);
@@ -112,14 +109,16 @@ impl TableMap {
         rows.put(key, row)
     }
 
-    #[tactic(auto, using(crate::proofs::Laws::writing_rows))]
-    /// Takes out the row of a key of a created table.
+    #[tactic(auto, using(crate::proofs::Seen::seeing))]
+    /// Takes out the row of a key of a created table. Its place stays.
     pub fn take(&mut self, table: TableId, key: &Key) -> Option<RowValues>
-        requires { is_some (rows_in self.old table) ≡ true }
-        ensures rows { self.new
-            ≡ with_rows self.old table (without_row (rows_at self.old table) key.now) }
-        ensures taken { result ≡ row_under (rows_at self.old table) key.now }
-        ensures sorted { AreSorted self.old table }
+        requires { is_some (rows_in (tables_present self.old) table) ≡ true }
+        ensures rows { tables_present self.new ≡ with_rows
+            (tables_present self.old) table (without_row (rows_at (tables_present self.old) table) key.now) }
+        ensures place { IfSome result (λ _. IsPlaced self.new table key.now) }
+        ensures taken { result ≡ row_under (rows_at (tables_present self.old) table) key.now }
+        ensures places { KeepsAllPlaces self.old self.new }
+        ensures sorted { AreSorted (tables_present self.old) table }
     {
         let Some(rows) = self.tables.get_mut(&table) else {
             return None;
@@ -127,25 +126,28 @@ impl TableMap {
         rows.take(key)
     }
 
-    #[tactic(auto, using(crate::proofs::Laws::writing_rows))]
-    /// Brings back what stood under a key of a created table.
+    #[tactic(auto, using(crate::proofs::Seen::seeing))]
+    /// Brings back what stood in a place.
     pub fn restore(&mut self, table: TableId, key: &Key, before: Option<RowValues>)
-        requires { is_some (rows_in self.old table) ≡ true }
-        ensures { self.new ≡ with_rows self.old table
-            (with_former_row (rows_at self.old table) key.now before) }
+        requires { IsPlaced self.old table key.now }
+        ensures rows { tables_present self.new ≡ with_rows
+            (tables_present self.old) table (with_former_row (rows_at (tables_present self.old) table) key.now before) }
+        ensures places { KeepsAllPlaces self.old self.new }
     {
         let Some(rows) = self.tables.get_mut(&table) else {
             return;
         };
         rows.restore(key, before);
     }
-}
 
-impl Copied for TableMap {
-    #[tactic(auto, using(crate::proofs::Copies::entries_copied))]
-    fn copied(&self) -> Result<TableMap, AllocError> {
-        Ok(TableMap {
-            tables: self.tables.clone()?,
-        })
+    #[tactic(auto, using(crate::proofs::Seen::seeing))]
+    /// Gives a place up, where no row stands in it.
+    pub fn sweep(&mut self, table: TableId, key: &Key)
+        ensures { tables_present self.new ≡ tables_present self.old }
+    {
+        let Some(rows) = self.tables.get_mut(&table) else {
+            return;
+        };
+        rows.sweep(key);
     }
 }

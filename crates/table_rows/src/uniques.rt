@@ -6,6 +6,7 @@ ghost use Rattle.std.specs.Option.{unwrap_or};
 ghost use Rattle.base_core.specs.declared.value.Value.{Value};
 ghost use Rattle.schema_core.specs.Judged.{some_repeats};
 ghost use Rattle.schema_core.specs.Tables.{same_values};
+ghost use Rattle.table_rows.specs.Rows.{rows_present};
 ghost use Rattle.table_rows.specs.Holders.{IsHolders, is_held, is_held_by, keys_at};
 
 use crate::cells::{cells_of, has_null};
@@ -52,10 +53,13 @@ fn holders(
     unique: &[Name],
     rows: &TableRows,
 ) -> Result<Holders, AllocError>
-    ensures { IfOk result (IsHolders spec.now unique.now rows.now) }
+    ensures { IfOk result (IsHolders spec.now unique.now (rows_present rows.now)) }
 {
     let mut index = BTreeMap::new(alloc);
-    for (key, row) in rows.entries() {
+    for (key, place) in rows.places() {
+        let Some(row) = place else {
+            continue;
+        };
         let value = cells_of(alloc, spec.columns.as_slice(), row.as_slice(), unique)?;
         add_holder(alloc, &mut index, value, key)?;
     }
@@ -121,7 +125,7 @@ fn some_held(
     entries: &[(Key, RowValues)],
 ) -> Result<bool, AllocError>
     ensures { IfOk result (λ yes. yes
-        ≡ list_any (λ entry. is_held spec.now unique.now left.now entry.0 entry.1) entries.now) }
+        ≡ list_any (λ entry. is_held spec.now unique.now (rows_present left.now) entry.0 entry.1) entries.now) }
 {
     let index = holders(alloc, spec, unique, left)?;
     some_held_by(alloc, spec, unique, &index, entries)
@@ -137,7 +141,7 @@ fn some_unique_held(
 ) -> Result<bool, AllocError>
     ensures { IfOk result (λ yes. yes
         ≡ list_any (λ unique. list_any
-        (λ entry. is_held spec.now unique left.now entry.0 entry.1) entries.now)
+        (λ entry. is_held spec.now unique (rows_present left.now) entry.0 entry.1) entries.now)
         spec.now.uniques) }
 {
     for unique in spec.uniques.as_slice() {
@@ -156,7 +160,7 @@ pub fn some_repeats(
     left: &TableRows,
     entries: &[(Key, RowValues)],
 ) -> Result<bool, AllocError>
-    ensures { IfOk result (λ yes. yes ≡ some_repeats spec.now left.now entries.now) }
+    ensures { IfOk result (λ yes. yes ≡ some_repeats spec.now (rows_present left.now) entries.now) }
 {
     if entries.len() < 2 {
         return repeats_by_scan(alloc, spec, left, entries);

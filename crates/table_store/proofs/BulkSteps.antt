@@ -1,6 +1,8 @@
 -- Steps of a bulk statement.
 use Rattle.std.specs.Borrow.{Bor}
-use Rattle.std.proofs.Common.{◌≡◌, ◌≢◌, ℕ, suc, true, false, List, [], ◌∷◌, length, Option, None, Some, IsTrue, Result, Ok, Err, refl, sym, ap, subst, ◌∙◌, arith}
+use Rattle.std.specs.Option.{unwrap_or}
+use Rattle.std.proofs.Common.{◌≡◌, ◌≢◌, ℕ, suc, ◌+◌, ◌<◌, Bool, true, false, ◌||◌, List, [], ◌∷◌, length, drop, slice_index_or, Option, None, Some, is_some, IsTrue, Result, Ok, Err, OnOk, OnErr, refl, sym, ap, subst, ◌∙◌, add-one, arith}
+use Rattle.std.proofs.Math.Seq.{drop-cons}
 use Rattle.base_core.proofs.Tests.{and_then as both_true}
 use Rattle.base_core.specs.declared.ids.ColumnNo.{ColumnNo}
 use Rattle.base_core.specs.declared.ids.TableId.{TableId}
@@ -14,9 +16,9 @@ use Rattle.schema_core.specs.Apply as row
 use Rattle.schema_core.specs.Catalog.{Catalog, IsTable, spec_of}
 use Rattle.schema_core.specs.Judged.{Judged, and_then, change_all, remove_all, some_lacks, some_loses_row, with_all, without_all, write_all}
 use Rattle.schema_core.specs.Told.{Told}
-use Rattle.schema_core.proofs.ApplySteps.{change_full, change_lacks, remove_done, remove_loses, told_first}
+use Rattle.schema_core.proofs.ApplySteps.{change_full, change_lacks, is_absent, remove_done, remove_loses, told_first}
 use Rattle.sql_semantics.specs.Checked.{Checked, ◌>>=◌, Refuses}
-use Rattle.schema_core.specs.Tables.{Rows, Tables, rows_in, with_rows}
+use Rattle.schema_core.specs.Tables.{Rows, Tables, is_created, row_under, rows_in, with_row, with_rows, without_row}
 use Rattle.expr_types.specs.declared.expr.Expr.{Expr}
 use Rattle.expr_types.specs.declared.select.Bulk.{Bulk}
 use Rattle.expr_types.specs.declared.select.Bulk.TheVariants as bulk
@@ -28,13 +30,19 @@ use Rattle.sql_semantics.specs.Rows.{require_created}
 use Rattle.sql_semantics.specs.Taken.{deleted_from, inserted_row, updated_from}
 use Rattle.keeper_core.specs.declared.keeper.WriteRefusal.{WriteRefusal}
 use Rattle.keeper_core.specs.Calls.{write_refusal}
-use Rattle.table_rows.specs.Rows.{rows_at}
+use Rattle.table_log.specs.Scopes.{scope_ended, scope_started, scope_undone, with_tables}
+use Rattle.table_rows.specs.Rows.{Places, rows_at, rows_present}
+use Rattle.table_rows.proofs.Entries.{put_again}
+use Rattle.table_rows.proofs.Gone.{divided_more, lost_among}
+use Rattle.table_rows.proofs.Laws.{absent_kept, rows_found}
+use Rattle.programs.specs.Store.{Store}
+use Rattle.schema_core.proofs.TableOrder.{tables_total}
 use Rattle.table_rows.specs.Lost.{some_lost}
 use Rattle.table_rows.specs.declared.judging.Before.TheVariants as before
-use Rattle.table_store.specs.Held.{DidOrLeft, stand}
-use Rattle.table_store.specs.Written.{Answers, Leaves, Replaces, keys_to_remove, unwritten_refusal, rows_to_write}
+use Rattle.table_store.specs.Held.{IsDivided, Made, put_all, stand, take_all, with_entry, without_key}
+use Rattle.table_store.specs.Written.{Leaves, WroteBulk, keys_to_remove, rows_to_write, unwritten_refusal}
 use Rattle.table_store.proofs.Evaluated.{deletes_evaluated, updates_evaluated}
-use Rattle.table_store.proofs.WriteSteps.{stand_written, still_created}
+use Rattle.table_store.proofs.WriteSteps.{changed_tables, kept_scopes, kept_store, left_store, one_inside, put_together, same_scopes, stand_written, still_created}
 
 -- ---- what is left
 
@@ -85,16 +93,122 @@ change_violates schema tables after table rows entries (Violates violation) full
     same_after (Err violation) = refl
 change_violates schema tables after table rows entries Memory full is told = tt
 
-pub ruleset change_steps = (change_lacks, change_stands, change_violates, still_created)
+-- rows were put in one after another
+pub entries_written : (tables after : Tables) (table : TableId) (entries : Rows) → 0 < length entries → after ≡ put_all tables table entries → after ≡ with_rows tables table (with_all (rows_at tables table) entries)
+entries_written tables after table [] some is = absurd (omega (arith, some))
+entries_written tables after table (entry ∷ entries) some is = is ∙ put_together tables table entry entries
 
--- rows that are left refer to rows of all tables before
-pub all_lost : (schema : Catalog) (tables : Bor Tables) (after : Tables) (table : TableId) (rows : Rows) (keys : List (List Value)) → after ≡ with_rows tables.now table (without_all rows keys)
-    → some_lost schema (before.Tables tables) after ≡ true → remove_all schema tables.now table rows keys ≡ Err violations.Foreign
-all_lost schema tables after table rows keys is lost = remove_loses schema tables.now table rows keys (ap (some_loses_row schema tables.now) (sym is) ∙ lost)
+pub change_made : (schema : Catalog) (tables after : Tables) (table : TableId) (entries : Rows) → 0 < length entries → some_lacks (spec_of schema table) entries ≡ false → after ≡ put_all tables table entries
+    → stand schema after table entries ≡ Ok tt → change_all schema tables table (rows_at tables table) entries ≡ Ok after
+change_made schema tables after table entries some full is fine =
+    change_stands schema tables after table (rows_at tables table) entries full (entries_written tables after table entries some is) fine
 
-pub none_lost : (schema : Catalog) (tables : Bor Tables) (after : Tables) (table : TableId) (rows : Rows) (keys : List (List Value)) → after ≡ with_rows tables.now table (without_all rows keys)
-    → some_lost schema (before.Tables tables) after ≡ false → remove_all schema tables.now table rows keys ≡ Ok after
-none_lost schema tables after table rows keys is bound = remove_done schema tables.now table rows keys (ap (some_loses_row schema tables.now) (sym is) ∙ bound) ∙ ap (λ ts. Ok ts) (sym is)
+pub change_refused : (schema : Catalog) (tables after : Tables) (table : TableId) (entries : Rows) (e : Unwritten) → 0 < length entries → some_lacks (spec_of schema table) entries ≡ false → after ≡ put_all tables table entries
+    → Told (stand schema after table entries) (Err e) → Told (change_all schema tables table (rows_at tables table) entries) (Err e)
+change_refused schema tables after table entries e some full is told =
+    change_violates schema tables after table (rows_at tables table) entries e full (entries_written tables after table entries some is) told
+
+-- the table is still created
+pub all_created : (tables after : Tables) (table : TableId) (entries : Rows) → is_some (rows_in tables table) ≡ true → after ≡ put_all tables table entries → is_some (rows_in after table) ≡ true
+all_created tables after table entries created is = ap (λ ts. is_some (rows_in ts table)) is ∙ by entries tables created
+  where
+    by : (es : Rows) (ts : Tables) → is_some (rows_in ts table) ≡ true → is_some (rows_in (put_all ts table es) table) ≡ true
+    by [] ts created = created
+    by (e ∷ es) ts created = by es (with_entry ts table e) (still_created ts (with_entry ts table e) table (with_row (rows_at ts table) e.0 e.1) refl)
+
+-- the answer of the rows that stand is the answer
+pub made_by : (schema : Catalog) (old mid : Store) (table : TableId) (entries : Rows) (answer : Result (Unit {0}) Unwritten) → 0 < length entries → some_lacks (spec_of schema table) entries ≡ false → mid.tables ≡ put_all old.tables table entries
+    → mid.scopes ≡ old.scopes → Told (stand schema mid.tables table entries) answer → Made (change_all schema old.tables table (rows_at old.tables table) entries) old answer mid
+made_by schema old mid table entries (Ok done) some full is same told = (change_made schema old.tables mid.tables table entries some full is told, same)
+made_by schema old mid table entries (Err e) some full is same told = (change_refused schema old.tables mid.tables table entries e some full is told, same)
+
+pub ruleset change_steps = (change_lacks, made_by, all_created)
+
+pub entry_created : (old new : Tables) (table : TableId) (entry : List Value × List Value) → new ≡ with_entry old table entry → is_some (rows_in new table) ≡ true
+entry_created old new table entry is = still_created old new table (with_row (rows_at old table) entry.0 entry.1) is
+
+-- one more row is in
+pub entries_step : (old new whole : Tables) (table : TableId) (entries : Rows) (place : ℕ) (entry : List Value × List Value) → place < length entries → entry ≡ slice_index_or entries place entry → new ≡ with_entry old table entry
+    → put_all old table (drop place entries) ≡ whole → put_all new table (drop (place + 1) entries) ≡ whole
+entries_step old new whole table entries place entry inside is changed before =
+    let cut : drop place entries ≡ entry ∷ drop (place + 1) entries =
+    drop-cons entries place entry inside ∙ ap (λ e. e ∷ drop (suc place) entries) (sym is) ∙ ap (λ n. entry ∷ drop n entries) (sym (add-one place)) in
+    ap (λ ts. put_all ts table (drop (place + 1) entries)) changed ∙ sym (ap (put_all old table) cut) ∙ before
+
+pub ruleset putting = (entry_created)
+
+-- ---- rows that are set aside
+
+-- there is no row to set aside
+pub none_aside : (rows left : Rows) (aside : Places) (key : List Value) → row_under left key ≡ None → IsDivided rows left aside → IsDivided rows (without_row left key) aside
+none_aside rows left aside key none divided other = divided other ∙ ap (λ rs. is_some (row_under rs other) || is_some (row_under (rows_present aside) other)) (sym (absent_kept left key none))
+
+-- a row is set aside
+pub one_aside : (rows left : Rows) (aside more : Places) (key row : List Value) → row_under left key ≡ Some row → rows_present more ≡ with_row (rows_present aside) key row → IsDivided rows left aside → IsDivided rows (without_row left key) more
+one_aside rows left aside more key row found is divided other =
+    divided_more rows left (rows_present aside) key row other (divided other) (ap is_some found)
+    ∙ ap (λ rs. is_some (row_under (without_row left key) other) || is_some (row_under rs other)) (sym is)
+
+pub ruleset setting = (none_aside, one_aside)
+
+pub rows_without : (old new : Store) (table : TableId) (key : List Value) → new ≡ with_tables old (without_key old.tables table key) → rows_at new.tables table ≡ without_row (rows_at old.tables table) key
+rows_without old new table key is = ap (λ (store : Store). rows_at store.tables table) is ∙ rows_found old.tables table (without_row (rows_at old.tables table) key)
+
+pub divided_at : (rows left other : Rows) (aside : Places) → other ≡ left → IsDivided rows left aside → IsDivided rows other aside
+divided_at rows left other aside is divided = subst (λ (rs : Rows). IsDivided rows rs aside) (sym is) divided
+
+pub none_yet : (rows : Rows) → IsDivided rows rows []
+none_yet rows key = by (is_some (row_under rows key))
+  where
+    by : (b : Bool) → b ≡ (b || false)
+    by true = refl
+    by false = refl
+
+pub key_created : (old new : Tables) (table : TableId) (key : List Value) → new ≡ without_key old table key → is_some (rows_in new table) ≡ true
+key_created old new table key is = still_created old new table (without_row (rows_at old table) key) is
+
+-- one more row is out
+pub keys_step : (old new whole : Tables) (table : TableId) (keys : List (List Value)) (place : ℕ) (key : List Value) → place < length keys → key ≡ slice_index_or keys place key → new ≡ without_key old table key
+    → take_all old table (drop place keys) ≡ whole → take_all new table (drop (place + 1) keys) ≡ whole
+keys_step old new whole table keys place key inside is changed before =
+    let cut : drop place keys ≡ key ∷ drop (place + 1) keys =
+    drop-cons keys place key inside ∙ ap (λ k. k ∷ drop (suc place) keys) (sym is) ∙ ap (λ n. key ∷ drop n keys) (sym (add-one place)) in
+    ap (λ ts. take_all ts table (drop (place + 1) keys)) changed ∙ sym (ap (take_all old table) cut) ∙ before
+
+pub ruleset taking = (rows_without, divided_at, changed_tables, kept_scopes, same_scopes)
+
+pub ruleset taking_all = (none_yet, key_created)
+
+take_together : (tables : Tables) (table : TableId) (key : List Value) (keys : List (List Value)) → take_all tables table (key ∷ keys) ≡ with_rows tables table (without_all (rows_at tables table) (key ∷ keys))
+take_together tables table key [] = refl
+take_together tables table key (next ∷ keys) =
+    let rows : Rows = without_row (rows_at tables table) key in
+    take_together (without_key tables table key) table next keys
+    ∙ ap (λ there. with_rows (without_key tables table key) table (without_all there (next ∷ keys))) (rows_found tables table rows)
+    ∙ put_again tables_total table rows (without_all rows (next ∷ keys)) tables
+
+keys_taken : (tables after : Tables) (table : TableId) (keys : List (List Value)) → 0 < length keys → after ≡ take_all tables table keys → after ≡ with_rows tables table (without_all (rows_at tables table) keys)
+keys_taken tables after table [] some is = absurd (omega (arith, some))
+keys_taken tables after table (key ∷ keys) some is = is ∙ take_together tables table key keys
+
+aside_lost : (schema : Catalog) (tables after : Tables) (table : TableId) (keys : List (List Value)) (aside : Bor Places) → 0 < length keys → is_some (rows_in tables table) ≡ true → after ≡ take_all tables table keys
+    → IsDivided (rows_at tables table) (rows_at after table) aside.now → some_lost schema (before.Rows table aside) after ≡ some_loses_row schema tables (with_rows tables table (without_all (rows_at tables table) keys))
+aside_lost schema tables after table keys aside some created is divided =
+    let left : Rows = without_all (rows_at tables table) keys in
+    let whole : after ≡ with_rows tables table left = keys_taken tables after table keys some is in
+    let there : rows_at after table ≡ left = ap (λ ts. rows_at ts table) whole ∙ rows_found tables table left in
+    lost_among schema tables after table aside left created (subst (λ (rs : Rows). IsDivided (rows_at tables table) rs aside.now) there divided) whole ∙ ap (some_loses_row schema tables) whole
+
+-- rows that are left refer to rows that were taken out
+pub all_lost : (schema : Catalog) (tables after : Tables) (table : TableId) (keys : List (List Value)) (aside : Bor Places) → 0 < length keys → is_some (rows_in tables table) ≡ true → after ≡ take_all tables table keys
+    → IsDivided (rows_at tables table) (rows_at after table) aside.now → some_lost schema (before.Rows table aside) after ≡ true → remove_all schema tables table (rows_at tables table) keys ≡ Err violations.Foreign
+all_lost schema tables after table keys aside some created is divided lost =
+    remove_loses schema tables table (rows_at tables table) keys (sym (aside_lost schema tables after table keys aside some created is divided) ∙ lost)
+
+pub none_lost : (schema : Catalog) (tables after : Tables) (table : TableId) (keys : List (List Value)) (aside : Bor Places) → 0 < length keys → is_some (rows_in tables table) ≡ true → after ≡ take_all tables table keys
+    → IsDivided (rows_at tables table) (rows_at after table) aside.now → some_lost schema (before.Rows table aside) after ≡ false → remove_all schema tables table (rows_at tables table) keys ≡ Ok after
+none_lost schema tables after table keys aside some created is divided bound =
+    remove_done schema tables table (rows_at tables table) keys (sym (aside_lost schema tables after table keys aside some created is divided) ∙ bound) ∙ ap (λ ts. Ok ts) (sym (keys_taken tables after table keys some is))
 
 pub ruleset remove_steps = (all_lost, none_lost)
 
@@ -138,9 +252,9 @@ pub row_put : (schema : Catalog) (tables after : Tables) (table : TableId) (r : 
     → spec.of_row table (row.insert_rows schema tables table (rows_at tables table) (r ∷ [])) ≡ Ok (1, after)
 row_put schema tables after table r keys is = ap (spec.of_row table) is
 
-pub row_refused : (schema : Catalog) (tables after : Tables) (table : TableId) (new : List Value) (e : Unwritten) (r : WriteRefusal) → DidOrLeft (row.insert_rows schema tables table (rows_at tables table) (new ∷ [])) tables (Err e) after
-    → r ≡ unwritten_refusal e → Leaves table (spec.of_row table (row.insert_rows schema tables table (rows_at tables table) (new ∷ []))) tables (Err r) after
-row_refused schema tables after table new e r did is = (left_refused table e r (row.insert_rows schema tables table (rows_at tables table) (new ∷ [])) (λ done. (1, done.1)) did.0 is, did.1)
+pub row_refused : (schema : Catalog) (tables : Tables) (table : TableId) (new : List Value) (e : Unwritten) (r : WriteRefusal) → Told (row.insert_rows schema tables table (rows_at tables table) (new ∷ [])) (Err e)
+    → r ≡ unwritten_refusal e → Refuses (write_refusal table r) (spec.of_row table (row.insert_rows schema tables table (rows_at tables table) (new ∷ [])))
+row_refused schema tables table new e r told is = left_refused table e r (row.insert_rows schema tables table (rows_at tables table) (new ∷ [])) (λ done. (1, done.1)) told is
 
 pub ruleset row_steps = (row_put, row_refused)
 
@@ -201,35 +315,63 @@ of_table schema (bulk.Insert table columns values) plain = plain.0
 of_table schema (bulk.Update table cells filter) plain = plain.0
 of_table schema (bulk.Delete table filter) plain = plain.0
 
-pub nowhere : (schema : Catalog) (tables : Tables) (statement : Bulk) → rows_in tables (spec.table_of statement) ≡ None → spec.bulk_outcome schema tables statement ≡ Err (refusals.OperationalError (spec.table_of statement))
+nowhere : (schema : Catalog) (tables : Tables) (statement : Bulk) → rows_in tables (spec.table_of statement) ≡ None → spec.bulk_outcome schema tables statement ≡ Err (refusals.OperationalError (spec.table_of statement))
 unfolding spec.bulk_outcome
 nowhere schema tables (bulk.Insert table columns values) is = rw is refl
 nowhere schema tables (bulk.Update table cells filter) is = rw is refl
 nowhere schema tables (bulk.Delete table filter) is = rw is refl
 
-pub inserts : (schema : Catalog) (tables : Tables) (table : TableId) (columns : List ColumnNo) (values : List Value) (rows : Rows) → rows_in tables table ≡ Some rows
-    → spec.bulk_outcome schema tables (bulk.Insert table columns values)
-    ≡ spec.of_row table (row.insert_rows schema tables table (rows_at tables table) (inserted_row (length (spec_of schema table).columns) columns values ∷ []))
+pub absent : (schema : Catalog) (tables : Tables) (statement : Bulk) → is_created tables (spec.table_of statement) ≡ false → spec.bulk_outcome schema tables statement ≡ Err (refusals.OperationalError (spec.table_of statement))
+absent schema tables statement none = nowhere schema tables statement (is_absent (rows_in tables (spec.table_of statement)) none)
+
+there : (tables : Tables) (table : TableId) → is_some (rows_in tables table) ≡ true → rows_in tables table ≡ Some (rows_at tables table)
+there tables table created = by (rows_in tables table) created
+  where
+    by : (found : Option Rows) → is_some found ≡ true → found ≡ Some (unwrap_or found [])
+    by None created = cc
+    by (Some rows) created = refl
+
+pub inserts : (schema : Catalog) (tables : Tables) (table : TableId) (columns : List ColumnNo) (values : List Value) → is_some (rows_in tables table) ≡ true
+    → spec.of_row table (row.insert_rows schema tables table (rows_at tables table) (inserted_row (length (spec_of schema table).columns) columns values ∷ []))
+    ≡ spec.bulk_outcome schema tables (bulk.Insert table columns values)
 unfolding spec.bulk_outcome
-inserts schema tables table columns values rows is = rw is refl
+inserts schema tables table columns values created = rw (there tables table created) refl
 
-pub updates : (schema : Catalog) (tables : Tables) (table : TableId) (cells : List (ColumnNo × Option Expr)) (filter : Option Expr) (rows : Rows) → rows_in tables table ≡ Some rows
-    → spec.bulk_outcome schema tables (bulk.Update table cells filter)
-    ≡ spec.update schema tables table cells filter rows
+pub updates : (schema : Catalog) (tables : Tables) (table : TableId) (cells : List (ColumnNo × Option Expr)) (filter : Option Expr) → is_some (rows_in tables table) ≡ true
+    → spec.update schema tables table cells filter (rows_at tables table) ≡ spec.bulk_outcome schema tables (bulk.Update table cells filter)
 unfolding spec.bulk_outcome
-updates schema tables table cells filter rows is = rw is refl
+updates schema tables table cells filter created = rw (there tables table created) refl
 
-pub deletes : (schema : Catalog) (tables : Tables) (table : TableId) (filter : Option Expr) (rows : Rows) → rows_in tables table ≡ Some rows
-    → spec.bulk_outcome schema tables (bulk.Delete table filter)
-    ≡ spec.delete schema tables table filter rows
+pub deletes : (schema : Catalog) (tables : Tables) (table : TableId) (filter : Option Expr) → is_some (rows_in tables table) ≡ true
+    → spec.delete schema tables table filter (rows_at tables table) ≡ spec.bulk_outcome schema tables (bulk.Delete table filter)
 unfolding spec.bulk_outcome
-deletes schema tables table filter rows is = rw is refl
+deletes schema tables table filter created = rw (there tables table created) refl
 
--- the tables of an answer took the place of those that were there
-pub replaced : (table : TableId) (told : Checked (ℕ × Tables)) (old new : Tables) (answer : Result (ℕ × Tables) WriteRefusal) (result : Result ℕ WriteRefusal) → Answers table answer told → Replaces answer old result new
-    → Leaves table told old result new
-replaced table told old new (Ok (count, after)) result is done =
-    subst (λ (r : Result ℕ WriteRefusal). Leaves table told old r new) (sym done.0) (is ∙ ap (λ ts. Ok (count, ts)) (sym done.1))
-replaced table told old new (Err r) result is done = subst (λ (w : Result ℕ WriteRefusal). Leaves table told old w new) (sym done.0) (is, done.1)
+pub ruleset applied_steps = (one_each, of_table, absent, inserts, updates, deletes)
 
-pub ruleset applied_steps = (replaced, one_each, of_table, nowhere, inserts, updates, deletes)
+-- whatever the statement left, its scope was ended by what it answered
+pub settled_bulk : (schema : Catalog) (s : Bulk) (old inner mid new : Store) (answer result : Result ℕ WriteRefusal) → result ≡ answer → inner ≡ scope_started old
+    → WroteBulk (spec.table_of s) (spec.bulk_outcome schema inner.tables s) inner answer mid
+    → OnOk answer (new ≡ scope_ended mid) → OnErr answer (new ≡ scope_undone mid)
+    → Leaves (spec.table_of s) (spec.bulk_outcome schema old.tables s) old result new
+settled_bulk schema s old inner mid new answer result same started wrote ok err =
+    subst (λ (r : Result ℕ WriteRefusal). Leaves (spec.table_of s) (spec.bulk_outcome schema old.tables s) old r new) (sym same) (by answer wrote ok err)
+  where
+    by : (answer : Result ℕ WriteRefusal) → WroteBulk (spec.table_of s) (spec.bulk_outcome schema inner.tables s) inner answer mid
+        → OnOk answer (new ≡ scope_ended mid) → OnErr answer (new ≡ scope_undone mid)
+        → Leaves (spec.table_of s) (spec.bulk_outcome schema old.tables s) old answer new
+    by (Ok count) wrote ok err =
+        let kept = kept_store old inner mid new started wrote.1 ok in
+        (ap (λ (store : Store). spec.bulk_outcome schema store.tables s) (sym started) ∙ wrote.0 ∙ ap (λ ts. Ok (count, ts)) (sym kept.0), kept.1)
+    by (Err r) wrote ok err = (
+      subst (λ (store : Store). Refuses (write_refusal (spec.table_of s) r) (spec.bulk_outcome schema store.tables s)) started wrote.0,
+      left_store old inner mid new started wrote.1 err,
+    )
+
+-- the scope of the statement is there to be ended
+pub inside_bulk : (schema : Catalog) (s : Bulk) (old inner mid : Store) (answer : Result ℕ WriteRefusal) → inner ≡ scope_started old
+    → WroteBulk (spec.table_of s) (spec.bulk_outcome schema inner.tables s) inner answer mid → 0 < length mid.scopes
+inside_bulk schema s old inner mid (Ok count) started wrote = one_inside old inner mid started wrote.1
+inside_bulk schema s old inner mid (Err r) started wrote = one_inside old inner mid started wrote.1
+
+pub ruleset settled_steps = (settled_bulk, inside_bulk)

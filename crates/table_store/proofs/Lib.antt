@@ -1,5 +1,4 @@
 mod BulkSteps
 mod Evaluated
-mod Scopes
 mod Stored
 mod WriteSteps

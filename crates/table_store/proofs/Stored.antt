@@ -76,15 +76,8 @@ stored_violation schema s violation r old new did same is =
     (stored_own (call.write schema s) (sent.Write s) (write_refusal (table_of s) (refusal_by violation)) old new (own_violation (table_of s) violation)
     (ap (λ outcome. run_of_write s outcome old) did ∙ ap (λ e. sends (sent.Write s) old (Err e)) (refusal_is (table_of s) violation)) same)
 
--- whatever became of the tables, the outermost scope has those that were there at its start
-outermost_any : (a b : Tables) (scopes : List Tables) → 0 < length scopes → outermost a scopes ≡ outermost b scopes
-outermost_any a b [] inside = absurd (omega arith)
-outermost_any a b (s ∷ scopes) inside = refl
-
-pub gone_back : (mid old new : Store) → 0 < length old.scopes → mid.scopes ≡ old.scopes → new ≡ given_up mid → given_up new ≡ given_up old
-gone_back mid old new inside same is =
-    ap given_up is ∙ ap (λ scopes. given_up (record { tables = mid.tables; scopes = scopes })) same
-    ∙ ap (λ tables. record { tables = tables; scopes = [] }) (outermost_any mid.tables old.tables old.scopes inside)
+pub gone_back : (mid old new : Store) → mid ≡ old → new ≡ given_up mid → given_up new ≡ given_up old
+gone_back mid old new same is = ap given_up (is ∙ ap given_up same)
 
 pub violation_refuses : (s : RowStmt) (violation : Violation) (r : WriteRefusal) → MayViolate s violation → r ≡ refusal_by violation → RefusesRow s (write_refusal (table_of s) r)
 violation_refuses s violation r may is = subst (λ (q : WriteRefusal). RefusesRow s (write_refusal (table_of s) q)) (sym is) (by s violation may)
@@ -127,16 +120,17 @@ bulk_refuses : (schema : Catalog) (tables : Tables) (s : Bulk) (e : Refusal) →
 bulk_refuses schema tables s e plain told = bulk_may schema s e plain (refused schema tables s e told)
 
 -- what was done to the tables is what the statement's program does to the store, in the same scopes
-pub stored_left : (schema : Catalog) (s : Bulk) (result : Result ℕ WriteRefusal) (old new : Store) → Leaves (spec.table_of s) (spec.bulk_outcome schema old.tables s) old.tables result new.tables → new.scopes ≡ old.scopes
+pub stored_left : (schema : Catalog) (s : Bulk) (result : Result ℕ WriteRefusal) (old new : Store) → Leaves (spec.table_of s) (spec.bulk_outcome schema old.tables s) old result new
     → Stores (call.bulk schema s) (sent.Bulk s) old (as_refusal (write_refusal (spec.table_of s)) result) new
-stored_left schema s (Ok count) old new left same = stored_bulk schema s count old new left same
-stored_left schema s (Err r) old new left same =
-    stored_bulk_err schema s (write_refusal (spec.table_of s) r) old new left.0 (λ i. record { tables = left.1 i; scopes = same i })
+stored_left schema s (Ok count) old new left = stored_bulk schema s count old new left.0 left.1
+stored_left schema s (Err r) old new left = stored_bulk_err schema s (write_refusal (spec.table_of s) r) old new left.0 left.1
 
-pub left_refuses : (schema : Catalog) (tables after : Tables) (s : Bulk) (result : Result ℕ WriteRefusal) → IsPlainBulk schema s → Leaves (spec.table_of s) (spec.bulk_outcome schema tables s) tables result after
+pub left_refuses : (schema : Catalog) (old new : Store) (s : Bulk) (result : Result ℕ WriteRefusal) → IsPlainBulk schema s → Leaves (spec.table_of s) (spec.bulk_outcome schema old.tables s) old result new
     → IfErr (as_refusal (write_refusal (spec.table_of s)) result) (RefusesBulk schema s)
-left_refuses schema tables after s (Ok count) plain left = tt
-left_refuses schema tables after s (Err r) plain left = bulk_refuses schema tables s (write_refusal (spec.table_of s) r) plain left.0
+left_refuses schema old new s (Ok count) plain left = tt
+left_refuses schema old new s (Err r) plain left = bulk_refuses schema old.tables s (write_refusal (spec.table_of s) r) plain left.0
+
+pub ruleset bulks = (stored_left, left_refuses)
 
 -- ---- a select
 

@@ -1,28 +1,33 @@
 -- Steps of a statement on rows, done on tables that are held.
-use Rattle.std.proofs.Common.{◌≡◌, ◌<◌, Bool, true, false, List, [], ◌∷◌, ◌++◌, length, Option, None, Some, is_some, Result, Ok, Err, IfErr, if◌then◌else◌, refl, sym, ap, subst, ◌∙◌, append-nil, append_assoc, arith}
+use Rattle.std.proofs.Common.{◌≡◌, ◌<◌, Bool, true, false, List, [], ◌∷◌, ◌++◌, length, drop, slice_index_or, Option, None, Some, is_some, Result, Ok, Err, OnOk, OnErr, if◌then◌else◌, refl, sym, ap, subst, ◌∙◌, append-nil, append_assoc, arith}
+use Rattle.std.specs.Borrow.{Bor}
 use Rattle.std.specs.List.{list_any}
 use Rattle.std.specs.Option.{unwrap_or}
 use Rattle.schema_core.proofs.TableOrder.{tables_total}
 use Rattle.base_core.proofs.Tests.{or_false}
-use Rattle.schema_core.proofs.ApplySteps.{is_absent}
 use Rattle.base_core.specs.declared.ids.ColumnNo.{ColumnNo}
 use Rattle.base_core.specs.declared.ids.TableId.{TableId}
 use Rattle.base_core.specs.declared.value.Value.{Value}
+use Rattle.schema_core.specs.declared.statement.RowStmt.{RowStmt}
 use Rattle.schema_core.specs.declared.statement.RowStmt.TheVariants.{Insert, Update, Delete}
 use Rattle.schema_core.specs.declared.statement.Unwritten.{Unwritten}
 use Rattle.schema_core.specs.declared.statement.Unwritten.TheVariants.{Violates, Memory}
-use Rattle.schema_core.specs.declared.statement.Violation.TheVariants.{Unique, Foreign, PrimaryKey, NotNull}
+use Rattle.schema_core.specs.declared.statement.Violation.TheVariants.{Unique, Foreign, NoTable, NotNull}
 use Rattle.schema_core.specs.declared.table.TableSpec.{TableSpec}
-use Rattle.schema_core.specs.Apply.{Outcome, answer_keys, apply, delete_row, entries_of, entry_of, insert_rows, is_demanded, keys_of_entries, update_row, with_cells, with_own_key}
+use Rattle.schema_core.specs.Apply.{Outcome, answer_keys, apply, delete_row, entries_of, entry_of, insert_rows, is_demanded, keys_of_entries, table_of, update_row, with_cells, with_own_key}
 use Rattle.schema_core.specs.Catalog.{Catalog, is_required, spec_of}
 use Rattle.schema_core.specs.Judged.{Judged, and_then, lacks_value, some_loses_row, some_repeats, some_written_dangles, with_all, write_all}
-use Rattle.schema_core.specs.Tables.{Rows, Tables, key_of, row_under, rows_in, with_row, with_rows, without_row}
+use Rattle.schema_core.specs.Tables.{Rows, Tables, is_created, row_under, rows_in, with_row, with_rows, without_row}
 use Rattle.schema_core.specs.Told.{Told}
 use Rattle.schema_core.proofs.ApplySteps as steps
-use Rattle.table_rows.specs.Rows.{AreSorted, with_former_row, rows_at}
-use Rattle.table_store.specs.Held.{Did, DidOrLeft, put_from, stand, taken_back, with_entry}
+use Rattle.table_log.specs.Scopes.{scope_ended, scope_started, scope_undone, with_tables}
+use Rattle.table_rows.specs.Rows.{rows_at}
+use Rattle.programs.specs.Store.{Store}
+use Rattle.table_store.specs.Held.{DidOrLeft, Wrote, put_all, put_from, stand, with_entry}
 use Rattle.table_rows.proofs.Entries.{found_put, put_again}
-use Rattle.table_rows.proofs.Laws.{put_undone, rows_found, taking_undone}
+use Rattle.table_rows.proofs.Laws.{rows_found}
+use Rattle.table_rows.specs.Lost.{some_lost}
+use Rattle.table_rows.specs.declared.judging.Before.TheVariants as before
 use Rattle.table_rows.proofs.Gone.{lost_alone}
 
 -- a table whose rows were changed is still created
@@ -32,6 +37,23 @@ still_created tables new table rows is = ap (λ ts. is_some (rows_in ts table)) 
 created_rows : (found : Option Rows) → is_some found ≡ true → found ≡ Some (unwrap_or found [])
 created_rows None is = cc
 created_rows (Some rows) is = refl
+
+-- ---- changed tables
+
+-- other tables in the same scopes
+pub changed_tables : (old new : Store) (tables : Tables) → new ≡ with_tables old tables → new.tables ≡ tables
+changed_tables old new tables is = ap (λ (store : Store). store.tables) is
+
+pub kept_scopes : (old new : Store) (tables : Tables) → new ≡ with_tables old tables → new.scopes ≡ old.scopes
+kept_scopes old new tables is = ap (λ (store : Store). store.scopes) is
+
+pub same_scopes : (old new : Store) → new ≡ old → new.scopes ≡ old.scopes
+same_scopes old new is = ap (λ (store : Store). store.scopes) is
+
+pub changed_created : (old new : Store) (table : TableId) (rows : Rows) → new ≡ with_tables old (with_rows old.tables table rows) → is_some (rows_in new.tables table) ≡ true
+changed_created old new table rows is = still_created old.tables new.tables table rows (changed_tables old new (with_rows old.tables table rows) is)
+
+pub ruleset changing = (changed_tables, kept_scopes, same_scopes)
 
 -- ---- written rows stand
 
@@ -90,11 +112,11 @@ unfolding put_from
 put_all_in schema tables table done [] none is = ap (λ r. and_then r (λ _. Ok (keys_of_entries done, tables))) is
 put_all_in schema tables table done (row ∷ more) none is = absurd (omega (arith, none))
 
-pub put_refused : (schema : Catalog) (tables : Tables) (table : TableId) (done : Rows) (new : List (List Value)) (e : Unwritten) → length new ≡ 0 → Told (stand schema tables table done) (Err e)
-    → DidOrLeft (put_from schema tables table done new) tables (Err e) tables
+pub put_refused : (schema : Catalog) (old : Store) (table : TableId) (done : Rows) (new : List (List Value)) (e : Unwritten) → length new ≡ 0 → Told (stand schema old.tables table done) (Err e)
+    → Wrote (put_from schema old.tables table done new) old (Err e) old
 unfolding put_from
-put_refused schema tables table done [] e none told = (steps.told_first (stand schema tables table done) (λ _. Ok (keys_of_entries done, tables)) e told, refl)
-put_refused schema tables table done (row ∷ more) e none told = absurd (omega (arith, none))
+put_refused schema old table done [] e none told = (steps.told_first (stand schema old.tables table done) (λ _. Ok (keys_of_entries done, old.tables)) e told, refl)
+put_refused schema old table done (row ∷ more) e none told = absurd (omega (arith, none))
 
 abbrev new_entry : Catalog → Tables → TableId → List Value → Judged (List Value × List Value)
 new_entry schema tables table row = entry_of (spec_of schema table) (rows_at tables table) (with_own_key (spec_of schema table) (rows_at tables table) row)
@@ -102,85 +124,35 @@ new_entry schema tables table row = entry_of (spec_of schema table) (rows_at tab
 abbrev put_on : Catalog → Tables → TableId → Rows → List (List Value) → List Value × List Value → Outcome
 put_on schema tables table done more entry = put_from schema (with_entry tables table entry) table (done ++ entry ∷ []) more
 
-pub put_nowhere : (schema : Catalog) (tables : Tables) (table : TableId) (done : Rows) (row : List Value) (more : List (List Value)) (e : Unwritten) → Told (new_entry schema tables table row) (Err e)
-    → DidOrLeft (put_from schema tables table done (row ∷ more)) tables (Err e) tables
+pub put_nowhere : (schema : Catalog) (old : Store) (table : TableId) (done : Rows) (row : List Value) (more : List (List Value)) (e : Unwritten) → Told (new_entry schema old.tables table row) (Err e)
+    → Wrote (put_from schema old.tables table done (row ∷ more)) old (Err e) old
 unfolding put_from
-put_nowhere schema tables table done row more e told = (steps.told_first (new_entry schema tables table row) (put_on schema tables table done more) e told, refl)
+put_nowhere schema old table done row more e told = (steps.told_first (new_entry schema old.tables table row) (put_on schema old.tables table done more) e told, refl)
 
 put_step : (schema : Catalog) (tables : Tables) (table : TableId) (done : Rows) (row : List Value) (more : List (List Value)) (entry : List Value × List Value) → new_entry schema tables table row ≡ Ok entry
     → put_from schema tables table done (row ∷ more) ≡ put_on schema tables table done more entry
 unfolding put_from
 put_step schema tables table done row more entry is = ap (λ r. and_then r (put_on schema tables table done more)) is
 
-absent_by : (spec : TableSpec) (rows : Rows) (row : List Value) (b : Bool) (entry : List Value × List Value) → is_some (row_under rows (key_of spec row)) ≡ b → (if b then Err PrimaryKey else Ok (key_of spec row, row)) ≡ Ok entry
-    → is_some (row_under rows entry.0) ≡ false
-absent_by spec rows row true entry is found = cc
-absent_by spec rows row false entry is found =
-    let same : key_of spec row ≡ entry.0 = ap (key_or []) found in
-    ap (λ key. is_some (row_under rows key)) (sym same) ∙ is
+-- one row is in, and the rest is done behind it
+pub put_one : (schema : Catalog) (old mid new : Store) (table : TableId) (done both : Rows) (rows : List (List Value)) (row : List Value) (more : List (List Value)) (entry : List Value × List Value) (answer : Result (List (List Value)) Unwritten)
+    → rows ≡ row ∷ more → new_entry schema old.tables table row ≡ Ok entry → mid.tables ≡ with_entry old.tables table entry → mid.scopes ≡ old.scopes → both ≡ done ++ entry ∷ []
+    → Wrote (put_from schema mid.tables table both more) mid answer new → Wrote (put_from schema old.tables table done rows) old answer new
+put_one schema old mid new table done both rows row more entry answer is_rows is is_mid same is_both wrote =
+    by answer (subst (λ (outcome : Outcome). Wrote outcome mid answer new) told wrote)
   where
-    key_or : List Value → Judged (List Value × List Value) → List Value
-    key_or other (Ok e) = e.0
-    key_or other (Err v) = other
+    told : put_from schema mid.tables table both more ≡ put_from schema old.tables table done rows
+    told =
+        ap (λ ts. put_from schema ts table both more) is_mid ∙ ap (λ es. put_from schema (with_entry old.tables table entry) table es more) is_both ∙ sym (put_step schema old.tables table done row more entry is)
+        ∙ ap (put_from schema old.tables table done) (sym is_rows)
 
--- a new row's key was not there
-new_absent : (spec : TableSpec) (rows : Rows) (keyed : Option (List Value)) (entry : List Value × List Value) → entry_of spec rows keyed ≡ Ok entry → is_some (row_under rows entry.0) ≡ false
-new_absent spec rows None entry is = cc
-new_absent spec rows (Some row) entry is = absent_by spec rows row (is_some (row_under rows (key_of spec row))) entry refl is
+    by : (answer : Result (List (List Value)) Unwritten) → Wrote (put_from schema old.tables table done rows) mid answer new → Wrote (put_from schema old.tables table done rows) old answer new
+    by (Ok keys) w = (w.0, w.1 ∙ same)
+    by (Err e) w = (w.0, w.1 ∙ same)
 
--- a new row that was put in, taken out again
-entry_undone : (tables : Tables) (table : TableId) (entry : List Value × List Value) → AreSorted tables table → is_some (rows_in tables table) ≡ true → is_some (row_under (rows_at tables table) entry.0) ≡ false
-    → with_rows (with_entry tables table entry) table (without_row (rows_at (with_entry tables table entry) table) entry.0) ≡ tables
-entry_undone tables table entry sorted created new =
-    ap (λ before. with_rows (with_entry tables table entry) table (with_former_row (rows_at (with_entry tables table entry) table) entry.0 before)) (sym (is_absent (row_under (rows_at tables table) entry.0) new))
-    ∙ put_undone tables table entry.0 entry.1 sorted created
-
-put_undone_again : (schema : Catalog) (tables left : Tables) (table : TableId) (done : Rows) (row : List Value) (more : List (List Value)) (entry : List Value × List Value) (e : Unwritten)
-    → new_entry schema tables table row ≡ Ok entry → AreSorted tables table → is_some (rows_in tables table) ≡ true → Told (put_on schema tables table done more entry) (Err e) → left ≡ with_entry tables table entry
-    → DidOrLeft {A = List (List Value)} (put_from schema tables table done (row ∷ more)) tables (Err e) (with_rows left table (without_row (rows_at left table) entry.0))
-put_undone_again schema tables left table done row more entry e is sorted created told same = (
-  subst (λ (outcome : Outcome). Told outcome (Err e)) (sym (put_step schema tables table done row more entry is)) told,
-  ap (λ ts. with_rows ts table (without_row (rows_at ts table) entry.0)) same
-      ∙ entry_undone tables table entry sorted created (new_absent (spec_of schema table) (rows_at tables table) (with_own_key (spec_of schema table) (rows_at tables table) row) entry is),
-)
-
-pub put_ended : (schema : Catalog) (tables left after : Tables) (table : TableId) (done : Rows) (row : List Value) (more : List (List Value)) (entry : List Value × List Value) (answer : Result (List (List Value)) Unwritten)
-    → new_entry schema tables table row ≡ Ok entry → AreSorted tables table → is_some (rows_in tables table) ≡ true
-    → DidOrLeft (put_on schema tables table done more entry) (with_entry tables table entry) answer left → after ≡ taken_back answer left table entry.0
-    → DidOrLeft (put_from schema tables table done (row ∷ more)) tables answer after
-put_ended schema tables left after table done row more entry answer is sorted created did ended =
-    subst (λ (ts : Tables). DidOrLeft (put_from schema tables table done (row ∷ more)) tables answer ts) (sym ended) (by answer did)
-  where
-    by : (answer : Result (List (List Value)) Unwritten) → DidOrLeft (put_on schema tables table done more entry) (with_entry tables table entry) answer left
-        → DidOrLeft (put_from schema tables table done (row ∷ more)) tables answer (taken_back answer left table entry.0)
-    by (Ok keys) did = put_step schema tables table done row more entry is ∙ did
-    by (Err e) did = put_undone_again schema tables left table done row more entry e is sorted created did.0 did.1
-
-pub put_closed : (schema : Catalog) (tables mid left after : Tables) (table : TableId) (done both : Rows) (new : List (List Value)) (row : List Value) (more : List (List Value)) (entry : List Value × List Value) (key : List Value) (answer : Result (List (List Value)) Unwritten)
-    → new ≡ row ∷ more → new_entry schema tables table row ≡ Ok entry → key ≡ entry.0 → mid ≡ with_entry tables table entry → both ≡ done ++ entry ∷ []
-    → AreSorted tables table → is_some (rows_in tables table) ≡ true → DidOrLeft (put_from schema mid table both more) mid answer left → after ≡ taken_back answer left table key
-    → DidOrLeft (put_from schema tables table done new) tables answer after
-put_closed schema tables mid left after table done both new row more entry key answer is_new is is_key is_mid is_both sorted created did ended =
-    let first : DidOrLeft (put_from schema (with_entry tables table entry) table both more) (with_entry tables table entry) answer left =
-    subst (λ (ts : Tables). DidOrLeft (put_from schema ts table both more) ts answer left) is_mid did in
-    let second : DidOrLeft (put_on schema tables table done more entry) (with_entry tables table entry) answer left =
-    subst (λ (es : Rows). DidOrLeft (put_from schema (with_entry tables table entry) table es more) (with_entry tables table entry) answer left) is_both first in
-    subst (λ (rows : List (List Value)). DidOrLeft (put_from schema tables table done rows) tables answer after) (sym is_new)
-    (put_ended schema tables left after table done row more entry answer is sorted created second (ended ∙ ap (taken_back answer left table) is_key))
-
--- where a statement was refused, the tables are as they were
-pub refused_created : (old left : Tables) (table : TableId) (told : Outcome) (answer : Result (List (List Value)) Unwritten) → DidOrLeft told old answer left → is_some (rows_in old table) ≡ true
-    → IfErr answer (λ _. is_some (rows_in left table) ≡ true)
-refused_created old left table told (Ok keys) did created = tt
-refused_created old left table told (Err e) did created = ap (λ ts. is_some (rows_in ts table)) did.1 ∙ created
-
-pub ruleset put_steps = (put_all_in, put_refused, put_nowhere, put_ended, refused_created, still_created)
+pub ruleset put_steps = (put_all_in, put_refused, put_nowhere, put_one, still_created, same_scopes)
 
 -- ---- an INSERT
-
-put_all : Tables → TableId → Rows → Tables
-put_all tables table [] = tables
-put_all tables table (entry ∷ entries) = put_all (with_entry tables table entry) table entries
 
 abbrev stands : Catalog → Tables → TableId → Rows → Rows → Outcome
 stands schema tables table done entries = and_then (stand schema (put_all tables table entries) table (done ++ entries)) (λ _. Ok (keys_of_entries (done ++ entries), put_all tables table entries))
@@ -191,7 +163,7 @@ more_entries entry (Err violation) next = refl
 
 put_as_entries : (schema : Catalog) (tables : Tables) (table : TableId) (done : Rows) (new : List (List Value))
     → put_from schema tables table done new ≡ and_then (entries_of (spec_of schema table) (rows_at tables table) new) (stands schema tables table done)
-unfolding put_from put_all
+unfolding put_from
 put_as_entries schema tables table done [] = ap (λ es. and_then (stand schema tables table es) (λ _. Ok (keys_of_entries es, tables))) (sym (append-nil done))
 put_as_entries schema tables table done (row ∷ more) = by (new_entry schema tables table row) (λ entry. put_as_entries schema (with_entry tables table entry) table (done ++ entry ∷ []) more)
   where
@@ -208,8 +180,7 @@ put_as_entries schema tables table done (row ∷ more) = by (new_entry schema ta
         ∙ more_entries entry (entries_of (spec_of schema table) (with_row (rows_at tables table) entry.0 entry.1) more) (stands schema tables table done)
     by (Err violation) again = refl
 
-put_together : (tables : Tables) (table : TableId) (entry : List Value × List Value) (entries : Rows) → put_all tables table (entry ∷ entries) ≡ with_rows tables table (with_all (rows_at tables table) (entry ∷ entries))
-unfolding put_all
+pub put_together : (tables : Tables) (table : TableId) (entry : List Value × List Value) (entries : Rows) → put_all tables table (entry ∷ entries) ≡ with_rows tables table (with_all (rows_at tables table) (entry ∷ entries))
 put_together tables table entry [] = refl
 put_together tables table entry (next ∷ entries) =
     let rows : Rows = with_row (rows_at tables table) entry.0 entry.1 in
@@ -265,44 +236,54 @@ update_full schema tables table rows key row cells found full =
     ∙ ap (answer_keys (key ∷ [])) (sym (steps.change_full schema tables table rows (updated key row cells) (or_false (lacks_value is_required (spec_of schema table).columns (with_cells row cells)) ∙ full)))
     ∙ sym (stand_written schema tables table rows (updated key row cells) (λ ts. Ok (key ∷ [], ts)))
 
-pub update_stands : (schema : Catalog) (tables after : Tables) (table : TableId) (key row : List Value) (cells : List (ColumnNo × Value)) → row_under (rows_at tables table) key ≡ Some row
-    → lacks_value is_required (spec_of schema table).columns (with_cells row cells) ≡ false → after ≡ with_rows tables table (with_row (rows_at tables table) key (with_cells row cells))
-    → stand schema after table (updated key row cells) ≡ Ok tt → update_row schema tables table (rows_at tables table) key cells ≡ Ok (key ∷ [], after)
-update_stands schema tables after table key row cells found full is fine =
-    update_full schema tables table (rows_at tables table) key row cells found full
-    ∙ ap (λ ts. and_then (stand schema ts table (updated key row cells)) (λ _. Ok (key ∷ [], ts))) (sym is)
-    ∙ ap (λ r. and_then r (λ _. Ok (key ∷ [], after))) fine
+pub update_stands : (schema : Catalog) (old new : Store) (table : TableId) (key row : List Value) (cells : List (ColumnNo × Value)) → row_under (rows_at old.tables table) key ≡ Some row
+    → lacks_value is_required (spec_of schema table).columns (with_cells row cells) ≡ false → new ≡ with_tables old (with_rows old.tables table (with_row (rows_at old.tables table) key (with_cells row cells)))
+    → stand schema new.tables table (updated key row cells) ≡ Ok tt → update_row schema old.tables table (rows_at old.tables table) key cells ≡ Ok (key ∷ [], new.tables)
+update_stands schema old new table key row cells found full is fine =
+    update_full schema old.tables table (rows_at old.tables table) key row cells found full
+    ∙ ap (λ ts. and_then (stand schema ts table (updated key row cells)) (λ _. Ok (key ∷ [], ts))) (sym (ap (λ (store : Store). store.tables) is))
+    ∙ ap (λ r. and_then r (λ _. Ok (key ∷ [], new.tables))) fine
 
-pub update_undone : (schema : Catalog) (tables after : Tables) (table : TableId) (key row : List Value) (cells : List (ColumnNo × Value)) (e : Unwritten) → row_under (rows_at tables table) key ≡ Some row
-    → lacks_value is_required (spec_of schema table).columns (with_cells row cells) ≡ false → after ≡ with_rows tables table (with_row (rows_at tables table) key (with_cells row cells))
-    → AreSorted tables table → is_some (rows_in tables table) ≡ true → Told (stand schema after table (updated key row cells)) (Err e)
-    → Did (update_row schema tables table (rows_at tables table) key cells) tables (Err e) (with_rows after table (with_former_row (rows_at after table) key (row_under (rows_at tables table) key)))
-update_undone schema tables after table key row cells (Violates violation) found full is sorted created told = (
-  update_full schema tables table (rows_at tables table) key row cells found full
-      ∙ ap (λ ts. and_then (stand schema ts table (updated key row cells)) (λ _. Ok (key ∷ [], ts))) (sym is)
-      ∙ ap (λ r. and_then r (λ _. Ok (key ∷ [], after))) told,
-  ap (λ ts. with_rows ts table (with_former_row (rows_at ts table) key (row_under (rows_at tables table) key))) is ∙ put_undone tables table key (with_cells row cells) sorted created,
-)
-update_undone schema tables after table key row cells Memory found full is sorted created told = tt
+pub update_refused : (schema : Catalog) (old new : Store) (table : TableId) (key row : List Value) (cells : List (ColumnNo × Value)) (e : Unwritten) → row_under (rows_at old.tables table) key ≡ Some row
+    → lacks_value is_required (spec_of schema table).columns (with_cells row cells) ≡ false → new ≡ with_tables old (with_rows old.tables table (with_row (rows_at old.tables table) key (with_cells row cells)))
+    → Told (stand schema new.tables table (updated key row cells)) (Err e) → Told (update_row schema old.tables table (rows_at old.tables table) key cells) (Err e)
+update_refused schema old new table key row cells (Violates violation) found full is told =
+    update_full schema old.tables table (rows_at old.tables table) key row cells found full
+    ∙ ap (λ ts. and_then (stand schema ts table (updated key row cells)) (λ _. Ok (key ∷ [], ts))) (sym (ap (λ (store : Store). store.tables) is))
+    ∙ ap (λ r. and_then r (λ _. Ok (key ∷ [], new.tables))) told
+update_refused schema old new table key row cells Memory found full is told = tt
 
-pub ruleset update_steps = (steps.update_missing, update_lacks, update_stands, update_undone, still_created)
+pub ruleset update_steps = (steps.update_missing, update_lacks, update_stands, update_refused, changed_created, changing)
 
 -- ---- a DELETE
 
-pub delete_lost : (schema : Catalog) (tables after : Tables) (table : TableId) (key row : List Value) → is_some (rows_in tables table) ≡ true → row_under (rows_at tables table) key ≡ Some row
-    → after ≡ with_rows tables table (without_row (rows_at tables table) key) → some_loses_row schema tables after ≡ true → delete_row schema tables table (rows_at tables table) key ≡ Err Foreign
-delete_lost schema tables after table key row created found is lost =
-    steps.delete_there schema tables table (rows_at tables table) key row found
-    ∙ ap (answer_keys (key ∷ [])) (steps.remove_loses schema tables table (rows_at tables table) (key ∷ []) (ap (some_loses_row schema tables) (sym is) ∙ lost))
+pub delete_none : (schema : Catalog) (tables : Tables) (table : TableId) (rows : Rows) (key : List Value) → row_under rows key ≡ None → delete_row schema tables table rows key ≡ Ok (key ∷ [], tables)
+delete_none schema tables table rows key none = steps.delete_nothing schema tables table rows key (ap is_some none)
 
-pub delete_done : (schema : Catalog) (tables after : Tables) (table : TableId) (key row : List Value) → is_some (rows_in tables table) ≡ true → row_under (rows_at tables table) key ≡ Some row
-    → after ≡ with_rows tables table (without_row (rows_at tables table) key) → some_loses_row schema tables after ≡ false → delete_row schema tables table (rows_at tables table) key ≡ Ok (key ∷ [], after)
-delete_done schema tables after table key row created found is bound =
-    steps.delete_there schema tables table (rows_at tables table) key row found
-    ∙ ap (answer_keys (key ∷ [])) (steps.remove_done schema tables table (rows_at tables table) (key ∷ []) (ap (some_loses_row schema tables) (sym is) ∙ bound))
-    ∙ ap (λ ts. Ok (key ∷ [], ts)) (sym is)
+-- the row that is taken out, told by its key
+row_lost : (schema : Catalog) (old new : Store) (table : TableId) (key : Bor (List Value)) (row : List Value) → is_some (rows_in old.tables table) ≡ true → row_under (rows_at old.tables table) key.now ≡ Some row
+    → new ≡ with_tables old (with_rows old.tables table (without_row (rows_at old.tables table) key.now))
+    → some_lost schema (before.Row table key) new.tables ≡ some_loses_row schema old.tables (with_rows old.tables table (without_row (rows_at old.tables table) key.now))
+row_lost schema old new table key row created found is =
+    let after : new.tables ≡ with_rows old.tables table (without_row (rows_at old.tables table) key.now) = ap (λ (store : Store). store.tables) is in
+    lost_alone schema old.tables new.tables table key row created found after ∙ ap (some_loses_row schema old.tables) after
 
-pub ruleset delete_steps = (steps.delete_nothing, delete_lost, delete_done, lost_alone, taking_undone, still_created)
+pub delete_lost : (schema : Catalog) (old new : Store) (table : TableId) (key : Bor (List Value)) (row : List Value) → is_some (rows_in old.tables table) ≡ true → row_under (rows_at old.tables table) key.now ≡ Some row
+    → new ≡ with_tables old (with_rows old.tables table (without_row (rows_at old.tables table) key.now)) → some_lost schema (before.Row table key) new.tables ≡ true
+    → delete_row schema old.tables table (rows_at old.tables table) key.now ≡ Err Foreign
+delete_lost schema old new table key row created found is lost =
+    steps.delete_there schema old.tables table (rows_at old.tables table) key.now row found
+    ∙ ap (answer_keys (key.now ∷ [])) (steps.remove_loses schema old.tables table (rows_at old.tables table) (key.now ∷ []) (sym (row_lost schema old new table key row created found is) ∙ lost))
+
+pub delete_done : (schema : Catalog) (old new : Store) (table : TableId) (key : Bor (List Value)) (row : List Value) → is_some (rows_in old.tables table) ≡ true → row_under (rows_at old.tables table) key.now ≡ Some row
+    → new ≡ with_tables old (with_rows old.tables table (without_row (rows_at old.tables table) key.now)) → some_lost schema (before.Row table key) new.tables ≡ false
+    → delete_row schema old.tables table (rows_at old.tables table) key.now ≡ Ok (key.now ∷ [], new.tables)
+delete_done schema old new table key row created found is bound =
+    steps.delete_there schema old.tables table (rows_at old.tables table) key.now row found
+    ∙ ap (answer_keys (key.now ∷ [])) (steps.remove_done schema old.tables table (rows_at old.tables table) (key.now ∷ []) (sym (row_lost schema old new table key row created found is) ∙ bound))
+    ∙ ap (λ ts. Ok (key.now ∷ [], ts)) (sym (ap (λ (store : Store). store.tables) is))
+
+pub ruleset delete_steps = (delete_none, delete_lost, delete_done, changing)
 
 -- ---- a statement
 
@@ -318,10 +299,42 @@ pub apply_delete : (schema : Catalog) (tables : Tables) (table : TableId) (key :
     → delete_row schema tables table (rows_at tables table) key ≡ apply schema tables (Delete table key)
 apply_delete schema tables table key created = steps.apply_delete schema tables table (rows_at tables table) key (created_rows (rows_in tables table) created)
 
--- a statement that left the tables as they were where memory ran out
-pub left_did : (told : Outcome) (old new : Tables) (answer : Result (List (List Value)) Unwritten) → DidOrLeft told old answer new → Did told old answer new
-left_did told old new (Ok keys) did = did
-left_did told old new (Err (Violates violation)) did = did
-left_did told old new (Err Memory) did = tt
+pub apply_absent : (schema : Catalog) (tables : Tables) (statement : RowStmt) → is_created tables (table_of statement) ≡ false → apply schema tables statement ≡ Err (NoTable (table_of statement))
+apply_absent schema tables statement absent = steps.apply_nowhere schema tables statement (steps.is_absent (rows_in tables (table_of statement)) absent)
 
-pub ruleset apply_steps = (steps.apply_nowhere, apply_insert, apply_update, apply_delete, left_did)
+pub ruleset apply_steps = (apply_absent, apply_insert, apply_update, apply_delete)
+
+-- ---- the scope of a statement
+
+pub kept_store : (old inner mid new : Store) → inner ≡ scope_started old → mid.scopes ≡ inner.scopes → new ≡ scope_ended mid → (new.tables ≡ mid.tables) × (new.scopes ≡ old.scopes)
+kept_store old inner mid new started same is =
+    (ap (λ (store : Store). store.tables) is, ap (λ (store : Store). store.scopes) is ∙ ap (drop 1) (same ∙ ap (λ (store : Store). store.scopes) started))
+
+pub left_store : (old inner mid new : Store) → inner ≡ scope_started old → mid.scopes ≡ inner.scopes → new ≡ scope_undone mid → new ≡ old
+left_store old inner mid new started same is =
+    is ∙ ap (λ scopes. record { tables = slice_index_or scopes 0 mid.tables; scopes = drop 1 scopes }) (same ∙ ap (λ (store : Store). store.scopes) started)
+
+-- whatever the statement left, its scope was ended by what it answered
+settled : {A : Type 0} (told inside : Judged (A × Tables)) (old inner mid new : Store) (answer : Result A Unwritten) → inside ≡ told → inner ≡ scope_started old → Wrote inside inner answer mid
+    → OnOk answer (new ≡ scope_ended mid) → OnErr answer (new ≡ scope_undone mid)
+    → DidOrLeft told old answer new
+settled told inside old inner mid new (Ok a) same started wrote ok err =
+    let kept = kept_store old inner mid new started wrote.1 ok in (sym same ∙ wrote.0 ∙ ap (λ ts. Ok (a, ts)) (sym kept.0), kept.1)
+settled {A = A} told inside old inner mid new (Err e) same started wrote ok err = (subst (λ (j : Judged (A × Tables)). Told j (Err e)) same wrote.0, left_store old inner mid new started wrote.1 err)
+
+pub settled_row : (schema : Catalog) (s : RowStmt) (old inner mid new : Store) (answer result : Result (List (List Value)) Unwritten) → result ≡ answer → inner ≡ scope_started old → Wrote (apply schema inner.tables s) inner answer mid
+    → OnOk answer (new ≡ scope_ended mid) → OnErr answer (new ≡ scope_undone mid)
+    → DidOrLeft (apply schema old.tables s) old result new
+settled_row schema s old inner mid new answer result same started wrote ok err =
+    subst (λ (r : Result (List (List Value)) Unwritten). DidOrLeft (apply schema old.tables s) old r new) (sym same)
+    (settled (apply schema old.tables s) (apply schema inner.tables s) old inner mid new answer (ap (λ (store : Store). apply schema store.tables s) started) started wrote ok err)
+
+-- the scope of the statement is there to be ended
+pub one_inside : (old inner mid : Store) → inner ≡ scope_started old → mid.scopes ≡ inner.scopes → 0 < length mid.scopes
+one_inside old inner mid started same = let is : length mid.scopes ≡ length (old.tables ∷ old.scopes) = ap length (same ∙ ap (λ (store : Store). store.scopes) started) in omega (arith, is)
+
+pub inside_row : (schema : Catalog) (s : RowStmt) (old inner mid : Store) (answer : Result (List (List Value)) Unwritten) → inner ≡ scope_started old → Wrote (apply schema inner.tables s) inner answer mid → 0 < length mid.scopes
+inside_row schema s old inner mid (Ok keys) started wrote = one_inside old inner mid started wrote.1
+inside_row schema s old inner mid (Err e) started wrote = one_inside old inner mid started wrote.1
+
+pub ruleset settled_steps = (settled_row, inside_row)

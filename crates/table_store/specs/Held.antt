@@ -1,16 +1,16 @@
 -- What a statement on rows did to tables that are held.
-use Rattle.std.specs.Prelude.{◌≡◌, if◌then◌else◌, List, [], ◌∷◌, ◌++◌, Result, Ok, Err}
+use Rattle.std.specs.Prelude.{◌≡◌, ◌||◌, if◌then◌else◌, is_some, List, [], ◌∷◌, ◌++◌, Result, Ok, Err}
 use Rattle.base_core.specs.declared.ids.TableId.{TableId}
 use Rattle.base_core.specs.declared.value.Value.{Value}
 use Rattle.schema_core.specs.declared.statement.Unwritten.{Unwritten}
-use Rattle.schema_core.specs.declared.statement.Unwritten.TheVariants.{Violates, Memory}
 use Rattle.schema_core.specs.declared.statement.Violation.TheVariants.{Unique, Foreign}
 use Rattle.schema_core.specs.Apply.{Outcome, entry_of, keys_of_entries, with_own_key}
 use Rattle.schema_core.specs.Catalog.{Catalog, spec_of}
 use Rattle.schema_core.specs.Judged.{Judged, and_then, some_repeats, some_written_dangles}
-use Rattle.schema_core.specs.Tables.{Rows, Tables, with_row, with_rows, without_row}
+use Rattle.schema_core.specs.Tables.{Rows, Tables, row_under, with_row, with_rows, without_row}
 use Rattle.schema_core.specs.Told.{Told}
-use Rattle.table_rows.specs.Rows.{rows_at}
+use Rattle.programs.specs.Store.{Store}
+use Rattle.table_rows.specs.Rows.{Places, rows_at, rows_present}
 
 -- written rows may stand: none repeats a unique value of another row or refers to no row
 unfoldable pub stand : Catalog → Tables → TableId → Rows → Judged (Unit {0})
@@ -30,19 +30,36 @@ put_from schema tables table done (row ∷ more) =
     and_then (entry_of (spec_of schema table) (rows_at tables table) (with_own_key (spec_of schema table) (rows_at tables table) row))
     (λ entry. put_from schema (with_entry tables table entry) table (done ++ entry ∷ []) more)
 
--- the tables without a row that is taken out again where the statement was refused behind it
-abbrev pub taken_back : {A : Type 0} → Result A Unwritten → Tables → TableId → List Value → Tables
-taken_back (Ok a) tables table key = tables
-taken_back (Err e) tables table key = with_rows tables table (without_row (rows_at tables table) key)
+-- rows put in one after another
+abbrev pub put_all : Tables → TableId → Rows → Tables
+put_all tables table [] = tables
+put_all tables table (entry ∷ entries) = put_all (with_entry tables table entry) table entries
 
--- What a statement did to tables that are held, beside what its definition tells: one that is refused, or finds no memory, leaves them
--- as they were.
-abbrev pub DidOrLeft : {A : Type 0} → Judged (A × Tables) → Tables → Result A Unwritten → Tables → Type 0
-DidOrLeft told old (Ok answer) new = told ≡ Ok (answer, new)
+-- the tables without the row of a key in one of them
+abbrev pub without_key : Tables → TableId → List Value → Tables
+without_key tables table key = with_rows tables table (without_row (rows_at tables table) key)
+
+-- rows taken out one after another
+abbrev pub take_all : Tables → TableId → List (List Value) → Tables
+take_all tables table [] = tables
+take_all tables table (key ∷ keys) = take_all (without_key tables table key) table keys
+
+-- each row that was there is left, or is one of those that were set aside
+abbrev pub IsDivided : Rows → Rows → Places → Type 0
+IsDivided rows left aside = (key : List Value) → is_some (row_under rows key) ≡ (is_some (row_under left key) || is_some (row_under (rows_present aside) key))
+
+-- What a statement did to tables with scopes, beside what its definition tells: one that is refused, or finds no memory, may leave
+-- any tables, in the same scopes.
+abbrev pub Wrote : {A : Type 0} → Judged (A × Tables) → Store → Result A Unwritten → Store → Type 0
+Wrote told old (Ok answer) new = (told ≡ Ok (answer, new.tables)) × (new.scopes ≡ old.scopes)
+Wrote told old (Err e) new = Told told (Err e) × (new.scopes ≡ old.scopes)
+
+-- the same of one that answers nothing
+abbrev pub Made : Judged Tables → Store → Result (Unit {0}) Unwritten → Store → Type 0
+Made told old (Ok done) new = (told ≡ Ok new.tables) × (new.scopes ≡ old.scopes)
+Made told old (Err e) new = Told told (Err e) × (new.scopes ≡ old.scopes)
+
+-- the same of one that leaves everything as it was where it is refused, or finds no memory
+abbrev pub DidOrLeft : {A : Type 0} → Judged (A × Tables) → Store → Result A Unwritten → Store → Type 0
+DidOrLeft told old (Ok answer) new = (told ≡ Ok (answer, new.tables)) × (new.scopes ≡ old.scopes)
 DidOrLeft told old (Err e) new = Told told (Err e) × (new ≡ old)
-
--- the same of one that may leave anything where memory ran out
-abbrev pub Did : {A : Type 0} → Judged (A × Tables) → Tables → Result A Unwritten → Tables → Type 0
-Did told old (Ok answer) new = told ≡ Ok (answer, new)
-Did told old (Err (Violates violation)) new = (told ≡ Err violation) × (new ≡ old)
-Did told old (Err Memory) new = Unit {0}

@@ -10,12 +10,12 @@ use Rattle.schema_core.specs.declared.statement.Unwritten.TheVariants.{Violates,
 use Rattle.schema_core.specs.Tables.{Rows, Tables}
 use Rattle.expr_types.specs.declared.expr.Expr.{Expr}
 use Rattle.sql_semantics.specs.Applied.{named_in}
-use Rattle.sql_semantics.specs.Checked.{Checked, Gives, Refuses, ◌>>=◌}
+use Rattle.sql_semantics.specs.Checked.{Checked, Refuses, ◌>>=◌}
 use Rattle.sql_semantics.specs.Created.{bare}
 use Rattle.sql_semantics.specs.Rows.{require_created}
 use Rattle.sql_semantics.specs.Taken.{deleted_from, updated_from}
 use Rattle.programs.specs.declared.sent.Sent.{Sent}
-use Rattle.programs.specs.Programs.{Run, as_refusal, ends_early}
+use Rattle.programs.specs.Programs.{Run, ends_early}
 use Rattle.programs.specs.Store.{Store, committed_of}
 use Rattle.keeper_core.specs.declared.keeper.WriteRefusal.{WriteRefusal}
 use Rattle.keeper_core.specs.declared.keeper.WriteRefusal.TheVariants as writes
@@ -46,19 +46,16 @@ abbrev pub unwritten_refusal : Unwritten → WriteRefusal
 unwritten_refusal (Violates violation) = refusal_by violation
 unwritten_refusal Memory = writes.Memory
 
--- what a bulk statement on a table answers, beside what its definition tells: the same, unless memory ran out
-abbrev pub Answers : {A : Type 0} → TableId → Result A WriteRefusal → Checked A → Type 0
-Answers table result told = Gives (λ x. x) (as_refusal (write_refusal table) result) told
+-- What a bulk statement on a table did to tables with scopes, beside what its definition tells: one that is refused, or finds no
+-- memory, may leave any tables, in the same scopes.
+abbrev pub WroteBulk : TableId → Checked (ℕ × Tables) → Store → Result ℕ WriteRefusal → Store → Type 0
+WroteBulk table told old (Ok count) new = (told ≡ Ok (count, new.tables)) × (new.scopes ≡ old.scopes)
+WroteBulk table told old (Err r) new = Refuses (write_refusal table r) told × (new.scopes ≡ old.scopes)
 
--- what a bulk statement on a table did to tables that are held, beside what its definition tells: a refused one left them as they were
-abbrev pub Leaves : TableId → Checked (ℕ × Tables) → Tables → Result ℕ WriteRefusal → Tables → Type 0
-Leaves table told old (Ok count) new = told ≡ Ok (count, new)
+-- the same of one that leaves everything as it was where it is refused, or finds no memory
+abbrev pub Leaves : TableId → Checked (ℕ × Tables) → Store → Result ℕ WriteRefusal → Store → Type 0
+Leaves table told old (Ok count) new = (told ≡ Ok (count, new.tables)) × (new.scopes ≡ old.scopes)
 Leaves table told old (Err r) new = Refuses (write_refusal table r) told × (new ≡ old)
-
--- the tables of an answer took the place of those that were there; a refusal left them
-abbrev pub Replaces : Result (ℕ × Tables) WriteRefusal → Tables → Result ℕ WriteRefusal → Tables → Type 0
-Replaces (Ok (count, after)) old result new = (result ≡ Ok count) × (new ≡ after)
-Replaces (Err r) old result new = (result ≡ Err r) × (new ≡ old)
 
 -- ---- the rows of a bulk statement
 

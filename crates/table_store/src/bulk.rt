@@ -1,47 +1,106 @@
-//! A bulk statement, done on tables that are held.
+//! A bulk statement, done on tables with scopes.
 
-ghost use Rattle.std.specs.Prelude.{◌≡◌, [], ◌∷◌, true, is_some, IfOk};
+ghost use Rattle.std.specs.Prelude.{◌≡◌, ◌<◌, [], ◌∷◌, true, is_some, length, IfOk, OnOk};
 ghost use Rattle.schema_core.specs.Apply.{insert_rows};
 ghost use Rattle.schema_core.specs.Catalog.{IsTable};
-ghost use Rattle.schema_core.specs.Judged.{change_all, remove_all, some_lacks, with_all, without_all};
-ghost use Rattle.schema_core.specs.Tables.{rows_in};
-ghost use Rattle.schema_core.specs.Told.{Told};
+ghost use Rattle.schema_core.specs.Judged.{change_all, remove_all, some_lacks};
+ghost use Rattle.schema_core.specs.Tables.{Rows, rows_in, without_row};
 ghost use Rattle.sql_semantics.specs.Applied as spec;
 ghost use Rattle.sql_semantics.specs.Checked.{Gives};
 ghost use Rattle.sql_semantics.specs.Plain.{IsPlainBulk};
 ghost use Rattle.table_rows.specs.Rows.{rows_at};
-ghost use Rattle.table_store.specs.Written.{Answers, Leaves, Replaces, keys_to_remove, rows_to_write};
+ghost use Rattle.table_store.specs.Held.{IsDivided, Made, put_all, take_all, without_key};
+ghost use Rattle.table_store.specs.Written.{Leaves, WroteBulk, keys_to_remove, rows_to_write};
 
+use crate::references::some_lost;
 use crate::refusals::{taking_refusal, unwritten_refusal};
-use crate::writing::{insert_rows, stand};
+use crate::writing::{insert_rows, put_copy, row_under, stand};
 use base_core::{ColumnNo, Copied, Key, ListOf, Refusal, RowValues, TableId};
 use expr_types::{Bulk, Expr};
 use keeper_core::WriteRefusal;
 use keeper_core::calls::table_of_bulk;
 use schema_core::{Schema, TableSpec, Unwritten, Violation};
 use std::alloc::{AllocError, Global};
-use table_rows::{Before, TableMap, TableRows, lacks_value, some_lost};
+use table_log::TableLog;
+use table_rows::{Before, TableRows, lacks_value};
 
-/// The rows with these written, each under its key.
-fn with_all(rows: &TableRows, entries: &[(Key, RowValues)]) -> Result<TableRows, AllocError>
-    ensures { IfOk result (λ left. left ≡ with_all rows.now entries.now) }
+#[tactic(auto, using(crate::proofs::BulkSteps::putting))]
+/// Writes rows, each under its key.
+fn put_all(
+    store: &mut TableLog,
+    table: TableId,
+    entries: &[(Key, RowValues)],
+) -> Result<(), AllocError>
+    requires { is_some (rows_in store.old.tables table) ≡ true }
+    ensures tables { OnOk result
+        (store.new.tables ≡ put_all store.old.tables table entries.now) }
+    ensures scopes { store.new.scopes ≡ store.old.scopes }
 {
-    let mut left = rows.copied()?;
     for entry in entries {
-        left.put(entry.0.copied()?, entry.1.copied()?)?;
+        put_copy(store, table, entry)?;
     }
-    Ok(left)
+    Ok(())
 }
 
-/// The rows without those of these keys.
-fn without_all(rows: &TableRows, keys: &[Key]) -> Result<TableRows, AllocError>
-    ensures { IfOk result (λ left. left ≡ without_all rows.now keys.now) }
+#[tactic(auto, using(crate::proofs::BulkSteps::setting))]
+/// Sets aside a copy of the row of a key that is to be taken out.
+fn set_aside(
+    aside: &mut TableRows,
+    store: &TableLog,
+    table: TableId,
+    key: &Key,
+) -> Result<(), AllocError>
+    requires { is_some (rows_in store.now.tables table) ≡ true }
+    ensures { OnOk result ((rows : Rows)
+        → IsDivided rows (rows_at store.now.tables table) aside.old
+        → IsDivided rows (without_row (rows_at store.now.tables table) key.now)
+        aside.new) }
 {
-    let mut left = rows.copied()?;
+    let Some(row) = row_under(store, table, key)? else {
+        return Ok(());
+    };
+    aside.put(key.copied()?, row)?;
+    Ok(())
+}
+
+#[tactic(auto, using(crate::proofs::BulkSteps::taking))]
+/// Takes out the row of a key, and sets a copy of it aside.
+fn take_aside(
+    aside: &mut TableRows,
+    store: &mut TableLog,
+    table: TableId,
+    key: &Key,
+) -> Result<(), AllocError>
+    requires { is_some (rows_in store.old.tables table) ≡ true }
+    ensures tables { OnOk result (store.new.tables ≡ without_key store.old.tables table key.now) }
+    ensures aside { OnOk result ((rows : Rows)
+        → IsDivided rows (rows_at store.old.tables table) aside.old
+        → IsDivided rows (rows_at store.new.tables table) aside.new) }
+    ensures scopes { store.new.scopes ≡ store.old.scopes }
+{
+    set_aside(aside, store, table, key)?;
+    store.take(table, key)
+}
+
+#[tactic(auto, using(crate::proofs::BulkSteps::taking_all))]
+/// Takes out the rows of these keys, and gives copies of those that were there.
+fn take_all(
+    alloc: Global,
+    store: &mut TableLog,
+    table: TableId,
+    keys: &[Key],
+) -> Result<TableRows, AllocError>
+    requires { is_some (rows_in store.old.tables table) ≡ true }
+    ensures tables { OnOk result (store.new.tables ≡ take_all store.old.tables table keys.now) }
+    ensures aside { IfOk result
+        (IsDivided (rows_at store.old.tables table) (rows_at store.new.tables table)) }
+    ensures scopes { store.new.scopes ≡ store.old.scopes }
+{
+    let mut aside = TableRows::new(alloc);
     for key in keys {
-        left.take(key);
+        take_aside(&mut aside, store, table, key)?;
     }
-    Ok(left)
+    Ok(aside)
 }
 
 /// Whether a written row has a NULL in a column that takes none.
@@ -55,46 +114,46 @@ fn some_lacks(spec: &TableSpec, entries: &[(Key, RowValues)]) -> bool
 }
 
 #[tactic(auto, using(crate::proofs::BulkSteps::change_steps))]
-/// The tables with these rows written in one of them, unless one of these lacks a value, repeats a unique value or refers
-/// to no row.
+/// Writes rows, unless one of these lacks a value, repeats a unique value or refers to no row.
 fn change_all(
     alloc: Global,
     schema: &Schema,
-    tables: &TableMap,
+    store: &mut TableLog,
     table: TableId,
-    rows: &TableRows,
     entries: &[(Key, RowValues)],
-) -> Result<TableMap, Unwritten>
-    requires { IsTable schema.now table }
-    ensures { Told (change_all schema.now tables.now table rows.now entries.now) result }
+) -> Result<(), Unwritten>
+    requires declared { IsTable schema.now table }
+    requires created { is_some (rows_in store.old.tables table) ≡ true }
+    requires some { 0 < length entries.now }
+    ensures { Made (change_all schema.now store.old.tables table
+        (rows_at store.old.tables table) entries.now) store.old result store.new }
 {
     if some_lacks(schema.spec(table), entries) {
         return Err(Unwritten::Violates(Violation::NotNull));
     }
-    let mut after = tables.copied()?;
-    after.set(table, with_all(rows, entries)?)?;
-    stand(alloc, schema, &after, table, entries)?;
-    Ok(after)
+    put_all(store, table, entries)?;
+    stand(alloc, schema, store, table, entries)
 }
 
 #[tactic(auto, using(crate::proofs::BulkSteps::remove_steps))]
-/// The tables without the rows of these keys, unless a row that is left refers to one of them.
+/// Takes out the rows of these keys, unless a row that is left refers to one of them.
 fn remove_all(
     alloc: Global,
     schema: &Schema,
-    tables: &TableMap,
+    store: &mut TableLog,
     table: TableId,
-    rows: &TableRows,
     keys: &[Key],
-) -> Result<TableMap, Unwritten>
-    ensures { Told (remove_all schema.now tables.now table rows.now keys.now) result }
+) -> Result<(), Unwritten>
+    requires created { is_some (rows_in store.old.tables table) ≡ true }
+    requires some { 0 < length keys.now }
+    ensures { Made (remove_all schema.now store.old.tables table
+        (rows_at store.old.tables table) keys.now) store.old result store.new }
 {
-    let mut after = tables.copied()?;
-    after.set(table, without_all(rows, keys)?)?;
-    if some_lost(alloc, schema, &Before::Tables(tables), &after)? {
+    let aside = take_all(alloc, store, table, keys)?;
+    if some_lost(alloc, schema, &Before::Rows(table, &aside), store)? {
         return Err(Unwritten::Violates(Violation::Foreign));
     }
-    Ok(after)
+    Ok(())
 }
 
 #[tactic(auto, using(crate::proofs::BulkSteps::update_steps))]
@@ -102,23 +161,21 @@ fn remove_all(
 fn update_entries(
     alloc: Global,
     schema: &Schema,
-    tables: &TableMap,
+    store: &mut TableLog,
     table: TableId,
-    rows: &TableRows,
     entries: &[(Key, RowValues)],
-) -> Result<(u64, TableMap), WriteRefusal>
-    requires { IsTable schema.now table }
-    ensures { Answers table result
-        (spec.update_entries schema.now tables.now table rows.now entries.now) }
+) -> Result<u64, WriteRefusal>
+    requires declared { IsTable schema.now table }
+    requires created { is_some (rows_in store.old.tables table) ≡ true }
+    ensures { WroteBulk table
+        (spec.update_entries schema.now store.old.tables table
+        (rows_at store.old.tables table) entries.now) store.old result store.new }
 {
     if entries.len() == 0 {
-        let Ok(same) = tables.copied() else {
-            return Err(WriteRefusal::Memory);
-        };
-        return Ok((0, same));
+        return Ok(0);
     }
-    match change_all(alloc, schema, tables, table, rows, entries) {
-        Ok(after) => Ok((entries.len() as u64, after)),
+    match change_all(alloc, schema, store, table, entries) {
+        Ok(()) => Ok(entries.len() as u64),
         Err(unwritten) => Err(unwritten_refusal(unwritten)),
     }
 }
@@ -128,22 +185,20 @@ fn update_entries(
 fn delete_keys(
     alloc: Global,
     schema: &Schema,
-    tables: &TableMap,
+    store: &mut TableLog,
     table: TableId,
-    rows: &TableRows,
     keys: &[Key],
-) -> Result<(u64, TableMap), WriteRefusal>
-    ensures { Answers table result
-        (spec.delete_keys schema.now tables.now table rows.now keys.now) }
+) -> Result<u64, WriteRefusal>
+    requires created { is_some (rows_in store.old.tables table) ≡ true }
+    ensures { WroteBulk table
+        (spec.delete_keys schema.now store.old.tables table
+        (rows_at store.old.tables table) keys.now) store.old result store.new }
 {
     if keys.len() == 0 {
-        let Ok(same) = tables.copied() else {
-            return Err(WriteRefusal::Memory);
-        };
-        return Ok((0, same));
+        return Ok(0);
     }
-    match remove_all(alloc, schema, tables, table, rows, keys) {
-        Ok(after) => Ok((keys.len() as u64, after)),
+    match remove_all(alloc, schema, store, table, keys) {
+        Ok(()) => Ok(keys.len() as u64),
         Err(unwritten) => Err(unwritten_refusal(unwritten)),
     }
 }
@@ -153,47 +208,61 @@ fn delete_keys(
 fn insert(
     alloc: Global,
     schema: &Schema,
-    tables: &mut TableMap,
+    store: &mut TableLog,
     table: TableId,
     row: RowValues,
 ) -> Result<u64, WriteRefusal>
     requires declared { IsTable schema.now table }
-    requires created { is_some (rows_in tables.old table) ≡ true }
-    ensures { Leaves table
-        (spec.of_row table (insert_rows schema.now tables.old table (rows_at tables.old table)
-        (row ∷ []))) tables.old result tables.new }
+    requires created { is_some (rows_in store.old.tables table) ≡ true }
+    ensures { WroteBulk table
+        (spec.of_row table (insert_rows schema.now store.old.tables table
+        (rows_at store.old.tables table) (row ∷ []))) store.old result store.new }
 {
-    match insert_rows(alloc, schema, tables, table, &[row]) {
+    match insert_rows(alloc, schema, store, table, &[row]) {
         Ok(_keys) => Ok(1),
         Err(unwritten) => Err(unwritten_refusal(unwritten)),
     }
 }
 
+#[tactic(auto, using(table_rows::proofs::Laws::rows_there))]
 /// The rows that an UPDATE writes, each under its key.
 fn rows_to_write(
     alloc: Global,
-    tables: &TableMap,
-    rows: &TableRows,
+    store: &TableLog,
+    table: TableId,
     cells: &ListOf<(ColumnNo, Option<Expr>)>,
     filter: &Option<Expr>,
 ) -> Result<ListOf<(Key, RowValues)>, Refusal>
-    ensures { Gives (λ x. x) result (rows_to_write tables.now cells.now filter.now rows.now) }
+    requires { is_some (rows_in store.now.tables table) ≡ true }
+    ensures { Gives (λ x. x) result
+        (rows_to_write store.now.tables cells.now filter.now
+        (rows_at store.now.tables table)) }
 {
-    let seen = tables.bare(alloc)?;
+    let Some(rows) = store.get(table) else {
+        return Err(Refusal::Memory);
+    };
+    let seen = store.bare(alloc)?;
     bulk_rows::all_created(alloc, &seen, cells.as_slice(), filter)?;
     bulk_rows::updated(alloc, &seen, cells, filter, &rows.pairs(alloc)?)
 }
 
+#[tactic(auto, using(table_rows::proofs::Laws::rows_there))]
 /// The keys of the rows that a DELETE takes out.
 fn keys_to_remove(
     alloc: Global,
-    tables: &TableMap,
-    rows: &TableRows,
+    store: &TableLog,
+    table: TableId,
     filter: &Option<Expr>,
 ) -> Result<ListOf<Key>, Refusal>
-    ensures { Gives (λ x. x) result (keys_to_remove tables.now filter.now rows.now) }
+    requires { is_some (rows_in store.now.tables table) ≡ true }
+    ensures { Gives (λ x. x) result
+        (keys_to_remove store.now.tables filter.now
+        (rows_at store.now.tables table)) }
 {
-    let seen = tables.bare(alloc)?;
+    let Some(rows) = store.get(table) else {
+        return Err(Refusal::Memory);
+    };
+    let seen = store.bare(alloc)?;
     bulk_rows::all_created(alloc, &seen, &[], filter)?;
     bulk_rows::deleted(alloc, &seen, filter, &rows.pairs(alloc)?)
 }
@@ -203,18 +272,19 @@ fn keys_to_remove(
 fn update(
     alloc: Global,
     schema: &Schema,
-    tables: &TableMap,
+    store: &mut TableLog,
     table: TableId,
-    rows: &TableRows,
     cells: &ListOf<(ColumnNo, Option<Expr>)>,
     filter: &Option<Expr>,
-) -> Result<(u64, TableMap), WriteRefusal>
-    requires { IsTable schema.now table }
-    ensures { Answers table result
-        (spec.update schema.now tables.now table cells.now filter.now rows.now) }
+) -> Result<u64, WriteRefusal>
+    requires declared { IsTable schema.now table }
+    requires created { is_some (rows_in store.old.tables table) ≡ true }
+    ensures { WroteBulk table
+        (spec.update schema.now store.old.tables table cells.now filter.now
+        (rows_at store.old.tables table)) store.old result store.new }
 {
-    match rows_to_write(alloc, tables, rows, cells, filter) {
-        Ok(entries) => update_entries(alloc, schema, tables, table, rows, entries.as_slice()),
+    match rows_to_write(alloc, store, table, cells, filter) {
+        Ok(entries) => update_entries(alloc, schema, store, table, entries.as_slice()),
         Err(refusal) => Err(taking_refusal(&refusal)),
     }
 }
@@ -224,53 +294,37 @@ fn update(
 fn delete(
     alloc: Global,
     schema: &Schema,
-    tables: &TableMap,
+    store: &mut TableLog,
     table: TableId,
-    rows: &TableRows,
     filter: &Option<Expr>,
-) -> Result<(u64, TableMap), WriteRefusal>
-    ensures { Answers table result
-        (spec.delete schema.now tables.now table filter.now rows.now) }
+) -> Result<u64, WriteRefusal>
+    requires created { is_some (rows_in store.old.tables table) ≡ true }
+    ensures { WroteBulk table
+        (spec.delete schema.now store.old.tables table filter.now
+        (rows_at store.old.tables table)) store.old result store.new }
 {
-    match keys_to_remove(alloc, tables, rows, filter) {
-        Ok(keys) => delete_keys(alloc, schema, tables, table, rows, keys.as_slice()),
+    match keys_to_remove(alloc, store, table, filter) {
+        Ok(keys) => delete_keys(alloc, schema, store, table, keys.as_slice()),
         Err(refusal) => Err(taking_refusal(&refusal)),
     }
 }
 
-/// Puts the tables that a statement leaves in the place of those that were there; a refused one leaves them.
-fn replace(
-    tables: &mut TableMap,
-    answer: Result<(u64, TableMap), WriteRefusal>,
-) -> Result<u64, WriteRefusal>
-    ensures { Replaces answer tables.old result tables.new }
-{
-    match answer {
-        Ok((count, after)) => {
-            *tables = after;
-            Ok(count)
-        }
-        Err(refusal) => Err(refusal),
-    }
-}
-
 #[tactic(auto, using(crate::proofs::BulkSteps::applied_steps))]
-/// Does a bulk statement, and answers the number of its rows. Where it is refused, or finds no memory, the tables are as they
-/// were.
-pub(crate) fn applied(
+/// Does a bulk statement in the innermost scope, and answers the number of its rows. A refused one may leave any tables.
+fn apply_inside(
     alloc: Global,
     schema: &Schema,
-    tables: &mut TableMap,
+    store: &mut TableLog,
     statement: &Bulk,
 ) -> Result<u64, WriteRefusal>
     requires { IsPlainBulk schema.now statement.now }
-    ensures { Leaves (spec.table_of statement.now)
-        (spec.bulk_outcome schema.now tables.old statement.now) tables.old result tables.new }
+    ensures { WroteBulk (spec.table_of statement.now)
+        (spec.bulk_outcome schema.now store.old.tables statement.now) store.old result store.new }
 {
     let table = table_of_bulk(statement);
-    let Some(rows) = tables.get(table) else {
+    if !store.has(table) {
         return Err(WriteRefusal::NoTable(table));
-    };
+    }
     match statement {
         Bulk::Insert {
             columns,
@@ -281,15 +335,29 @@ pub(crate) fn applied(
             let Ok(row) = bulk_rows::inserted(alloc, width, columns, values) else {
                 return Err(WriteRefusal::Memory);
             };
-            insert(alloc, schema, tables, table, row)
+            insert(alloc, schema, store, table, row)
         }
-        Bulk::Update { cells, filter, .. } => {
-            let answer = update(alloc, schema, tables, table, rows, cells, filter);
-            replace(tables, answer)
-        }
-        Bulk::Delete { filter, .. } => {
-            let answer = delete(alloc, schema, tables, table, rows, filter);
-            replace(tables, answer)
-        }
+        Bulk::Update { cells, filter, .. } => update(alloc, schema, store, table, cells, filter),
+        Bulk::Delete { filter, .. } => delete(alloc, schema, store, table, filter),
     }
+}
+
+#[tactic(auto, using(crate::proofs::BulkSteps::settled_steps))]
+/// Does a bulk statement in a scope of its own, and answers the number of its rows. Where it is refused, or finds no memory,
+/// everything is as it was.
+pub(crate) fn applied(
+    alloc: Global,
+    schema: &Schema,
+    store: &mut TableLog,
+    statement: &Bulk,
+) -> Result<u64, WriteRefusal>
+    requires { IsPlainBulk schema.now statement.now }
+    ensures { Leaves (spec.table_of statement.now)
+        (spec.bulk_outcome schema.now store.old.tables statement.now) store.old result store.new }
+{
+    let Ok(()) = store.start() else {
+        return Err(WriteRefusal::Memory);
+    };
+    let answer = apply_inside(alloc, schema, store, statement);
+    store.close(answer)
 }

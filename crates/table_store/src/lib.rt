@@ -1,9 +1,10 @@
-//! Tables in memory with their scopes: what a keeper's statements do to them, without its faults, counts and log.
+//! What a keeper's statements do to tables in memory with their scopes, without its faults, counts and log.
 #![tactic(auto)]
 
 mod bulk;
+mod references;
 mod refusals;
-mod store;
+mod statements;
 mod writing;
 
-pub use store::TableStore;
+pub use statements::{query, rows, write, write_bulk};

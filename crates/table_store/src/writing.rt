@@ -1,6 +1,6 @@
-//! A statement on rows, done on tables that are held.
+//! A statement on rows, done on tables with scopes.
 
-ghost use Rattle.std.specs.Prelude.{◌≡◌, ◌&&◌, ◌<◌, [], ◌∷◌, ◌++◌, true, is_some, length, Ok, IfErr, IfOk, OnErr, OnOk};
+ghost use Rattle.std.specs.Prelude.{◌≡◌, ◌&&◌, ◌<◌, [], ◌∷◌, ◌++◌, true, is_some, length, IfOk, OnOk};
 ghost use Rattle.std.specs.List.{list_any};
 ghost use Rattle.schema_core.specs.Apply.{apply, delete_row, entry_of, insert_rows, is_demanded, keys_of_entries, next_key, update_row, wants_key, with_own_key};
 ghost use Rattle.schema_core.specs.Catalog.{spec_of, IsTable};
@@ -8,23 +8,29 @@ ghost use Rattle.schema_core.specs.Judged.{lacks_value};
 ghost use Rattle.schema_core.specs.Tables.{row_under, rows_in};
 ghost use Rattle.schema_core.specs.Told.{Told};
 ghost use Rattle.schema_core.specs.WellFormed.{IsWellFormed};
-ghost use Rattle.table_rows.specs.Rows.{AreSorted, rows_at};
-ghost use Rattle.table_store.specs.Held.{Did, DidOrLeft, put_from, stand, taken_back, with_entry};
+ghost use Rattle.table_rows.specs.Rows.{rows_at, rows_present};
+ghost use Rattle.table_store.specs.Held.{DidOrLeft, Wrote, put_from, stand, with_entry};
 
+use crate::references::{some_lost, some_written_dangles};
 use base_core::{ColumnNo, Copied, Key, KeyList, ListOf, RowValues, TableId, Value};
 use schema_core::{RowStmt, Schema, Unwritten, Violation};
 use std::alloc::{AllocError, Global};
+use table_log::TableLog;
 use table_rows::{
-    Before, TableMap, TableRows, has_null, key_of, lacks_given, lacks_value, some_lost,
-    some_repeats, some_written_dangles, with_cells, with_key,
+    Before, TableRows, has_null, key_of, lacks_given, lacks_value, some_repeats, with_cells,
+    with_key,
 };
 
 /// A copy of the row of a key.
-fn row_under(tables: &TableMap, table: TableId, key: &Key) -> Result<Option<RowValues>, AllocError>
-    requires { is_some (rows_in tables.now table) ≡ true }
-    ensures { IfOk result (λ row. row ≡ row_under (rows_at tables.now table) key.now) }
+pub(crate) fn row_under(
+    store: &TableLog,
+    table: TableId,
+    key: &Key,
+) -> Result<Option<RowValues>, AllocError>
+    requires { is_some (rows_in store.now.tables table) ≡ true }
+    ensures { IfOk result (λ row. row ≡ row_under (rows_at store.now.tables table) key.now) }
 {
-    let Some(rows) = tables.get(table) else {
+    let Some(rows) = store.get(table) else {
         return Ok(None);
     };
     let Some(row) = rows.get(key) else {
@@ -33,38 +39,27 @@ fn row_under(tables: &TableMap, table: TableId, key: &Key) -> Result<Option<RowV
     Ok(Some(row.copied()?))
 }
 
-/// Whether a key has a row.
-fn has_row(tables: &TableMap, table: TableId, key: &Key) -> bool
-    requires { is_some (rows_in tables.now table) ≡ true }
-    ensures { result ≡ is_some (row_under (rows_at tables.now table) key.now) }
-{
-    let Some(rows) = tables.get(table) else {
-        return false;
-    };
-    rows.get(key).is_some()
-}
-
 #[tactic(auto, using(crate::proofs::WriteSteps::stand_steps))]
 /// Whether written rows may stand: none repeats a unique value of another row or refers to no row.
 pub(crate) fn stand(
     alloc: Global,
     schema: &Schema,
-    tables: &TableMap,
+    store: &TableLog,
     table: TableId,
     entries: &[(Key, RowValues)],
 ) -> Result<(), Unwritten>
     requires declared { IsTable schema.now table }
-    requires created { is_some (rows_in tables.now table) ≡ true }
-    ensures { Told (stand schema.now tables.now table entries.now) result }
+    requires created { is_some (rows_in store.now.tables table) ≡ true }
+    ensures { Told (stand schema.now store.now.tables table entries.now) result }
 {
-    let Some(rows) = tables.get(table) else {
+    let Some(rows) = store.get(table) else {
         return Ok(());
     };
     let spec = schema.spec(table);
     if some_repeats(alloc, spec, rows, entries)? {
         return Err(Unwritten::Violates(Violation::Unique));
     }
-    if some_written_dangles(alloc, schema, tables, spec, entries)? {
+    if some_written_dangles(alloc, schema, store, spec, entries)? {
         return Err(Unwritten::Violates(Violation::Foreign));
     }
     Ok(())
@@ -98,7 +93,7 @@ fn with_own_key(
 ) -> Result<Option<RowValues>, AllocError>
     requires { IsTable schema.now table }
     ensures { IfOk result (λ keyed. keyed
-        ≡ with_own_key (spec_of schema.now table) rows.now row.now) }
+        ≡ with_own_key (spec_of schema.now table) (rows_present rows.now) row.now) }
 {
     if !wants_key(alloc, schema, table, row.as_slice())? {
         return Ok(Some(row.copied()?));
@@ -120,7 +115,7 @@ fn entry_of(
     row: Option<RowValues>,
 ) -> Result<(Key, RowValues), Unwritten>
     requires { IsTable schema.now table }
-    ensures { Told (entry_of (spec_of schema.now table) rows.now row) result }
+    ensures { Told (entry_of (spec_of schema.now table) (rows_present rows.now) row) result }
 {
     let Some(row) = row else {
         return Err(Unwritten::Violates(Violation::KeysSpent));
@@ -137,30 +132,20 @@ fn entry_of(
 fn new_entry(
     alloc: Global,
     schema: &Schema,
-    tables: &TableMap,
+    store: &TableLog,
     table: TableId,
     row: &RowValues,
 ) -> Result<(Key, RowValues), Unwritten>
     requires declared { IsTable schema.now table }
-    requires created { is_some (rows_in tables.now table) ≡ true }
-    ensures { Told (entry_of (spec_of schema.now table) (rows_at tables.now table)
-        (with_own_key (spec_of schema.now table) (rows_at tables.now table) row.now)) result }
+    requires created { is_some (rows_in store.now.tables table) ≡ true }
+    ensures { Told (entry_of (spec_of schema.now table) (rows_at store.now.tables table)
+        (with_own_key (spec_of schema.now table) (rows_at store.now.tables table) row.now)) result }
 {
-    let Some(rows) = tables.get(table) else {
+    let Some(rows) = store.get(table) else {
         return Err(Unwritten::Memory);
     };
     let keyed = with_own_key(alloc, schema, table, rows, row)?;
     entry_of(alloc, schema, table, rows, keyed)
-}
-
-/// Both values, where both are there.
-fn both<A: Drop, B: Drop>(
-    one: Result<A, AllocError>,
-    other: Result<B, AllocError>,
-) -> Result<(A, B), AllocError>
-    ensures { IfOk result (λ it. (one ≡ Ok it.0) × (other ≡ Ok it.1)) }
-{
-    Ok((one?, other?))
 }
 
 /// The keys of rows.
@@ -183,61 +168,61 @@ fn one_key(alloc: Global, key: &Key) -> Result<KeyList, AllocError>
     Ok(ListOf::from_vec(keys))
 }
 
-/// Takes a row out again where the statement was refused behind it.
-fn take_back(tables: &mut TableMap, table: TableId, key: &Key, answer: &Result<KeyList, Unwritten>)
-    requires { IfErr answer.now (λ _. is_some (rows_in tables.old table) ≡ true) }
-    ensures { tables.new ≡ taken_back answer.now tables.old table key.now }
+#[tactic(auto, using(crate::proofs::WriteSteps::changing))]
+/// Puts a copy of a row under its key.
+pub(crate) fn put_copy(
+    store: &mut TableLog,
+    table: TableId,
+    entry: &(Key, RowValues),
+) -> Result<(), AllocError>
+    requires { is_some (rows_in store.old.tables table) ≡ true }
+    ensures tables { OnOk result
+        (store.new.tables ≡ with_entry store.old.tables table entry.now) }
+    ensures scopes { store.new.scopes ≡ store.old.scopes }
 {
-    if let Err(_) = answer {
-        tables.take(table, key);
-    }
+    store.put(table, entry.0.copied()?, entry.1.copied()?)
 }
 
-/// Puts a new row in behind those of the statement that are in, and gives its key. At an error the tables are as they were.
+/// Puts a new row in behind those of the statement that are in.
 fn put_entry(
-    tables: &mut TableMap,
+    store: &mut TableLog,
     table: TableId,
     done: &mut Vec<(Key, RowValues)>,
     entry: (Key, RowValues),
-) -> Result<Key, AllocError>
-    requires { is_some (rows_in tables.old table) ≡ true }
-    ensures key { IfOk result (λ key. key ≡ entry.0) }
-    ensures tables { OnOk result (tables.new ≡ with_entry tables.old table entry) }
+) -> Result<(), AllocError>
+    requires { is_some (rows_in store.old.tables table) ≡ true }
+    ensures tables { OnOk result
+        (store.new.tables ≡ with_entry store.old.tables table entry) }
     ensures done { OnOk result (done.new.items ≡ done.old.items ++ entry ∷ []) }
-    ensures sorted { OnOk result (AreSorted tables.old table) }
-    ensures err { OnErr result (tables.new ≡ tables.old) }
+    ensures scopes { store.new.scopes ≡ store.old.scopes }
 {
-    let (key, (own, row)) = both(entry.0.copied(), both(entry.0.copied(), entry.1.copied()))?;
+    put_copy(store, table, &entry)?;
     done.push(entry)?;
-    tables.put(table, own, row)?;
-    Ok(key)
+    Ok(())
 }
 
 #[tactic(auto, using(crate::proofs::WriteSteps::put_steps))]
-/// Puts new rows in behind those of the statement that are in, and judges them all once the last is in. A row is taken out
-/// again where the statement is refused behind it.
+/// Puts new rows in behind those of the statement that are in, and judges them all once the last is in.
 fn put_from(
     alloc: Global,
     schema: &Schema,
-    tables: &mut TableMap,
+    store: &mut TableLog,
     table: TableId,
     done: &mut Vec<(Key, RowValues)>,
     new: &[RowValues],
 ) -> Result<KeyList, Unwritten>
     requires declared { IsTable schema.now table }
-    requires created { is_some (rows_in tables.old table) ≡ true }
-    ensures { DidOrLeft (put_from schema.now tables.old table done.old.items new.now)
-        tables.old result tables.new }
+    requires created { is_some (rows_in store.old.tables table) ≡ true }
+    ensures { Wrote (put_from schema.now store.old.tables table done.old.items new.now)
+        store.old result store.new }
 {
     let Some((row, more)) = new.split_first() else {
-        stand(alloc, schema, tables, table, done.as_slice())?;
+        stand(alloc, schema, store, table, done.as_slice())?;
         return Ok(keys_of_entries(alloc, done.as_slice())?);
     };
-    let entry = new_entry(alloc, schema, tables, table, row)?;
-    let key = put_entry(tables, table, done, entry)?;
-    let answer = put_from(alloc, schema, tables, table, done, more);
-    take_back(tables, table, &key, &answer);
-    answer
+    let entry = new_entry(alloc, schema, store, table, row)?;
+    put_entry(store, table, done, entry)?;
+    put_from(alloc, schema, store, table, done, more)
 }
 
 #[tactic(auto, using(schema_core::proofs::ApplySteps::demanded))]
@@ -255,25 +240,25 @@ fn some_lacks_demanded(schema: &Schema, table: TableId, new: &[RowValues]) -> bo
 }
 
 #[tactic(auto, using(crate::proofs::WriteSteps::insert_steps))]
-/// Puts in new rows. Where it is refused, or finds no memory, the tables are as they were.
+/// Puts in new rows.
 pub(crate) fn insert_rows(
     alloc: Global,
     schema: &Schema,
-    tables: &mut TableMap,
+    store: &mut TableLog,
     table: TableId,
     new: &[RowValues],
 ) -> Result<KeyList, Unwritten>
     requires declared { IsTable schema.now table }
-    requires created { is_some (rows_in tables.old table) ≡ true }
+    requires created { is_some (rows_in store.old.tables table) ≡ true }
     requires some { 0 < length new.now }
-    ensures { DidOrLeft (insert_rows schema.now tables.old table
-        (rows_at tables.old table) new.now) tables.old result tables.new }
+    ensures { Wrote (insert_rows schema.now store.old.tables table
+        (rows_at store.old.tables table) new.now) store.old result store.new }
 {
     if some_lacks_demanded(schema, table, new) {
         return Err(Unwritten::Violates(Violation::NotNull));
     }
     let mut done = Vec::with_capacity(alloc, new.len())?;
-    put_from(alloc, schema, tables, table, &mut done, new)
+    put_from(alloc, schema, store, table, &mut done, new)
 }
 
 #[tactic(auto, using(crate::proofs::WriteSteps::update_steps))]
@@ -281,29 +266,26 @@ pub(crate) fn insert_rows(
 fn update_row(
     alloc: Global,
     schema: &Schema,
-    tables: &mut TableMap,
+    store: &mut TableLog,
     table: TableId,
     key: &Key,
     cells: &ListOf<(ColumnNo, Value)>,
 ) -> Result<KeyList, Unwritten>
     requires declared { IsTable schema.now table }
-    requires created { is_some (rows_in tables.old table) ≡ true }
-    ensures { Did (update_row schema.now tables.old table
-        (rows_at tables.old table) key.now cells.now) tables.old result tables.new }
+    requires created { is_some (rows_in store.old.tables table) ≡ true }
+    ensures { Wrote (update_row schema.now store.old.tables table
+        (rows_at store.old.tables table) key.now cells.now) store.old result store.new }
 {
     let keys = one_key(alloc, key)?;
-    let Some(row) = row_under(tables, table, key)? else {
+    let Some(row) = row_under(store, table, key)? else {
         return Err(Unwritten::Violates(Violation::Missing));
     };
     let row = with_cells(row, cells.as_slice())?;
     if lacks_value(schema.spec(table).columns.as_slice(), row.as_slice()) {
         return Err(Unwritten::Violates(Violation::NotNull));
     }
-    let before = tables.put(table, key.copied()?, row.copied()?)?;
-    if let Err(unwritten) = stand(alloc, schema, tables, table, &[(key.copied()?, row)]) {
-        tables.restore(table, key, before);
-        return Err(unwritten);
-    }
+    store.put(table, key.copied()?, row.copied()?)?;
+    stand(alloc, schema, store, table, &[(key.copied()?, row)])?;
     Ok(keys)
 }
 
@@ -312,46 +294,60 @@ fn update_row(
 fn delete_row(
     alloc: Global,
     schema: &Schema,
-    tables: &mut TableMap,
+    store: &mut TableLog,
     table: TableId,
     key: &Key,
 ) -> Result<KeyList, Unwritten>
-    requires created { is_some (rows_in tables.old table) ≡ true }
-    ensures { Did (delete_row schema.now tables.old table
-        (rows_at tables.old table) key.now) tables.old result tables.new }
+    requires created { is_some (rows_in store.old.tables table) ≡ true }
+    ensures { Wrote (delete_row schema.now store.old.tables table
+        (rows_at store.old.tables table) key.now) store.old result store.new }
 {
     let keys = one_key(alloc, key)?;
-    if !has_row(tables, table, key) {
-        return Ok(keys);
-    }
-    let Some(row) = tables.take(table, key) else {
+    let Some(_row) = row_under(store, table, key)? else {
         return Ok(keys);
     };
-    if some_lost(alloc, schema, &Before::Row(table, key), tables)? {
-        tables.put(table, key.copied()?, row)?;
+    store.take(table, key)?;
+    if some_lost(alloc, schema, &Before::Row(table, key), store)? {
         return Err(Unwritten::Violates(Violation::Foreign));
     }
     Ok(keys)
 }
 
 #[tactic(auto, using(crate::proofs::WriteSteps::apply_steps))]
-/// Does a statement on rows. A refused one leaves the tables as they were.
-pub fn apply(
+/// Does a statement on rows in the innermost scope. A refused one may leave any tables.
+fn apply_inside(
     alloc: Global,
     schema: &Schema,
-    tables: &mut TableMap,
+    store: &mut TableLog,
     statement: &RowStmt,
 ) -> Result<KeyList, Unwritten>
     requires { IsWellFormed schema.now statement.now }
-    ensures { Did (apply schema.now tables.old statement.now) tables.old result tables.new }
+    ensures { Wrote (apply schema.now store.old.tables statement.now) store.old result store.new }
 {
     let table = statement.table();
-    if tables.get(table).is_none() {
+    if !store.has(table) {
         return Err(Unwritten::Violates(Violation::NoTable(table)));
     }
     match statement {
-        RowStmt::Insert { rows, .. } => insert_rows(alloc, schema, tables, table, rows.as_slice()),
-        RowStmt::Update { key, cells, .. } => update_row(alloc, schema, tables, table, key, cells),
-        RowStmt::Delete { key, .. } => delete_row(alloc, schema, tables, table, key),
+        RowStmt::Insert { rows, .. } => insert_rows(alloc, schema, store, table, rows.as_slice()),
+        RowStmt::Update { key, cells, .. } => update_row(alloc, schema, store, table, key, cells),
+        RowStmt::Delete { key, .. } => delete_row(alloc, schema, store, table, key),
     }
+}
+
+#[tactic(auto, using(crate::proofs::WriteSteps::settled_steps))]
+/// Does a statement on rows in a scope of its own. Where it is refused, or finds no memory, everything is as it was.
+pub fn apply(
+    alloc: Global,
+    schema: &Schema,
+    store: &mut TableLog,
+    statement: &RowStmt,
+) -> Result<KeyList, Unwritten>
+    requires { IsWellFormed schema.now statement.now }
+    ensures { DidOrLeft (apply schema.now store.old.tables statement.now)
+        store.old result store.new }
+{
+    store.start()?;
+    let answer = apply_inside(alloc, schema, store, statement);
+    store.close(answer)
 }

@@ -1,0 +1,8 @@
+-- The rows of a table that is held are those that are seen.
+use Rattle.std.proofs.Common.{ap, ◌∙◌}
+use Rattle.programs.specs.Store.{Store}
+use Rattle.schema_core.specs.Tables.{rows_in}
+use Rattle.table_log.proofs.tables.TableLog.get.Goals as goal
+
+pub returns : goal.returns
+returns c = c.get.ensures ∙ ap (λ (store : Store). rows_in store.tables c.args.table) c.self.view_is

@@ -1,0 +1,10 @@
+-- The rows that are left to write give the tables.
+use Rattle.std.proofs.Common.{◌≡◌, true, drop, is_some}
+use Rattle.schema_core.specs.Tables.{rows_in}
+use Rattle.table_store.specs.Held.{put_all}
+use Rattle.table_store.proofs.bulk.put_all.Given as goal
+
+abbrev pub invariant-loop-entry : goal.invariant-loop-entry
+invariant-loop-entry l =
+    (put_all l.store.tables l.table (drop l.entry-index l.entries) ≡ put_all l.fn.store.tables l.table l.entries) × (is_some (rows_in l.store.tables l.table) ≡ true)
+    × (l.store.scopes ≡ l.fn.store.scopes)
