@@ -152,6 +152,7 @@ pub fn close<K: Keeper>(session: &mut Session, keeper: &mut K) -> Result<(), Ref
 }
 
 /// Ends the transaction without its rows, and all objects leave the session.
+#[tactic(auto, using(crate::proofs::Acting::memory_stops))]
 fn close_inside<K: Keeper>(session: &mut Session, keeper: &mut K) -> Result<(), Refusal>
     requires in_step { IsInStep session.old (K.moment keeper.old) }
     requires inside { 1 ≤ length session.old.frames.scopes }

@@ -1,4 +1,4 @@
-use Rattle.session_calls.proofs.Acting.{closed_scopes, closes, closes_not, memory_stops}
+use Rattle.session_calls.proofs.Acting.{closed_scopes, closes, closes_not}
 use Rattle.session_calls.proofs.Joining.{passed_call}
 use Rattle.session_calls.proofs.scopes.close_inside.Goals as goal
 
@@ -10,6 +10,3 @@ returns-clause-call g c = closes g.K.Keeper.moment c.in_ok-roll_back_transaction
 
 pub returns-clause-outside : goal.returns-clause-outside
 returns-clause-outside g c = closed_scopes c.roll_back_transaction.new.session c.let_go.new.self c.let_go.result c.let_go.ensures.ok
-
-pub returns-clause-stops : goal.returns-clause-stops
-returns-clause-stops g c = memory_stops c.let_go.result c.let_go.ensures.cause
