@@ -1,0 +1,76 @@
+//! Connections of the kit's SQLite.
+
+use crate::database::Database;
+use crate::ending::Ending;
+use crate::values::{parameters_of, rows_of};
+use base_core::{Kind, RowList, Value};
+use sqlite::{Alter, Connection, Error, File, FileStore, MemStore};
+use std::alloc::Global;
+
+/// A store of pages that a connection is opened over.
+pub trait Opens: Alter {
+    /// A connection to the file of this name, or to a new database in memory where none is given. A store that cannot be so is a fault.
+    fn open(rt: HostRuntime, alloc: Global, name: Option<&str>) -> Result<Connection<Self>, Ending>;
+}
+
+impl Opens for MemStore {
+    fn open(
+        _rt: HostRuntime,
+        alloc: Global,
+        name: Option<&str>,
+    ) -> Result<Connection<MemStore>, Ending> {
+        match name {
+            Some(_) => Err(Ending::Fault),
+            None => Ok(Connection::open_in_memory(alloc)?),
+        }
+    }
+}
+
+/// A connection that was opened, or why it was not.
+fn connection_or_ending<S: Alter>(
+    answer: Result<Connection<S>, Error>,
+) -> Result<Connection<S>, Ending> {
+    Ok(answer?)
+}
+
+impl Opens for FileStore<File> {
+    fn open(
+        rt: HostRuntime,
+        _alloc: Global,
+        name: Option<&str>,
+    ) -> Result<Connection<FileStore<File>>, Ending> {
+        match name {
+            Some(name) => connection_or_ending(Connection::open(&rt, name)),
+            None => Err(Ending::Fault),
+        }
+    }
+}
+
+impl<S: Opens> Database for Connection<S> {
+    fn open(rt: HostRuntime, alloc: Global, name: Option<&str>) -> Result<Connection<S>, Ending> {
+        S::open(rt, alloc, name)
+    }
+
+    fn run(&mut self, alloc: Global, text: &str, values: &[Value]) -> Result<u64, Ending> {
+        let parameters = parameters_of(alloc, values)?;
+        Ok(self.execute(text, parameters.as_slice())? as u64)
+    }
+
+    fn ask(
+        &mut self,
+        alloc: Global,
+        text: &str,
+        values: &[Value],
+        kinds: &[Kind],
+    ) -> Result<RowList, Ending> {
+        let parameters = parameters_of(alloc, values)?;
+        let rows = self.query_all(text, parameters.as_slice())?;
+        rows_of(alloc, kinds, rows.as_slice())
+    }
+
+    fn abandon(&mut self) {
+        if !self.is_autocommit() {
+            let _answer = self.execute("ROLLBACK", &[]);
+        }
+    }
+}

@@ -1,0 +1,13 @@
+//! Databases of SQLite, in memory and in files, to which texts of SQL are sent with the values of their marks.
+#![tactic(auto)]
+
+mod connections;
+mod database;
+mod ending;
+mod link;
+mod values;
+
+pub use connections::Opens;
+pub use database::Database;
+pub use ending::Ending;
+pub use link::{Link, Sqlite};
