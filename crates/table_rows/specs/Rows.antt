@@ -1,6 +1,6 @@
 -- The rows of a table that is held, and what stood under a key before.
 use Rattle.std.specs.Prelude.{◌≡◌, Bool, true, false, cond, List, [], ◌∷◌, Option, None, Some, is_some}
-use Rattle.std.specs.Option.{unwrap_or}
+use Rattle.std.specs.Option.{option_map, unwrap_or}
 use Rattle.std.specs.Map.{keys_of, lookup}
 use Rattle.std.specs.BTreeMap.{is_at}
 use Rattle.std.specs.List.Sorted.{IsStrictlySortedBy}
@@ -59,8 +59,7 @@ rows_at tables table = unwrap_or (rows_in tables table) []
 
 -- the rows with what stood under a key before
 abbrev pub with_former_row : Rows → List Value → Option (List Value) → Rows
-with_former_row rows key None = without_row rows key
-with_former_row rows key (Some row) = with_row rows key row
+with_former_row rows key before = unwrap_or (option_map (with_row rows key) before) (without_row rows key)
 
 -- a cell, or the key where the cell's column is of the key
 abbrev pub cell_or_key : ColumnSpec → Value → Value → Value
