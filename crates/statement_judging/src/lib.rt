@@ -1,0 +1,14 @@
+//! Selects and bulk statements in numbers for names: judged, and put into normal form.
+//!
+//! Faults are told in this order: operands of another kind than their places want, in reading order, as the statement is
+//! written; and then, of its normal form, columns and aggregates where groups let none stand, and two sources of one name.
+#![tactic(auto)]
+
+mod apart;
+mod faults;
+mod grouping;
+mod judging;
+mod kinds;
+mod normal;
+
+pub use judging::{judge_bulk, judge_select};
