@@ -1,7 +1,7 @@
 //! The objects outside the session that changed links name.
 
 ghost use Rattle.std.specs.Prelude.{◌≡◌, ◌++◌, ◌∷◌, [], not, true, map, filter, IfOk, IfErr, OnOk};
-ghost use Rattle.std.specs.List.{All};
+ghost use Rattle.std.specs.List.{All, enumerate_from, flat_map};
 ghost use Rattle.base_core.specs.declared.refusal.Refusal.TheVariants.{Memory};
 ghost use Rattle.object_arena.specs.Fit.{IsFit};
 ghost use Rattle.object_arena.specs.Graph.{IsObject};
@@ -155,24 +155,21 @@ fn push_warnings(
     Ok(())
 }
 
-#[tactic(auto, using(class_layouts::proofs::Steps::steps, object_arena::proofs::FitLemmas::fit_class))]
-/// The warnings of an object's links go behind others.
+#[tactic(auto, using(class_layouts::proofs::Steps::steps))]
+/// The warnings of an object's links, which have these relationships, go behind others.
 fn push_warned_of(
     out: &mut ListOf<Warning>,
     alloc: Global,
-    mapping: &Mapping,
     arena: &Arena,
     prepared: &Prepared,
     object: ObjId,
+    relations: &[Relation],
 ) -> Result<(), Refusal>
-    requires configured { mapping.now.configured ≡ true }
-    requires fit { IsFit mapping.now arena.now }
-    requires object { IsObject arena.now object }
-    ensures warnings { OnOk result (out.new ≡ out.old
-        ++ spec.warned_of mapping.now arena.now prepared.now object) }
+    requires { IsObject arena.now object }
+    ensures warnings { OnOk result (out.new ≡ out.old ++ flat_map
+        (spec.warned_by arena.now prepared.now object) (enumerate_from 0 relations.now)) }
     ensures cause { IfErr result (λ e. e ≡ Memory) }
 {
-    let relations = mapping.relations(arena.object(object).class);
     for (number, relation) in relations.iter().enumerate() {
         push_warned_by(out, alloc, arena, prepared, object, number, relation)?;
     }
@@ -212,7 +209,7 @@ fn written_objects(alloc: Global, arena: &Arena, prepared: &Prepared) -> Result<
     Ok(objects)
 }
 
-#[tactic(auto, using(class_layouts::proofs::Steps::steps), unfolding(crate::specs::Warnings::warnings))]
+#[tactic(auto, using(class_layouts::proofs::Steps::steps, object_arena::proofs::FitLemmas::fit_class), unfolding(crate::specs::Warnings::warnings))]
 /// The objects outside the session that a flush meets in changed links and skips, by owner, relationship and member. The
 /// only refusal is `Memory`.
 pub fn warnings(
@@ -230,7 +227,8 @@ pub fn warnings(
     let objects = written_objects(alloc, arena, prepared)?;
     let mut warnings = ListOf::new(alloc);
     for object in &objects {
-        push_warned_of(&mut warnings, alloc, mapping, arena, prepared, *object)?;
+        let relations = mapping.relations(arena.object(*object).class);
+        push_warned_of(&mut warnings, alloc, arena, prepared, *object, relations)?;
     }
     Ok(warnings)
 }
