@@ -1,0 +1,4 @@
+pub mod Sayable
+pub mod Selects
+pub mod Bulks
+pub mod Refusals
