@@ -1,0 +1,128 @@
+//! Selects.
+
+ghost use Rattle.std.specs.Prelude.{IfErr, IfOk};
+ghost use Rattle.sql_semantics.specs.Plain.{IsPlainSelect};
+ghost use Rattle.sqlite_statements.specs.Endings.{AreAnswers, IfRefused, MayRefuseSelect};
+
+use crate::asking::text_of;
+use crate::shapes::{ItemShape, all_fit, item_shapes};
+use crate::tables::store_without_rows;
+use base_core::{Kind, Refusal, RowList, Value};
+use expr_types::{CopiedIn, Expr, Select, Statement};
+use keeper_core::QueryRefusal;
+use schema_core::{Schema, Violation};
+use sqlite_database::{Database, Ending};
+use std::alloc::{AllocError, Global};
+use table_log::TableLog;
+
+/// Gives a select a number for its item where it has none, since SQLite wants one.
+fn give_item(statement: &mut Statement) -> Result<(), Refusal> {
+    if let Statement::Select(select) = statement {
+        if select.items.is_empty() {
+            select.items.push((Expr::Lit(Value::Int(1)), None))?;
+        }
+    }
+    Ok(())
+}
+
+/// The select as SQLite takes it.
+fn statement_of(alloc: Global, select: &Select) -> Result<Box<Statement>, Ending> {
+    let copy = Statement::Select(select.copied_in(alloc)?);
+    let mut statement = Box::new(alloc, copy)?;
+    give_item(&mut statement)?;
+    Ok(statement)
+}
+
+/// The kinds of the items.
+fn kinds_of(alloc: Global, shapes: &[ItemShape]) -> Result<Vec<Kind>, AllocError> {
+    let mut kinds = Vec::with_capacity(alloc, shapes.len())?;
+    for item in shapes {
+        kinds.push(item.kind)?;
+    }
+    Ok(kinds)
+}
+
+/// The rows that SQLite answers.
+fn ask_rows<D: Database>(
+    database: &mut D,
+    alloc: Global,
+    schema: &Schema,
+    select: &Select,
+    shapes: &[ItemShape],
+) -> Result<RowList, Ending> {
+    let kinds = kinds_of(alloc, shapes)?;
+    let statement = statement_of(alloc, select)?;
+    let text = text_of(alloc, schema, &statement)?;
+    database.ask(
+        alloc,
+        text.text.get(),
+        text.values.as_slice(),
+        kinds.as_slice(),
+    )
+}
+
+/// The rows of a select. A value of another kind than its item's, or NULL where the item never is, is a fault.
+#[tactic(auto, using(crate::proofs::Items::rows_answer))]
+fn rows_that_fit<D: Database>(
+    database: &mut D,
+    alloc: Global,
+    schema: &Schema,
+    select: &Select,
+) -> Result<RowList, Ending>
+    ensures rows { IfOk result (AreAnswers schema.now select.now) }
+{
+    let shapes = item_shapes(alloc, schema, select)?;
+    let rows = ask_rows(database, alloc, schema, select, shapes.as_slice())?;
+    if !all_fit(shapes.as_slice(), rows.as_slice()) {
+        return Err(Ending::Fault);
+    }
+    Ok(rows)
+}
+
+/// The first table of a select's text that a store has not, as a refusal; else it is a fault.
+fn first_absent(alloc: Global, schema: &Schema, store: &TableLog, select: &Select) -> Ending
+    requires { IsPlainSelect schema.now select.now }
+    ensures { IfRefused (MayRefuseSelect schema.now select.now) result }
+{
+    match table_store::query(alloc, schema, store, select) {
+        Err(QueryRefusal::NoTable(table)) => Ending::Refused(Violation::NoTable(table)),
+        Err(QueryRefusal::Memory) => Ending::Memory,
+        _ => Ending::Fault,
+    }
+}
+
+/// Why SQLite did not answer a select: the first table of its text is not there; else it is a fault. A store with the same
+/// tables, which have no rows, knows which one that is.
+fn why_not_run<D: Database>(
+    database: &mut D,
+    alloc: Global,
+    schema: &Schema,
+    select: &Select,
+) -> Ending
+    requires { IsPlainSelect schema.now select.now }
+    ensures { IfRefused (MayRefuseSelect schema.now select.now) result }
+{
+    match store_without_rows(database, alloc, schema) {
+        Ok(store) => first_absent(alloc, schema, &store, select),
+        Err(Ending::Memory) => Ending::Memory,
+        Err(_) => Ending::Fault,
+    }
+}
+
+/// The rows of a select over the tables now.
+pub fn query<D: Database>(
+    database: &mut D,
+    alloc: Global,
+    schema: &Schema,
+    select: &Select,
+) -> Result<RowList, Ending>
+    requires plain { IsPlainSelect schema.now select.now }
+    ensures rows { IfOk result (AreAnswers schema.now select.now) }
+    ensures refuses { IfErr result (IfRefused (MayRefuseSelect schema.now select.now)) }
+{
+    match rows_that_fit(database, alloc, schema, select) {
+        Ok(rows) => Ok(rows),
+        Err(Ending::Memory) => Err(Ending::Memory),
+        Err(_) => Err(why_not_run(database, alloc, schema, select)),
+    }
+}
