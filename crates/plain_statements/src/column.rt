@@ -22,11 +22,10 @@ pub(crate) fn is_known(schema: &Schema, table: TableId) -> bool
 fn columns_of(schema: &Schema, table: TableId) -> &[ColumnSpec]
     ensures { result.now ≡ (spec_of schema.now table).columns }
 {
-    if table.0 < schema.count() {
-        schema.spec(table).columns.as_slice()
-    } else {
-        &[]
+    if !is_known(schema, table) {
+        return &[];
     }
+    schema.spec(table).columns.as_slice()
 }
 
 /// The declaration of a source's column, if there is one.
