@@ -1,30 +1,36 @@
 -- What the lines of classes keep as more is declared, and what the root of a class has.
-use Rattle.std.proofs.Common.{◌≡◌, ◌⊎◌, inl, inr, ℕ, zero, suc, ◌<◌, ◌≤◌, Bool, true, false, ◌&&◌, ◌||◌, List, [], ◌∷◌, ◌++◌, ◌∙◌, length, map, ap, sym, refl, subst, Option, None, Some, is_some, is_none, Ok, ◌==◌, arith, length-append, eq-or-lt_of_le}
-use Rattle.std.specs.Prelude.{slice_get}
-use Rattle.std.specs.List.{list_all, list_any}
+use Rattle.std.proofs.Common.{◌≡◌, ◌⊎◌, inl, inr, ℕ, zero, suc, ◌<◌, ◌≤◌, Bool, true, false, cond, not, ◌&&◌, ◌||◌, List, [], ◌∷◌, ◌++◌, ◌∙◌, length, map, ap, sym, refl, subst, Option, None, Some, is_some, is_none, Ok, ◌==◌, arith, length-append, eq-or-lt_of_le}
+use Rattle.std.specs.Prelude.{find, nat_lt, slice_get}
+use Rattle.std.specs.Option.{option_map}
+use Rattle.std.specs.List.{list_all, list_any, position, position_or_len}
 use Rattle.std.proofs.lemmas.Bool.{eq-eqb, eqb-true}
-use Rattle.std.proofs.lemmas.List.{append-nil, append_assoc}
+use Rattle.std.proofs.lemmas.Bool.Decides.{nat_tests}
+use Rattle.std.proofs.lemmas.List.{append-nil, append_assoc, get_or_append_left}
+use Rattle.std.proofs.lemmas.List.Folds.{position_or_len_push}
 use Rattle.std.proofs.lemmas.Option.{same_Some, slice_get_within}
 use Rattle.base_core.proofs.Lists.{get_before, get_last}
 use Rattle.base_core.specs.declared.ids.ClassId.{ClassId}
-use Rattle.base_core.specs.declared.refusal.ArgumentKind.TheVariants.{DuplicateName, BadClass}
+use Rattle.base_core.specs.declared.ids.TableId.{TableId}
+use Rattle.base_core.specs.declared.refusal.ArgumentKind.TheVariants.{DuplicateName, BadClass, NoDiscriminator}
+use Rattle.base_core.specs.declared.value.Value.{Value}
+use Rattle.schema_core.specs.declared.table.ColumnSpec.{ColumnSpec}
 use Rattle.schema_core.specs.declared.table.TableSpec.{TableSpec}
-use Rattle.schema_core.specs.Catalog.{Catalog, same_name}
+use Rattle.schema_core.specs.Catalog.{Catalog, no_table, same_name}
 use Rattle.schema_core.specs.Declaration.{declare, some_two}
 use Rattle.class_types.specs.Rules.{Rules}
 use Rattle.class_types.specs.declared.declared.ClassSpec.{ClassSpec}
 use Rattle.class_types.specs.declared.declared.RelationSpec.{RelationSpec}
 use Rattle.class_types.specs.declared.mapped.Attribute.{Attribute}
 use Rattle.class_layouts.specs.declared.classes.Classes.{Classes}
-use Rattle.class_layouts.specs.Columns.{attributes_on, named_table}
+use Rattle.class_layouts.specs.Columns.{attributes_on, columns_in, named_table, table_in}
 use Rattle.class_layouts.specs.Declaring.{declared_unless}
-use Rattle.class_layouts.specs.Faults.{class_fault, first_fault, is_declared, maps_name, misses_declaration, names_on as all_names_on}
+use Rattle.class_layouts.specs.Faults.{class_fault, discriminator_in, discriminator_on, fails_discriminator, first_fault, foreigns_in, foreigns_of, is_declared, is_named, maps_name, misses_declaration, names_on as all_names_on, root_table_on, takes_identity, takes_in}
 use Rattle.class_layouts.specs.Hierarchy.{has_class, line_at, line_of, line_or_none, new_line, place_named, relations_in, root_in, with_class}
-use Rattle.class_mapping.specs.Lines.{AreLines, BeginsWith, are_declared, is_root_over, is_rooted, names_at, names_on, is_same_class, spec_at}
+use Rattle.class_mapping.specs.Lines.{AreLines, BeginsWith, are_declared, is_root_over, is_rooted, is_told, maps_same, names_at, names_on, is_same_class, spec_at}
 use Rattle.class_mapping.proofs.Having.{all_of, some_of, two_before}
 use Rattle.class_mapping.proofs.Lists.{all_append, and_both, and_left, and_right, none_append, or_left, or_none, or_right, some_is}
 use Rattle.class_mapping.proofs.MappingLemmas.{taken_is, untaken}
-use Rattle.class_mapping.proofs.PlainClassLemmas.{over_kept, table_taken}
+use Rattle.class_mapping.proofs.PlainClassLemmas.{found_table, over_kept, place_kept, table_taken}
 use Rattle.class_mapping.proofs.ValidLemmas.{split}
 
 all_then : {A : Type 0} (p q : A → Bool) → ((x : A) → p x ≡ true → q x ≡ true) → (xs : List A) → list_all p xs ≡ true → list_all q xs ≡ true
@@ -53,6 +59,63 @@ root_kept_table : (tables : List TableSpec) (more : TableSpec) (o : Option Class
 root_kept_table tables more None h = absurd cc
 root_kept_table tables more (Some spec) h = root_over_table tables more (is_none spec.base) spec.table h
 
+found_parts : (b : Bool) (m n : ℕ) → cond b (Some m) None ≡ Some n → (b ≡ true) × (m ≡ n)
+found_parts true m n e = (refl, same_Some m n e)
+found_parts false m n e = absurd cc
+
+place_same : {A : Type 0} (p : A → Bool) (xs : List A) (y : A) → nat_lt (position_or_len p xs) (length xs) ≡ true → position_or_len p (xs ++ y ∷ []) ≡ position_or_len p xs
+place_same p xs y h = grind (arith, nat_tests, position_or_len_push)
+
+place_still : {A : Type 0} (p : A → Bool) (xs : List A) (y : A) (n : ℕ) → position p xs ≡ Some n → position p (xs ++ y ∷ []) ≡ Some n
+place_still p xs y n e =
+    let parts = found_parts (nat_lt (position_or_len p xs) (length xs)) (position_or_len p xs) n e in
+    ap (λ (b : Bool). cond b (Some (position_or_len p (xs ++ y ∷ []))) None) (place_kept p xs y parts.0) ∙ ap (λ (m : ℕ). Some m) (place_same p xs y parts.0 ∙ parts.1)
+
+table_place : (o : Option ℕ) (table : TableId) → option_map (λ place. let found : TableId = record { 0 = place } in found) o ≡ Some table → o ≡ Some table.0
+table_place None table e = absurd cc
+table_place (Some n) table e = ap (λ (found : TableId). Some found.0) (same_Some (record { 0 = n }) table e)
+
+-- a table that is found is found beside one more
+named_still : (tables : List TableSpec) (more : TableSpec) (name : Option (List ℕ)) (table : TableId) → named_table tables name ≡ Some table → named_table (tables ++ more ∷ []) name ≡ Some table
+named_still tables more None table e = absurd cc
+named_still tables more (Some name) table e =
+    let named : TableSpec → Bool = λ spec. same_name spec.name name in
+    ap (λ (o : Option ℕ). option_map (λ place. let found : TableId = record { 0 = place } in found) o)
+    (place_still named tables more table.0 (table_place (position named tables) table e))
+
+takes_still : (tables : List TableSpec) (more : TableSpec) (name : List ℕ) (identity : Option Value) (table : TableId) → table.0 < length tables
+    → takes_in (tables ++ more ∷ []) name identity (Some table) ≡ takes_in tables name identity (Some table)
+takes_still tables more name identity table less =
+    let columns : List ColumnSpec = columns_in (tables ++ more ∷ []) table in
+    ap (λ (found : Option TableSpec). takes_identity (foreigns_of found) identity (find (λ column. same_name column.name name) columns)) (get_before tables (more ∷ []) table.0 less)
+    ∙ ap (λ (spec : TableSpec). takes_identity (foreigns_in tables table) identity (find (λ column. same_name column.name name) spec.columns))
+    (get_or_append_left tables (more ∷ []) no_table table.0 less)
+
+told_by : (tables : List TableSpec) (more : TableSpec) (name : List ℕ) (identity : Option Value) (own : Option (List ℕ)) (table : Option TableId) → named_table tables own ≡ table
+    → takes_in tables name identity table ≡ true → takes_in (tables ++ more ∷ []) name identity (named_table (tables ++ more ∷ []) own) ≡ true
+told_by tables more name identity own None e h = absurd cc
+told_by tables more name identity own (Some table) e h =
+    ap (takes_in (tables ++ more ∷ []) name identity) (named_still tables more own table e)
+    ∙ takes_still tables more name identity table (found_table tables own table e) ∙ h
+
+told_in : (tables : List TableSpec) (more : TableSpec) (name : List ℕ) (identity : Option Value) (found : Option ClassSpec) → takes_in tables name identity (table_in tables found) ≡ true
+    → takes_in (tables ++ more ∷ []) name identity (table_in (tables ++ more ∷ []) found) ≡ true
+told_in tables more name identity None h = absurd cc
+told_in tables more name identity (Some spec) h = told_by tables more name identity spec.table (named_table tables spec.table) refl h
+
+not_not : (b : Bool) → not (not b) ≡ true → b ≡ true
+not_not true h = refl
+not_not false h = absurd cc
+
+told_over : (tables : List TableSpec) (more : TableSpec) (classes : Classes) (root : Option ClassId) (name : Option (List ℕ)) (identity : Option Value) (line : List ClassId)
+    → not (fails_discriminator tables (root_table_on tables classes root) name identity line) ≡ true
+    → not (fails_discriminator (tables ++ more ∷ []) (root_table_on (tables ++ more ∷ []) classes root) name identity line) ≡ true
+told_over tables more classes root None identity line h = h
+told_over tables more classes None (Some name) identity line h = absurd cc
+told_over tables more classes (Some root) (Some name) identity line h =
+    ap (λ (b : Bool). not (not b))
+    (told_in tables more name identity (slice_get classes.specs root.0) (not_not (takes_in tables name identity (table_in tables (slice_get classes.specs root.0))) h))
+
 lines_over : (tables : List TableSpec) (more : TableSpec) (classes : Classes) → AreLines tables classes → AreLines (tables ++ more ∷ []) classes
 lines_over tables more classes lines = record {
   rooted = all_then (is_rooted tables classes.specs) (is_rooted (tables ++ more ∷ []) classes.specs) (λ line h. root_kept_table tables more (spec_at classes.specs (root_in line)) h) classes.lines lines.rooted;
@@ -61,6 +124,10 @@ lines_over tables more classes lines = record {
   once = lines.once;
   nested = lines.nested;
   named = lines.named;
+  apart = lines.apart;
+  told = λ class spec e.
+      let line : List ClassId = line_of classes class in
+      told_over tables more classes (root_in line) (discriminator_on classes (root_in line)) spec.identity line (lines.told class spec e);
 }
 
 pub lines_table : (schema : Catalog) (spec : TableSpec) (table : _) (new : Catalog) (classes : Classes) → declare schema spec ≡ Ok (table, new) → AreLines schema.tables classes → AreLines new.tables classes
@@ -272,6 +339,56 @@ module _ (tables : List TableSpec) (classes : Classes) (spec : ClassSpec) (lined
   nested_with class above h =
       nested_by class above (last_or_before class classes.lines last_line (line_within all_classes.lines class above.0 (slice_get all_classes.lines class) refl h)) h
 
+-- ---- no two classes map one table
+
+first_named : (name : Option (List ℕ)) (x : ClassSpec) (xs : List ClassSpec) → maps_name (x ∷ xs) name ≡ false → maps_name (x ∷ []) name ≡ false
+first_named None x xs h = refl
+first_named (Some name) x xs h = or_none (is_named x.table name) false (or_left (is_named x.table name) (list_any (λ spec. is_named spec.table name) xs) h) refl
+
+later_named : (name : Option (List ℕ)) (x : ClassSpec) (xs : List ClassSpec) → maps_name (x ∷ xs) name ≡ false → maps_name xs name ≡ false
+later_named None x xs h = refl
+later_named (Some name) x xs h = or_right (is_named x.table name) (list_any (λ spec. is_named spec.table name) xs) h
+
+apart_with : (specs : List ClassSpec) (spec : ClassSpec) → maps_name specs spec.table ≡ false → some_two maps_same specs ≡ false → some_two maps_same (specs ++ spec ∷ []) ≡ false
+apart_with [] spec h g = refl
+apart_with (x ∷ xs) spec h g =
+    or_none (list_any (λ later. maps_same later x) (xs ++ spec ∷ [])) (some_two maps_same (xs ++ spec ∷ []))
+    (none_append (λ later. maps_same later x) xs (spec ∷ []) (or_left (list_any (λ later. maps_same later x) xs) (some_two maps_same xs) g)
+    (or_none (maps_same spec x) false (first_named spec.table x xs h) refl))
+    (apart_with xs spec (later_named spec.table x xs h) (or_right (list_any (λ later. maps_same later x) xs) (some_two maps_same xs) g))
+
+-- ---- what tells classes apart, with one class more
+
+told_same : (tables : List TableSpec) (classes : Classes) (spec : ClassSpec) (line : List ClassId) (identity : Option Value) → are_declared classes.specs line ≡ true
+    → is_told tables (with_class classes spec) line identity ≡ is_told tables classes line identity
+told_same tables classes spec [] identity h = refl
+told_same tables classes spec (class ∷ line) identity h =
+    ap (λ (found : Option ClassSpec). not (fails_discriminator tables (table_in tables found) (discriminator_in found) identity (class ∷ line)))
+    (got_some classes.specs (spec ∷ []) class.0 (slice_get classes.specs class.0) refl (and_left (is_some (slice_get classes.specs class.0)) (are_declared classes.specs line) h))
+
+module _ (tables : List TableSpec) (classes : Classes) (spec : ClassSpec) (lined : length classes.lines ≡ length classes.specs) (lines : AreLines tables classes) where
+  abbrev one_more : Classes
+  one_more = with_class classes spec
+
+  told_at : (class : ℕ) (found : ClassSpec) → (class ≡ length classes.specs) ⊎ (class < length classes.specs) → slice_get one_more.specs class ≡ Some found
+      → is_told tables one_more (new_line classes spec) spec.identity ≡ true → is_told tables one_more (line_of one_more class) found.identity ≡ true
+  told_at class found (inl last) e h =
+      let same : spec ≡ found = same_Some spec found (sym (get_last classes.specs spec) ∙ sym (ap (slice_get one_more.specs) last) ∙ e) in
+      ap (λ (line : List ClassId). is_told tables one_more line found.identity) (line_last tables classes spec lined lines class (last ∙ sym lined))
+      ∙ ap (λ (other : ClassSpec). is_told tables one_more (new_line classes spec) other.identity) (sym same) ∙ h
+  told_at class found (inr before) e h =
+      let within : class < length classes.lines = rw lined before in
+      ap (λ (line : List ClassId). is_told tables one_more line found.identity) (line_before tables classes spec lined lines class within)
+      ∙ told_same tables classes spec (line_of classes class) found.identity (base_declared tables classes (Some class) lines)
+      ∙ lines.told class found (sym (get_before classes.specs (spec ∷ []) class before) ∙ e)
+
+  told_with : is_told tables one_more (new_line classes spec) spec.identity ≡ true → (class : ℕ) (found : ClassSpec) → slice_get one_more.specs class ≡ Some found
+      → is_told tables one_more (line_of one_more class) found.identity ≡ true
+  told_with h class found e =
+      let within : class < length (classes.specs ++ spec ∷ []) = slice_get_within one_more.specs class found e in
+      let most : class ≤ length classes.specs = omega (arith, within, length-append classes.specs (spec ∷ [])) in
+      told_at class found (eq-or-lt_of_le most) e h
+
 lines_with : (rules : Rules) (tables : List TableSpec) (classes : Classes) (spec : ClassSpec) → class_fault rules tables classes spec ≡ None → length classes.lines ≡ length classes.specs
     → AreLines tables classes → AreLines tables (with_class classes spec)
 unfolding first_fault
@@ -280,6 +397,7 @@ lines_with rules tables classes spec h lined lines =
     let all : Classes = with_class classes spec in
     let one = split (is_declared classes.specs spec.name || some_two same_name (all_names_on tables all line)) DuplicateName _ h in
     let two = split (misses_declaration tables spec line || maps_name classes.specs spec.table) BadClass _ one.1 in
+    let three = split (fails_discriminator tables (root_table_on tables all (root_in line)) (discriminator_on all (root_in line)) spec.identity line) NoDiscriminator _ two.1 in
     let base = line_at classes (place_named classes.specs spec.base) in
     record {
       rooted =
@@ -308,6 +426,8 @@ lines_with rules tables classes spec h lined lines =
           (or_none (some_two same_name (names_on all line)) false
           (two_before (names_on all line) (map (λ (attribute : Attribute). attribute.name) (attributes_on tables all line))
           (or_right (is_declared classes.specs spec.name) (some_two same_name (all_names_on tables all line)) one.0)) refl);
+      apart = apart_with classes.specs spec (or_right (misses_declaration tables spec line) (maps_name classes.specs spec.table) two.0) lines.apart;
+      told = told_with tables classes spec lined lines (ap not three.0);
     }
 
 -- a class that is taken keeps what lines have

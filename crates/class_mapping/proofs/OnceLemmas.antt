@@ -32,7 +32,7 @@ false_by : (b : Bool) → (b ≡ true → ⊥) → b ≡ false
 false_by true f = absurd (f refl)
 false_by false f = refl
 
-none_by : {A : Type 0} (p : A → Bool) (xs : List A) → ((x : A) → Has xs x → p x ≡ false) → list_any p xs ≡ false
+pub none_by : {A : Type 0} (p : A → Bool) (xs : List A) → ((x : A) → Has xs x → p x ≡ false) → list_any p xs ≡ false
 none_by p [] f = refl
 none_by p (x ∷ xs) f = or_none (p x) (list_any p xs) (f x (inl refl)) (none_by p xs (λ y h. f y (inr h)))
 

@@ -71,7 +71,7 @@ found_is : (b : Bool) (n : ℕ) → is_some (option_map (λ place. let table : T
 found_is true n = refl
 found_is false n = refl
 
-place_kept : {A : Type 0} (p : A → Bool) (xs : List A) (y : A) → nat_lt (position_or_len p xs) (length xs) ≡ true → nat_lt (position_or_len p (xs ++ y ∷ [])) (length (xs ++ y ∷ [])) ≡ true
+pub place_kept : {A : Type 0} (p : A → Bool) (xs : List A) (y : A) → nat_lt (position_or_len p xs) (length xs) ≡ true → nat_lt (position_or_len p (xs ++ y ∷ [])) (length (xs ++ y ∷ [])) ≡ true
 place_kept {A = A} p xs y h = grind (arith, nat_tests, position_or_len_push, length-append {A = A})
 
 pub over_kept : (tables : List TableSpec) (more : TableSpec) (name : Option (List ℕ)) → (is_none name || is_some (named_table tables name)) ≡ true → (is_none name || is_some (named_table (tables ++ more ∷ []) name)) ≡ true

@@ -163,7 +163,7 @@ any_named : (name : List ℕ) (columns : List ColumnSpec) → list_any (λ later
 any_named name [] = refl
 any_named name (column ∷ columns) = ap (λ (b : Bool). same_name column.name name || b) (any_named name columns)
 
-two_named : (columns : List ColumnSpec) → some_two same_name (map (λ (column : ColumnSpec). column.name) columns) ≡ repeats_column columns
+pub two_named : (columns : List ColumnSpec) → some_two same_name (map (λ (column : ColumnSpec). column.name) columns) ≡ repeats_column columns
 two_named [] = refl
 two_named (column ∷ columns) =
     ap (λ (b : Bool). b || some_two same_name (map (λ (c : ColumnSpec). c.name) columns)) (any_named column.name columns)

@@ -25,8 +25,8 @@ use Rattle.class_sides.specs.Keys.{allows, columns_at, is_inherited, is_tied, re
 use Rattle.class_sides.specs.Sides.{Ends, candidates, ends_among, ends_by, ends_in, has_attribute, is_all_keys, key_at, layout_at, serves, side_of, sides_at, sides_of, table_candidates, target_of}
 use Rattle.class_sides.specs.Pairs.{differs, fits, is_partner, is_plain, is_taken_in, join_of, lacks_join}
 use Rattle.class_faults.specs.Faults.{fault_among, fault_of_keys, fault_of_pairs, inherits_badly, is_bad_secondary, misses_table, misses_target, misses_tie_in, owns_rightly}
-use Rattle.class_mapping.specs.Valid.{IsValid, covers, covers_both, extends_rightly, holds_of, is_among, is_covered, is_joined, is_paired, is_tied_in, joins, joins_ends, refers_by}
-use Rattle.class_mapping.proofs.Lists.{all_better, all_flat, all_good, all_kept, all_map, all_numbered, all_true, all_unless, and_both, and_every, and_four, and_left, and_right, and_three, covered_if, found_holds, joined_if, led_if, many_if, none_flat, none_map, none_numbered, paired_if}
+use Rattle.class_mapping.specs.Valid.{IsValid, covers, covers_both, extends_rightly, holds_of, is_among, is_covered, is_joined, is_paired, is_tied_in, joins, joins_ends, owns_freely, refers_by}
+use Rattle.class_mapping.proofs.Lists.{all_better, all_flat, all_good, all_kept, all_map, all_numbered, all_true, all_unless, and_both, and_every, and_four, and_left, and_right, and_three, covered_if, found_holds, joined_if, led_if, many_if, none_flat, none_map, none_numbered, or_right, paired_if}
 
 -- ---- the keys that can serve a side
 
@@ -240,6 +240,16 @@ all_extend tables classes layouts h =
     (λ k. tied_from tables (slice_get layouts placed.0) k))
     (enumerate_from 0 classes.specs) h
 
+all_own : (tables : List TableSpec) (classes : Classes) (layouts : List Layout) → list_any (inherits_badly tables classes layouts) (enumerate_from 0 classes.specs) ≡ false
+    → list_all (owns_freely tables classes) (enumerate_from 0 classes.specs) ≡ true
+all_own tables classes layouts h =
+    all_good (inherits_badly tables classes layouts) (owns_freely tables classes)
+    (λ placed bad.
+    all_unless (owns_rightly tables classes placed.0) placed.1.owned
+    (or_right (nat_lt 16 (length (line_of classes placed.0)) || misses_tie_in tables (slice_get layouts placed.0) || some_two same_name placed.1.owned)
+    (list_any (λ name. not (owns_rightly tables classes placed.0 name)) placed.1.owned) bad))
+    (enumerate_from 0 classes.specs) h
+
 -- ---- delete-orphan
 
 abbrev orphan_spec : ClassSpec → Bool
@@ -283,6 +293,7 @@ valid_by tables classes layouts sides joining covering orphans h =
       targets = first.0;
       led = all_led tables sides first.1;
       tied = all_extend tables classes layouts two.0;
+      owned = all_own tables classes layouts two.0;
       joined = all_joined tables classes layouts sides joining four.0;
       collections = all_collections sides three.0;
       covered = all_covered tables layouts sides covering three.0;

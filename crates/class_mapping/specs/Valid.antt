@@ -15,7 +15,7 @@ use Rattle.class_sides.specs.declared.side.Side.{Side}
 use Rattle.class_sides.specs.Keys.{TableKey, foreign_at, is_tied, names_of, refers_into}
 use Rattle.class_sides.specs.Sides.{Ends, has_attribute, is_all_keys, layout_at}
 use Rattle.class_sides.specs.Pairs.{differs, is_partner, is_plain, join_of, overlaps}
-use Rattle.class_faults.specs.Faults.{misses_delete, posts_badly}
+use Rattle.class_faults.specs.Faults.{misses_delete, owns_rightly, posts_badly}
 
 -- ---- the keys of pairs
 
@@ -88,6 +88,10 @@ abbrev pub extends_rightly : List TableSpec → Classes → List Layout → ℕ 
 extends_rightly tables classes layouts placed =
     not (nat_lt 16 (length (line_of classes placed.0))) && is_tied_in tables (slice_get layouts placed.0)
 
+-- the columns that a class owns are of the table in which it lives, no other class owns them, and none is of the key
+abbrev pub owns_freely : List TableSpec → Classes → ℕ × ClassSpec → Bool
+owns_freely tables classes placed = list_all (owns_rightly tables classes placed.0) placed.1.owned
+
 -- What holds of all declarations of a configured mapping. Each foreign key has its target.
 pub record IsValid (tables : List TableSpec) (classes : Classes) (layouts : List Layout) (sides : List Side) : Type 0 where
   pub targets : has_targets tables ≡ true
@@ -95,6 +99,8 @@ pub record IsValid (tables : List TableSpec) (classes : Classes) (layouts : List
   pub led : list_all (λ side. is_some side.target) sides ≡ true
   -- a joined class's key refers to its parent's table
   pub tied : list_all (extends_rightly tables classes layouts) (enumerate_from 0 classes.specs) ≡ true
+  -- a class owns columns that are free
+  pub owned : list_all (owns_freely tables classes) (enumerate_from 0 classes.specs) ≡ true
   -- without a secondary table, a foreign key of the many side refers to the one side
   pub joined : list_all (is_joined tables classes layouts sides) sides ≡ true
   -- a secondary table is behind collections alone

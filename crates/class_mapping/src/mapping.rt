@@ -13,6 +13,7 @@ ghost use Rattle.class_faults.specs.Faults.{mapping_fault};
 ghost use Rattle.class_sides.specs.Linking as linking;
 ghost use Rattle.class_layouts.specs.Faults.{class_fault};
 ghost use Rattle.class_mapping.specs.Mapped.{IsAttribute, IsClass, IsValidMapping, all_validators, attributes_of, class_spec, find_class, key_attributes, layout_of, line_of, parent_of, partner_of, relations_of, root_of, root_table, tables_of, validators_of};
+ghost use Rattle.class_mapping.specs.Lines.{AreLines};
 ghost use Rattle.class_mapping.specs.Plain.{early_fault};
 ghost use Rattle.class_mapping.specs.PlainClass.{ArePlain, IsPlainClass};
 ghost use Rattle.class_mapping.specs.Paired.{HasPairs};
@@ -123,9 +124,12 @@ impl Mapping {
 
     /// Whether all was checked since the last declaration. If so there is no fault, each foreign key has its target, each
     /// relationship of each class has its partner, of the opposite form, and its keys, and a class under another has the
-    /// other's relationships at their places.
+    /// other's relationships at their places. Always each class has its line from a root with a table, no two classes map
+    /// one table, and the discriminator of a hierarchy takes the identity of each of its classes.
     pub fn is_configured(&self) -> bool
         ensures configured { result ≡ self.now.configured }
+        ensures lined { length self.now.classes.lines ≡ length self.now.classes.specs }
+        ensures lines { AreLines self.now.schema.tables self.now.classes }
         ensures valid { self.now.configured ≡ true → IsValidMapping self.now }
         ensures related { self.now.configured ≡ true → AreRelated self.now }
         ensures paired { self.now.configured ≡ true → HasPairs self.now }

@@ -1,7 +1,16 @@
+use Rattle.std.proofs.Common.{◌≡◌, length, subst}
+use Rattle.class_mapping.specs.Lines.{AreLines}
+use Rattle.class_mapping.specs.Mapped.{Mapped}
 use Rattle.class_mapping.proofs.MappingLemmas.{valid_mapping}
 use Rattle.class_mapping.proofs.PairedLemmas.{paired_seen}
 use Rattle.class_mapping.proofs.RelatedPairs.{related_seen}
 use Rattle.class_mapping.proofs.mapping.Mapping.is_configured.Goals as goal
+
+pub returns-clause-lined : goal.returns-clause-lined
+returns-clause-lined c = subst (λ (m : Mapped). length m.classes.lines ≡ length m.classes.specs) c.self.view_is c.self.invariant.lined
+
+pub returns-clause-lines : goal.returns-clause-lines
+returns-clause-lines c = subst (λ (m : Mapped). AreLines m.schema.tables m.classes) c.self.view_is c.self.invariant.lines
 
 pub returns-clause-valid : goal.returns-clause-valid
 returns-clause-valid c =
