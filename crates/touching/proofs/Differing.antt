@@ -19,7 +19,7 @@ tests_alike A true false p q r s = let h : false ≡ true = s (p refl) in absurd
 tests_alike A false true p q r s = let h : false ≡ true = q (r refl) in absurd cc
 tests_alike A false false p q r s = refl
 
-differs_as : (a b : Object) (held : Bool) → (held ≡ true → a ≡ b) → (a ≡ b → held ≡ true) → not held ≡ not (same_object a b)
+pub differs_as : (a b : Object) (held : Bool) → (held ≡ true → a ≡ b) → (a ≡ b → held ≡ true) → not held ≡ not (same_object a b)
 differs_as a b held p q =
     let tells = records_same a b (same_object a b) refl in
     ap not (tests_alike (a ≡ b) held (same_object a b) p q tells.0 tells.1)

@@ -1,4 +1,4 @@
-mod Exact
+pub mod Exact
 mod OneObject
-mod Scopes
-mod Differing
+pub mod Scopes
+pub mod Differing
