@@ -1,0 +1,3 @@
+pub mod WordsCommand
+pub mod Reading
+pub mod Asked
