@@ -11,7 +11,6 @@ use Rattle.schema_core.specs.declared.table.ColumnSpec.{ColumnSpec}
 use Rattle.schema_core.specs.Apply.{with_cells}
 use Rattle.schema_core.specs.Catalog.{Catalog, spec_of}
 use Rattle.schema_core.specs.Tables.{Tables, is_null}
-use Rattle.schema_core.specs.WellFormed.{is_row}
 use Rattle.flush_order.specs.Cells.{is_late, late_name}
 use Rattle.flush_order.specs.Orders.{no_gone, place_of_gone}
 use Rattle.flush_order.specs.Sorted.{Place}
@@ -20,7 +19,7 @@ use Rattle.flush_plan.specs.Planning.{Writing, late_cells, late_gone, writes_som
 use Rattle.flush_plan.specs.Stating.{blend, edit_changed, edit_gone, edit_new, is_present, put_cells, row_at, written_rows}
 use Rattle.plan_laws.proofs.Blend.{Long, blend_self, nulls, nulls_are_long, test}
 use Rattle.plan_laws.proofs.Changing.{none_written, step_is, step_of}
-use Rattle.plan_laws.proofs.Complete.{IsStated, cleared_there, held_is_long, stated_edit, told_long}
+use Rattle.plan_laws.proofs.Complete.{IsStated, cleared_there, stated_edit, told_long, whole_is_long}
 use Rattle.plan_laws.proofs.Items.{all_at, map_map, member_left, member_map, number_member}
 use Rattle.plan_laws.proofs.LateCells.{Stands, late_numbered}
 use Rattle.plan_laws.proofs.Referring.{null_is}
@@ -102,7 +101,7 @@ module _ (schema : Catalog) (old : Tables) (changes : RowChanges) (order : List 
       some
 
   base_long : (n : ℕ) → n < length changes.gone → Long (cs_at n) (gone_at n).base
-  base_long n h = held_is_long (cs_at n) (gone_at n).base (all_at (λ (row : GoneRow). is_row (spec_of schema row.name.table) row.base ≡ true) changes.gone n no_gone told.projected.gone_cells h)
+  base_long n h = whole_is_long (cs_at n) (gone_at n).base (all_at (λ (row : GoneRow). length row.base ≡ length (spec_of schema row.name.table).columns) changes.gone n no_gone told.projected.gone_cells h)
 
   after_stands : (n : ℕ) (late : List Value) → n < length changes.gone → After schema changes old after placed.keys (at n) late → Stands null_cell (its_late n) (cs_at n) (map Given (gone_at n).base) late (nulls (cs_at n)) × Long (cs_at n) late
   after_stands n late h (inl (inl was)) =

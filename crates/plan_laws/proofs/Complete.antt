@@ -1,8 +1,8 @@
 -- What is known of the new rows, under completeness's premises.
-use Rattle.std.proofs.Common.{◌≡◌, inl, inr, ℕ, ℤ, zero, suc, ◌<◌, Bool, true, false, not, cond, ◌&&◌, ◌||◌, eqb, List, [], ◌∷◌, ◌++◌, map, length, set, Option, None, Some, Ok, refl, sym, ap, ◌∙◌, subst}
+use Rattle.std.proofs.Common.{◌≡◌, inl, inr, ℕ, ℤ, zero, suc, ◌<◌, Bool, true, false, not, cond, ◌&&◌, ◌||◌, eqb, List, [], ◌∷◌, ◌++◌, map, length, set, Option, None, Some, Ok, refl, sym, ap, ◌∙◌, subst, arith}
+use Rattle.std.proofs.lemmas.List.{length-map}
 use Rattle.std.specs.List.{AllByRecursion, IsDistinct, list_all}
 use Rattle.std.specs.Option.{is_some, unwrap_or}
-use Rattle.std.specs.Cmp.Lexicographic.{pointwise}
 use Rattle.base_core.specs.declared.ids.ColumnNo.{ColumnNo}
 use Rattle.base_core.specs.declared.value.Value.{Value}
 use Rattle.base_core.specs.declared.value.Value.TheVariants.{Null, Int}
@@ -16,7 +16,6 @@ use Rattle.schema_core.specs.declared.table.TableSpec.{TableSpec}
 use Rattle.schema_core.specs.Apply.{next_key, wants_key, with_cells, with_key}
 use Rattle.schema_core.specs.Catalog.{Catalog, spec_of}
 use Rattle.schema_core.specs.Tables.{Legal, Rows, Tables, is_created, given_value}
-use Rattle.schema_core.specs.WellFormed.{is_row, may_hold}
 use Rattle.base_core.proofs.Lists.{every_append}
 use Rattle.table_laws.proofs.Entries.{all_map}
 use Rattle.table_laws.proofs.RowFits.{and_true}
@@ -32,7 +31,7 @@ use Rattle.plan_laws.proofs.Drawn.{drawn_under}
 use Rattle.plan_laws.specs.Laws.{IsComplete, IsProjected, before}
 use Rattle.plan_laws.specs.Premises.{Ends, IsSorted}
 use Rattle.plan_laws.proofs.Between.{Comes, columns, early_part, legal_cells}
-use Rattle.plan_laws.proofs.Blend.{Long, blend_again, blend_long, legal_is_long, nulls, nulls_are_long, false_true}
+use Rattle.plan_laws.proofs.Blend.{Long, blend_again, blend_long, legal_is_long, nulls, nulls_are_long}
 use Rattle.plan_laws.proofs.Editing.{AreApart, IsEdit, at_edits, edit_cases}
 use Rattle.plan_laws.proofs.Inserting.{News}
 use Rattle.plan_laws.proofs.Items.{all_at, all_filter, all_map_of, all_members, mapped_member, member_all, member_split}
@@ -45,11 +44,11 @@ use Rattle.plan_laws.proofs.Facts.{none_some, same_some, true_false}
 
 -- ---- lengths
 
-pub held_is_long : (cs : List ColumnSpec) (row : List Value) → pointwise may_hold cs row ≡ true → Long cs row
-held_is_long [] [] e = tt
-held_is_long [] (v ∷ row) e = false_true e
-held_is_long (c ∷ cs) [] e = false_true e
-held_is_long (c ∷ cs) (v ∷ row) e = held_is_long cs row (and_true (may_hold c v) (pointwise may_hold cs row) e).1
+pub whole_is_long : (cs : List ColumnSpec) (row : List Value) → length row ≡ length cs → Long cs row
+whole_is_long [] [] e = tt
+whole_is_long [] (v ∷ row) e = absurd (omega (arith, e))
+whole_is_long (c ∷ cs) [] e = absurd (omega (arith, e))
+whole_is_long (c ∷ cs) (v ∷ row) e = whole_is_long cs row (omega (arith, e))
 
 pub long_put : (keys : Keys) (cs : List ColumnSpec) (cells : List RowCell) → Long cs (map given_value cells) → Long cs (map (value_of_cell keys) cells)
 long_put keys [] [] l = tt
@@ -130,8 +129,9 @@ module _ (schema : Catalog) (old : Tables) (changes : RowChanges) (order : List 
 
   pub new_long : (place : ℕ) → is_among order place ≡ true → Long (spec_of schema (table_at changes place)).columns (map given_value (new_at changes place).cells)
   new_long place among =
-      held_is_long (spec_of schema (table_at changes place)).columns (map given_value (new_at changes place).cells)
-      (all_at (λ (row : NewRow). is_row (spec_of schema row.name.table) (map given_value row.cells) ≡ true) changes.fresh place no_row told.projected.new_cells (within place among))
+      whole_is_long (spec_of schema (table_at changes place)).columns (map given_value (new_at changes place).cells)
+      (length-map (new_at changes place).cells given_value
+      ∙ all_at (λ (row : NewRow). length row.cells ≡ length (spec_of schema row.name.table).columns) changes.fresh place no_row told.projected.new_cells (within place among))
 
   pub created_parts : (list_all (λ row. is_created old row.name.table) changes.fresh ≡ true) × (list_all (λ row. is_created old row.name.table) changes.changed ≡ true) × (list_all (λ row. is_created old row.name.table) changes.gone ≡ true)
   created_parts =

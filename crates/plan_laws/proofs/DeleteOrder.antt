@@ -14,7 +14,6 @@ use Rattle.schema_core.specs.declared.table.ForeignSpec.{ForeignSpec}
 use Rattle.schema_core.specs.Catalog.{Catalog, spec_of, target_of}
 use Rattle.schema_core.specs.Declaration.{some_two}
 use Rattle.schema_core.specs.Tables.{Tables, cells_of, has_null, same_values}
-use Rattle.schema_core.specs.WellFormed.{is_row}
 use Rattle.base_core.proofs.Tests.{or_then}
 use Rattle.table_laws.proofs.Entries.{all_both, any_none}
 use Rattle.flush_order.specs.Cells.{cells_cleared, is_late, late_name}
@@ -26,7 +25,7 @@ use Rattle.flush_plan.specs.Flushing.{Sofar}
 use Rattle.flush_plan.specs.Stating.{blend, edit_changed, edit_gone, edit_new, edits, is_present, row_at, written_rows}
 use Rattle.plan_laws.proofs.Between.{all_forall, early_part, legal_cells}
 use Rattle.plan_laws.proofs.Blend.{Long, blend_early, blend_late, legal_is_long, nulls, nulls_are_long}
-use Rattle.plan_laws.proofs.Complete.{IsStated, all_created, apart, held_is_long, known_facts, stated_edit}
+use Rattle.plan_laws.proofs.Complete.{IsStated, all_created, apart, known_facts, stated_edit, whole_is_long}
 use Rattle.plan_laws.proofs.Deleting.{Closed, NamesAmong, Ordered}
 use Rattle.plan_laws.proofs.Differing.{apart_of, apart_other}
 use Rattle.plan_laws.proofs.Editing.{IsEdit, edit_cases}
@@ -195,8 +194,8 @@ module _ (schema : Catalog) (changes : RowChanges) (gone_once : some_two (λ one
     base_long : (i : ℕ) → i < length rows → Long (spec_of schema (gone_at rows i).name.table).columns (gone_at rows i).base
     base_long i h =
         subst (λ (r : GoneRow). Long (spec_of schema r.name.table).columns r.base) (sym (row_is i h))
-        (held_is_long (spec_of schema (get_or changes.gone (get_or numbers i 0) no_gone).name.table).columns (get_or changes.gone (get_or numbers i 0) no_gone).base
-        (all_at (λ (r : GoneRow). is_row (spec_of schema r.name.table) r.base ≡ true) changes.gone (get_or numbers i 0) no_gone told.projected.gone_cells (number_within i h)))
+        (whole_is_long (spec_of schema (get_or changes.gone (get_or numbers i 0) no_gone).name.table).columns (get_or changes.gone (get_or numbers i 0) no_gone).base
+        (all_at (λ (r : GoneRow). length r.base ≡ length (spec_of schema r.name.table).columns) changes.gone (get_or numbers i 0) no_gone told.projected.gone_cells (number_within i h)))
 
     base_same : (i : ℕ) (row : List Value) → i < length rows → row_at old (pl i) ≡ Some row → AllByRecursion (λ foreign. cells_of (spec_of schema (gone_at rows i).name.table) row foreign.columns ≡ cells_of (spec_of schema (gone_at rows i).name.table) (gone_at rows i).base foreign.columns) (spec_of schema (gone_at rows i).name.table).foreigns
     base_same i row h at =

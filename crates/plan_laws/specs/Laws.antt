@@ -16,8 +16,8 @@ use Rattle.schema_core.specs.declared.table.ColumnSpec.{ColumnSpec}
 use Rattle.schema_core.specs.declared.table.ForeignSpec.{ForeignSpec}
 use Rattle.schema_core.specs.Catalog.{Catalog, IsTable, has_name, same_name, spec_of, target_of}
 use Rattle.schema_core.specs.Declaration.{some_two}
-use Rattle.schema_core.specs.Tables.{Legal, Tables, cells_of, is_created, given_value}
-use Rattle.schema_core.specs.WellFormed.{IsWellFormed, is_row}
+use Rattle.schema_core.specs.Tables.{Legal, Tables, cells_of, is_created}
+use Rattle.schema_core.specs.WellFormed.{IsWellFormed}
 use Rattle.flush_order.specs.Cells.{is_late, table_at}
 use Rattle.flush_order.specs.Orders.{insert_order, place_of_gone}
 use Rattle.flush_order.specs.Sorted.{same_place}
@@ -71,7 +71,7 @@ are_at place (column ∷ columns) (cell ∷ cells) = (nat_lt place cell.0.0 && a
 pub record IsProjected (schema : Catalog) (old : Tables) (changes : RowChanges) : Type 0 where
   pub fit : IsFit schema changes
   -- a new row has a cell for each column, and each foreign key is of one kind
-  pub new_cells : AllByRecursion (λ (row : NewRow). is_row (spec_of schema row.name.table) (map given_value row.cells) ≡ true) changes.fresh
+  pub new_cells : AllByRecursion (λ (row : NewRow). length row.cells ≡ length (spec_of schema row.name.table).columns) changes.fresh
   pub new_loose : AllByRecursion (λ (row : NewRow). AreLoose (spec_of schema row.name.table).foreigns (spec_of schema row.name.table).columns row.cells) changes.fresh
   pub new_keyed : AllByRecursion (λ (row : NewRow). list_any (λ column. column.key) (spec_of schema row.name.table).columns ≡ true) changes.fresh
   pub new_foreigns : AllByRecursion (λ (row : NewRow). AllByRecursion (λ foreign. IsOneKind schema changes foreign (cells_named schema row.name.table row.cells foreign.columns)) (spec_of schema row.name.table).foreigns) changes.fresh
@@ -79,7 +79,7 @@ pub record IsProjected (schema : Catalog) (old : Tables) (changes : RowChanges) 
   pub changed_cells : AllByRecursion (λ (row : ChangedRow). are_at 0 (spec_of schema row.name.table).columns row.cells ≡ true) changes.changed
   pub changed_once : some_two (λ one other. same_place (place_of_changed one) (place_of_changed other)) changes.changed ≡ false
   -- a deleted row has a cell for each column, no two have one table and key, none is a changed one
-  pub gone_cells : AllByRecursion (λ (row : GoneRow). is_row (spec_of schema row.name.table) row.base ≡ true) changes.gone
+  pub gone_cells : AllByRecursion (λ (row : GoneRow). length row.base ≡ length (spec_of schema row.name.table).columns) changes.gone
   pub gone_once : some_two (λ one other. same_place (place_of_gone schema one) (place_of_gone schema other)) changes.gone ≡ false
   pub gone_apart : list_any (λ row. list_any (λ other. same_place (place_of_gone schema row) (place_of_changed other)) changes.changed) changes.gone ≡ false
   -- the foreign keys of a deleted row are those of its base

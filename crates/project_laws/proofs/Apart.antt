@@ -37,14 +37,14 @@ use Rattle.project_laws.proofs.Passing.{false_none, true_is_false}
 
 -- ---- places that differ
 
-differs : (one other : Place) → (one ≡ other → ⊥) → same_place one other ≡ false
+pub differs : (one other : Place) → (one ≡ other → ⊥) → same_place one other ≡ false
 differs one other out = by (same_place one other) refl
   where
     by : (b : Bool) → same_place one other ≡ b → b ≡ false
     by true e = absurd (out (same_is one other e))
     by false e = refl
 
-once_of : {A : Type 0} (place : A → Place) (xs : List A) → Differ (map place xs) → some_two (λ one other. same_place (place one) (place other)) xs ≡ false
+pub once_of : {A : Type 0} (place : A → Place) (xs : List A) → Differ (map place xs) → some_two (λ one other. same_place (place one) (place other)) xs ≡ false
 once_of place [] differ = refl
 once_of {A = A} place (x ∷ xs) differ = or_none (list_any (λ later. same_place (place later) (place x)) xs) (some_two (λ one other. same_place (place one) (place other)) xs) (none_same xs differ.0) (once_of place xs differ.1)
   where

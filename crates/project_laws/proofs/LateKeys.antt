@@ -120,7 +120,7 @@ first_holds : (a b : Bool) → (a || b) ≡ true → b ≡ false → a ≡ true
 first_holds true b h q = refl
 first_holds false b h q = absurd (true_false b h q)
 
-foreign_within : (tables : List TableSpec) (t n : ℕ) (spec : Option TableSpec) (foreign : ForeignSpec) → slice_get tables t ≡ spec → slice_get (foreigns_of spec) n ≡ Some foreign → t < length tables
+pub foreign_within : (tables : List TableSpec) (t n : ℕ) (spec : Option TableSpec) (foreign : ForeignSpec) → slice_get tables t ≡ spec → slice_get (foreigns_of spec) n ≡ Some foreign → t < length tables
 foreign_within tables t n None foreign e h = absurd (cc)
 foreign_within tables t n (Some spec) foreign e h = slice_get_within tables t spec e
 
