@@ -1,0 +1,4 @@
+mod TouchSteps
+mod StateSteps
+mod PutSteps
+mod FreeSteps

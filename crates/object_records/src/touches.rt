@@ -1,0 +1,48 @@
+//! The touching of all objects whose records come to differ.
+
+ghost use Rattle.std.specs.Prelude.{◌≡◌, length, not, IfErr, OnOk};
+ghost use Rattle.base_core.specs.declared.refusal.Refusal.TheVariants.{Memory};
+ghost use Rattle.object_arena.specs.Graph.{IsObject, object_at};
+ghost use Rattle.touching.specs.Same.{same_object};
+ghost use Rattle.touching.specs.Touched.{frames_touched_between};
+ghost use Rattle.object_records.specs.Records.{with_records};
+ghost use Rattle.object_records.specs.Way as way;
+
+use base_core::{ObjId, Refusal};
+use object_arena::{Arena, Object};
+use savepoints::Frames;
+use touching::same_object;
+
+#[tactic(auto, using(crate::proofs::TouchSteps::touch_steps))]
+/// Each object that is to have another record is touched in the innermost scope. The only refusal is `Memory`.
+pub(crate) fn touch_all(
+    frames: &mut Frames,
+    arena: &Arena,
+    records: &[Object],
+) -> Result<(), Refusal>
+    requires { length records.now ≡ length arena.now.objects }
+    ensures ok { OnOk result (frames.new ≡ frames_touched_between
+        arena.now (with_records arena.now records.now) frames.old) }
+    ensures scopes { frames.new.scopes ≡ frames.old.scopes }
+    ensures cause { IfErr result (λ e. e ≡ Memory) }
+{
+    for number in 0..arena.count() {
+        touch_one(frames, arena, ObjId(number + 1), &records[number as usize])?;
+    }
+    Ok(())
+}
+
+#[tactic(auto, using(touching::proofs::Scopes::kept_scopes, crate::proofs::TouchSteps::one_touched))]
+/// An object that is to have another record is touched.
+fn touch_one(frames: &mut Frames, arena: &Arena, object: ObjId, new: &Object) -> Result<(), Refusal>
+    requires { IsObject arena.now object }
+    ensures ok { OnOk result (frames.new ≡ way.touched_if
+        (not (same_object (object_at arena.now object) new.now)) arena.now object frames.old) }
+    ensures scopes { frames.new.scopes ≡ frames.old.scopes }
+    ensures cause { IfErr result (λ e. e ≡ Memory) }
+{
+    if same_object(arena.object(object), new) {
+        return Ok(());
+    }
+    frames.touch(arena, object)
+}
