@@ -1,5 +1,5 @@
 -- The reader of the lines outside blocks, and their forms.
-use Rattle.std.specs.Prelude.{◌≡◌, ◌≤◌, ◌⊎◌, ℕ, true, List, [], ◌∷◌, ◌++◌, Err}
+use Rattle.std.specs.Prelude.{◌≡◌, ◌⊎◌, ℕ, true, List, [], ◌∷◌, ◌++◌, Err}
 use Rattle.script_types.specs.declared.command.Command.{Command}
 use Rattle.script_types.specs.declared.command.Inside.TheVariants.{Top}
 use Rattle.script_lex.specs.declared.token.Token.{Token}
@@ -8,7 +8,9 @@ use Rattle.script_tokens.specs.declared.fault.Fault.{Fault}
 use Rattle.script_tokens.specs.declared.fault.Fault.TheVariants.{At}
 use Rattle.script_tokens.specs.Input.{Reader, first_of, start_of}
 use Rattle.script_read.specs.Line.{line_of}
-use Rattle.line_laws.specs.Nesting.{openings, nests}
+use Rattle.script_forms.specs.Form.{Form}
+use Rattle.script_forms.specs.Lines.{Begins}
+use Rattle.line_laws.specs.Nesting.{nests}
 use Rattle.line_laws.specs.Language.{form_for}
 use Rattle.line_laws.proofs.Forms.Exact.{EndsAViablePrefix}
 
@@ -16,15 +18,15 @@ use Rattle.line_laws.proofs.Forms.Exact.{EndsAViablePrefix}
 abbrev pub outer_reader : Reader Command
 outer_reader = line_of Top
 
--- a refused token right behind an `in` or `exists`, before which there are a hundred of `(`, `not` and `-`
-pub record EndsInDepth (ahead : List Token) (e : Fault) : Type 0 where
+-- a refused token right behind an `in` or `exists`, with the tokens before which some line of the form begins
+pub record EndsInDepth (form : Form Command) (ahead : List Token) (e : Fault) : Type 0 where
   pub before : List Token
   pub word : Token
   pub after : List Token
   pub joined : ahead ≡ (before ++ word ∷ []) ++ after
   pub at : e ≡ At (first_of after).at
   pub wants : nests word.kind ≡ true
-  pub deep : 100 ≤ openings before
+  pub begins : Begins form before
 
 -- where a line of bytes is refused
 abbrev pub IsRefused : (List Token → Fault → Type 0) → Type 0
@@ -36,4 +38,4 @@ RefusesNoSooner = IsRefused (λ line e. EndsAViablePrefix (form_for 101 line) li
 
 -- They begin a line that is read, but where a parenthesis must come next that would be nested in a hundred.
 abbrev pub RefusesSoonerInDepthAlone : Type 0
-RefusesSoonerInDepthAlone = IsRefused (λ line e. EndsAViablePrefix (form_for 100 line) line e ⊎ EndsInDepth line e)
+RefusesSoonerInDepthAlone = IsRefused (λ line e. EndsAViablePrefix (form_for 100 line) line e ⊎ EndsInDepth (form_for 100 line) line e)

@@ -3,11 +3,11 @@ use Rattle.std.proofs.Common.{◌≡◌, Bool, true, false, if◌then◌else◌,
 use Rattle.script_lex.specs.declared.kind.Kind.{Kind}
 use Rattle.script_lex.specs.declared.kind.Kind.TheVariants as k
 use Rattle.script_tokens.proofs.Alike.{same}
-use Rattle.script_tokens.specs.Input.{Input, Outcome, Reader, ◌>>=◌, and_then, pure, peek, take_token, eat, expect, clause, kind, sees, after, separated_from}
+use Rattle.script_tokens.specs.Input.{Input, Outcome, Reader, ◌>>=◌, and_then, pure, peek, take_token, eat, expect, clause, kind, sees, separated_from}
 use Rattle.script_forms.specs.Form.{Form, sequence, says, word, maybe, whether, separated_list, ◌or◌}
-use Rattle.line_laws.proofs.Forms.Taking.{Mode, Behind, TooDeep, Kept, Out, Whole, Sound, Inhabited}
+use Rattle.line_laws.proofs.Forms.Taking.{Mode, Kept, Out, Whole, Sound, Inhabited}
 use Rattle.line_laws.proofs.Forms.Steps as step
-use Rattle.line_laws.proofs.Forms.Steps.{budget_none, within_out, is_end}
+use Rattle.line_laws.proofs.Forms.Steps.{begun_by, budget_none, within_out, is_end}
 use Rattle.line_laws.proofs.Expressions.Steps as expressions
 use Rattle.line_laws.proofs.Forms.Lists as lists
 use Rattle.line_laws.proofs.Forms.Options as options
@@ -78,9 +78,8 @@ unless_end {c = c} x one without =
 
 some_out : {A : Type 0} (c : Mode) (g : Form A) (i : Input) (out : Outcome A) → Kept c g i out → Kept c (maybe g) i (and_then out (λ x. pure (Some x)))
 some_out c g i (Ok p) t = record { prefix = t.prefix; count = t.count; joined = t.joined; budget = t.budget; said = t.said }
-some_out c g i (Err e) (Behind before after split at done) =
-    Behind before after split at (record { more = done.more; count = done.count; value = Some done.value; enough = done.enough; said = done.said })
-some_out c g i (Err e) (TooDeep before after u dp split at wants) = TooDeep before after u dp split at wants
+some_out c g i (Err e) r =
+    begun_by r (record { more = r.done.more; count = r.done.count; value = Some r.done.value; enough = r.done.enough; said = r.done.said })
 
 pub one_of : {A : Type 0} {c : Mode} {g : Form A} {i : Input} {out : Outcome A} → Out c g i out → Out c (maybe g) i (and_then out (λ x. pure (Some x)))
 one_of {c = c} {g = g} {i = i} {out = out} t = record { kept = some_out c g i out t.kept }

@@ -1,3 +1,4 @@
+pub mod Opens
 pub mod Steady
 pub mod Forms
 pub mod Expressions

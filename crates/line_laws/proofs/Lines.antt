@@ -1,5 +1,5 @@
 -- Whole lines outside blocks.
-use Rattle.std.proofs.Common.{◌≡◌, ◌⊎◌, ℕ, Bool, true, false, if◌then◌else◌, List, drop, Ok, Err, refl, sym, ◌∙◌, inl, inr}
+use Rattle.std.proofs.Common.{◌≡◌, ◌⊎◌, ℕ, Bool, true, false, if◌then◌else◌, List, [], ◌∷◌, ◌++◌, drop, Ok, Err, refl, ap, sym, ◌∙◌, append_assoc, inl, inr}
 use Rattle.script_types.specs.declared.command.Command.{Command}
 use Rattle.script_lex.specs.declared.kind.Kind.{Kind}
 use Rattle.script_lex.specs.declared.kind.Kind.TheVariants as k
@@ -13,12 +13,12 @@ use Rattle.script_read.specs.Bindings.{binding}
 use Rattle.script_read.specs.Top.{top}
 use Rattle.script_read.specs.Line.{ends, line_of, outer}
 use Rattle.script_forms.specs.Form.{Form}
-use Rattle.script_forms.specs.Lines.{Says}
+use Rattle.script_forms.specs.Lines.{Says, Begins}
 use Rattle.script_forms.specs.Expressions.{expression_to}
 use Rattle.script_forms.specs.Bindings.{binding_line}
 use Rattle.script_forms.specs.TopLines.{top_line, outer_line}
 use Rattle.line_laws.proofs.Forms.Exact.{EndsAViablePrefix, ReadsWhatIsSaid, ReadsAllThatIsSaid, SaysOneThing}
-use Rattle.line_laws.proofs.Forms.Taking.{Plain, Around, Took, Behind, TooDeep, Kept}
+use Rattle.line_laws.proofs.Forms.Taking.{Plain, Around, Took, Completed, Refused, Stands, Here, TooDeep, Kept}
 use Rattle.line_laws.proofs.Forms.Filling.{Complete, Opens, always, less}
 use Rattle.line_laws.proofs.Forms.Lines.{line_is_whole, ends_read, ends_refused, begun, refused_by, refused_yields, fault_same, all_is_read, one_thing}
 use Rattle.line_laws.proofs.Expressions.Whole.{whole_sound, wider_sound, some_expression_to}
@@ -120,23 +120,32 @@ pub refuses_no_sooner : RefusesNoSooner
 unfolding line_of outer second_kind
 refuses_no_sooner line e is = refused_as line (same_kind (first_of (drop 1 (tokens line))).kind k.Assign) e is
 
+begun_around : (form : Form Command) (before : List Token) → Completed Around form before 0 → Begins form before
+begun_around form before done = begun form before (record { more = done.more; count = done.count; value = done.value; enough = done.enough; said = done.said })
+
+deep_there : (form : Form Command) (line : List Token) (f e : Fault) (r : Refused Around form (start_of line) f) → Stands Around r.behind f → f ≡ e
+    → EndsAViablePrefix form line e ⊎ EndsInDepth form line e
+deep_there form line f e r (Here at) is =
+    inl (record { before = r.before; after = r.behind; joined = r.joined; at = sym is ∙ at; begins = begun_around form r.before r.done })
+deep_there form line f e r (TooDeep tight u after split wants at) is = inr (record {
+  before = r.before;
+  word = u;
+  after = after;
+  joined = r.joined ∙ ap (λ ts. r.before ++ ts) split ∙ sym (append_assoc r.before (u ∷ []) after);
+  at = sym is ∙ at;
+  wants = wants;
+  begins = begun_around form r.before r.done;
+})
+
 deep_by : (form : Form Command) (line : List Token) (out : Outcome Command) → Kept Around form (start_of line) out → (e : Fault) → ◌≡◌ {A = Outcome Command} (and_then out ends) (Err e)
-    → EndsAViablePrefix form line e ⊎ EndsInDepth line e
+    → EndsAViablePrefix form line e ⊎ EndsInDepth form line e
 unfolding ends
 deep_by form line (Ok p) t e is = inl (ends_refused form line p.0 p.1 (plain t) (sees k.LineEnd p.1) e is)
-deep_by form line (Err f) (Behind before after split at done) e is = inl (record {
-  before = before;
-  after = after;
-  joined = split;
-  at = sym (fault_same is) ∙ at;
-  begins = begun form before (record { more = done.more; count = done.count; value = done.value; enough = done.enough; said = done.said });
-})
-deep_by form line (Err f) (TooDeep before after u deep split at wants) e is =
-    inr (record { before = before; word = u; after = after; joined = split; at = sym (fault_same is) ∙ at; wants = wants; deep = deep })
+deep_by form line (Err f) r e is = deep_there form line f e r r.stands (fault_same is)
 
 deep_as : (line : List ℕ) (b : Bool) (e : Fault)
     → ◌≡◌ {A = Outcome Command} (and_then (if b then binding (start_of (tokens line)) else top (start_of (tokens line))) ends) (Err e)
-    → EndsAViablePrefix (binding_or_other b 100) (tokens line) e ⊎ EndsInDepth (tokens line) e
+    → EndsAViablePrefix (binding_or_other b 100) (tokens line) e ⊎ EndsInDepth (binding_or_other b 100) (tokens line) e
 deep_as line true e is =
     let i = start_of (tokens line) in
     deep_by (binding_line 100) (tokens line) (binding i) ((binding_read Around 100 narrow).sound.run i (line_is_whole line)) e is

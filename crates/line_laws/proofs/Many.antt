@@ -6,8 +6,8 @@ use Rattle.script_tokens.specs.Input.{Input, Outcome, Reader, and_then}
 use Rattle.script_tokens.specs.Many.{many_by, many_from}
 use Rattle.script_forms.specs.Form.{Form, maybe}
 use Rattle.script_forms.specs.Expressions.{many}
-use Rattle.line_laws.proofs.Forms.Taking.{Mode, Took, Refused, Behind, TooDeep, Kept, Whole, Sound}
-use Rattle.line_laws.proofs.Forms.Steps.{whole_rest, budget_none, budget_more, enough_more, deep_behind}
+use Rattle.line_laws.proofs.Forms.Taking.{Mode, Took, Refused, Kept, Whole, Sound}
+use Rattle.line_laws.proofs.Forms.Steps.{whole_rest, budget_none, budget_more, enough_more, begun_by}
 use Rattle.line_laws.proofs.Following.{Follows}
 
 -- the items that were read are behind those found before
@@ -34,19 +34,20 @@ module _ {A : Type 0} (c : Mode) (item : Form A) where
           said = one_more t.prefix v.prefix t.count v.count x more t.said v.said;
         },
       )
-  behind found i j x t (Err e) (Behind before after split at done) =
-      Behind (t.prefix ++ before) after (t.joined ∙ ap (λ ts. t.prefix ++ ts) split ∙ sym (append_assoc t.prefix before after)) at (record {
-        more = done.more;
-        count = t.count + done.count;
-        value = x ∷ done.value;
-        enough = enough_more c t.count done.count i.operators j.operators t.budget done.enough;
-        said = subst (λ ts. many item ts (t.count + done.count) (x ∷ done.value)) (sym (append_assoc t.prefix before done.more))
-            (one_more t.prefix (before ++ done.more) t.count done.count x done.value t.said done.said);
-      })
-  behind found i j x t (Err e) (TooDeep before after u dp split at wants) =
-      TooDeep (t.prefix ++ before) after u (deep_behind c t.prefix before dp)
-      (t.joined ∙ ap (λ ts. t.prefix ++ ts) split ∙ sym (append_assoc t.prefix (before ++ u ∷ []) after) ∙ ap (λ ts. ts ++ after) (sym (append_assoc t.prefix before (u ∷ []))))
-      at wants
+  behind found i j x t (Err e) r = record {
+    before = t.prefix ++ r.before;
+    behind = r.behind;
+    joined = t.joined ∙ ap (λ ts. t.prefix ++ ts) r.joined ∙ sym (append_assoc t.prefix r.before r.behind);
+    done = record {
+      more = r.done.more;
+      count = t.count + r.done.count;
+      value = x ∷ r.done.value;
+      enough = enough_more c t.count r.done.count i.operators j.operators t.budget r.done.enough;
+      said = subst (λ ts. many item ts (t.count + r.done.count) (x ∷ r.done.value)) (sym (append_assoc t.prefix r.before r.done.more))
+          (one_more t.prefix (r.before ++ r.done.more) t.count r.done.count x r.done.value t.said r.done.said);
+    };
+    stands = r.stands;
+  }
 
   list_of : Option A → List A
   list_of None = []
@@ -59,15 +60,14 @@ module _ {A : Type 0} (c : Mode) (item : Form A) where
 
   -- the item that is begun may be the last
   begun : (i : Input) (e : Fault) → Refused c (maybe item) i e → Refused c (many item) i e
-  begun i e (Behind before after split at done) =
-      Behind before after split at (record {
-        more = done.more;
-        count = done.count;
-        value = list_of done.value;
-        enough = done.enough;
-        said = said_of (before ++ done.more) done.count done.value done.said;
+  begun i e r =
+      begun_by r (record {
+        more = r.done.more;
+        count = r.done.count;
+        value = list_of r.done.value;
+        enough = r.done.enough;
+        said = said_of (r.before ++ r.done.more) r.done.count r.done.value r.done.said;
       })
-  begun i e (TooDeep before after u dp split at wants) = TooDeep before after u dp split at wants
 
   module _ (turn : Reader (Option A)) where
     taken : (n : ℕ) (found : List A) (i : Input) → Whole i.ahead → ((found : List A) (j : Input) → Whole j.ahead → Items c item found j (many_from turn n found j))

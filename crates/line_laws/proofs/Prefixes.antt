@@ -24,7 +24,8 @@ use Rattle.line_laws.proofs.Forms.Taking.{Plain, Around}
 use Rattle.line_laws.proofs.Forms.Steps.{is_end}
 use Rattle.line_laws.proofs.Forms.Filling.{Escapes, given, Complete}
 use Rattle.line_laws.proofs.Forms.Lines.{all_is_read, filled_by, fault_same, refused_yields, tables_all_read, tables_refused, classes_all_read, classes_refused}
-use Rattle.line_laws.specs.Nesting.{opens, openings, nests}
+use Rattle.line_laws.specs.Nesting.{nests}
+use Rattle.line_laws.proofs.Opens.{opens}
 use Rattle.line_laws.proofs.Steady.Settling.{closes, IsClosed}
 use Rattle.line_laws.proofs.Steady.Refusals.{place, IsRefusedForGood, whole_binding, whole_top, whole_table_line, whole_class_line}
 use Rattle.line_laws.proofs.Steady.Settled.{binding_refused, top_refused, table_refused, class_refused}
@@ -36,7 +37,7 @@ use Rattle.line_laws.proofs.Lines.{filled, opened, wider_filled, wider_opened, r
 use Rattle.line_laws.proofs.Closed.{line_is_closed}
 use Rattle.line_laws.proofs.Places.{Rise, line_rises, one_place}
 
--- a refused token of the line: some line of the narrow form begins with the tokens before it, or they end deep and one of the wide form does; and none of
+-- a refused token of the line: some line of the narrow form begins with the tokens before it, or with those before a last word and one of the wide form with all; and none of
 -- the narrow form begins with these and itself
 pub record LongestPrefix (wide narrow : Form Command) (line : List Token) (e : Fault) : Type 0 where
   pub before : List Token
@@ -44,7 +45,7 @@ pub record LongestPrefix (wide narrow : Form Command) (line : List Token) (e : F
   pub joined : line ≡ before ++ after
   pub stands : 1 ≤ length after
   pub at : e ≡ At (first_of after).at
-  pub begins : Begins narrow before ⊎ (EndDeep before × Begins wide before)
+  pub begins : Begins narrow before ⊎ (EndDeep narrow before × Begins wide before)
   pub stops : Begins narrow (before ++ first_of after ∷ []) → ⊥
   pub stops_deeper : nests (first_of after).kind ≡ true → GoesOn wide before (first_of after) → ⊥
 
@@ -97,30 +98,30 @@ nesting_goes k.In e = refl
 nesting_goes k.Exists e = refl
 nesting_goes _ e = absurd (false_true e)
 
-end_deep : (k : ℕ) (line earlier : List Token) (word : Token) (after : List Token) → line ≡ (earlier ++ word ∷ []) ++ after → Rise 0 line → IsClosed line → suc k ≤ length line
-    → place k line ≡ (first_of after).at → nests word.kind ≡ true → 100 ≤ openings earlier → EndDeep (take k line)
-end_deep k line earlier word [] split rise closed some is wants deep =
+end_deep : (narrow : Form Command) (k : ℕ) (line earlier : List Token) (word : Token) (after : List Token) → line ≡ (earlier ++ word ∷ []) ++ after → Rise 0 line → IsClosed line
+    → suc k ≤ length line → place k line ≡ (first_of after).at → nests word.kind ≡ true → Begins narrow earlier → EndDeep narrow (take k line)
+end_deep narrow k line earlier word [] split rise closed some is wants begins =
     let last : closes word.kind ≡ true = closed_last earlier word (subst IsClosed (split ∙ append-nil (earlier ++ word ∷ [])) closed) in
     absurd (false_true (sym (nesting_goes word.kind wants) ∙ last))
-end_deep k line earlier word (t ∷ ts) split rise closed some is wants deep =
+end_deep narrow k line earlier word (t ∷ ts) split rise closed some is wants begins =
     let prefix = earlier ++ word ∷ [] in
     let same : k ≡ length prefix = one_prefix k line prefix t ts split rise some is in record {
       earlier = earlier;
       word = word;
       joined = ap (λ n. take n line) same ∙ ap (take (length prefix)) split ∙ take-append_seam prefix (t ∷ ts);
       wants = wants;
-      deep = deep;
+      begins = begins;
     }
 
 begins_one : (wide narrow : Form Command) (k : ℕ) (line : List Token) (e : Fault) → Rise 0 line → IsClosed line → suc k ≤ length line → e ≡ At (place k line)
-    → EndsAViablePrefix wide line e → EndsAViablePrefix narrow line e ⊎ EndsInDepth line e
-    → Begins narrow (take k line) ⊎ (EndDeep (take k line) × Begins wide (take k line))
+    → EndsAViablePrefix wide line e → EndsAViablePrefix narrow line e ⊎ EndsInDepth narrow line e
+    → Begins narrow (take k line) ⊎ (EndDeep narrow (take k line) × Begins wide (take k line))
 begins_one wide narrow k line e rise closed some at viable (inl v) =
     inl (begins_less narrow k line v.before v.after v.joined (no_later k line v.before v.after v.joined rise some (same_place (sym at ∙ v.at))) v.begins)
 begins_one wide narrow k line e rise closed some at viable (inr d) =
     let less = no_later k line viable.before viable.after viable.joined rise some (same_place (sym at ∙ viable.at)) in
     inr (
-      end_deep k line d.before d.word d.after d.joined rise closed some (same_place (sym at ∙ d.at)) d.wants d.deep,
+      end_deep narrow k line d.before d.word d.after d.joined rise closed some (same_place (sym at ∙ d.at)) d.wants d.begins,
       begins_less wide k line viable.before viable.after viable.joined less viable.begins,
     )
 
@@ -241,7 +242,7 @@ StopsDeep p wide =
     → nests (first_of (drop k line)).kind ≡ true → GoesOn wide (take k line) (first_of (drop k line)) → ⊥
 
 longest : (p : Reader Command) (wide narrow : Form Command) → IsRefusedForGood p → ReadsAllThatIsSaid p narrow → StopsDeep p wide → (bytes : List ℕ) (e : Fault)
-    → p (start_of (tokens bytes)) ≡ Err e → EndsAViablePrefix wide (tokens bytes) e → EndsAViablePrefix narrow (tokens bytes) e ⊎ EndsInDepth (tokens bytes) e
+    → p (start_of (tokens bytes)) ≡ Err e → EndsAViablePrefix wide (tokens bytes) e → EndsAViablePrefix narrow (tokens bytes) e ⊎ EndsInDepth narrow (tokens bytes) e
     → LongestPrefix wide narrow (tokens bytes) e
 longest p wide narrow refused reads stop bytes e is viable deep =
     let line = tokens bytes in
@@ -281,7 +282,7 @@ flat_stops p form reads k line rise some again wants on = stops_at p form k line
 
 outer_by : (bytes : List ℕ) (b : Bool) (e : Fault)
     → ◌≡◌ {A = Outcome Command} (and_then (if b then binding (start_of (tokens bytes)) else top (start_of (tokens bytes))) ends) (Err e)
-    → EndsAViablePrefix (binding_or_other b 101) (tokens bytes) e → EndsAViablePrefix (binding_or_other b 100) (tokens bytes) e ⊎ EndsInDepth (tokens bytes) e
+    → EndsAViablePrefix (binding_or_other b 101) (tokens bytes) e → EndsAViablePrefix (binding_or_other b 100) (tokens bytes) e ⊎ EndsInDepth (binding_or_other b 100) (tokens bytes) e
     → LongestPrefix (binding_or_other b 101) (binding_or_other b 100) (tokens bytes) e
 outer_by bytes true e is viable deep = longest whole_binding (binding_line 101) (binding_line 100) binding_refused bindings_all_read binding_stops bytes e is viable deep
 outer_by bytes false e is viable deep = longest whole_top (top_line 101) (top_line 100) top_refused others_all_read top_stops bytes e is viable deep

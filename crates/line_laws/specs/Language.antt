@@ -16,7 +16,7 @@ use Rattle.script_forms.specs.TableLines.{table_line}
 use Rattle.script_forms.specs.ClassLines.{class_line}
 use Rattle.script_forms.specs.Bindings.{binding_line}
 use Rattle.script_forms.specs.TopLines.{top_line, outer_line}
-use Rattle.line_laws.specs.Nesting.{openings, nests}
+use Rattle.line_laws.specs.Nesting.{nests}
 
 -- the form of the lines that stand there
 abbrev pub line_form : Inside → Form Command
@@ -43,17 +43,19 @@ form_of_kind Top most line = form_for most line
 form_of_kind Table most line = table_line
 form_of_kind Class most line = class_line
 
--- tokens that end with an `in` or `exists`, before which there are a hundred of `(`, `not` and `-`
-pub record EndDeep (tokens : List Token) : Type 0 where
+-- tokens that end with an `in` or `exists`, with those before which some line of the form begins
+pub record EndDeep (form : Form Command) (tokens : List Token) : Type 0 where
   pub earlier : List Token
   pub word : Token
   pub joined : tokens ≡ earlier ++ word ∷ []
   pub wants : nests word.kind ≡ true
-  pub deep : 100 ≤ openings earlier
+  pub begins : Begins form earlier
 
--- some line of this one's kind begins with these tokens, or they end so deep that only one does in which one more may nest
+-- Some line of this one's kind begins with these tokens; or one does with those before the `in` or `exists` that ends them, and with all of them only one in
+-- which one more may nest.
 abbrev pub BeginOne : Inside → List Token → List Token → Type 0
-BeginOne inside line tokens = Begins (form_of_kind inside 100 line) tokens ⊎ (EndDeep tokens × Begins (form_of_kind inside 101 line) tokens)
+BeginOne inside line tokens =
+    Begins (form_of_kind inside 100 line) tokens ⊎ (EndDeep (form_of_kind inside 100 line) tokens × Begins (form_of_kind inside 101 line) tokens)
 
 -- some line of the form begins with these tokens and this one, and no token behind it stands at its place
 pub record GoesOn (form : Form Command) (tokens : List Token) (t : Token) : Type 0 where

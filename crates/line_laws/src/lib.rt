@@ -8,9 +8,9 @@ ghost use Rattle.line_laws.specs.Language.{AnswersAllThatIsSaid, AnswersWhatIsSa
 /// relates to its tokens, which is one at most; and where they say none, the column of a token.
 ///
 /// That token stands one past the longest prefix of the line with which some line of its kind begins: such a line begins with the tokens before it, and none
-/// begins with these and the token itself. Where they end with an `in` or `exists` before which there are a hundred of `(`, `not` and `-`, the line that
-/// begins with them may be one in which 101 of parentheses, `not` and unary minus nest: the fault is at the parenthesis there. It is at no `in` or `exists`
-/// itself that could stand if one more might nest.
+/// begins with these and the token itself. Where such a line begins with the tokens before an `in` or `exists` alone, and with that word too only one in
+/// which 101 of parentheses, `not` and unary minus nest, the fault is behind the word, at the parenthesis there. It is at no `in` or `exists` itself that
+/// could stand if one more might nest.
 pub fn lines_are_answered_as_the_language_says()
     ensures answers { AnswersWhatIsSaid }
     ensures all { AnswersAllThatIsSaid }

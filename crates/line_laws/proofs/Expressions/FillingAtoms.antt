@@ -24,7 +24,7 @@ use Rattle.script_forms.specs.Form.{Form, sequence, says, word, separated_list}
 use Rattle.script_forms.specs.Basics as basic
 use Rattle.script_forms.specs.Expressions as form
 use Rattle.line_laws.proofs.Forms.Taking.{Inside, Enough}
-use Rattle.line_laws.specs.Nesting.{opens}
+use Rattle.line_laws.proofs.Opens.{opens}
 use Rattle.line_laws.proofs.Forms.Filling.{given_as, Read, Complete, Opens, Begun, always, both, then_any, made, expected, taken, on_word, on_first, by_kind_read, word_begun, then_begun, either, word_opens, first_opens, either_opens}
 use Rattle.line_laws.proofs.Forms.FillingBasics.{Solid, listed, named, closes}
 use Rattle.line_laws.proofs.Expressions.FillingSteps.{unlike, only, onto, opens_onto, opens_less, solid_of, first_onto, separated_opens, on_opening, any_kind, seen, unseen, uneaten, eaten_then, Sign, sign, either_sign}

@@ -1,5 +1,5 @@
 -- The levels of an expression are read as their forms say.
-use Rattle.std.proofs.Common.{◌≡◌, ◌≢◌, ℕ, zero, suc, ◌+◌, ◌≤◌, refl, inl, inr, arith}
+use Rattle.std.proofs.Common.{◌≡◌, ◌≢◌, ℕ, zero, suc, refl, inl, inr, arith}
 use Rattle.script_types.specs.declared.expression.Syn.{Syn}
 use Rattle.script_types.specs.declared.expression.Syn.TheVariants as e
 use Rattle.script_lex.specs.declared.kind.Kind.{Kind}
@@ -41,37 +41,37 @@ module _ (depth : ℕ) (inner : Place → Form Syn) where
   some_at BehindNot = some_negation
   some_at BehindMinus = some_unary depth inner
 
-module _ (depth room outer lower : ℕ) (fits : Fits depth room outer lower) (expr : Level → Reader Syn) (inner : Place → Form Syn)
-    (reads : depth ≢ 0 → (l : Level) → Sound (Inside lower) (expr l) (inner (place l))) (somes : room ≢ 0 → (stands : Place) → Inhabited (inner stands)) where
-  comparison_read : Sound (Inside outer) (r.comparison depth expr) (form.comparison room inner)
+module _ (depth room near : ℕ) (fits : Fits depth room near) (expr : Level → Reader Syn) (inner : Place → Form Syn)
+    (reads : depth ≢ 0 → (l : Level) → Sound (Inside near) (expr l) (inner (place l))) (somes : room ≢ 0 → (stands : Place) → Inhabited (inner stands)) where
+  comparison_read : Sound (Inside near) (r.comparison depth expr) (form.comparison room inner)
   unfolding r.comparison
-  comparison_read = both (sum_read depth room outer lower fits expr inner reads somes) (follow_read depth room outer lower fits expr inner reads somes) (some_tested room inner)
+  comparison_read = both (sum_read depth room near fits expr inner reads somes) (follow_read depth room near fits expr inner reads somes) (some_tested room inner)
 
-  not_read : Sound (Inside outer) (λ i. and_then (r.deeper depth expr k.Not i) (λ _. expr level.Negation >>= (λ x. pure (e.Not x)))) (form.negation room inner)
+  not_read : Sound (Inside near) (λ i. and_then (r.deeper depth expr k.Not i) (λ _. expr level.Negation >>= (λ x. pure (e.Not x)))) (form.negation room inner)
   not_read =
-      deeper_read depth room outer lower fits expr k.Not refl refl (λ some. mapped e.Not (reads some level.Negation)) (λ some. some_both (somes some BehindNot) (λ x. some_made (e.Not x)))
+      deeper_read depth room near fits expr k.Not refl (λ some. mapped e.Not (reads some level.Negation)) (λ some. some_both (somes some BehindNot) (λ x. some_made (e.Not x)))
       (some_negation room inner) (not_up room inner)
 
-  negation_at : (kd : Kind) (i : Input) → Whole i.ahead → kind i ≡ kd → Out (Inside outer) (form.negation room inner) i (r.negation_by depth expr kd i)
+  negation_at : (kd : Kind) (i : Input) → Whole i.ahead → kind i ≡ kd → Out (Inside near) (form.negation room inner) i (r.negation_by depth expr kd i)
   negation_at k.Not i whole is = at not_read i whole
   negation_at _ i whole is = right_of (at comparison_read i whole)
 
-  negation_read : Sound (Inside outer) (r.negation depth expr) (form.negation room inner)
+  negation_read : Sound (Inside near) (r.negation depth expr) (form.negation room inner)
   unfolding r.negation
   negation_read = on_kind (r.negation_by depth expr) negation_at
 
-  conjunction_read : Sound (Inside outer) (r.conjunction depth expr) (form.conjunction room inner)
+  conjunction_read : Sound (Inside near) (r.conjunction depth expr) (form.conjunction room inner)
   unfolding r.conjunction r.conjuncts
   conjunction_read = one_or_list_read k.And e.And refl negation_read (some_negation room inner)
 
-  disjunction_read : Sound (Inside outer) (r.disjunction depth expr) (form.disjunction room inner)
+  disjunction_read : Sound (Inside near) (r.disjunction depth expr) (form.disjunction room inner)
   unfolding r.disjunction r.disjuncts
   disjunction_read = one_or_list_read k.Or e.Or refl conjunction_read (some_conjunction room inner)
 
-  level_read : (l : Level) → Sound (Inside outer) (r.at_level depth expr l) (form.at room inner (place l))
+  level_read : (l : Level) → Sound (Inside near) (r.at_level depth expr l) (form.at room inner (place l))
   level_read level.Whole = disjunction_read
   level_read level.Negation = negation_read
-  level_read level.Unary = unary_read depth room outer lower fits expr inner reads somes
+  level_read level.Unary = unary_read depth room near fits expr inner reads somes
 
 -- ---- to every depth
 
@@ -80,29 +80,28 @@ unfolding form.nested_expression
 some_nested depth stands = some_at depth (form.nested_expression depth) stands
 
 -- compared with a form in which as many may nest
-fits_itself : (depth lower : ℕ) → depth ≤ lower + 1 → Fits depth depth depth lower
-fits_itself depth lower near = record { near = near; roomy = λ some. some; full = λ none. inl none }
+fits_itself : (depth : ℕ) → Fits depth depth 0
+fits_itself depth = record { roomy = λ some. some; full = λ none. inl refl }
 
-pub nested_read : (depth : ℕ) (l : Level) → Sound (Inside depth) (r.expr (suc depth) l) (form.nested_expression (suc depth) (place l))
+pub nested_read : (depth : ℕ) (l : Level) → Sound (Inside 0) (r.expr (suc depth) l) (form.nested_expression (suc depth) (place l))
 unfolding r.expr form.nested_expression
 nested_read zero l =
-    level_read zero zero zero zero (fits_itself zero zero (omega arith)) (r.expr zero) (form.nested_expression zero) (λ some. absurd (some refl)) (λ some. absurd (some refl)) l
+    level_read zero zero 0 (fits_itself zero) (r.expr zero) (form.nested_expression zero) (λ some. absurd (some refl)) (λ some. absurd (some refl)) l
 nested_read (suc depth) l =
-    level_read (suc depth) (suc depth) (suc depth) depth (fits_itself (suc depth) depth (omega arith)) (r.expr (suc depth)) (form.nested_expression (suc depth))
-    (λ some. nested_read depth) (λ some. some_nested depth) l
+    level_read (suc depth) (suc depth) 0 (fits_itself (suc depth)) (r.expr (suc depth)) (form.nested_expression (suc depth)) (λ some. nested_read depth)
+    (λ some. some_nested depth) l
 
 -- compared with a form in which one more may nest
 has_room : (depth : ℕ) → suc depth ≢ 0
 has_room depth = omega arith
 
-fits_wider : (depth outer lower : ℕ) → outer ≤ lower + 1 → Fits depth (suc depth) outer lower
-fits_wider depth outer lower near = record { near = near; roomy = λ some. has_room depth; full = λ none. inr (has_room depth) }
+fits_wider : (depth : ℕ) → Fits depth (suc depth) 1
+fits_wider depth = record { roomy = λ some. has_room depth; full = λ none. inr (has_room depth) }
 
-pub wider_read : (more depth : ℕ) (l : Level) → Sound (Inside (more + depth)) (r.expr (suc depth) l) (form.nested_expression (suc (suc depth)) (place l))
+pub wider_read : (depth : ℕ) (l : Level) → Sound (Inside 1) (r.expr (suc depth) l) (form.nested_expression (suc (suc depth)) (place l))
 unfolding r.expr form.nested_expression
-wider_read more zero l =
-    level_read zero 1 (more + 0) (more + 0) (fits_wider zero (more + 0) (more + 0) (omega arith)) (r.expr zero) (form.nested_expression 1) (λ some. absurd (some refl))
-    (λ some. some_nested 0) l
-wider_read more (suc depth) l =
-    level_read (suc depth) (suc (suc depth)) (more + suc depth) (more + depth) (fits_wider (suc depth) (more + suc depth) (more + depth) (omega arith)) (r.expr (suc depth))
-    (form.nested_expression (suc (suc depth))) (λ some. wider_read more depth) (λ some. some_nested (suc depth)) l
+wider_read zero l =
+    level_read zero 1 1 (fits_wider zero) (r.expr zero) (form.nested_expression 1) (λ some. absurd (some refl)) (λ some. some_nested 0) l
+wider_read (suc depth) l =
+    level_read (suc depth) (suc (suc depth)) 1 (fits_wider (suc depth)) (r.expr (suc depth)) (form.nested_expression (suc (suc depth))) (λ some. wider_read depth)
+    (λ some. some_nested (suc depth)) l

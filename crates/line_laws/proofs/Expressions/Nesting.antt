@@ -1,5 +1,5 @@
 -- What stands inside one more of parentheses, `not` and unary minus.
-use Rattle.std.proofs.Common.{◌≡◌, ◌≢◌, ℕ, ◌+◌, ◌≤◌, Bool, true, false, if◌then◌else◌, ◌==◌, List, [], ◌∷◌, ◌++◌, drop, Ok, Err, ◌⊎◌, inl, inr, refl, ap, ◌∙◌, arith}
+use Rattle.std.proofs.Common.{◌≡◌, ◌≢◌, ℕ, Bool, true, false, if◌then◌else◌, ◌==◌, List, [], ◌∷◌, drop, Ok, Err, ◌⊎◌, inl, inr, refl, ap, ◌∙◌}
 use Rattle.std.proofs.lemmas.Bool.{eqb-true, eqb-false}
 use Rattle.script_types.specs.declared.expression.Syn.{Syn}
 use Rattle.script_lex.specs.declared.kind.Kind.{Kind}
@@ -14,9 +14,9 @@ use Rattle.script_expr.specs.declared.grammar.Level.TheVariants as level
 use Rattle.script_expr.specs.Expr as r
 use Rattle.script_forms.specs.Form.{Form, sequence, word}
 use Rattle.script_forms.specs.Expressions.{nesting_token, Place, Anywhere, BehindNot, BehindMinus}
-use Rattle.line_laws.specs.Nesting.{opens, nests}
-use Rattle.line_laws.proofs.Forms.Taking.{Inside, Took, Refused, Behind, TooDeep, Kept, Out, Whole, Sound, Inhabited}
-use Rattle.line_laws.proofs.Forms.Steps.{is_end, token_of, taken_by, whole_next, both_taken, within_out, refused_here}
+use Rattle.line_laws.specs.Nesting.{nests}
+use Rattle.line_laws.proofs.Forms.Taking.{Inside, Took, TooDeep, Kept, Out, Whole, Sound, Inhabited}
+use Rattle.line_laws.proofs.Forms.Steps.{is_end, budget_none, begun_none, token_of, taken_by, whole_next, both_taken, within_out, refused_here}
 use Rattle.line_laws.proofs.Expressions.Steps.{Within}
 
 -- where an expression stands that is read so
@@ -25,60 +25,18 @@ place level.Whole = Anywhere
 place level.Negation = BehindNot
 place level.Unary = BehindMinus
 
--- A reader in which `depth` more may nest, and a form in which `room` more may. Where none may in the reader, either the form has room, or what is refused behind `in`
--- or `exists` nests too deep: then `outer` that nest have to stand before it, and `lower` of them inside one more.
-pub record Fits (depth room outer lower : ℕ) : Type 0 where
-  pub near : outer ≤ lower + 1
+-- A reader in which `depth` more may nest, and a form in which `room` more may. Where none may in the reader, the form has room, or as many nest in it as are read.
+pub record Fits (depth room near : ℕ) : Type 0 where
   pub roomy : depth ≢ 0 → room ≢ 0
-  pub full : depth ≡ 0 → (outer ≡ 0) ⊎ (room ≢ 0)
+  pub full : depth ≡ 0 → (near ≡ 0) ⊎ (room ≢ 0)
 
 abbrev pub nested_form : {A : Type 0} → ℕ → Kind → Form A → Form A
 nested_form depth kd g = sequence (nesting_token depth kd) (λ _. g)
 
--- behind the token that nests
-behind : {A : Type 0} (room outer lower : ℕ) → outer ≤ lower + 1 → (kd : Kind) → opens kd ≡ 1 → room ≢ 0 → (g : Form A) (t : Token) (ts : List Token) (o : ℕ) → t.kind ≡ kd
-    → (out : Outcome A) → Kept (Inside lower) g (record { ahead = ts; operators = o }) out → Kept (Inside outer) (nested_form room kd g) (record { ahead = t ∷ ts; operators = o }) out
-behind room outer lower near kd one some g t ts o is (Ok q) u = record {
-  prefix = t ∷ u.prefix;
-  count = u.count;
-  joined = ap (λ us. t ∷ us) u.joined;
-  budget = u.budget;
-  said = (
-    tt,
-    record {
-      prefix = t ∷ [];
-      rest = u.prefix;
-      prefix_count = 0;
-      rest_count = u.count;
-      joined = refl;
-      counted = omega arith;
-      first = (t, refl, is, some, refl);
-      second = u.said;
-    },
-  );
-}
-behind room outer lower near kd one some g t ts o is (Err e) (Behind before after split at done) =
-    Behind (t ∷ before) after (ap (λ us. t ∷ us) split) at (record {
-      more = done.more;
-      count = done.count;
-      value = done.value;
-      enough = done.enough;
-      said = (
-        tt,
-        record {
-          prefix = t ∷ [];
-          rest = before ++ done.more;
-          prefix_count = 0;
-          rest_count = done.count;
-          joined = refl;
-          counted = omega arith;
-          first = (t, refl, is, some, refl);
-          second = done.said;
-        },
-      );
-    })
-behind room outer lower near kd one some g t ts o is (Err e) (TooDeep before after u dp split at wants) =
-    TooDeep (t ∷ before) after u (omega (arith, near, ap opens is ∙ one, dp)) (ap (λ us. t ∷ us) split) at wants
+-- the token that nests
+entered_one : (room near : ℕ) (kd : Kind) → room ≢ 0 → (t : Token) (ts : List Token) (o : ℕ) → t.kind ≡ kd
+    → Took (Inside near) (nesting_token room kd) (record { ahead = t ∷ ts; operators = o }) tt (record { ahead = ts; operators = o })
+entered_one room near kd some t ts o is = record { prefix = t ∷ []; count = 0; joined = refl; budget = budget_none (Inside near) o; said = (t, refl, is, some, refl) }
 
 some_nested : {A : Type 0} (room : ℕ) (kd : Kind) {g : Form A} → room ≢ 0 → Inhabited g → Inhabited (nested_form room kd g)
 some_nested room kd some any = record {
@@ -100,27 +58,28 @@ some_nested room kd some any = record {
 }
 
 -- where one more may nest
-entered_by : {A : Type 0} (room outer lower : ℕ) → outer ≤ lower + 1 → (kd : Kind) → opens kd ≡ 1 → is_end kd ≡ false → room ≢ 0 → (p : Reader A) (g : Form A)
-    → Sound (Inside lower) p g → Inhabited g → (xs : List Token) (o : ℕ) → Whole xs → (s : Bool) → same_kind (first_of xs).kind kd ≡ s
-    → Kept (Inside outer) (nested_form room kd g) (record { ahead = xs; operators = o })
+entered_by : {A : Type 0} (room near : ℕ) (kd : Kind) → is_end kd ≡ false → room ≢ 0 → (p : Reader A) (g : Form A)
+    → Sound (Inside near) p g → Inhabited g → (xs : List Token) (o : ℕ) → Whole xs → (s : Bool) → same_kind (first_of xs).kind kd ≡ s
+    → Kept (Inside near) (nested_form room kd g) (record { ahead = xs; operators = o })
     (and_then {A = Unit {0}} (if s then Ok (tt, record { ahead = drop 1 xs; operators = o }) else Err (At (first_of xs).at)) (λ _. p))
 unfolding head
-entered_by room outer lower near kd one not_end some p g sp any [] o whole true is = absurd (true_false (ap is_end (same is) ∙ not_end))
+entered_by room near kd not_end some p g sp any [] o whole true is = absurd (true_false (ap is_end (same is) ∙ not_end))
   where
     true_false : true ≡ false → ⊥
     true_false e = cc
-entered_by room outer lower near kd one not_end some p g sp any (t ∷ ts) o whole true is =
+entered_by room near kd not_end some p g sp any (t ∷ ts) o whole true is =
+    let i : Input = record { ahead = t ∷ ts; operators = o } in
     let j : Input = record { ahead = ts; operators = o } in
-    behind room outer lower near kd one some g t ts o (same is) (p j) (sp.run j (whole_next (t ∷ ts) whole))
-entered_by room outer lower near kd one not_end some p g sp any xs o whole false is =
-    refused_here (Inside outer) (record { ahead = xs; operators = o }) (some_nested room kd some any)
+    both_taken (Inside near) (nesting_token room kd) (λ _. g) i tt j (entered_one room near kd some t ts o (same is)) (p j) (sp.run j (whole_next (t ∷ ts) whole))
+entered_by room near kd not_end some p g sp any xs o whole false is =
+    refused_here (Inside near) (record { ahead = xs; operators = o }) (some_nested room kd some any)
 
-module _ (depth room outer lower : ℕ) (fits : Fits depth room outer lower) (expr : Level → Reader Syn) where
-  pub entered : {A : Type 0} (kd : Kind) → opens kd ≡ 1 → is_end kd ≡ false → room ≢ 0 → {p : Reader A} {g : Form A} → Sound (Inside lower) p g → Inhabited g
-      → (i : Input) → Whole i.ahead → Kept (Inside outer) (nested_form room kd g) i (and_then (expect kd i) (λ _. p))
+module _ (depth room near : ℕ) (fits : Fits depth room near) (expr : Level → Reader Syn) where
+  pub entered : {A : Type 0} (kd : Kind) → is_end kd ≡ false → room ≢ 0 → {p : Reader A} {g : Form A} → Sound (Inside near) p g → Inhabited g
+      → (i : Input) → Whole i.ahead → Kept (Inside near) (nested_form room kd g) i (and_then (expect kd i) (λ _. p))
   unfolding expect sees head next
-  entered kd one not_end some {p = p} {g = g} sp any i whole =
-      entered_by room outer lower fits.near kd one not_end some p g sp any i.ahead i.operators whole (same_kind (first_of i.ahead).kind kd) refl
+  entered kd not_end some {p = p} {g = g} sp any i whole =
+      entered_by room near kd not_end some p g sp any i.ahead i.operators whole (same_kind (first_of i.ahead).kind kd) refl
 
   cases_by : {A : Type 0} (p : Reader A) (kd : Kind) (i : Input) (P : Outcome A → Type 0) (b : Bool) → (b ≡ true → P (Err (At (head i).at)))
       → (b ≡ false → P (and_then (expect kd i) (λ _. p))) → P (and_then (if b then refuse i else expect kd i) (λ _. p))
@@ -134,46 +93,54 @@ module _ (depth room outer lower : ℕ) (fits : Fits depth room outer lower) (ex
   by_depth p kd i P none some = cases_by p kd i P (depth == 0) (λ e. none (eqb-true depth 0 e)) (λ e. some (eqb-false depth 0 e))
 
   -- a token that nests begins one of the forms that may stand here
-  pub deeper_read : {A : Type 0} (kd : Kind) → opens kd ≡ 1 → is_end kd ≡ false → {p : Reader A} {g h : Form A} → (depth ≢ 0 → Sound (Inside lower) p g)
-      → (room ≢ 0 → Inhabited g) → Inhabited h → Within (nested_form room kd g) h → Sound (Inside outer) (λ i. and_then (r.deeper depth expr kd i) (λ _. p)) h
-  deeper_read kd one not_end {p = p} {g = g} {h = h} sp any other up = record {
+  pub deeper_read : {A : Type 0} (kd : Kind) → is_end kd ≡ false → {p : Reader A} {g h : Form A} → (depth ≢ 0 → Sound (Inside near) p g)
+      → (room ≢ 0 → Inhabited g) → Inhabited h → Within (nested_form room kd g) h → Sound (Inside near) (λ i. and_then (r.deeper depth expr kd i) (λ _. p)) h
+  deeper_read kd not_end {p = p} {g = g} {h = h} sp any other up = record {
     run = λ i whole.
-        by_depth p kd i (Kept (Inside outer) h i) (λ none. refused_here (Inside outer) i other)
-        (λ some. within_out (Inside outer) (nested_form room kd g) h i up (and_then (expect kd i) (λ _. p)) (entered kd one not_end (fits.roomy some) (sp some) (any (fits.roomy some)) i whole));
+        by_depth p kd i (Kept (Inside near) h i) (λ none. refused_here (Inside near) i other)
+        (λ some. within_out (Inside near) (nested_form room kd g) h i up (and_then (expect kd i) (λ _. p)) (entered kd not_end (fits.roomy some) (sp some) (any (fits.roomy some)) i whole));
   }
 
-  -- as many nest as may, behind a word that wants one more
-  too_deep : {A : Type 0} (kd : Kind) → is_end kd ≡ false → nests kd ≡ true → outer ≡ 0 → (g : Form A) (xs : List Token) (o : ℕ) → (first_of xs).kind ≡ kd
-      → Refused (Inside outer) g (record { ahead = xs; operators = o }) (At (first_of (drop 1 xs)).at)
-  too_deep kd not_end wants none g [] o is = absurd (true_false (ap is_end is ∙ not_end))
+  -- as many nest as may, behind a word that wants one more: other tokens of the form begin here
+  too_deep : {A : Type 0} (kd : Kind) → is_end kd ≡ false → nests kd ≡ true → near ≡ 0 → {h : Form A} → Inhabited h → (xs : List Token) (o : ℕ) → (first_of xs).kind ≡ kd
+      → Kept (Inside near) h (record { ahead = xs; operators = o }) (Err (At (first_of (drop 1 xs)).at))
+  too_deep kd not_end wants none other [] o is = absurd (true_false (ap is_end is ∙ not_end))
     where
       true_false : true ≡ false → ⊥
       true_false e = cc
-  too_deep kd not_end wants none g (t ∷ ts) o is = TooDeep [] ts t (omega (arith, none)) refl refl (ap nests is ∙ wants)
+  too_deep kd not_end wants none other (t ∷ ts) o is = record {
+    before = [];
+    behind = t ∷ ts;
+    joined = refl;
+    done = begun_none (Inside near) o other;
+    stands = TooDeep none t ts refl (ap nests is ∙ wants) refl;
+  }
 
-  refused_behind : {A : Type 0} (kd : Kind) → is_end kd ≡ false → nests kd ≡ true → (g : Form A) → (room ≢ 0 → Inhabited g) → (xs : List Token) (o : ℕ) → (first_of xs).kind ≡ kd
-      → (outer ≡ 0) ⊎ (room ≢ 0)
-      → Kept (Inside outer) (sequence (word kd) (λ _. nested_form room k.LParen g)) (record { ahead = xs; operators = o }) (Err (At (first_of (drop 1 xs)).at))
+  refused_behind : {A : Type 0} (kd : Kind) → is_end kd ≡ false → nests kd ≡ true → (g h : Form A) → (room ≢ 0 → Inhabited g) → Inhabited h
+      → Within (sequence (word kd) (λ _. nested_form room k.LParen g)) h → (xs : List Token) (o : ℕ) → (first_of xs).kind ≡ kd
+      → (near ≡ 0) ⊎ (room ≢ 0) → Kept (Inside near) h (record { ahead = xs; operators = o }) (Err (At (first_of (drop 1 xs)).at))
   unfolding head
-  refused_behind kd not_end wants g any xs o is (inl none) = too_deep kd not_end wants none (sequence (word kd) (λ _. nested_form room k.LParen g)) xs o is
-  refused_behind kd not_end wants g any xs o is (inr some) =
+  refused_behind kd not_end wants g h any other up xs o is (inl none) = too_deep kd not_end wants none other xs o is
+  refused_behind kd not_end wants g h any other up xs o is (inr some) =
       let i : Input = record { ahead = xs; operators = o } in
       let j : Input = record { ahead = drop 1 xs; operators = o } in
-      let t : Took (Inside outer) (word kd) i tt j = taken_by kd not_end xs o is in
-      both_taken (Inside outer) (word kd) (λ _. nested_form room k.LParen g) i tt j t (Err (At (first_of (drop 1 xs)).at))
-      (refused_here (Inside outer) j (some_nested room k.LParen some (any some)))
+      let t : Took (Inside near) (word kd) i tt j = taken_by kd not_end xs o is in
+      within_out (Inside near) (sequence (word kd) (λ _. nested_form room k.LParen g)) h i up (Err (At (first_of (drop 1 xs)).at))
+      (both_taken (Inside near) (word kd) (λ _. nested_form room k.LParen g) i tt j t (Err (At (first_of (drop 1 xs)).at))
+      (refused_here (Inside near) j (some_nested room k.LParen some (any some))))
 
-  -- a word and a parenthesis
-  pub behind_nesting : {A : Type 0} (kd : Kind) → is_end kd ≡ false → nests kd ≡ true → {p : Reader A} {g : Form A} → (depth ≢ 0 → Sound (Inside lower) p g)
-      → (room ≢ 0 → Inhabited g) → (i : Input) → Whole i.ahead → kind i ≡ kd
-      → Out (Inside outer) (sequence (word kd) (λ _. nested_form room k.LParen g)) i (and_then (take_token i) (λ _ j. and_then (r.deeper depth expr k.LParen j) (λ _. p)))
+  -- a word and a parenthesis begin one of the forms that may stand here
+  pub behind_nesting : {A : Type 0} (kd : Kind) → is_end kd ≡ false → nests kd ≡ true → {p : Reader A} {g h : Form A} → (depth ≢ 0 → Sound (Inside near) p g)
+      → (room ≢ 0 → Inhabited g) → Inhabited h → Within (sequence (word kd) (λ _. nested_form room k.LParen g)) h → (i : Input) → Whole i.ahead → kind i ≡ kd
+      → Out (Inside near) h i (and_then (take_token i) (λ _ j. and_then (r.deeper depth expr k.LParen j) (λ _. p)))
   unfolding head next
-  behind_nesting kd not_end wants {p = p} {g = g} sp any i whole is =
-      let form : Form _ = sequence (word kd) (λ _. nested_form room k.LParen g) in
+  behind_nesting kd not_end wants {p = p} {g = g} {h = h} sp any other up i whole is =
+      let both : Form _ = sequence (word kd) (λ _. nested_form room k.LParen g) in
       let j : Input = record { ahead = drop 1 i.ahead; operators = i.operators } in
-      let t : Took (Inside outer) (word kd) i tt j = taken_by kd not_end i.ahead i.operators is in
+      let t : Took (Inside near) (word kd) i tt j = taken_by kd not_end i.ahead i.operators is in
       record {
-        kept = by_depth p k.LParen j (Kept (Inside outer) form i) (λ none. refused_behind kd not_end wants g any i.ahead i.operators is (fits.full none))
-            (λ some. both_taken (Inside outer) (word kd) (λ _. nested_form room k.LParen g) i tt j t (and_then (expect k.LParen j) (λ _. p))
-            (entered k.LParen refl refl (fits.roomy some) (sp some) (any (fits.roomy some)) j (whole_next i.ahead whole)));
+        kept = by_depth p k.LParen j (Kept (Inside near) h i) (λ none. refused_behind kd not_end wants g h any other up i.ahead i.operators is (fits.full none))
+            (λ some. within_out (Inside near) both h i up (and_then (expect k.LParen j) (λ _. p))
+            (both_taken (Inside near) (word kd) (λ _. nested_form room k.LParen g) i tt j t (and_then (expect k.LParen j) (λ _. p))
+            (entered k.LParen refl (fits.roomy some) (sp some) (any (fits.roomy some)) j (whole_next i.ahead whole))));
       }

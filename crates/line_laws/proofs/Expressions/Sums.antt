@@ -54,12 +54,12 @@ sum_joins _ = tt
 pub some_sum : (depth : ℕ) (inner : Place → Form Syn) → Inhabited (form.sum depth inner)
 some_sum depth inner = some_chain form.sum_joint (some_chain form.product_joint (some_unary depth inner))
 
-module _ (depth room outer lower : ℕ) (fits : Fits depth room outer lower) (expr : Level → Reader Syn) (inner : Place → Form Syn)
-    (reads : depth ≢ 0 → (l : Level) → Sound (Inside lower) (expr l) (inner (place l))) (somes : room ≢ 0 → (stands : Place) → Inhabited (inner stands)) where
-  product_read : Sound (Inside outer) (r.product depth expr) (form.product room inner)
+module _ (depth room near : ℕ) (fits : Fits depth room near) (expr : Level → Reader Syn) (inner : Place → Form Syn)
+    (reads : depth ≢ 0 → (l : Level) → Sound (Inside near) (expr l) (inner (place l))) (somes : room ≢ 0 → (stands : Place) → Inhabited (inner stands)) where
+  product_read : Sound (Inside near) (r.product depth expr) (form.product room inner)
   unfolding r.product r.factors
-  product_read = chain_read outer r.product_joint form.product_joint product_joins (r.unary depth expr) (form.unary room inner) (unary_read depth room outer lower fits expr inner reads somes)
+  product_read = chain_read near r.product_joint form.product_joint product_joins (r.unary depth expr) (form.unary room inner) (unary_read depth room near fits expr inner reads somes)
 
-  pub sum_read : Sound (Inside outer) (r.sum depth expr) (form.sum room inner)
+  pub sum_read : Sound (Inside near) (r.sum depth expr) (form.sum room inner)
   unfolding r.sum r.summands
-  sum_read = chain_read outer r.sum_joint form.sum_joint sum_joins (r.product depth expr) (form.product room inner) product_read
+  sum_read = chain_read near r.sum_joint form.sum_joint sum_joins (r.product depth expr) (form.product room inner) product_read

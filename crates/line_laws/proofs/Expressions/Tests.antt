@@ -1,5 +1,5 @@
 -- What stands behind the first sum of a comparison is read as its form says.
-use Rattle.std.proofs.Common.{◌≡◌, ◌≢◌, ℕ, Bool, true, false, if◌then◌else◌, List, [], refl, inl, inr}
+use Rattle.std.proofs.Common.{◌≡◌, ◌≢◌, ℕ, Bool, true, false, if◌then◌else◌, List, [], Ok, Err, refl, subst, inl, inr}
 use Rattle.base_core.specs.declared.value.Value.{Value}
 use Rattle.expr_types.specs.declared.expr.CompareOp.{CompareOp}
 use Rattle.expr_types.specs.declared.expr.CompareOp.TheVariants as compare
@@ -8,21 +8,21 @@ use Rattle.script_types.specs.declared.expression.Syn.TheVariants as e
 use Rattle.script_lex.specs.declared.kind.Kind.{Kind}
 use Rattle.script_lex.specs.declared.kind.Kind.TheVariants as k
 use Rattle.script_lex.specs.declared.token.Token.{Token}
-use Rattle.script_tokens.specs.Input.{Input, Reader, ◌>>=◌, ◌>>◌, and_then, pure, take_token, eat, expect, kind}
+use Rattle.script_tokens.specs.Input.{Input, Outcome, Reader, ◌>>=◌, ◌>>◌, and_then, pure, take_token, eat, expect, kind, next}
 use Rattle.script_tokens.specs.Literals as l
 use Rattle.script_expr.specs.declared.grammar.Level.{Level}
 use Rattle.script_expr.specs.Expr as r
 use Rattle.script_forms.specs.Form.{Form, sequence, says, word, whether, separated_list, ◌or◌}
 use Rattle.script_forms.specs.Basics.{literal}
 use Rattle.script_forms.specs.Expressions as form
-use Rattle.script_forms.specs.Expressions.{Place}
-use Rattle.line_laws.proofs.Forms.Taking.{Inside, Out, Whole, Sound, Inhabited}
-use Rattle.line_laws.proofs.Forms.Steps.{both, both_at, at, made, some_made, some_both, some_left, some_right, some_word, left_of, right_of, refused_at, expected, behind_word, on_kind}
+use Rattle.script_forms.specs.Expressions.{Place, nesting_token}
+use Rattle.line_laws.proofs.Forms.Taking.{Mode, Inside, Kept, Out, Whole, Sound, Inhabited}
+use Rattle.line_laws.proofs.Forms.Steps.{both, at, made, some_made, some_both, some_left, some_right, some_word, left_of, right_of, refused_at, expected, behind_word, on_kind}
 use Rattle.line_laws.proofs.Forms.Options.{eaten}
 use Rattle.line_laws.proofs.Forms.Lists.{listed}
 use Rattle.line_laws.proofs.Forms.Basics.{literal_read, some_literal}
-use Rattle.line_laws.proofs.Forms.Sequences.{regrouped, then_says}
-use Rattle.line_laws.proofs.Expressions.Steps.{Within, within_at, within, none_before, first_within, first_as, grouped_left, either_up, either_second, with_word, without_word, either_word, mapped}
+use Rattle.line_laws.proofs.Forms.Sequences.{then_says}
+use Rattle.line_laws.proofs.Expressions.Steps.{Within, then_within, within_at, within, none_before, first_within, first_as, grouped_left, either_up, either_second, with_word, without_word, either_word, mapped}
 use Rattle.line_laws.proofs.Expressions.Nesting.{Fits, place, nested_form, behind_nesting}
 use Rattle.line_laws.proofs.Expressions.Sums.{sum_read, some_sum}
 
@@ -70,6 +70,15 @@ module _ (depth : ℕ) (inner : Place → Form Syn) where
   -- a test that `not` may stand before
   test : Bool → Syn → Form Syn
   test negated left = liked negated left or iliked negated left or among negated left or between negated left
+
+  -- `in` and what stands behind it
+  listed_up : (negated : Bool) (left : Syn)
+      → Within (sequence (word k.In) (λ _. nested_form depth k.LParen (sequence listing (λ found. says (e.InList negated left found))))) (test negated left)
+  unfolding test among
+  listed_up negated left ts n a s =
+      inr (inr (inl (then_within (word k.In) (λ _. nested_form depth k.LParen (sequence listing (λ found. says (e.InList negated left found))))
+      (λ _. sequence (nested_form depth k.LParen listing) (λ found. says (e.InList negated left found)))
+      (λ _. grouped_left (nesting_token depth k.LParen) (λ _. listing) (λ found. says (e.InList negated left found))) ts n a s)))
 
   some_test : (negated : Bool) (left : Syn) → Inhabited (test negated left)
   unfolding test liked
@@ -154,6 +163,14 @@ module _ (depth : ℕ) (inner : Place → Form Syn) where
   pub some_tested : (left : Syn) → Inhabited (form.tested depth inner left)
   some_tested left = some_left (some_made left)
 
+-- what is behind what was read behind a token is behind both
+mapped_behind : {A B : Type 0} (p : Reader A) (out : Outcome (Unit {0})) (make : A → Reader B) → and_then out (λ _. p >>= make) ≡ and_then (and_then out (λ _. p)) make
+mapped_behind p (Ok q) make = refl
+mapped_behind p (Err e) make = refl
+
+same_out : {A : Type 0} {c : Mode} {g : Form A} {i : Input} {out other : Outcome A} → out ≡ other → Out c g i out → Out c g i other
+same_out {c = c} {g = g} {i = i} same one = record { kept = subst (Kept c g i) same one.kept }
+
 -- after the parenthesis behind `in`
 no_members : Within (sequence (word k.RParen) (λ _. says [])) listing
 unfolding listing
@@ -171,13 +188,13 @@ listing_up =
 
 -- ---- their readers
 
-module _ (depth room outer lower : ℕ) (fits : Fits depth room outer lower) (expr : Level → Reader Syn) (inner : Place → Form Syn)
-    (reads : depth ≢ 0 → (l : Level) → Sound (Inside lower) (expr l) (inner (place l))) (somes : room ≢ 0 → (stands : Place) → Inhabited (inner stands)) where
-  against_read : (make : Syn → Syn) → Sound (Inside outer) (r.sum depth expr >>= (λ right. pure (make right))) (against room inner make)
+module _ (depth room near : ℕ) (fits : Fits depth room near) (expr : Level → Reader Syn) (inner : Place → Form Syn)
+    (reads : depth ≢ 0 → (l : Level) → Sound (Inside near) (expr l) (inner (place l))) (somes : room ≢ 0 → (stands : Place) → Inhabited (inner stands)) where
+  against_read : (make : Syn → Syn) → Sound (Inside near) (r.sum depth expr >>= (λ right. pure (make right))) (against room inner make)
   unfolding against
-  against_read make = mapped make (sum_read depth room outer lower fits expr inner reads somes)
+  against_read make = mapped make (sum_read depth room near fits expr inner reads somes)
 
-  listing_read : Sound (Inside lower)
+  listing_read : Sound (Inside near)
       (eat k.RParen >>= (λ is_empty. if is_empty then pure [] else (l.literals >>= (λ found. expect k.RParen >> pure found)))) listing
   unfolding l.literals
   listing_read =
@@ -186,43 +203,39 @@ module _ (depth room outer lower : ℕ) (fits : Fits depth room outer lower) (ex
       (both (listed k.Comma refl literal_read some_literal) (λ found. both (expected k.RParen refl) (λ _. made found) (λ _. some_made found))
       (λ found. some_both (some_word k.RParen) (λ _. some_made found)))) listing_up
 
-  members_at : (i : Input) → Whole i.ahead → kind i ≡ k.In
-      → Out (Inside outer) (sequence (word k.In) (λ _. nested_form room k.LParen listing)) i (and_then (take_token i) (λ _. r.members depth expr))
-  unfolding r.members
-  members_at i whole is = behind_nesting depth room outer lower fits expr k.In refl refl (λ some. listing_read) (λ some. some_listing) i whole is
-
+  -- the list, and a value made of it
   among_at : (negated : Bool) (left : Syn) (i : Input) → Whole i.ahead → kind i ≡ k.In
-      → Out (Inside outer) (among room inner negated left) i (and_then (take_token i) (λ _. r.among depth expr negated left))
-  unfolding r.among among
+      → Out (Inside near) (test room inner negated left) i (and_then (take_token i) (λ _. r.among depth expr negated left))
+  unfolding r.among r.members
   among_at negated left i whole is =
-      within_at
-      (both_at (λ j. and_then (take_token j) (λ _. r.members depth expr)) i whole (members_at i whole is) (λ found. made (e.InList negated left found))
-      (λ found. some_made (e.InList negated left found)))
-      (regrouped (word k.In) (λ _. nested_form room k.LParen listing) (λ found. says (e.InList negated left found)))
+      let make : List Value → Reader Syn = λ found. pure (e.InList negated left found) in
+      same_out (mapped_behind _ (r.deeper depth expr k.LParen (next i)) make)
+      (behind_nesting depth room near fits expr k.In refl refl (λ some. mapped (e.InList negated left) listing_read)
+      (λ some. some_both some_listing (λ found. some_made (e.InList negated left found))) (some_test room inner negated left) (listed_up room inner negated left) i whole is)
 
-  bounds_read : (negated : Bool) (left : Syn) → Sound (Inside outer) (r.between depth expr negated left) (between_bounds room inner negated left)
+  bounds_read : (negated : Bool) (left : Syn) → Sound (Inside near) (r.between depth expr negated left) (between_bounds room inner negated left)
   unfolding r.between between_bounds
   bounds_read negated left =
-      both (sum_read depth room outer lower fits expr inner reads somes)
+      both (sum_read depth room near fits expr inner reads somes)
       (λ low. both (expected k.And refl) (λ _. against_read (e.Between negated left low)) (λ _. some_against room inner (e.Between negated left low)))
       (λ low. some_both (some_word k.And) (λ _. some_against room inner (e.Between negated left low)))
 
   test_at : (negated : Bool) (left : Syn) (kd : Kind) (i : Input) → Whole i.ahead → kind i ≡ kd
-      → Out (Inside outer) (test room inner negated left) i (r.test_by depth expr negated left kd i)
+      → Out (Inside near) (test room inner negated left) i (r.test_by depth expr negated left kd i)
   unfolding test liked iliked between r.liked r.iliked
   test_at negated left k.Like i whole is = left_of (behind_word k.Like refl (against_read (e.Like negated left)) (some_against room inner (e.Like negated left)) i whole is)
   test_at negated left k.Ilike i whole is =
       right_of (left_of (behind_word k.Ilike refl (against_read (e.Ilike negated left)) (some_against room inner (e.Ilike negated left)) i whole is))
-  test_at negated left k.In i whole is = right_of (right_of (left_of (among_at negated left i whole is)))
+  test_at negated left k.In i whole is = among_at negated left i whole is
   test_at negated left k.Between i whole is =
       right_of (right_of (right_of (behind_word k.Between refl (bounds_read negated left) (some_bounds room inner negated left) i whole is)))
   test_at negated left _ i whole is = refused_at (some_test room inner negated left) i
 
-  test_read : (negated : Bool) (left : Syn) → Sound (Inside outer) (r.tested depth expr negated left) (test room inner negated left)
+  test_read : (negated : Bool) (left : Syn) → Sound (Inside near) (r.tested depth expr negated left) (test room inner negated left)
   unfolding r.tested
   test_read negated left = on_kind (r.test_by depth expr negated left) (test_at negated left)
 
-  distinct_read : (left : Syn) → Sound (Inside outer) (r.distinct depth expr left) (distinct room inner left)
+  distinct_read : (left : Syn) → Sound (Inside near) (r.distinct depth expr left) (distinct room inner left)
   unfolding r.distinct distinct
   distinct_read left =
       both (eaten k.Not refl)
@@ -230,33 +243,33 @@ module _ (depth room outer lower : ℕ) (fits : Fits depth room outer lower) (ex
       (λ _. some_both (some_word k.From) (λ _. some_against room inner (e.Distinct negated left))))
       (λ negated. some_both (some_word k.Distinct) (λ _. some_both (some_word k.From) (λ _. some_against room inner (e.Distinct negated left))))
 
-  equal_read : (left : Syn) → Sound (Inside outer) (r.compared depth expr compare.Equal left) (null_form false left or against room inner (e.Compare compare.Equal left))
+  equal_read : (left : Syn) → Sound (Inside near) (r.compared depth expr compare.Equal left) (null_form false left or against room inner (e.Compare compare.Equal left))
   unfolding r.compared r.null_after null_form
   equal_read left = either_word k.Null refl (made (e.IsNull false left)) (against_read (e.Compare compare.Equal left))
 
   unlike_read : (left : Syn)
-      → Sound (Inside outer) (r.compared depth expr compare.NotEqual left) (null_form true left or against room inner (e.Compare compare.NotEqual left))
+      → Sound (Inside near) (r.compared depth expr compare.NotEqual left) (null_form true left or against room inner (e.Compare compare.NotEqual left))
   unfolding r.compared r.null_after null_form
   unlike_read left = either_word k.Null refl (made (e.IsNull true left)) (against_read (e.Compare compare.NotEqual left))
 
-  less_read : (left : Syn) → Sound (Inside outer) (r.compared depth expr compare.Less left) (against room inner (e.Compare compare.Less left))
+  less_read : (left : Syn) → Sound (Inside near) (r.compared depth expr compare.Less left) (against room inner (e.Compare compare.Less left))
   unfolding r.compared r.null_after
   less_read left = against_read (e.Compare compare.Less left)
 
-  less_equal_read : (left : Syn) → Sound (Inside outer) (r.compared depth expr compare.LessEqual left) (against room inner (e.Compare compare.LessEqual left))
+  less_equal_read : (left : Syn) → Sound (Inside near) (r.compared depth expr compare.LessEqual left) (against room inner (e.Compare compare.LessEqual left))
   unfolding r.compared r.null_after
   less_equal_read left = against_read (e.Compare compare.LessEqual left)
 
-  greater_read : (left : Syn) → Sound (Inside outer) (r.compared depth expr compare.Greater left) (against room inner (e.Compare compare.Greater left))
+  greater_read : (left : Syn) → Sound (Inside near) (r.compared depth expr compare.Greater left) (against room inner (e.Compare compare.Greater left))
   unfolding r.compared r.null_after
   greater_read left = against_read (e.Compare compare.Greater left)
 
-  greater_equal_read : (left : Syn) → Sound (Inside outer) (r.compared depth expr compare.GreaterEqual left) (against room inner (e.Compare compare.GreaterEqual left))
+  greater_equal_read : (left : Syn) → Sound (Inside near) (r.compared depth expr compare.GreaterEqual left) (against room inner (e.Compare compare.GreaterEqual left))
   unfolding r.compared r.null_after
   greater_equal_read left = against_read (e.Compare compare.GreaterEqual left)
 
   follow_at : (left : Syn) (kd : Kind) (i : Input) → Whole i.ahead → kind i ≡ kd
-      → Out (Inside outer) (form.tested room inner left) i (r.follow_by depth expr left (r.test_kind kd) i)
+      → Out (Inside near) (form.tested room inner left) i (r.follow_by depth expr left (r.test_kind kd) i)
   follow_at left k.Equal i whole is =
       within_at (behind_word k.Equal refl (equal_read left) (some_right (some_against room inner (e.Compare compare.Equal left))) i whole is) (equal_up room inner left)
   follow_at left k.NotEqual i whole is =
@@ -281,6 +294,6 @@ module _ (depth room outer lower : ℕ) (fits : Fits depth room outer lower) (ex
   follow_at left k.In i whole is = within_at (at (test_read false left) i whole) (plain_up room inner left)
   follow_at left _ i whole is = left_of (at (made left) i whole)
 
-  pub follow_read : (left : Syn) → Sound (Inside outer) (r.follow depth expr left) (form.tested room inner left)
+  pub follow_read : (left : Syn) → Sound (Inside near) (r.follow depth expr left) (form.tested room inner left)
   unfolding r.follow
   follow_read left = on_kind (λ kd. r.follow_by depth expr left (r.test_kind kd)) (follow_at left)

@@ -1,5 +1,5 @@
 -- Lines of the block of a class are read as their forms say.
-use Rattle.std.proofs.Common.{◌≡◌, ℕ, zero, suc, ◌+◌, Bool, true, false, ◌||◌, if◌then◌else◌, List, [], ◌∷◌, ◌++◌, drop, length, Option, None, Ok, Err, refl, ap, sym, subst, ◌∙◌, append-nil, inl, inr, arith}
+use Rattle.std.proofs.Common.{◌≡◌, ℕ, zero, suc, ◌+◌, Bool, true, false, ◌||◌, if◌then◌else◌, List, [], ◌∷◌, ◌++◌, drop, length, Option, None, Ok, Err, refl, ap, sym, subst, ◌∙◌, inl, inr}
 use Rattle.class_types.specs.declared.declared.Cascade.{Cascade}
 use Rattle.script_types.specs.declared.command.Command.TheVariants as c
 use Rattle.script_lex.specs.declared.kind.Kind.{Kind}
@@ -13,11 +13,11 @@ use Rattle.script_blocks.specs.Classes as r
 use Rattle.script_forms.specs.Form.{Form, sequence, says, word, maybe, whether, separated_list}
 use Rattle.script_forms.specs.Basics as basic
 use Rattle.script_forms.specs.ClassLines as form
-use Rattle.line_laws.proofs.Forms.Taking.{Mode, Took, Refused, Behind, TooDeep, Kept, Out, Whole, Sound, Inhabited}
-use Rattle.line_laws.proofs.Forms.Steps.{whole_rest, whole_next, budget_more, enough_more, deep_behind, both, both_taken, made, some_both, some_made, some_left, some_right, some_word, left_of, right_of, refused_here, refused_at, at, is_end, expected, taken_by, taken_at, behind_word, on_kind}
+use Rattle.line_laws.proofs.Forms.Taking.{Mode, Took, Refused, Kept, Out, Whole, Sound, Inhabited}
+use Rattle.line_laws.proofs.Forms.Steps.{whole_rest, whole_next, budget_more, begun_by, both, both_taken, both_refused, made, some_both, some_made, some_left, some_right, some_word, left_of, right_of, refused_here, refused_at, is_end, expected, taken_by, taken_at, behind_word, on_kind}
 use Rattle.line_laws.proofs.Forms.Sequences.{then_value, then_says}
 use Rattle.line_laws.proofs.Forms.Options.{if_word, introduced, eaten}
-use Rattle.line_laws.proofs.Forms.Lists.{more_items, joined_three, some_list}
+use Rattle.line_laws.proofs.Forms.Lists.{refused_first, refused_item, more_items, joined_three, some_list}
 use Rattle.line_laws.proofs.Forms.Basics.{named, some_name, names_read}
 
 -- ---- dashes
@@ -64,15 +64,14 @@ word_after : (m : Mode) (g : Form (Unit {0})) (w so_far : Cascade) → ((ts : Li
 unfolding WordKept
 word_after m g w so_far up i (Ok p) t =
     (w, refl, record { prefix = t.prefix; count = t.count; joined = t.joined; budget = t.budget; said = up t.prefix t.count (then_says g w t.prefix t.count p.0 t.said) })
-word_after m g w so_far up i (Err e) (Behind before after split at done) =
-    Behind before after split at (record {
-      more = done.more;
-      count = done.count;
+word_after m g w so_far up i (Err e) r =
+    begun_by r (record {
+      more = r.done.more;
+      count = r.done.count;
       value = w;
-      enough = done.enough;
-      said = up (before ++ done.more) done.count (then_says g w (before ++ done.more) done.count done.value done.said);
+      enough = r.done.enough;
+      said = up (r.before ++ r.done.more) r.done.count (then_says g w (r.before ++ r.done.more) r.done.count r.done.value r.done.said);
     })
-word_after m g w so_far up i (Err e) (TooDeep before after u dp split at wants) = TooDeep before after u dp split at wants
 
 -- `first-second`
 dashed_kept : (m : Mode) (first second : Kind) → is_end first ≡ false → is_end second ≡ false → (i : Input) → Whole i.ahead → kind i ≡ first
@@ -170,19 +169,7 @@ behind m so_far longer i j l w is t u (Ok q) words =
         said = more_items k.Comma form.cascade_word t.prefix u.prefix v.prefix t.count u.count v.count w more t.said u.said v.said;
       },
     )
-behind m so_far longer i j l w is t u (Err e) (Behind before after split at done) =
-    Behind (t.prefix ++ (u.prefix ++ before)) after (t.joined ∙ ap (λ ts. t.prefix ++ ts) (u.joined ∙ ap (λ ts. u.prefix ++ ts) split) ∙ joined_three t.prefix u.prefix before after) at (record {
-      more = done.more;
-      count = t.count + (u.count + done.count);
-      value = w ∷ done.value;
-      enough = enough_more m t.count (u.count + done.count) i.operators j.operators t.budget (enough_more m u.count done.count j.operators l.operators u.budget done.enough);
-      said = subst (λ ts. separated_list k.Comma form.cascade_word ts (t.count + (u.count + done.count)) (w ∷ done.value)) (joined_three t.prefix u.prefix before done.more)
-          (more_items k.Comma form.cascade_word t.prefix u.prefix (before ++ done.more) t.count u.count done.count w done.value t.said u.said done.said);
-    })
-behind m so_far longer i j l w is t u (Err e) (TooDeep before after x dp split at wants) =
-    TooDeep (t.prefix ++ (u.prefix ++ before)) after x (deep_behind m t.prefix (u.prefix ++ before) (deep_behind m u.prefix before dp))
-    (t.joined ∙ ap (λ ts. t.prefix ++ ts) (u.joined ∙ ap (λ ts. u.prefix ++ ts) split) ∙ joined_three t.prefix u.prefix (before ++ x ∷ []) after
-    ∙ ap (λ ts. ts ++ after) (joined_three t.prefix u.prefix before (x ∷ []))) at wants
+behind m so_far longer i j l w is t u (Err e) r = refused_item k.Comma w t u r
 
 by_mark : (m : Mode) (n : ℕ) (so_far longer : Cascade) (i : Input) (w : Cascade) (xs : List Token) (o : ℕ) → longer ≡ form.cascade_union w so_far
     → Took m form.cascade_word i w (record { ahead = xs; operators = o }) → Whole xs → ((so_far : Cascade) (j : Input) → Whole j.ahead → WordsKept m so_far j (r.cascade_from n so_far j))
@@ -203,9 +190,7 @@ unfolding WordKept WordsKept sees after head next
 by_word m n so_far i whole rec (Ok p) word =
     let t = word.2 in
     by_mark _ n so_far p.0 i word.0 p.1.ahead p.1.operators word.1 t (whole_rest t.prefix p.1.ahead (subst Whole t.joined whole)) rec (same_kind (first_of p.1.ahead).kind k.Comma) refl
-by_word m n so_far i whole rec (Err e) (Behind before after split at done) =
-    Behind before after split at (record { more = done.more; count = done.count; value = done.value ∷ []; enough = done.enough; said = done.said })
-by_word m n so_far i whole rec (Err e) (TooDeep before after x dp split at wants) = TooDeep before after x dp split at wants
+by_word m n so_far i whole rec (Err e) r = refused_first k.Comma r
 
 words_by : (m : Mode) (n : ℕ) (so_far : Cascade) (i : Input) → Whole i.ahead → WordsKept m so_far i (r.cascade_from n so_far i)
 unfolding WordsKept r.cascade_from head
@@ -226,27 +211,8 @@ all_words m i (Ok p) words =
       budget = t.budget;
       said = then_value (separated_list k.Comma form.cascade_word) (form.all_of form.none) t.prefix t.count words.0 t.said;
     })
-all_words m i (Err e) (Behind before after split at done) =
-    Behind before after split at (record {
-      more = done.more;
-      count = done.count;
-      value = form.all_of form.none done.value;
-      enough = done.enough;
-      said = (
-        done.value,
-        record {
-          prefix = before ++ done.more;
-          rest = [];
-          prefix_count = done.count;
-          rest_count = 0;
-          joined = sym (append-nil (before ++ done.more));
-          counted = omega arith;
-          first = done.said;
-          second = (refl, refl, refl);
-        },
-      );
-    })
-all_words m i (Err e) (TooDeep before after x dp split at wants) = TooDeep before after x dp split at wants
+all_words m i (Err e) r =
+    both_refused m (separated_list k.Comma form.cascade_word) (λ words. says (form.all_of form.none words)) i e (λ words. some_made (form.all_of form.none words)) r
 
 cascade_read : {m : Mode} → Sound m r.cascade words_form
 unfolding r.cascade

@@ -17,7 +17,7 @@ use Rattle.script_forms.specs.TableLines as form
 use Rattle.script_forms.specs.ClassLines as classes
 use Rattle.line_laws.proofs.Forms.Exact.{EndsAViablePrefix, ReadsWhatIsSaid, ReadsAllThatIsSaid, SaysOneThing, RefusesNoSooner, table_reader, class_reader}
 use Rattle.script_read.specs.Line.{ends, line_of}
-use Rattle.line_laws.proofs.Forms.Taking.{Plain, Took, Completed, Behind, TooDeep, Kept, last_of, Whole, Sound}
+use Rattle.line_laws.proofs.Forms.Taking.{Plain, Took, Completed, Refused, Stands, Here, TooDeep, Kept, last_of, Whole, Sound}
 use Rattle.line_laws.proofs.Forms.Filling.{Read, Complete}
 use Rattle.line_laws.proofs.Forms.FillingTables.{table_line_read as tables_filled}
 use Rattle.line_laws.proofs.Forms.FillingClasses.{class_line_read as classes_filled}
@@ -131,13 +131,16 @@ ends_refused form line said j t false e is = record {
 pub begun : (form : Form Command) (before : List Token) → Completed Plain form before 0 → Begins form before
 begun form before done = record { more = done.more; command = done.value; said = subst (λ n. form (before ++ done.more) n done.value) done.enough done.said }
 
+-- where as many may nest as are read nothing is refused too deep
+refused_there : (form : Form Command) (line : List Token) (f e : Fault) (r : Refused Plain form (start_of line) f) → Stands Plain r.behind f → f ≡ e → EndsAViablePrefix form line e
+refused_there form line f e r (Here at) is = record { before = r.before; after = r.behind; joined = r.joined; at = sym is ∙ at; begins = begun form r.before r.done }
+refused_there form line f e r (TooDeep tight t after split wants at) is = absurd tight
+
 pub refused_by : (form : Form Command) (line : List Token) (out : Outcome Command) → Kept Plain form (start_of line) out → (e : Fault)
     → ◌≡◌ {A = Outcome Command} (and_then out ends) (Err e) → EndsAViablePrefix form line e
 unfolding ends
 refused_by form line (Ok p) t e is = ends_refused form line p.0 p.1 t (sees k.LineEnd p.1) e is
-refused_by form line (Err f) (Behind before after split at done) e is =
-    record { before = before; after = after; joined = split; at = sym (fault_same is) ∙ at; begins = begun form before done }
-refused_by form line (Err f) (TooDeep before after w dp split at wants) e is = absurd dp
+refused_by form line (Err f) r e is = refused_there form line f e r r.stands (fault_same is)
 
 pub refused_no_sooner : (p : Reader Command) (form : Form Command) → Sound Plain p form → RefusesNoSooner (p >>= ends) form
 refused_no_sooner p form sp line e is = refused_by form (tokens line) (p (start_of (tokens line))) (sp.run (start_of (tokens line)) (line_is_whole line)) e is

@@ -4,11 +4,12 @@ use Rattle.script_lex.specs.declared.kind.Kind.{Kind}
 use Rattle.script_lex.specs.declared.token.Token.{Token}
 use Rattle.script_lex.specs.Lex.{same_kind}
 use Rattle.script_tokens.proofs.Alike.{same}
+use Rattle.script_tokens.specs.declared.fault.Fault.{Fault}
 use Rattle.script_tokens.specs.Input.{Input, Outcome, Reader, ◌>>=◌, and_then, pure, eat, head, next, sees, after, first_of, separated_from}
 use Rattle.script_forms.specs.Form.{Form, sequence, says, word, separated_list}
-use Rattle.line_laws.proofs.Forms.Taking.{Mode, Took, Refused, Behind, TooDeep, Kept, Whole, Sound, Inhabited}
+use Rattle.line_laws.proofs.Forms.Taking.{Mode, Took, Refused, Kept, Whole, Sound, Inhabited}
 use Rattle.line_laws.proofs.Forms.Sequences.{then_value}
-use Rattle.line_laws.proofs.Forms.Steps.{whole_rest, whole_next, budget_more, enough_more, deep_behind, both_refused, some_made, is_end, taken_by, refused_here}
+use Rattle.line_laws.proofs.Forms.Steps.{whole_rest, whole_next, budget_more, enough_more, begun_by, both_refused, some_made, is_end, taken_by, refused_here}
 
 pub some_list : {A : Type 0} (mark : Kind) {item : Form A} → Inhabited item → Inhabited (separated_list mark item)
 some_list mark w = record { tokens = w.tokens; value = w.value ∷ []; said = w.said }
@@ -29,6 +30,29 @@ more_items mark item a b rest l m n x (y ∷ ys) one two three = record {
   counted = refl;
   first = one;
   second = record { prefix = b; rest = rest; prefix_count = m; rest_count = n; joined = refl; counted = refl; first = two; second = three };
+}
+
+-- refused in the first item
+pub refused_first : {A : Type 0} {c : Mode} (mark : Kind) {item : Form A} {i : Input} {e : Fault} → Refused c item i e → Refused c (separated_list mark item) i e
+refused_first mark r =
+    begun_by r (record { more = r.done.more; count = r.done.count; value = r.done.value ∷ []; enough = r.done.enough; said = r.done.said })
+
+-- refused behind an item and a mark
+pub refused_item : {A : Type 0} {c : Mode} (mark : Kind) {item : Form A} {i j m : Input} {e : Fault} (x : A) → Took c item i x j → Took c (word mark) j tt m
+    → Refused c (separated_list mark item) m e → Refused c (separated_list mark item) i e
+refused_item {c = c} mark {item = item} {i = i} {j = j} {m = m} x t u r = record {
+  before = t.prefix ++ (u.prefix ++ r.before);
+  behind = r.behind;
+  joined = t.joined ∙ ap (λ ts. t.prefix ++ ts) (u.joined ∙ ap (λ ts. u.prefix ++ ts) r.joined) ∙ joined_three t.prefix u.prefix r.before r.behind;
+  done = record {
+    more = r.done.more;
+    count = t.count + (u.count + r.done.count);
+    value = x ∷ r.done.value;
+    enough = enough_more c t.count (u.count + r.done.count) i.operators j.operators t.budget (enough_more c u.count r.done.count j.operators m.operators u.budget r.done.enough);
+    said = subst (λ ts. separated_list mark item ts (t.count + (u.count + r.done.count)) (x ∷ r.done.value)) (joined_three t.prefix u.prefix r.before r.done.more)
+        (more_items mark item t.prefix u.prefix (r.before ++ r.done.more) t.count u.count r.done.count x r.done.value t.said u.said r.done.said);
+  };
+  stands = r.stands;
 }
 
 -- the items that were read are behind those found before
@@ -54,20 +78,7 @@ module _ {A : Type 0} (c : Mode) (mark : Kind) (not_end : is_end mark ≡ false)
           said = more_items mark form t.prefix u.prefix v.prefix t.count u.count v.count x more t.said u.said v.said;
         },
       )
-  behind found i j m x t u (Err e) (Behind before after split at done) =
-      Behind (t.prefix ++ (u.prefix ++ before)) after
-      (t.joined ∙ ap (λ ts. t.prefix ++ ts) (u.joined ∙ ap (λ ts. u.prefix ++ ts) split) ∙ joined_three t.prefix u.prefix before after) at (record {
-        more = done.more;
-        count = t.count + (u.count + done.count);
-        value = x ∷ done.value;
-        enough = enough_more c t.count (u.count + done.count) i.operators j.operators t.budget (enough_more c u.count done.count j.operators m.operators u.budget done.enough);
-        said = subst (λ ts. separated_list mark form ts (t.count + (u.count + done.count)) (x ∷ done.value)) (joined_three t.prefix u.prefix before done.more)
-            (more_items mark form t.prefix u.prefix (before ++ done.more) t.count u.count done.count x done.value t.said u.said done.said);
-      })
-  behind found i j m x t u (Err e) (TooDeep before after w dp split at wants) =
-      TooDeep (t.prefix ++ (u.prefix ++ before)) after w (deep_behind c t.prefix (u.prefix ++ before) (deep_behind c u.prefix before dp))
-      (t.joined ∙ ap (λ ts. t.prefix ++ ts) (u.joined ∙ ap (λ ts. u.prefix ++ ts) split) ∙ joined_three t.prefix u.prefix (before ++ w ∷ []) after
-      ∙ ap (λ ts. ts ++ after) (joined_three t.prefix u.prefix before (w ∷ []))) at wants
+  behind found i j m x t u (Err e) r = refused_item mark x t u r
 
   by_mark : (n : ℕ) (found : List A) (i : Input) (x : A) (xs : List Token) (o : ℕ) → Took c form i x (record { ahead = xs; operators = o }) → Whole xs
       → ((found : List A) (j : Input) → Whole j.ahead → Items c mark form found j (separated_from mark item n found j))
@@ -88,9 +99,7 @@ module _ {A : Type 0} (c : Mode) (mark : Kind) (not_end : is_end mark ≡ false)
   unfolding Items sees after head next
   by_item n found i whole rec (Ok p) t =
       by_mark n found i p.0 p.1.ahead p.1.operators t (whole_rest t.prefix p.1.ahead (subst Whole t.joined whole)) rec (same_kind (first_of p.1.ahead).kind mark) refl
-  by_item n found i whole rec (Err e) (Behind before after split at done) =
-      Behind before after split at (record { more = done.more; count = done.count; value = done.value ∷ []; enough = done.enough; said = done.said })
-  by_item n found i whole rec (Err e) (TooDeep before after w dp split at wants) = TooDeep before after w dp split at wants
+  by_item n found i whole rec (Err e) r = refused_first mark r
 
   items_by : Sound c item form → Inhabited form → (n : ℕ) (found : List A) (i : Input) → Whole i.ahead → Items c mark form found i (separated_from mark item n found i)
   unfolding Items separated_from head

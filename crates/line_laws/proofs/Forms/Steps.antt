@@ -8,10 +8,9 @@ use Rattle.script_lex.specs.Lex.{same_kind}
 use Rattle.script_tokens.proofs.Alike.{same}
 use Rattle.script_tokens.specs.declared.fault.Fault.{Fault}
 use Rattle.script_tokens.specs.declared.fault.Fault.TheVariants.{At}
-use Rattle.script_tokens.specs.Input.{Input, Outcome, Reader, ◌>>=◌, and_then, pure, refuse, peek, take_token, expect, head, kind, next, sees, after, first_of, no_token}
+use Rattle.script_tokens.specs.Input.{Input, Outcome, Reader, ◌>>=◌, and_then, pure, refuse, peek, take_token, expect, head, kind, next, sees, first_of, no_token}
 use Rattle.script_forms.specs.Form.{Form, sequence, says, word, ◌or◌}
-use Rattle.line_laws.specs.Nesting.{openings}
-use Rattle.line_laws.proofs.Forms.Taking.{Mode, Plain, Around, Inside, Budget, Enough, Deep, Took, Refused, Behind, TooDeep, Kept, Out, last_of, Whole, Sound, Inhabited}
+use Rattle.line_laws.proofs.Forms.Taking.{Mode, Plain, Around, Inside, Budget, Enough, Here, Took, Completed, Refused, Kept, Out, last_of, Whole, Sound, Inhabited}
 
 last_append : (t : Token) (prefix : List Token) (r : Token) (rs : List Token) → last_of t (prefix ++ r ∷ rs) ≡ last_of r rs
 last_append t [] r rs = refl
@@ -53,15 +52,6 @@ enough_plus Plain m o a = omega arith
 enough_plus Around m o a = omega arith
 enough_plus (Inside d) m o a = omega arith
 
-pub openings_append : (prefix rest : List Token) → openings (prefix ++ rest) ≡ openings prefix + openings rest
-openings_append [] rest = omega arith
-openings_append (t ∷ ts) rest = omega (arith, openings_append ts rest)
-
-pub deep_behind : (c : Mode) (prefix tokens : List Token) → Deep c tokens → Deep c (prefix ++ tokens)
-deep_behind Plain prefix tokens d = d
-deep_behind Around prefix tokens d = omega (arith, openings_append prefix tokens, d)
-deep_behind (Inside n) prefix tokens d = omega (arith, openings_append prefix tokens, d)
-
 -- ---- one after the other
 
 pub both_taken : {A B : Type 0} (c : Mode) (g : Form A) (h : A → Form B) (i : Input) (a : A) (j : Input) → Took c g i a j → (out : Outcome B) → Kept c (h a) j out
@@ -73,55 +63,59 @@ both_taken c g h i a j t (Ok q) u = record {
   budget = budget_more c t.count u.count i.operators j.operators q.1.operators t.budget u.budget;
   said = (a, record { prefix = t.prefix; rest = u.prefix; prefix_count = t.count; rest_count = u.count; joined = refl; counted = refl; first = t.said; second = u.said });
 }
-both_taken c g h i a j t (Err e) (Behind before after split at done) =
-    Behind (t.prefix ++ before) after (t.joined ∙ ap (λ ts. t.prefix ++ ts) split ∙ sym (append_assoc t.prefix before after)) at (record {
-      more = done.more;
-      count = t.count + done.count;
-      value = done.value;
-      enough = enough_more c t.count done.count i.operators j.operators t.budget done.enough;
-      said = (
-        a,
-        record {
-          prefix = t.prefix;
-          rest = before ++ done.more;
-          prefix_count = t.count;
-          rest_count = done.count;
-          joined = append_assoc t.prefix before done.more;
-          counted = refl;
-          first = t.said;
-          second = done.said;
-        },
-      );
-    })
-both_taken c g h i a j t (Err e) (TooDeep before after u dp split at wants) =
-    TooDeep (t.prefix ++ before) after u (deep_behind c t.prefix before dp)
-    (t.joined ∙ ap (λ ts. t.prefix ++ ts) split ∙ sym (append_assoc t.prefix (before ++ u ∷ []) after) ∙ ap (λ ts. ts ++ after) (sym (append_assoc t.prefix before (u ∷ []))))
-    at wants
+both_taken c g h i a j t (Err e) r = record {
+  before = t.prefix ++ r.before;
+  behind = r.behind;
+  joined = t.joined ∙ ap (λ ts. t.prefix ++ ts) r.joined ∙ sym (append_assoc t.prefix r.before r.behind);
+  done = record {
+    more = r.done.more;
+    count = t.count + r.done.count;
+    value = r.done.value;
+    enough = enough_more c t.count r.done.count i.operators j.operators t.budget r.done.enough;
+    said = (
+      a,
+      record {
+        prefix = t.prefix;
+        rest = r.before ++ r.done.more;
+        prefix_count = t.count;
+        rest_count = r.done.count;
+        joined = append_assoc t.prefix r.before r.done.more;
+        counted = refl;
+        first = t.said;
+        second = r.done.said;
+      },
+    );
+  };
+  stands = r.stands;
+}
+
+-- another form begins with the same tokens
+pub begun_by : {A B : Type 0} {c : Mode} {g : Form A} {h : Form B} {i : Input} {e : Fault} → (r : Refused c g i e) → Completed c h r.before i.operators → Refused c h i e
+begun_by r done = record { before = r.before; behind = r.behind; joined = r.joined; done = done; stands = r.stands }
 
 pub both_refused : {A B : Type 0} (c : Mode) (g : Form A) (h : A → Form B) (i : Input) (e : Fault) → ((a : A) → Inhabited (h a)) → Refused c g i e
     → Refused c (sequence g h) i e
-both_refused c g h i e any (Behind before after split at done) =
-    let w = any done.value in
-    Behind before after split at (record {
-      more = done.more ++ w.tokens;
-      count = done.count + 0;
+both_refused c g h i e any r =
+    let w = any r.done.value in
+    begun_by r (record {
+      more = r.done.more ++ w.tokens;
+      count = r.done.count + 0;
       value = w.value;
-      enough = enough_plus c done.count i.operators done.enough;
+      enough = enough_plus c r.done.count i.operators r.done.enough;
       said = (
-        done.value,
+        r.done.value,
         record {
-          prefix = before ++ done.more;
+          prefix = r.before ++ r.done.more;
           rest = w.tokens;
-          prefix_count = done.count;
+          prefix_count = r.done.count;
           rest_count = 0;
-          joined = sym (append_assoc before done.more w.tokens);
+          joined = sym (append_assoc r.before r.done.more w.tokens);
           counted = refl;
-          first = done.said;
+          first = r.done.said;
           second = w.said;
         },
       );
     })
-both_refused c g h i e any (TooDeep before after u dp split at wants) = TooDeep before after u dp split at wants
 
 both_out : {A B : Type 0} (c : Mode) (g : Form A) (h : A → Form B) (f : A → Reader B) (i : Input) → Whole i.ahead → ((a : A) → Sound c (f a) (h a))
     → ((a : A) → Inhabited (h a)) → (out : Outcome A) → Kept c g i out → Kept c (sequence g h) i (and_then out f)
@@ -160,9 +154,14 @@ some_made a = record { tokens = []; value = a; said = (refl, refl, refl) }
 
 pub within_out : {A : Type 0} (c : Mode) (g h : Form A) (i : Input) → ((ts : List Token) (n : ℕ) (a : A) → g ts n a → h ts n a) → (out : Outcome A) → Kept c g i out → Kept c h i out
 within_out c g h i up (Ok p) t = record { prefix = t.prefix; count = t.count; joined = t.joined; budget = t.budget; said = up t.prefix t.count p.0 t.said }
-within_out c g h i up (Err e) (Behind before after split at done) =
-    Behind before after split at (record { more = done.more; count = done.count; value = done.value; enough = done.enough; said = up (before ++ done.more) done.count done.value done.said })
-within_out c g h i up (Err e) (TooDeep before after u dp split at wants) = TooDeep before after u dp split at wants
+within_out c g h i up (Err e) r =
+    begun_by r (record {
+      more = r.done.more;
+      count = r.done.count;
+      value = r.done.value;
+      enough = r.done.enough;
+      said = up (r.before ++ r.done.more) r.done.count r.done.value r.done.said;
+    })
 
 pub left_of : {A : Type 0} {c : Mode} {g h : Form A} {i : Input} {out : Outcome A} → Out c g i out → Out c (g or h) i out
 left_of {c = c} {g = g} {h = h} {i = i} {out = out} t = record { kept = within_out c g (g or h) i (λ ts n a s. inl s) out t.kept }
@@ -189,10 +188,19 @@ token_of kind = record { kind = kind; content = content.Nothing; at = 0 }
 pub some_word : (kind : Kind) → Inhabited (word kind)
 some_word kind = record { tokens = token_of kind ∷ []; value = tt; said = (token_of kind, refl, refl, refl) }
 
+-- any tokens of a form begin with none
+pub begun_none : {A : Type 0} (c : Mode) (o : ℕ) {g : Form A} → Inhabited g → Completed c g [] o
+begun_none c o w = record { more = w.tokens; count = 0; value = w.value; enough = enough_none c o; said = w.said }
+
 pub refused_here : {A : Type 0} (c : Mode) {g : Form A} (i : Input) → Inhabited g → Kept c g i (Err (At (head i).at))
 unfolding head
-refused_here c i w =
-    Behind [] i.ahead refl refl (record { more = w.tokens; count = 0; value = w.value; enough = enough_none c i.operators; said = w.said })
+refused_here c i w = record {
+  before = [];
+  behind = i.ahead;
+  joined = refl;
+  done = begun_none c i.operators w;
+  stands = Here refl;
+}
 
 pub refused : {A : Type 0} {c : Mode} {g : Form A} → Inhabited g → Sound c refuse g
 refused w = record { run = λ i whole. refused_here _ i w }

@@ -6,28 +6,28 @@ use Rattle.script_tokens.specs.declared.fault.Fault.{Fault}
 use Rattle.script_tokens.specs.declared.fault.Fault.TheVariants.{At}
 use Rattle.script_tokens.specs.Input.{Input, Outcome, Reader, first_of, no_token}
 use Rattle.script_forms.specs.Form.{Form}
-use Rattle.line_laws.specs.Nesting.{openings, nests}
+use Rattle.line_laws.specs.Nesting.{nests}
 
 -- Where a reader reads: where there are no expressions; where there are whole ones; and inside one, where each of `+ - || *` takes one of those that are left,
--- and this many of parentheses, `not` and unary minus may nest.
+-- and in the form so many more of parentheses, `not` and unary minus may nest than are read.
 pub data Mode : Type 0 where
   Plain : Mode
   Around : Mode
   Inside : ℕ → Mode
 
 abbrev pub Budget : Mode → ℕ → ℕ → ℕ → Type 0
-Budget (Inside depth) count before after = before ≡ count + after
+Budget (Inside near) count before after = before ≡ count + after
 Budget _ count before after = count ≡ 0
 
 abbrev pub Enough : Mode → ℕ → ℕ → Type 0
-Enough (Inside depth) count before = count ≤ before
+Enough (Inside near) count before = count ≤ before
 Enough _ count before = count ≡ 0
 
--- so many nest in these tokens that no more may
-abbrev pub Deep : Mode → List Token → Type 0
-Deep Plain tokens = ⊥
-Deep Around tokens = 100 ≤ openings tokens
-Deep (Inside depth) tokens = depth ≤ openings tokens
+-- as many may nest in the form as are read, so that none says what stands behind the last that does
+abbrev pub IsTight : Mode → Type 0
+IsTight Plain = ⊥
+IsTight Around = Unit {0}
+IsTight (Inside near) = near ≡ 0
 
 -- the tokens that were taken are the form's, and say what was read
 pub record Took {A : Type 0} (mode : Mode) (form : Form A) (i : Input) (a : A) (j : Input) : Type 0 where
@@ -45,11 +45,18 @@ pub record Completed {A : Type 0} (mode : Mode) (form : Form A) (before : List T
   pub enough : Enough mode count operators
   pub said : form (before ++ more) count value
 
--- The tokens before the refused one begin some tokens of the form; or it stands behind a word that wants a parenthesis, which would nest too deep.
-pub data Refused {A : Type 0} (mode : Mode) (form : Form A) (i : Input) (e : Fault) : Type 0 where
-  Behind : (before after : List Token) → i.ahead ≡ before ++ after → e ≡ At (first_of after).at → Completed mode form before i.operators → Refused mode form i e
-  TooDeep : (before after : List Token) (t : Token) → Deep mode before → i.ahead ≡ (before ++ t ∷ []) ++ after → e ≡ At (first_of after).at → nests t.kind ≡ true
-      → Refused mode form i e
+-- The refused token is the first of these; or it stands behind the first, a word that wants a parenthesis, which would nest too deep.
+pub data Stands (mode : Mode) (behind : List Token) (e : Fault) : Type 0 where
+  Here : e ≡ At (first_of behind).at → Stands mode behind e
+  TooDeep : IsTight mode → (t : Token) (after : List Token) → behind ≡ t ∷ after → nests t.kind ≡ true → e ≡ At (first_of after).at → Stands mode behind e
+
+-- Some tokens of the form begin with those before the refused token, or before the word behind which it stands.
+pub record Refused {A : Type 0} (mode : Mode) (form : Form A) (i : Input) (e : Fault) : Type 0 where
+  pub before : List Token
+  pub behind : List Token
+  pub joined : i.ahead ≡ before ++ behind
+  pub done : Completed mode form before i.operators
+  pub stands : Stands mode behind e
 
 abbrev pub Kept : {A : Type 0} → Mode → Form A → Input → Outcome A → Type 0
 Kept mode form i (Ok p) = Took mode form i p.0 p.1

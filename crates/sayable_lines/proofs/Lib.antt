@@ -1,0 +1,9 @@
+pub mod Given
+pub mod Yields
+pub mod Words
+pub mod Said
+pub mod Expressions
+pub mod Selects
+pub mod Bulks
+pub mod Lines
+pub mod Plain
