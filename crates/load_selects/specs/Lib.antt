@@ -1,0 +1,3 @@
+pub mod Branches
+pub mod Sources
+pub mod Selects
