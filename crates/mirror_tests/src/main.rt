@@ -12,7 +12,6 @@
 //! acts have them; `!` behind the number of an orphan. Of a closure it has the objects.
 #![tactic(auto)]
 
-mod fits;
 mod mapping;
 mod play;
 mod told;

@@ -6,11 +6,11 @@ ghost use Rattle.object_arena.specs.Fit.{IsFit};
 ghost use Rattle.object_arena.specs.Graph.{IsObject};
 ghost use Rattle.relations.specs.Mirror.{is_unloaded, link_at};
 
-use crate::fits::{key_fits, link_fits};
 use crate::told::{reached, told, word};
 use base_core::{AttrNo, ClassId, Key, ListOf, ObjId, ObjList, ObjSet, Refusal, RelNo, Value};
 use cascades::{delete_closure, expire_closure, expunge_closure, save_closure};
 use class_mapping::Mapping;
+use graph_fits::{key_fits, link_fits};
 use object_arena::{Arena, Cell, Link, State};
 use relations::{append, remove, set_one};
 use std::alloc::Global;

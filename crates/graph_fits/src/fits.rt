@@ -1,14 +1,14 @@
-//! Whether links and keys fit the mapping.
+//! Whether links, cells and keys fit a mapping.
 
 ghost use Rattle.std.specs.Prelude.{◌≡◌, true};
 ghost use Rattle.std.specs.List.{list_all, zip};
 ghost use Rattle.class_mapping.specs.Mapped.{IsClass, root_of};
 ghost use Rattle.object_arena.specs.Fit as spec;
-ghost use Rattle.mirror_tests.specs.Keys.{is_value};
+ghost use Rattle.graph_fits.specs.Keys.{is_value};
 
 use base_core::{AttrNo, ClassId, Key, Kind, ObjId, ObjList, Value};
 use class_mapping::{Attribute, Mapping, Relation};
-use object_arena::{Arena, Link};
+use object_arena::{Arena, Cell, Link};
 use schema_core::{kind_of_value, same_kind};
 
 /// Whether an object has been made and is of the root's hierarchy.
@@ -58,7 +58,7 @@ fn held_fit(arena: &Arena, root: ClassId, many: bool, link: &Link) -> bool
 }
 
 /// Whether a link fits a relationship.
-pub(crate) fn link_fits(arena: &Arena, mapping: &Mapping, relation: &Relation, link: &Link) -> bool
+pub fn link_fits(arena: &Arena, mapping: &Mapping, relation: &Relation, link: &Link) -> bool
     ensures { result ≡ true
         → spec.link_fits mapping.now arena.now.roots relation.now link.now ≡ true }
 {
@@ -88,7 +88,7 @@ fn is_just_of_kind(wanted: Kind, found: Option<Kind>) -> bool
 }
 
 /// Whether a key has a value of its kind for each column of the key of a class.
-pub(crate) fn key_fits(mapping: &Mapping, class: ClassId, key: &Key) -> bool
+pub fn key_fits(mapping: &Mapping, class: ClassId, key: &Key) -> bool
     requires declared { IsClass mapping.now class }
     requires configured { mapping.now.configured ≡ true }
     ensures { result ≡ true → spec.key_fits mapping.now class key.now ≡ true }
@@ -106,4 +106,31 @@ fn values_fit(attributes: &[Attribute], keys: &[AttrNo], values: &[Value]) -> bo
     keys.iter()
         .zip(values.iter())
         .all(|(attr, value)| value_fits(attributes, *attr, value))
+}
+
+/// Whether a value is NULL or of a kind.
+fn is_of_kind(wanted: Kind, found: Option<Kind>) -> bool
+    ensures { result ≡ spec.is_of_kind wanted found }
+{
+    match found {
+        None => true,
+        Some(found) => same_kind(wanted, found),
+    }
+}
+
+/// Whether a value that may not be known is NULL or of an attribute's kind.
+fn known_fits(attribute: &Attribute, value: &Option<Value>) -> bool
+    ensures { result ≡ spec.value_fits attribute.now value.now }
+{
+    match value {
+        None => true,
+        Some(value) => is_of_kind(attribute.kind, kind_of_value(value)),
+    }
+}
+
+/// Whether what a cell holds is NULL or of its attribute's kind.
+pub fn cell_fits(attribute: &Attribute, cell: &Cell) -> bool
+    ensures { result ≡ spec.cell_fits attribute.now cell.now }
+{
+    known_fits(attribute, &cell.value) && known_fits(attribute, &cell.base)
 }

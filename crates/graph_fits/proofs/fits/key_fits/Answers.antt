@@ -1,6 +1,6 @@
 use Rattle.std.proofs.Common.{◌≡◌, ◌∙◌, length, arith, sym}
-use Rattle.mirror_tests.proofs.KeyLemmas.{keyed}
-use Rattle.mirror_tests.proofs.fits.key_fits.Goals as goal
+use Rattle.graph_fits.proofs.KeyLemmas.{keyed}
+use Rattle.graph_fits.proofs.fits.key_fits.Goals as goal
 
 pub returns-then-keys-len : goal.returns-then-keys-len
 returns-then-keys-len c = λ h.

@@ -12,7 +12,7 @@ use Rattle.schema_core.specs.Tables.{kind_of_value}
 use Rattle.class_types.specs.declared.mapped.Attribute.{Attribute}
 use Rattle.class_mapping.specs.Mapped.{Mapped, attributes_of, key_attributes, no_attribute}
 use Rattle.object_arena.specs.Fit.{is_just_of_kind, key_fits, key_value_fits}
-use Rattle.mirror_tests.specs.Keys.{is_value, is_value_of}
+use Rattle.graph_fits.specs.Keys.{is_value, is_value_of}
 
 by_found : (mapped : Mapped) (class : ClassId) (attr : AttrNo) (value : Value) (found : Option Attribute) → slice_get (attributes_of mapped class) attr.0 ≡ found → is_value_of found value ≡ true → key_value_fits mapped class attr value ≡ true
 by_found mapped class attr value None at h = absurd cc
