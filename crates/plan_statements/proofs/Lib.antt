@@ -1,0 +1,4 @@
+pub mod KeyLemmas
+pub mod StaleLemmas
+pub mod Alike
+pub mod OfRows
