@@ -1,5 +1,5 @@
 -- Calls of the store that the session notes.
-use Rattle.std.proofs.Common.{◌≡◌, ℕ, Bool, true, List, [], ◌∷◌, length, Option, None, Some, IfSome, Result, Ok, Err, MatchBool, refl, sym, ap, ◌∙◌, subst}
+use Rattle.std.proofs.Common.{◌≡◌, ℕ, Bool, true, false, cond, List, [], ◌∷◌, length, Option, None, Some, IfSome, Result, Ok, Err, MatchBool, refl, sym, ap, ◌∙◌, subst, arith}
 use Rattle.base_core.specs.declared.refusal.Refusal.{Refusal}
 use Rattle.base_core.specs.declared.refusal.Refusal.TheVariants.{Memory}
 use Rattle.schema_core.specs.Tables.{Tables}
@@ -7,11 +7,13 @@ use Rattle.programs.specs.declared.sent.Sent.{Sent}
 use Rattle.programs.specs.Store.{Store}
 use Rattle.programs.specs.Programs.{Event, Run, Sends, ends_early}
 use Rattle.programs.specs.Moment.{AsTold, Moment, Ran, Runs, Told, parts}
-use Rattle.programs.specs.Beside.{Noted, moment_beside, on_store, told_beside}
+use Rattle.programs.specs.Beside.{IsNotedAs, Noted, moment_beside, on_store, told_beside}
 use Rattle.programs.proofs.Lifting.{on_keeper_noted, spoiled}
-use Rattle.keeper_core.specs.Keeping.{IsCall, IsCoherent, IsCoherentTold}
-use Rattle.session_scopes.specs.SessionState.{AreAlikeButNotes, SessionState, with_note, with_notes}
-use Rattle.session_calls.specs.Calling.{IsNotedCall}
+use Rattle.keeper_core.specs.Keeping.{IsCall, IsCoherent, IsCoherentTold, IsStatement, depth_left}
+use Rattle.object_arena.specs.Every.{classes_of}
+use Rattle.session_parts.specs.Depths.{HasDepth, StaysAt}
+use Rattle.session_scopes.specs.SessionState.{AreAlikeButNotes, IsInStep, SessionState, with_note, with_notes}
+use Rattle.session_calls.specs.Calling.{IsNotedCall, IsSessionCall}
 
 -- ---- what is told
 
@@ -52,10 +54,10 @@ stopped {m = m} {own = own} {now = now} {e = e} early p =
 abbrev pub IsSent : ℕ → Sent → (Store → Run Store (Unit {0})) → Type 0
 IsSent depth statement m = (w : Store) → depth ≡ length w.scopes → (tables : Tables) × ((m w).events ≡ Sends statement tables ∷ [])
 
-note_of : (own : SessionState) (statement : Sent) (tables : Tables) (events : List Event) → events ≡ Sends statement tables ∷ [] → with_note statement own ≡ with_notes events own
+pub note_of : (own : SessionState) (statement : Sent) (tables : Tables) (events : List Event) → events ≡ Sends statement tables ∷ [] → with_note statement own ≡ with_notes events own
 note_of own statement tables events is = ap (λ (es : List Event). with_notes es own) (sym is)
 
-alike_noted : (own now : SessionState) (statement : Sent) → now ≡ with_note statement own → AreAlikeButNotes own now
+pub alike_noted : (own now : SessionState) (statement : Sent) → now ≡ with_note statement own → AreAlikeButNotes own now
 alike_noted own now statement is = is ∙ ap (λ (s : SessionState). record own { notes = s.notes }) (sym is)
 
 -- the session noted a statement, and the store was sent it
@@ -73,6 +75,39 @@ noted_call moment m statement depth {own = own} {now = now} {old = old} {new = n
   scopes = tt;
   stops = call.stops;
 }
+
+-- ---- a statement that may be refused, and is sent then too
+
+-- the call sends this statement and nothing else
+abbrev pub IsAlwaysSent : {A : Type 0} → Sent → (Store → Run Store A) → Type 0
+IsAlwaysSent statement m = (w : Store) → (tables : Tables) × ((m w).events ≡ Sends statement tables ∷ [])
+
+noted_as : {A X : Type 0} (v : X → A) (m : Store → Run Store A) (statement : Sent) (own now : SessionState) (r : Result X Refusal) → IsAlwaysSent statement m → now ≡ with_note statement own → IsNotedAs with_notes v m own r now
+noted_as v m statement own now (Ok x) sends is = λ w answer. let sent = sends w in is ∙ note_of own statement sent.0 (m w).events sent.1
+noted_as v m statement own now (Err e) sends is = by (ends_early e)
+  where
+    by : (b : Bool) → MatchBool b (Unit {0}) ((w : Store) → (m w).answer ≡ Err e → now ≡ with_notes (m w).events own)
+    by true = tt
+    by false = λ w answer. let sent = sends w in is ∙ note_of own statement sent.0 (m w).events sent.1
+
+deep_still : {A : Type 0} (r : Result A Refusal) (depth : ℕ) (old new : Moment Store) → HasDepth depth old → new.attached ≡ old.attached → new.depth ≡ depth_left r old.depth → StaysAt r depth new
+deep_still (Ok x) depth old new deep attached is = (attached ∙ deep.0, is ∙ deep.1)
+deep_still (Err e) depth old new deep attached is = λ own. (attached ∙ deep.0, is ∙ ap (λ (b : Bool). cond b 0 old.depth) own ∙ deep.1)
+
+-- the session noted a statement, and the store was sent it
+pub stated_call : {A K : Type 0} (moment : K → Moment Store) (m : Store → Run Store A) (statement : Sent) {MayRefuse : Refusal → Type 0} {own now : SessionState} {old new : K} {r : Result A Refusal} → IsAlwaysSent statement m
+    → now ≡ with_note statement own → IsInStep own (moment old) → IsStatement moment m statement MayRefuse old r new → IsSessionCall moment (λ x. x) (on_store with_notes m) (own, old) r (now, new)
+stated_call moment m statement {own = own} {now = now} {old = old} {new = new} {r = r} sends is in_step call =
+    let alike : AreAlikeButNotes own now = alike_noted own now statement is in
+    record {
+      step = on_keeper_noted {note = with_notes} (Noted (noted_as (λ x. x) m statement own now r sends is)) call.step;
+      kept = record {
+        same = record { mapping = ap (λ (s : SessionState). s.mapping) alike; classes = ap (λ (s : SessionState). classes_of s.graph) alike; drawn = omega (arith, ap (λ (s : SessionState). s.drawn.drawn) alike) };
+        in_step = deep_still r (length now.frames.scopes) (moment old) (moment new) (in_step.0, in_step.1 ∙ sym (ap (λ (s : SessionState). length s.frames.scopes) alike)) (parts call.step).keeps.attached call.depth;
+      };
+    }
+
+-- ---- no room
 
 -- there was no memory for the note
 pub no_note_room : {K : Type 0} (moment : K → Moment Store) (m : Store → Run Store (Unit {0})) (depth : ℕ) {own now : SessionState} {keeper : K} → now ≡ own → IsNotedCall moment m depth (own, keeper) (Err Memory) (now, keeper)

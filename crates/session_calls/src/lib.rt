@@ -7,3 +7,4 @@ mod store;
 
 pub use objects::{delete, read_cell, set_cell};
 pub use scopes::{close, enter, rollback, rollback_handle};
+pub use store::roll_back;

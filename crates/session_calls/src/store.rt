@@ -25,7 +25,7 @@ pub(crate) fn begin_store<K: Keeper>(session: &mut Session, keeper: &mut K) -> R
 }
 
 /// Rolls the scope at a depth back in the store: the transaction at depth 1, and a savepoint inside it.
-pub(crate) fn roll_back<K: Keeper>(
+pub fn roll_back<K: Keeper>(
     session: &mut Session,
     keeper: &mut K,
     depth: u32,

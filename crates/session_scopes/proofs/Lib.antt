@@ -1,2 +1,3 @@
 mod Falling
 pub mod SessionLemmas
+mod MakingLemmas

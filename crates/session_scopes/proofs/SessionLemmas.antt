@@ -1,18 +1,24 @@
 -- What every session keeps, as its objects change and its scopes begin and end.
-use Rattle.std.proofs.Common.{◌≡◌, ℕ, ◌-◌, ◌≤◌, suc, Bool, true, false, List, [], ◌∷◌, length, drop, Result, Ok, Err, OnOk, refl, sym, ap, ◌∙◌, subst, arith, length-drop}
+use Rattle.std.proofs.Common.{◌≡◌, ℕ, ◌-◌, ◌<◌, ◌≤◌, suc, Bool, true, false, List, [], ◌∷◌, length, drop, Result, Ok, Err, OnOk, refl, sym, ap, ◌∙◌, subst, arith, length-drop}
+use Rattle.std.specs.Prelude.{OnErr}
 use Rattle.std.specs.List.{All}
+use Rattle.std.proofs.lemmas.List.{get_or_append_left, length-append}
 use Rattle.std.proofs.lemmas.List.Elements.{All-nil}
 use Rattle.base_core.specs.Answers.{Takes}
+use Rattle.base_core.specs.declared.ids.ClassId.{ClassId}
+use Rattle.base_core.specs.declared.ids.ObjId.{ObjId}
 use Rattle.base_core.specs.declared.refusal.Refusal.{Refusal}
 use Rattle.class_mapping.specs.Mapped.{Mapped}
-use Rattle.object_arena.specs.Graph.{Graph}
+use Rattle.object_arena.specs.declared.object.Object.{Object}
+use Rattle.object_arena.specs.Graph.{Graph, IsObject, fresh_object, no_object, object_at, place_of, with_fresh}
 use Rattle.object_arena.specs.Fit.{IsFit}
 use Rattle.object_arena.specs.Every.{classes_of}
+use Rattle.object_arena.proofs.ClassLemmas.{classes_long}
 use Rattle.savepoints.specs.declared.scope.Scope.{Scope}
 use Rattle.savepoints.specs.Scopes.{Framed, HasKeys, around, begun_at, push, scope_limit}
-use Rattle.savepoints.proofs.KeyLemmas.{all_kept}
+use Rattle.savepoints.proofs.KeyLemmas.{all_kept, all_made, class_at}
 use Rattle.session_scopes.specs.Handles.{Drawn, without_innermost}
-use Rattle.session_scopes.specs.SessionState.{IsSession, depth_in}
+use Rattle.session_scopes.specs.SessionState.{AreThereStill, IsMadeOf, IsSession, depth_in}
 
 -- ---- as many handles as savepoints
 
@@ -87,6 +93,45 @@ session_entered mapped graph old new failed drawn (Ok u) step is keys well outsi
     session_deeper mapped graph old new failed drawn drawn is keys well (omega (arith, none, open_now, session.handled)) session
 session_entered mapped graph old new failed drawn (Err e) step is keys well outside session =
     subst (λ (f : Framed). IsSession mapped graph f.scopes failed drawn) (sym step.0) session
+
+-- a refusal left the scopes
+pub scopes_stay : {S : Type 0} (graph : Graph) (put : Framed → S) (old new : Framed) (r : Result (Unit {0}) Refusal) → Takes (λ _. tt) (push graph old) old r new → OnErr r (put new ≡ put old)
+scopes_stay graph put old new (Ok u) step = tt
+scopes_stay graph put old new (Err e) step = ap put step.0
+
+-- ---- an object that is made
+
+pub session_made : (mapped : Mapped) (old new : Graph) (class : ClassId) (scopes : List Scope) (failed : Bool) (drawn : Drawn) → IsFit mapped new → new ≡ with_fresh old mapped class → IsSession mapped old scopes failed drawn → IsSession mapped new scopes failed drawn
+session_made mapped old new class scopes failed drawn fit is session = record {
+  configured = session.configured;
+  plain = session.plain;
+  fit = fit;
+  keys = all_made mapped old new class scopes is session.keys;
+  handled = session.handled;
+}
+
+-- objects that change, each in its class
+pub there_changed : (old new : Graph) (object : ObjId) (class : ClassId) → classes_of new ≡ classes_of old → IsMadeOf old object class → IsMadeOf new object class
+there_changed old new object class same made = (
+  (made.0.0, rw (classes_long old new same) made.0.1),
+  class_at old new (place_of object) same (omega (arith, made.0.0, made.0.1)) ∙ made.1,
+)
+
+there_beside : (mapped : Mapped) (old : Graph) (class : ClassId) (object : ObjId) → IsObject old object → IsMadeOf (with_fresh old mapped class) object (object_at old object).class
+there_beside mapped old class object made =
+    let last : List Object = fresh_object mapped class ∷ [] in (
+      (made.0, rw (length-append old.objects last) (omega (arith, made.1))),
+      ap (λ (o : Object). o.class) (get_or_append_left old.objects last no_object (place_of object) (omega (arith, made.0, made.1))),
+    )
+
+-- each object is there still, beside the one that was made
+pub there_still : (mapped : Mapped) (old mid new : Graph) (class : ClassId) → mid ≡ with_fresh old mapped class → classes_of new ≡ classes_of mid → AreThereStill old new
+there_still mapped old mid new class is same object made =
+    there_changed mid new object (object_at old object).class same (subst (λ (g : Graph). IsMadeOf g object (object_at old object).class) (sym is) (there_beside mapped old class object made))
+
+-- the object that was made
+pub there_made : (mapped : Mapped) (mid new : Graph) (object : ObjId) (class : ClassId) → IsObject mid object → object_at mid object ≡ fresh_object mapped class → classes_of new ≡ classes_of mid → IsMadeOf new object class
+there_made mapped mid new object class made is same = there_changed mid new object class same (made, ap (λ (o : Object). o.class) is)
 
 -- ---- handles
 

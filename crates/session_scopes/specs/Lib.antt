@@ -2,3 +2,4 @@ pub mod Handles
 pub mod SessionState
 pub mod Scoping
 pub mod Changes
+pub mod Making

@@ -1,5 +1,5 @@
 -- What becomes of a session where scopes begin and end.
-use Rattle.std.specs.Prelude.{ℕ, false, ◌∷◌, length}
+use Rattle.std.specs.Prelude.{ℕ, true, false, ◌∷◌, length}
 use Rattle.object_arena.specs.Every.{each_object}
 use Rattle.savepoints.specs.Scopes.{around, begun_at, no_frames, restored_graph, scope_released}
 use Rattle.session_parts.specs.Ends.{object_committed, object_left}
@@ -21,6 +21,10 @@ session_released session = record session { frames = scope_released session.fram
 -- each object stands where it stood at the start of the scope at a depth, which has ended with those inside it
 abbrev pub session_restored : ℕ → SessionState → SessionState
 session_restored depth session = record session { graph = restored_graph depth session.frames session.graph; frames = around depth session.frames }
+
+-- the innermost scope has ended for a flush that failed: each object stands where it stood at its start, and a rollback is awaited
+abbrev pub session_failed : SessionState → SessionState
+session_failed session = record (session_restored (length session.frames.scopes) session) { failed = true }
 
 -- a failed flush has been rolled back, and so many of the innermost savepoints have ended
 abbrev pub session_rolled_back : ℕ → SessionState → SessionState

@@ -1,11 +1,14 @@
 -- What is seen of a session that has savepoints and tells what a command did.
-use Rattle.std.specs.Prelude.{◌≡◌, ℕ, ◌+◌, ◌-◌, ◌≤◌, Bool, false, true, List, [], ◌∷◌, ◌++◌, length, Result, if◌then◌else◌}
+use Rattle.std.specs.Prelude.{◌≡◌, ℕ, ◌+◌, ◌-◌, ◌≤◌, Bool, false, true, List, [], ◌∷◌, ◌++◌, length, map, Result, if◌then◌else◌}
 use Rattle.std.specs.List.{All, flat_map}
+use Rattle.base_core.specs.declared.ids.ClassId.{ClassId}
+use Rattle.base_core.specs.declared.ids.ObjId.{ObjId}
 use Rattle.base_core.specs.declared.refusal.Refusal.{Refusal}
+use Rattle.base_core.specs.declared.refusal.Warning.{Warning}
 use Rattle.class_mapping.specs.Mapped.{Mapped}
 use Rattle.class_mapping.specs.PlainClass.{ArePlain}
 use Rattle.object_arena.specs.Every.{classes_of}
-use Rattle.object_arena.specs.Graph.{Graph, empty_graph}
+use Rattle.object_arena.specs.Graph.{Graph, IsObject, empty_graph, object_at}
 use Rattle.object_arena.specs.Fit.{IsFit}
 use Rattle.savepoints.specs.declared.scope.Scope.{Scope}
 use Rattle.savepoints.specs.Scopes.{Framed, HasKeys, no_frames}
@@ -59,6 +62,10 @@ notes_of (Writes byte) = []
 abbrev pub with_note : Sent → SessionState → SessionState
 with_note statement session = record session { notes = session.notes ++ note.Sent statement ∷ [] }
 
+-- the session has noted warnings
+abbrev pub with_warnings : List Warning → SessionState → SessionState
+with_warnings warnings session = record session { notes = session.notes ++ map note.Warn warnings }
+
 -- the session has noted the statements of a call
 abbrev pub with_notes : List Event → SessionState → SessionState
 with_notes events session = record session { notes = session.notes ++ flat_map notes_of events }
@@ -83,6 +90,14 @@ pub record SameObjects (old new : SessionState) : Type 0 where
   pub mapping : new.mapping ≡ old.mapping
   pub classes : classes_of new.graph ≡ classes_of old.graph
   pub drawn : old.drawn.drawn ≤ new.drawn.drawn
+
+-- the object has been made of the class
+abbrev pub IsMadeOf : Graph → ObjId → ClassId → Type 0
+IsMadeOf graph object class = IsObject graph object × ((object_at graph object).class ≡ class)
+
+-- each object is there still, of its class
+abbrev pub AreThereStill : Graph → Graph → Type 0
+AreThereStill old new = (object : ObjId) → IsObject old object → IsMadeOf new object (object_at old object).class
 
 -- the keeper took its target, and has the session's scopes open
 abbrev pub IsInStep : {W : Type 0} → SessionState → Moment W → Type 0

@@ -2,7 +2,11 @@
 #![tactic(auto)]
 
 mod handles;
+mod making;
 mod session;
+mod step;
 
 pub use handles::Handles;
+pub use making::{Given, put_given};
 pub use session::Session;
+pub use step::ObjectStep;

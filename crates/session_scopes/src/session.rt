@@ -1,20 +1,25 @@
 //! The session, and what becomes of it as scopes begin and end and single objects change.
 
-ghost use Rattle.std.specs.Prelude.{◌≡◌, ◌<◌, ◌≤◌, ◌+◌, ◌-◌, [], None, true, false, length, IfErr, IfOk, IfSome, OnErr, OnOk};
+ghost use Rattle.std.specs.Prelude.{◌≡◌, ◌<◌, ◌≤◌, ◌+◌, ◌-◌, ◌++◌, [], None, true, false, length, map, IfErr, IfOk, IfSome, OnErr, OnOk};
+ghost use Rattle.base_core.specs.Counts.{one_more};
 ghost use Rattle.base_core.specs.declared.refusal.Refusal.TheVariants.{Memory};
+ghost use Rattle.keeper_core.specs.declared.notes.Note.TheVariants as note;
 ghost use Rattle.class_mapping.specs.Mapped.{IsAttribute, IsClass, attributes_of, is_key_attribute};
 ghost use Rattle.class_mapping.specs.PlainClass.{ArePlain};
+ghost use Rattle.object_arena.specs.Fit.{IsFit};
 ghost use Rattle.object_arena.specs.Graph.{IsCell, IsObject, is_persistent, object_at, value_fault};
-ghost use Rattle.std.specs.List.{list_all};
+ghost use Rattle.std.specs.List.{All, list_all};
 ghost use Rattle.programs.specs.Alone.{IsQuiet};
-ghost use Rattle.savepoints.specs.Scopes.{scope_limit};
+ghost use Rattle.savepoints.specs.Scopes.{no_frames, scope_limit};
 ghost use Rattle.session_scopes.specs.Changes as changes;
 ghost use Rattle.session_scopes.specs.Handles.{place_of_handle};
+ghost use Rattle.session_scopes.specs.Making as making;
 ghost use Rattle.session_scopes.specs.Scoping as scoping;
-ghost use Rattle.session_scopes.specs.SessionState.{SameObjects, depth_of, in_transaction, new_session, with_note};
+ghost use Rattle.session_scopes.specs.SessionState.{AreAlikeButNotes, AreThereStill, IsMadeOf, SameObjects, depth_of, in_transaction, new_session, with_graph, with_note, with_warnings};
 
-use crate::Handles;
-use base_core::{AttrNo, ClassId, Copied, ObjId, Refusal, RequestKind, Value};
+use crate::making::{copy_of, first_fault, put_given};
+use crate::{Handles, ObjectStep};
+use base_core::{AttrNo, ClassId, Copied, ObjId, Refusal, RequestKind, Value, Warning};
 use class_mapping::Mapping;
 use keeper_core::{Note, Notes, Sent};
 use object_arena::{Arena, Cell, Object, State};
@@ -84,6 +89,14 @@ impl Session {
         ensures plain { ArePlain self.now.mapping }
     {
         &self.mapping
+    }
+
+    /// The objects.
+    pub fn arena(&self) -> &Arena
+        ensures objects { result.now ≡ self.now.graph }
+        ensures fit { IsFit self.now.mapping self.now.graph }
+    {
+        &self.arena
     }
 
     /// How many objects there are; they are numbered from 1.
@@ -176,11 +189,21 @@ impl Session {
         self.notes.push(Note::Sent(sent))
     }
 
-    /// The transaction's scope starts, with the objects as they stand now. The only refusal is `Memory`.
+    /// Notes warnings, in order. The only refusal is `Memory`, and some may have been noted then.
+    pub fn warn_all(&mut self, warnings: &[Warning]) -> Result<(), Refusal>
+        ensures ok { OnOk result (self.new ≡ with_warnings warnings.now self.old) }
+        ensures alike { AreAlikeButNotes self.old self.new }
+        ensures cause { IfErr result (λ e. e ≡ Memory) }
+    {
+        note_warnings(&mut self.notes, warnings)
+    }
+
+    /// The transaction's scope starts, with the objects as they stand now. The only refusal is `Memory`, and it changes nothing.
     pub fn begin(&mut self) -> Result<(), Refusal>
         requires outside { self.old.frames.scopes ≡ [] }
         requires well { self.old.failed ≡ false }
         ensures ok { OnOk result (self.new ≡ scoping.session_begun self.old) }
+        ensures err { OnErr result (self.new ≡ self.old) }
         ensures cause { IfErr result (λ e. e ≡ Memory) }
         ensures same { SameObjects self.old self.new }
     {
@@ -188,13 +211,16 @@ impl Session {
     }
 
     /// A savepoint's scope starts, with the objects as they stand now, under the next handle, which is answered. The only
-    /// refusal is `Memory`.
+    /// refusal is `Memory`; it changes nothing, but the handle may be lost.
     pub fn nest(&mut self) -> Result<u32, Refusal>
         requires inside { 0 < length self.old.frames.scopes }
         requires room { length self.old.frames.scopes < scope_limit }
         requires well { self.old.failed ≡ false }
         ensures ok { OnOk result (self.new ≡ scoping.session_nested self.old) }
         ensures handle { IfOk result (λ handle. handle ≡ self.old.drawn.drawn + 1) }
+        ensures err { OnErr result (self.new ≡ record self.old {
+          drawn = record self.old.drawn { drawn = self.new.drawn.drawn };
+        }) }
         ensures cause { IfErr result (λ e. e ≡ Memory) }
         ensures same { SameObjects self.old self.new }
     {
@@ -234,6 +260,20 @@ impl Session {
         self.failed = false;
     }
 
+    /// The innermost scope ends for a flush that failed, and each object stands where it stood at its start. A rollback is awaited
+    /// then; a savepoint keeps its handle until that. Takes no memory.
+    pub fn fail_flush(&mut self)
+        requires inside { 1 ≤ length self.old.frames.scopes }
+        requires well { self.old.failed ≡ false }
+        ensures ok { self.new ≡ scoping.session_failed self.old }
+        ensures scopes { length self.new.frames.scopes ≡ length self.old.frames.scopes - 1 }
+        ensures same { SameObjects self.old self.new }
+    {
+        let depth = self.frames.depth();
+        self.frames.restore(&mut self.arena, depth);
+        self.failed = true;
+    }
+
     /// The scope of a failed flush, which has ended, was rolled back, and with it so many savepoints have ended. Takes no
     /// memory.
     pub fn recover(&mut self, count: usize)
@@ -248,11 +288,12 @@ impl Session {
     }
 
     /// The transaction was committed: no scope is in progress, and every persistent object is expired. The only refusal is
-    /// `Memory`.
+    /// `Memory`; no scope is in progress then either, and all but the objects is as it was.
     pub fn end_transaction(&mut self) -> Result<(), Refusal>
         requires inside { length self.old.frames.scopes ≡ 1 }
         requires well { self.old.failed ≡ false }
         ensures ok { OnOk result (self.new ≡ scoping.session_committed self.old) }
+        ensures ended { self.new ≡ record self.old { graph = self.new.graph; frames = no_frames } }
         ensures cause { IfErr result (λ e. e ≡ Memory) }
         ensures same { SameObjects self.old self.new }
     {
@@ -260,9 +301,12 @@ impl Session {
         commit_all(&mut self.arena)
     }
 
-    /// No transaction is in progress, and every object leaves the session. The only refusal is `Memory`.
+    /// No transaction is in progress, and every object leaves the session. The only refusal is `Memory`; no transaction and no
+    /// savepoint is in progress then either, and no rollback is awaited.
     pub fn let_go(&mut self) -> Result<(), Refusal>
         ensures ok { OnOk result (self.new ≡ scoping.session_closed self.old) }
+        ensures ended { self.new
+            ≡ record (scoping.session_closed self.old) { graph = self.new.graph } }
         ensures cause { IfErr result (λ e. e ≡ Memory) }
         ensures same { SameObjects self.old self.new }
     {
@@ -272,11 +316,62 @@ impl Session {
         let_go_all(&mut self.arena)
     }
 
+    /// Makes a change of the objects, by which each is touched in the innermost scope where its record comes to differ. The only
+    /// refusal is `Memory`; the scopes in progress stay then, and all but the objects and what is kept of them.
+    pub fn step<S: ObjectStep>(&mut self, step: S) -> Result<(), Refusal>
+        requires { S.is_ready step self.old.mapping self.old.graph }
+        ensures ok { OnOk result (self.new
+            ≡ with_graph (S.after step self.old.mapping self.old.graph) self.old) }
+        ensures cause { IfErr result (λ e. e ≡ Memory) }
+        ensures rest { self.new
+            ≡ record self.old { graph = self.new.graph; frames = self.new.frames } }
+        ensures same { SameObjects self.old self.new }
+        ensures scopes { self.new.frames.scopes ≡ self.old.frames.scopes }
+    {
+        step.take(&self.mapping, &mut self.arena, &mut self.frames)
+    }
+
+    /// The next add number, which is given now.
+    pub fn next_added(&mut self) -> u64
+        ensures number { result ≡ one_more self.old.added }
+        ensures given { self.new ≡ record self.old { added = one_more self.old.added } }
+    {
+        self.added = self.added.saturating_add(1);
+        self.added
+    }
+
+    /// Makes a transient object of a class with these values; its other cells are NULL. It is touched in no scope.
+    ///
+    /// # Errors
+    /// `TypeMismatch` for the first value that is not NULL and of another kind than its attribute, then `LimitReached(Objects)`
+    /// where there are 1,000,000 objects, and `Memory`. A refusal changes nothing.
+    #[tactic(auto, unfolding(crate::specs::Making::object_made, object_arena::specs::Graph::make))]
+    pub fn make(&mut self, class: ClassId, given: &[(AttrNo, Value)]) -> Result<ObjId, Refusal>
+        requires class { IsClass self.old.mapping class }
+        requires attributes { All
+            (λ one. IsAttribute self.old.mapping class one.0) given.now }
+        ensures step { IsQuiet
+            (λ object. object) (making.object_made class given.now self.old) result self.new }
+        ensures err { OnErr result (self.new ≡ self.old) }
+        ensures rest { self.new ≡ record self.old { graph = self.new.graph } }
+        ensures made { IfOk result (λ object. IsMadeOf self.new.graph object class) }
+        ensures stay { AreThereStill self.old.graph self.new.graph }
+    {
+        if let Some(fault) = first_fault(&self.mapping, class, given) {
+            return Err(fault);
+        }
+        let copy = copy_of(self.alloc, given)?;
+        let object = self.arena.make(&self.mapping, class)?;
+        put_given(&mut self.arena, &self.mapping, object, copy);
+        Ok(object)
+    }
+
     /// Gives a cell a value of its attribute's kind, or NULL, and touches the object in the innermost scope where its record
     /// comes to differ.
     ///
     /// # Errors
-    /// `InvalidRequestError(KeyChange)` for a cell of the key of an object with an identity, and it changes nothing.
+    /// `InvalidRequestError(KeyChange)` for a cell of the key of an object with an identity, and it changes nothing. `Memory`, after
+    /// which the object may have been touched.
     #[tactic(auto, unfolding(crate::specs::Changes::value_put))]
     pub fn put_value(&mut self, object: ObjId, attr: AttrNo, value: Value) -> Result<(), Refusal>
         requires object { IsObject self.old.graph object }
@@ -314,7 +409,7 @@ impl Session {
     ///
     /// # Errors
     /// `InvalidRequestError(NotPersistent)`, and `NotBuilt` where a cell is expired or its row's value is not known. They change
-    /// nothing.
+    /// nothing. `Memory`, after which the object may have been touched.
     #[tactic(auto, unfolding(crate::specs::Changes::deletion_marked))]
     pub fn mark_deletion(&mut self, object: ObjId) -> Result<(), Refusal>
         requires object { IsObject self.old.graph object }
@@ -354,6 +449,17 @@ impl Session {
             },
         }
     }
+}
+
+/// Warnings are noted, in order.
+fn note_warnings(notes: &mut Notes, warnings: &[Warning]) -> Result<(), Refusal>
+    ensures ok { OnOk result (notes.new ≡ notes.old ++ map note.Warn warnings.now) }
+    ensures cause { IfErr result (λ e. e ≡ Memory) }
+{
+    for warning in warnings {
+        notes.push(Note::Warn(*warning))?;
+    }
+    Ok(())
 }
 
 /// Whether an object has an identity and an attribute is of its key.
