@@ -1,3 +1,4 @@
+mod AskingLemmas
 pub mod CellLemmas
 pub mod MakeLemmas
 mod OneRow

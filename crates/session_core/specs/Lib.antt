@@ -2,3 +2,4 @@ pub mod SessionState
 pub mod Making
 pub mod Flush
 pub mod Steps
+pub mod Asking

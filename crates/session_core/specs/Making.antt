@@ -1,5 +1,5 @@
 -- The making of an object with values.
-use Rattle.std.specs.Prelude.{◌≡◌, false, List, [], ◌∷◌, fold, slice_get, Option, None, Some, Result, Ok, Err, if◌then◌else◌}
+use Rattle.std.specs.Prelude.{List, [], ◌∷◌, fold, slice_get, Option, None, Some, Result, Ok, Err, if◌then◌else◌}
 use Rattle.base_core.specs.declared.ids.AttrNo.{AttrNo}
 use Rattle.base_core.specs.declared.ids.ClassId.{ClassId}
 use Rattle.base_core.specs.declared.ids.ObjId.{ObjId}

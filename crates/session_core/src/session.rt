@@ -186,7 +186,7 @@ impl Session {
 
     /// A call is refused while a failed flush waits for its rollback; else a transaction begins where none is in progress.
     #[tactic(auto, using(programs::proofs::Sequence::sequence, programs::proofs::Lifting::lifting, crate::proofs::SessionLemmas::scopes), unfolding(crate::specs::Steps::enter))]
-    fn enter<K: Keeper>(&mut self, keeper: &mut K) -> Result<(), Refusal>
+    pub(crate) fn enter<K: Keeper>(&mut self, keeper: &mut K) -> Result<(), Refusal>
         requires in_step { IsInStep self.old (K.moment keeper.old) }
         ensures step { Runs (moment_beside K.moment)
             (λ u. u) steps.enter (self.old, keeper.old) result (self.new, keeper.new) }

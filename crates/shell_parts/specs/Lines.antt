@@ -6,7 +6,7 @@ use Rattle.base_core.specs.declared.refusal.Refusal.{Refusal}
 use Rattle.base_core.specs.declared.refusal.Refusal.TheVariants.{Memory, ScriptError}
 use Rattle.script_lex.specs.Lex.{is_blank}
 use Rattle.script_types.specs.declared.command.Command.{Command}
-use Rattle.script_types.specs.declared.command.Command.TheVariants.{Skip, TableHead, ColumnLine, ClassHead, End, Configure, CreateAll, Dump, New, Add, Commit}
+use Rattle.script_types.specs.declared.command.Command.TheVariants.{Skip, TableHead, ColumnLine, ClassHead, End, Configure, CreateAll, Dump, New, Add, Commit, Rows}
 
 -- The line's form is built. The head of a block is, and its end, whatever the block declares.
 abbrev pub is_built : Command → Bool
@@ -21,6 +21,7 @@ is_built Dump = true
 is_built (New name class cells) = true
 is_built (Add term) = is_none term.index
 is_built (Commit savepoint) = is_none savepoint
+is_built (Rows select) = true
 is_built other = false
 
 -- the word `end`, and then blanks alone

@@ -1,5 +1,5 @@
 -- The lines of replies, byte by byte.
-use Rattle.std.specs.Prelude.{ℕ, List, ◌++◌, codes}
+use Rattle.std.specs.Prelude.{ℕ, List, ◌++◌, codes, length}
 use Rattle.std.specs.List.{flat_map}
 use Rattle.std.specs.Fmt.{decimal}
 use Rattle.base_core.specs.declared.refusal.Refusal.{Refusal}
@@ -23,6 +23,18 @@ row_line row = codes "  " ++ row_text row ++ codes "\n"
 -- a table's line, and one for each of its rows
 abbrev pub table_text : TableSpec → List (List Value) → List ℕ
 table_text spec rows = table_line spec ++ flat_map row_line rows
+
+-- a row of a select on a line of its own: its values in parentheses
+abbrev pub answer_line : List Value → List ℕ
+answer_line row = row_text row ++ codes "\n"
+
+-- the line `rows N`
+abbrev pub count_line : ℕ → List ℕ
+count_line count = codes "rows " ++ decimal count ++ codes "\n"
+
+-- the rows of a select, each on its line, and behind them how many they are
+abbrev pub rows_text : List (List Value) → List ℕ
+rows_text rows = flat_map answer_line rows ++ count_line (length rows)
 
 -- the line `error LINE: REFUSAL`
 abbrev pub error_line : Names → ℕ → Refusal → List ℕ

@@ -40,7 +40,8 @@ pub fn is_built(line: &Command) -> bool
         | Command::Configure
         | Command::CreateAll
         | Command::Dump
-        | Command::New { .. } => true,
+        | Command::New { .. }
+        | Command::Rows(_) => true,
         Command::Add(term) => term.index.is_none(),
         Command::Commit(savepoint) => savepoint.is_none(),
         _ => false,

@@ -3,7 +3,7 @@
 ghost use Rattle.std.specs.Prelude.{◌≡◌, [], ◌++◌, IfErr, OnOk, codes};
 ghost use Rattle.std.specs.List.{flat_map};
 ghost use Rattle.printing.specs.Texts.{with_leading_separators};
-ghost use Rattle.shell_parts.specs.Replies.{columns_text, error_line, row_line, table_line, table_text};
+ghost use Rattle.shell_parts.specs.Replies.{answer_line, columns_text, count_line, error_line, row_line, rows_text, table_line, table_text};
 ghost use Rattle.shell_parts.specs.TableNames.{table_names};
 
 use crate::naming::TableNames;
@@ -129,6 +129,46 @@ impl Reply {
     {
         let row = RowText(row);
         write!(self.text, "  {row}\n")?;
+        Ok(())
+    }
+
+    /// The rows of a select, each on a line of its own, and the line that says how many they are, go behind the reply. The
+    /// only refusal is `Memory`.
+    pub fn put_answers(&mut self, rows: &RowList) -> Result<(), Refusal>
+        ensures ok { OnOk result (self.new ≡ self.old ++ rows_text rows.now) }
+        ensures cause { IfErr result (λ e. e ≡ Refusal.Memory) }
+    {
+        self.put_each(rows.as_slice())?;
+        self.put_count(rows.len())
+    }
+
+    /// Rows of a select, each on a line of its own.
+    fn put_each(&mut self, rows: &[RowValues]) -> Result<(), Refusal>
+        ensures ok { OnOk result (self.new ≡ self.old ++ flat_map answer_line rows.now) }
+        ensures cause { IfErr result (λ e. e ≡ Refusal.Memory) }
+    {
+        for row in rows {
+            self.put_answer(row)?;
+        }
+        Ok(())
+    }
+
+    /// A row of a select on a line of its own.
+    fn put_answer(&mut self, row: &RowValues) -> Result<(), Refusal>
+        ensures ok { OnOk result (self.new ≡ self.old ++ answer_line row.now) }
+        ensures cause { IfErr result (λ e. e ≡ Refusal.Memory) }
+    {
+        let row = RowText(row);
+        write!(self.text, "{row}\n")?;
+        Ok(())
+    }
+
+    /// The line that says how many rows there are.
+    fn put_count(&mut self, count: usize) -> Result<(), Refusal>
+        ensures ok { OnOk result (self.new ≡ self.old ++ count_line count) }
+        ensures cause { IfErr result (λ e. e ≡ Refusal.Memory) }
+    {
+        write!(self.text, "rows {count}\n")?;
         Ok(())
     }
 
