@@ -1,5 +1,5 @@
 -- Calls of the crates below that send nothing, as changes of the stage and as answers.
-use Rattle.std.proofs.Common.{◌≡◌, ℕ, if◌then◌else◌, true, Option, Some, None, Result, Ok, Err, IfErr, refl, sym, ap, ◌∙◌, subst}
+use Rattle.std.proofs.Common.{◌≡◌, ℕ, if◌then◌else◌, true, Option, Some, None, List, Result, Ok, Err, IfErr, IfOk, refl, sym, ap, ◌∙◌, subst}
 use Rattle.base_core.specs.declared.refusal.ArgumentKind.{ArgumentKind}
 use Rattle.base_core.specs.declared.refusal.Refusal.{Refusal}
 use Rattle.base_core.specs.declared.refusal.Refusal.TheVariants.{Memory, ArgumentError, NotBuilt, ScriptError}
@@ -13,6 +13,10 @@ use Rattle.shell_parts.specs.Lines.{IsOfReading}
 use Rattle.shell_parts.specs.declared.block.Block.{Block}
 use Rattle.script_types.specs.declared.command.Command.{Command}
 use Rattle.script_types.specs.declared.command.Command.TheVariants.{TableHead, ClassHead}
+use Rattle.script_types.specs.declared.command.Inside.{Inside}
+use Rattle.script_read.specs.Line.{line}
+use Rattle.sayable_lines.specs.Sayable.{IsSayable}
+use Rattle.sayable_lines.proofs.Lines.{read_is_sayable}
 use Rattle.shell_parts.specs.Blocks.{IsOfDeclaring, block_of, declare, is_built_block}
 use Rattle.shell_steps.specs.declared.stage.Stage.{Stage}
 use Rattle.shell_steps.specs.declared.stage.Stage.TheVariants.{Declaring}
@@ -31,6 +35,11 @@ reads question {r = Ok x} p cause = asked_ok question p
 reads question {r = Err Memory} p cause = alone_lost
 reads question {r = Err (ScriptError line column)} p cause = asked_err question refl refl p
 reads question {r = Err e} p cause = absurd cause
+
+-- what is read, lines can say
+pub said : (bytes : List ℕ) (number : ℕ) (inside : Inside) (r : Result Command Refusal) → Gives (λ (command : Command). command) r (line bytes number inside) → IfOk r IsSayable
+said bytes number inside (Ok command) p = read_is_sayable bytes number inside command p
+said bytes number inside (Err e) p = tt
 
 block_refused : (head : Command) (first : ℕ) (e : Refusal) → block_of head first ≡ Err e → e ≡ NotBuilt
 block_refused (TableHead name) first e is = cc

@@ -19,6 +19,7 @@ use Rattle.savepoints.specs.declared.scope.Scope.{Scope}
 use Rattle.session_core.specs.SessionState.{SessionState}
 use Rattle.programs.specs.Alone.{alone, IsQuiet, Turns, Turned}
 use Rattle.session_core.specs.Steps as session
+use Rattle.script_types.specs.declared.select.SynSelect.{SynSelect}
 use Rattle.shell_parts.specs.Lines.{is_built}
 use Rattle.shell_parts.specs.declared.block.Block.{Block}
 use Rattle.shell_parts.specs.Blocks.{block_of}
@@ -338,15 +339,16 @@ opens_none command first is = refl
 
 other_is : (command : Command) → (command ≡ line.Skip → ⊥) → (command ≡ line.Configure → ⊥) → (command ≡ line.CreateAll → ⊥) → (command ≡ line.Dump → ⊥)
     → ((name : List ℕ) (class : List ℕ) (given : List (List ℕ × Value)) → command ≡ line.New name class given → ⊥) → ((term : Term) → command ≡ line.Add term → ⊥)
-    → ((savepoint : Option (List ℕ)) → command ≡ line.Commit savepoint → ⊥) → program_of command ≡ on_own (open_block command)
-other_is line.Skip s c a d n t k = absurd (s refl)
-other_is line.Configure s c a d n t k = absurd (c refl)
-other_is line.CreateAll s c a d n t k = absurd (a refl)
-other_is line.Dump s c a d n t k = absurd (d refl)
-other_is (line.New name class given) s c a d n t k = absurd (n name class given refl)
-other_is (line.Add term) s c a d n t k = absurd (t term refl)
-other_is (line.Commit savepoint) s c a d n t k = absurd (k savepoint refl)
-other_is command s c a d n t k = refl
+    → ((savepoint : Option (List ℕ)) → command ≡ line.Commit savepoint → ⊥) → ((select : SynSelect) → command ≡ line.Rows select → ⊥) → program_of command ≡ on_own (open_block command)
+other_is line.Skip s c a d n t k q = absurd (s refl)
+other_is line.Configure s c a d n t k q = absurd (c refl)
+other_is line.CreateAll s c a d n t k q = absurd (a refl)
+other_is line.Dump s c a d n t k q = absurd (d refl)
+other_is (line.New name class given) s c a d n t k q = absurd (n name class given refl)
+other_is (line.Add term) s c a d n t k q = absurd (t term refl)
+other_is (line.Commit savepoint) s c a d n t k q = absurd (k savepoint refl)
+other_is (line.Rows select) s c a d n t k q = absurd (q select refl)
+other_is command s c a d n t k q = refl
 
 -- a line that is no head has no block to open
 unopened : {X : Type 0} {v : X → List ℕ} (command : Command) {own : ShellState} → is_head command ≡ false → Runs alone v (open_block command) own (Err NotBuilt) own
@@ -357,15 +359,36 @@ unopened command {own = own} is = then_err _ (asked_err {v = λ (block : Block).
 pub misplaced : {K X : Type 0} (moment : K → Moment Store) {v : X → List ℕ} (command : Command) {own : ShellState} {keeper : K}
     → is_head command ≡ false → (command ≡ line.Skip → ⊥) → (command ≡ line.Configure → ⊥) → (command ≡ line.CreateAll → ⊥) → (command ≡ line.Dump → ⊥)
     → ((name : List ℕ) (class : List ℕ) (given : List (List ℕ × Value)) → command ≡ line.New name class given → ⊥) → ((term : Term) → command ≡ line.Add term → ⊥)
-    → ((savepoint : Option (List ℕ)) → command ≡ line.Commit savepoint → ⊥) → Runs (moment_beside moment) v (program_of command) (own, keeper) (Err NotBuilt) (own, keeper)
-misplaced moment command head s c a d n t k = does_alone moment command (open_block command) (other_is command s c a d n t k) (unopened command head)
+    → ((savepoint : Option (List ℕ)) → command ≡ line.Commit savepoint → ⊥) → ((select : SynSelect) → command ≡ line.Rows select → ⊥) → Runs (moment_beside moment) v (program_of command) (own, keeper) (Err NotBuilt) (own, keeper)
+misplaced moment command head s c a d n t k q = does_alone moment command (open_block command) (other_is command s c a d n t k q) (unopened command head)
 
 pub commits : {S X : Type 0} {tell : S → Moment World} {v : X → List ℕ} (savepoint : Option (List ℕ)) {old new : S} {r : Result X Refusal}
     → is_none savepoint ≡ true → Runs tell v commit old r new → Runs tell v (program_of (line.Commit savepoint)) old r new
 commits None built p = p
 commits (Some name) built p = absurd (false≢true built)
 
-pub ruleset acting = (kept_same, stay_same, changes_to, skips, skips_none, skipped_end, skipped_on, line_counted, told_text, ended_none, ended_some, lost_alone, then_own_ok, then_own_err, then_store_ok, then_store_err, then_ok, then_err, given, beside_alone, on_keeper, no_memory, refused, ran_out, session_runs, session_none, alone_session, alone_none, goes_declared, goes_configured, line_skipped, line_read, command_outside, command_inside, not_built, built, guard_ok, guard_early, guard_refused, asked_ok, asked_err, asked_tells, change_ok, alone_lost, ready_same, unread)
+-- calls one after another
+pub ruleset joining = (then_ok, then_err, given, kept_same, lost_alone)
+
+-- a call of the shell alone, and then one over the keeper
+pub ruleset own_first = (then_own_ok, then_own_err, ready_same)
+
+-- calls of the session
+pub ruleset sessions = (session_runs, session_none, ready_same)
+
+pub ruleset sessions_alone = (alone_session, alone_none, kept_same)
+
+pub ruleset changing = (changes_to, lost_alone)
+
+pub ruleset skipping = (skips, skips_none, skipped_end, skipped_on)
+
+pub ruleset reading = (guard_ok, guard_early, guard_refused, unread)
+
+pub ruleset placing = (line_skipped, line_read, command_outside, command_inside, ready_same)
+
+pub ruleset building = (built, not_built, ready_same)
+
+pub ruleset telling = (told_text, ended_none, ended_some, lost_alone)
 
 pub ruleset forms = (does, is_done, turns_beside, opens_block, takes_end, takes_line, commits)
 

@@ -15,6 +15,7 @@ use Rattle.script_types.specs.declared.command.Command.{Command}
 use Rattle.script_types.specs.declared.command.Command.TheVariants as line
 use Rattle.script_types.specs.declared.command.Inside.{Inside}
 use Rattle.script_types.specs.declared.command.Inside.TheVariants as inside
+use Rattle.script_types.specs.declared.select.SynSelect.{SynSelect}
 use Rattle.script_read.specs.Line.{line as said_by}
 use Rattle.shell_parts.specs.Lines.{is_built, is_end}
 use Rattle.shell_parts.specs.declared.block.Block.{Block}
@@ -30,6 +31,7 @@ use Rattle.keeper_core.specs.Calls as call
 use Rattle.session_core.specs.SessionState.{SessionState, in_transaction, new_session}
 use Rattle.session_core.specs.Making.{object_made}
 use Rattle.session_core.specs.Steps as session
+use Rattle.rows_command.specs.Rows as command
 use Rattle.shell_steps.specs.declared.stage.Stage.{Stage}
 use Rattle.shell_steps.specs.declared.stage.Stage.TheVariants.{Declaring, Configured}
 use Rattle.shell_steps.specs.Naming.{cells_named, class_named, object_named}
@@ -174,6 +176,10 @@ add name = on_own (ask (object_named name)) >>= λ object. (in_session (session.
 unfoldable pub commit : World → Run World (List ℕ)
 commit = in_session session.commit >>= λ _. give []
 
+-- the rows of a select and how many they are, once what is pending is written
+unfoldable pub rows : SynSelect → World → Run World (List ℕ)
+rows select = in_session (command.rows select)
+
 -- ---- a line outside blocks
 
 abbrev pub with_block : Option Block → ShellState → ShellState
@@ -201,6 +207,7 @@ program_of line.Dump = dump
 program_of (line.New name class given) = on_own (make name class given)
 program_of (line.Add term) = add term.name
 program_of (line.Commit None) = commit
+program_of (line.Rows select) = rows select
 program_of head = on_own (open_block head)
 
 abbrev pub program_if : Bool → Command → World → Run World (List ℕ)

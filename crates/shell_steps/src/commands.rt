@@ -1,11 +1,12 @@
 //! The commands that are done over the mapping, the session and the keeper.
 
-ghost use Rattle.std.specs.Prelude.{◌≡◌, ◌++◌, [], true, false, IfErr, IfOk};
+ghost use Rattle.std.specs.Prelude.{◌≡◌, ◌++◌, [], true, false, IfErr, IfOk, IsTrue};
 ghost use Rattle.programs.specs.Programs.{change, each};
 ghost use Rattle.programs.specs.Moment.{Runs};
 ghost use Rattle.std.specs.List.{All};
 ghost use Rattle.schema_core.specs.Catalog.{IsTable};
 ghost use Rattle.schema_core.specs.DependencyOrder.{dependency_order};
+ghost use Rattle.script_resolve.specs.Sayable.{is_sayable_select};
 ghost use Rattle.session_core.specs.SessionState.{IsInStep, IsOfClass};
 ghost use Rattle.session_core.specs.Making.{object_made};
 ghost use Rattle.session_core.specs.Steps as session;
@@ -20,7 +21,9 @@ use base_core::{
 };
 use class_mapping::Mapping;
 use keeper_core::{Keeper, calls};
+use rows_command::answer_rows;
 use schema_core::Schema;
+use script_types::SynSelect;
 use session_core::Session;
 use shell_parts::{Bound, Reply};
 use std::alloc::Global;
@@ -31,7 +34,7 @@ impl Shell {
     ///
     /// # Errors
     /// `Configured` where that was done, and `ArgumentError` for the first wrong declaration.
-    #[tactic(auto, using(crate::proofs::Shells::acting), unfolding(crate::specs::Step::configure))]
+    #[tactic(auto, using(crate::proofs::Shells::joining), unfolding(crate::specs::Step::configure))]
     pub(crate) fn configure(&mut self) -> Result<Reply, Refusal>
         ensures { IsTurn step.configure self.old result self.new }
     {
@@ -40,7 +43,7 @@ impl Shell {
     }
 
     /// The stage after `configure`.
-    #[tactic(auto, using(crate::proofs::Shells::acting, crate::proofs::Bindings::bindings))]
+    #[tactic(auto, using(crate::proofs::Bindings::bindings))]
     fn open_session(&mut self) -> Result<(), Refusal>
         ensures { IsTurn (step.goes step.opened_stage) self.old result self.new }
     {
@@ -84,7 +87,7 @@ impl Shell {
     /// # Errors
     /// `NotConfigured`; `Unknown` for a class or an attribute that is not there, and `WrongKind` for an attribute that is
     /// given twice, in the order of the line; then what the session refuses.
-    #[tactic(auto, using(crate::proofs::Shells::acting), unfolding(crate::specs::Step::make))]
+    #[tactic(auto, using(crate::proofs::Shells::joining), unfolding(crate::specs::Step::make))]
     pub(crate) fn make(
         &mut self,
         name: &Name,
@@ -101,7 +104,7 @@ impl Shell {
     }
 
     /// Makes a transient object of a class with these values.
-    #[tactic(auto, using(crate::proofs::Shells::acting, crate::proofs::Bindings::bindings))]
+    #[tactic(auto, using(crate::proofs::Shells::sessions_alone, crate::proofs::Bindings::bindings))]
     fn make_object(&mut self, class: ClassId, cells: &[(AttrNo, Value)]) -> Result<ObjId, Refusal>
         requires { HasClass self.old.stage class }
         ensures call { IsTurn (step.in_session_alone (object_made class cells.now))
@@ -116,7 +119,7 @@ impl Shell {
     }
 
     /// The name stands for the object.
-    #[tactic(auto, using(crate::proofs::Shells::acting, crate::proofs::Bindings::bindings))]
+    #[tactic(auto, using(crate::proofs::Shells::changing, crate::proofs::Bindings::bindings))]
     fn bind(&mut self, name: &Name, class: ClassId, object: ObjId) -> Result<(), Refusal>
         requires made { IsOfClass (graph_of self.old.stage) object class }
         ensures { IsShellCallAlone (change (step.with_bound name.now class object))
@@ -130,7 +133,7 @@ impl Shell {
     ///
     /// # Errors
     /// `NotConfigured`, `Unknown` and `WrongKind`; then what the session refuses.
-    #[tactic(auto, using(crate::proofs::Shells::acting), unfolding(crate::specs::Step::add))]
+    #[tactic(auto, using(crate::proofs::Shells::joining, crate::proofs::Shells::own_first), unfolding(crate::specs::Step::add))]
     pub(crate) fn add<K: Keeper>(&mut self, keeper: &mut K, name: &Name) -> Result<Reply, Refusal>
         requires { IsReady self.old.stage (K.moment keeper.old) }
         ensures { IsShellCall K.moment (step.add name.now)
@@ -142,7 +145,7 @@ impl Shell {
     }
 
     /// Adds an object to the session.
-    #[tactic(auto, using(crate::proofs::Shells::acting, crate::proofs::Bindings::bindings))]
+    #[tactic(auto, using(crate::proofs::Shells::sessions, crate::proofs::Bindings::bindings))]
     fn add_object<K: Keeper>(&mut self, keeper: &mut K, object: ObjId) -> Result<(), Refusal>
         requires object { HasObject self.old.stage object }
         requires ready { IsReady self.old.stage (K.moment keeper.old) }
@@ -159,7 +162,7 @@ impl Shell {
     ///
     /// # Errors
     /// `NotConfigured`; then what the session refuses.
-    #[tactic(auto, using(crate::proofs::Shells::acting), unfolding(crate::specs::Step::commit))]
+    #[tactic(auto, using(crate::proofs::Shells::joining), unfolding(crate::specs::Step::commit))]
     pub(crate) fn commit<K: Keeper>(&mut self, keeper: &mut K) -> Result<Reply, Refusal>
         requires { IsReady self.old.stage (K.moment keeper.old) }
         ensures { IsShellCall K.moment step.commit
@@ -170,7 +173,7 @@ impl Shell {
     }
 
     /// Commits the session.
-    #[tactic(auto, using(crate::proofs::Shells::acting, crate::proofs::Bindings::bindings))]
+    #[tactic(auto, using(crate::proofs::Shells::sessions, crate::proofs::Bindings::bindings))]
     fn commit_session<K: Keeper>(&mut self, keeper: &mut K) -> Result<(), Refusal>
         requires { IsReady self.old.stage (K.moment keeper.old) }
         ensures { IsShellCall K.moment (step.in_session session.commit)
@@ -180,6 +183,27 @@ impl Shell {
             return Err(Refusal::InvalidRequestError(RequestKind::NotConfigured));
         };
         session.commit(keeper)
+    }
+
+    /// Answers the rows of a select and how many they are. What is pending is written first.
+    ///
+    /// # Errors
+    /// `NotConfigured`; the first fault of the select; then what the session refuses.
+    #[tactic(auto, using(crate::proofs::Shells::sessions, crate::proofs::Bindings::bindings), unfolding(crate::specs::Step::rows))]
+    pub(crate) fn rows<K: Keeper>(
+        &mut self,
+        keeper: &mut K,
+        select: &SynSelect,
+    ) -> Result<Reply, Refusal>
+        requires ready { IsReady self.old.stage (K.moment keeper.old) }
+        requires sayable { IsTrue (is_sayable_select select.now) }
+        ensures { IsShellCall K.moment (step.rows select.now)
+            (self.old, keeper.old) result (self.new, keeper.new) }
+    {
+        let Stage::Configured(session) = &mut self.stage else {
+            return Err(Refusal::InvalidRequestError(RequestKind::NotConfigured));
+        };
+        answer_rows(self.alloc, session, keeper, select)
     }
 }
 

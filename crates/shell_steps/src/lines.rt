@@ -2,6 +2,7 @@
 
 ghost use Rattle.std.specs.Prelude.{◌≡◌, true, false, IfErr, IfOk};
 ghost use Rattle.programs.specs.Moment.{Runs};
+ghost use Rattle.sayable_lines.specs.Sayable.{IsSayable};
 ghost use Rattle.shell_parts.specs.Lines.{is_built as is_built_line};
 ghost use Rattle.programs.specs.Programs.{change, ask};
 ghost use Rattle.programs.specs.Alone.{alone};
@@ -42,7 +43,7 @@ impl Shell {
     }
 
     /// Does a line: among skipped lines only the end of the block counts.
-    #[tactic(auto, using(crate::proofs::Shells::acting))]
+    #[tactic(auto, using(crate::proofs::Shells::placing))]
     fn do_line<K: Keeper>(&mut self, keeper: &mut K, line: &[u8]) -> Result<Reply, Refusal>
         requires { IsReady self.old.stage (K.moment keeper.old) }
         ensures { IsShellCall K.moment (step.do_line line.now)
@@ -55,7 +56,7 @@ impl Shell {
     }
 
     /// The end of a block whose lines are skipped; every other line is nothing there.
-    #[tactic(auto, using(crate::proofs::Shells::acting), unfolding(crate::specs::Step::skip_line))]
+    #[tactic(auto, using(crate::proofs::Shells::joining), unfolding(crate::specs::Step::skip_line))]
     fn skip_line(&mut self, line: &[u8]) -> Result<Reply, Refusal>
         ensures { IsShellCallAlone (step.skip_line line.now) self.old result self.new }
     {
@@ -64,7 +65,7 @@ impl Shell {
     }
 
     /// The block ends, where this is its end.
-    #[tactic(auto, using(crate::proofs::Shells::acting))]
+    #[tactic(auto, using(crate::proofs::Shells::skipping))]
     fn end_skipped(&mut self, is_end: bool) -> Result<(), Refusal>
         ensures { IsShellCallAlone (change (step.unless_end is_end)) self.old result self.new }
     {
@@ -76,7 +77,7 @@ impl Shell {
     }
 
     /// Reads a line, and does what it says.
-    #[tactic(auto, using(crate::proofs::Shells::acting), unfolding(crate::specs::Step::read_and_do))]
+    #[tactic(auto, using(crate::proofs::Shells::own_first), unfolding(crate::specs::Step::read_and_do))]
     fn read_and_do<K: Keeper>(&mut self, keeper: &mut K, line: &[u8]) -> Result<Reply, Refusal>
         requires { IsReady self.old.stage (K.moment keeper.old) }
         ensures { IsShellCall K.moment (step.read_and_do line.now)
@@ -87,9 +88,10 @@ impl Shell {
     }
 
     /// What a line says. In a block the lines behind one that can not be read are skipped.
-    #[tactic(auto, using(crate::proofs::Shells::acting), unfolding(crate::specs::Step::read_command))]
+    #[tactic(auto, using(crate::proofs::Shells::reading), unfolding(crate::specs::Step::read_command))]
     fn read(&mut self, line: &[u8]) -> Result<Command, Refusal>
-        ensures { IsShellCallAlone (step.read_command line.now) self.old result self.new }
+        ensures call { IsShellCallAlone (step.read_command line.now) self.old result self.new }
+        ensures sayable { IfOk result IsSayable }
     {
         match self.say(line) {
             Ok(command) => Ok(command),
@@ -104,16 +106,17 @@ impl Shell {
     }
 
     /// What a line says in its place.
-    #[tactic(auto, using(crate::proofs::Declaring::reads))]
+    #[tactic(auto, using(crate::proofs::Declaring::reads, crate::proofs::Declaring::said))]
     fn say(&self, line: &[u8]) -> Result<Command, Refusal>
-        ensures { Runs alone (λ command. command)
+        ensures said { Runs alone (λ command. command)
             (ask (step.said_command line.now)) self.now result self.now }
+        ensures sayable { IfOk result IsSayable }
     {
         read(self.alloc, line, self.line, place_of(&self.block))
     }
 
     /// The lines of the block are skipped from here on.
-    #[tactic(auto, using(crate::proofs::Shells::acting))]
+    #[tactic(auto, using(crate::proofs::Shells::skipping))]
     fn skip_block(&mut self)
         ensures { self.new ≡ step.skip_block self.old }
     {
@@ -124,9 +127,10 @@ impl Shell {
     }
 
     /// Does what a line says in its place.
-    #[tactic(auto, using(crate::proofs::Shells::acting))]
+    #[tactic(auto, using(crate::proofs::Shells::placing))]
     fn do_command<K: Keeper>(&mut self, keeper: &mut K, command: Command) -> Result<Reply, Refusal>
-        requires { IsReady self.old.stage (K.moment keeper.old) }
+        requires ready { IsReady self.old.stage (K.moment keeper.old) }
+        requires sayable { IsSayable command }
         ensures { IsShellCall K.moment (step.do_command command)
             (self.old, keeper.old) result (self.new, keeper.new) }
     {
@@ -145,9 +149,10 @@ impl Shell {
     }
 
     /// Does what a line outside blocks says, where its form is built.
-    #[tactic(auto, using(crate::proofs::Shells::acting, crate::proofs::Shells::forms))]
+    #[tactic(auto, using(crate::proofs::Shells::building, crate::proofs::Shells::forms))]
     fn do_built<K: Keeper>(&mut self, keeper: &mut K, command: Command) -> Result<Reply, Refusal>
-        requires { IsReady self.old.stage (K.moment keeper.old) }
+        requires ready { IsReady self.old.stage (K.moment keeper.old) }
+        requires sayable { IsSayable command }
         ensures { IsShellCall K.moment (step.program_if (is_built_line command) command)
             (self.old, keeper.old) result (self.new, keeper.new) }
     {
@@ -167,10 +172,11 @@ impl Shell {
     ///
     /// # Errors
     /// `NotBuilt` for a line that has its place in a block.
-    #[tactic(auto, using(crate::proofs::Shells::acting, crate::proofs::Shells::forms))]
+    #[tactic(auto, using(crate::proofs::Shells::joining, crate::proofs::Shells::forms))]
     fn do_top<K: Keeper>(&mut self, keeper: &mut K, command: &Command) -> Result<Reply, Refusal>
         requires built { is_built_line command.now ≡ true }
         requires no_head { step.is_head command.now ≡ false }
+        requires sayable { IsSayable command.now }
         requires ready { IsReady self.old.stage (K.moment keeper.old) }
         ensures { IsShellCall K.moment (step.program_of command.now)
             (self.old, keeper.old) result (self.new, keeper.new) }
@@ -183,6 +189,7 @@ impl Shell {
             Command::New { name, class, cells } => self.make(name, class, cells),
             Command::Add(term) => self.add(keeper, &term.name),
             Command::Commit(_) => self.commit(keeper),
+            Command::Rows(select) => self.rows(keeper, select),
             _ => Err(Refusal::NotBuilt),
         }
     }
@@ -191,7 +198,7 @@ impl Shell {
     ///
     /// # Errors
     /// `NotBuilt` for every other line.
-    #[tactic(auto, using(crate::proofs::Shells::acting), unfolding(crate::specs::Step::open_block))]
+    #[tactic(auto, using(crate::proofs::Shells::joining), unfolding(crate::specs::Step::open_block))]
     fn open_block(&mut self, head: Command) -> Result<Reply, Refusal>
         ensures { IsShellCallAlone (step.open_block head) self.old result self.new }
     {
@@ -209,7 +216,7 @@ impl Shell {
     }
 
     /// The block that is open from here on.
-    #[tactic(auto, using(crate::proofs::Shells::acting))]
+    #[tactic(auto, using(crate::proofs::Shells::changing))]
     fn put_block(&mut self, block: Option<Block>) -> Result<(), Refusal>
         ensures { IsShellCallAlone (change (step.with_block block)) self.old result self.new }
     {
@@ -218,7 +225,7 @@ impl Shell {
     }
 
     /// The block ends, or goes on with one more line.
-    #[tactic(auto, using(crate::proofs::Shells::acting, crate::proofs::Shells::forms))]
+    #[tactic(auto, using(crate::proofs::Shells::joining, crate::proofs::Shells::forms))]
     fn take(&mut self, command: Command, block: Block) -> Result<Reply, Refusal>
         ensures { IsTurn (step.program_in_block command block) self.old result self.new }
     {
@@ -230,7 +237,7 @@ impl Shell {
     }
 
     /// The block goes on with the line.
-    #[tactic(auto, using(crate::proofs::Shells::acting), unfolding(crate::specs::Step::take_line))]
+    #[tactic(auto, using(crate::proofs::Shells::joining), unfolding(crate::specs::Step::take_line))]
     fn take_line(&mut self, command: Command, block: Block) -> Result<Reply, Refusal>
         ensures { IsShellCallAlone (step.take_line command block) self.old result self.new }
     {
@@ -240,7 +247,7 @@ impl Shell {
     }
 
     /// What the block says is declared.
-    #[tactic(auto, using(crate::proofs::Shells::acting), unfolding(crate::specs::Step::declare_block))]
+    #[tactic(auto, using(crate::proofs::Shells::joining), unfolding(crate::specs::Step::declare_block))]
     fn declare_block(&mut self, block: Block) -> Result<Reply, Refusal>
         ensures { IsTurn (step.declare_block block) self.old result self.new }
     {
@@ -249,7 +256,7 @@ impl Shell {
     }
 
     /// The stage after a block's declaration.
-    #[tactic(auto, using(crate::proofs::Shells::acting, crate::proofs::Bindings::bindings))]
+    #[tactic(auto, using(crate::proofs::Shells::goes_declared, crate::proofs::Bindings::bindings))]
     fn declare(&mut self, block: Block) -> Result<(), Refusal>
         ensures { IsTurn (step.goes (step.declared_stage block)) self.old result self.new }
     {

@@ -109,7 +109,7 @@ impl Shell {
     }
 
     /// The reply that says why the line of this number is refused. The only refusal is `Memory`.
-    #[tactic(auto, using(crate::proofs::Shells::acting))]
+    #[tactic(auto, using(crate::proofs::Shells::telling))]
     fn tell(&mut self, number: u32, refusal: Refusal) -> Result<Reply, Refusal>
         ensures call { IsShellCallAlone (step.tell number refusal) self.old result self.new }
         ensures cause { IfErr result (λ e. e ≡ Refusal.Memory) }
@@ -134,7 +134,7 @@ impl Shell {
     }
 
     /// The reply at the script's end.
-    #[tactic(auto, using(crate::proofs::Shells::acting))]
+    #[tactic(auto, using(crate::proofs::Shells::telling))]
     fn tell_end(&mut self) -> Result<Reply, Refusal>
         ensures call { IsShellCallAlone step.end_of_script self.old result self.new }
         ensures cause { IfErr result (λ e. e ≡ Refusal.Memory) }

@@ -10,6 +10,6 @@ returns-in-New g c = is_done c.in-New.is (turns_beside g.K.Keeper.moment (make _
 
 pub returns-in_default : goal.returns-in_default
 returns-in_default g c = record {
-  step = misplaced g.K.Keeper.moment c.args.command.now c.requires.no_head c.in_default.not-Skip c.in_default.not-Configure c.in_default.not-CreateAll c.in_default.not-Dump c.in_default.not-New c.in_default.not-Add c.in_default.not-Commit;
+  step = misplaced g.K.Keeper.moment c.args.command.now c.requires.no_head c.in_default.not-Skip c.in_default.not-Configure c.in_default.not-CreateAll c.in_default.not-Dump c.in_default.not-New c.in_default.not-Add c.in_default.not-Commit c.in_default.not-Rows;
   ready = λ own. c.requires.ready;
 }

@@ -1,0 +1,103 @@
+#!/usr/bin/env python3
+"""Asks SQLite for the rows of the selects in crates/sqla/stdin, and tells each whose stored answer differs.
+
+    python3 tools/ask_rows.py              # at the top of the repository; the module sqlite3 has the store
+
+Asked is every line `rows SELECT` whose answer is rows; its text becomes one of SQL word by word. SQLite has 0 and 1 for false and true.
+A select without an order is compared without one. What is refused is not asked; SQLite takes no `having` without an aggregate.
+"""
+
+import pathlib
+import re
+import sqlite3
+import sys
+
+FOLDER = pathlib.Path(__file__).resolve().parent.parent / "crates" / "sqla"
+TOKEN = re.compile(r"""\s*(x'[0-9A-Fa-f]*'|'(?:[^']|'')*'|"(?:[^"]|"")*"|[A-Za-z_]\w*|\d+|==|!=|<=|>=|\|\||.)""")
+SIGNS = {"==": "=", "!=": "<>", "ilike": "like"}
+
+
+def sql(text):
+    """The select in SQL."""
+    words = TOKEN.findall(text)
+    out = []
+    for place, word in enumerate(words):
+        behind = words[place + 1] if place + 1 < len(words) else ""
+        if word in ("==", "!=") and behind == "null":
+            out.append("is" if word == "==" else "is not")
+        elif word == "(" and place and words[place - 1] == "exists":
+            out.append("(select 1 from")
+        elif word == "offset" and "limit" not in words:
+            out.append("limit -1 offset")
+        else:
+            out.append(SIGNS.get(word, word))
+    return "select " + " ".join(out).replace(" . ", ".")
+
+
+def values(text):
+    """The values between the parentheses of a row, booleans as 0 and 1."""
+    found = re.findall(r"x'[0-9a-f]*'|'(?:[^']|'')*'|null|true|false|-?\d+", text)
+    read = {"null": None, "true": 1, "false": 0}
+    return tuple(
+        read[v] if v in read
+        else bytes.fromhex(v[2:-1]) if v.startswith("x'")
+        else v[1:-1].replace("''", "'") if v.startswith("'")
+        else int(v)
+        for v in found
+    )
+
+
+def answers(lines):
+    """The rows that are stored for each line of the script by its number, as far as they are told apart."""
+    script = (FOLDER / "stdin").read_text().split("\n")
+    asking = [n for n, line in enumerate(script, 1) if line.startswith("rows ")]
+    refused = {int(m[1]) for line in lines if (m := re.match(r"error (\d+): ", line))}
+    rows, told = [], []
+    for line in lines:
+        if line.startswith("("):
+            rows.append(values(line))
+        elif m := re.fullmatch(r"rows (\d+)", line):
+            assert int(m[1]) == len(rows), line
+            told.append(rows)
+            rows = []
+    return script, dict(zip([n for n in asking if n not in refused], told, strict=True))
+
+
+def main():
+    script, stored = answers((FOLDER / "stdout").read_text().split("\n"))
+    database = sqlite3.connect(":memory:")
+    made, tables, bad = {}, {}, 0
+    for number, line in enumerate(script, 1):
+        if m := re.match(r"table (\w+)", line):
+            columns = []
+            tables[m[1]] = columns
+        elif line.startswith("  ") and not line.startswith("  unique"):
+            columns.append(line.strip())
+        elif m := re.match(r"class (\w+) table (\w+)", line):
+            database.execute(f"create table {m[2]} ({', '.join(tables[m[2]])})")
+            tables[m[1]] = m[2]
+        elif m := re.match(r"(\w+) = new (\w+)(.*)", line):
+            cells = re.findall(r"(\w+)=('(?:[^']|'')*'|[^,]+)", m[3])
+            made[m[1]] = f"insert into {tables[m[2]]} ({', '.join(c for c, _ in cells)}) values ({', '.join(v for _, v in cells)})"
+        elif m := re.match(r"add (\w+)", line):
+            if not any(line.startswith("# a failed flush") for line in script[:number]):
+                database.execute(made[m[1]])
+        elif number in stored:
+            text = sql(line[5:])
+            try:
+                found = database.execute(text).fetchall()
+            except sqlite3.OperationalError as refusal:
+                print(f"line {number}: SQLite: {refusal}")
+                continue
+            wanted = stored[number]
+            if "order by" not in line:
+                found, wanted = sorted(found, key=repr), sorted(wanted, key=repr)
+            if found != wanted:
+                bad += 1
+                print(f"line {number}: {text}\n  stored {wanted}\n  SQLite {found}")
+    print(f"{len(stored)} selects asked of SQLite {sqlite3.sqlite_version}, {bad} differ")
+    return bad > 0
+
+
+if __name__ == "__main__":
+    sys.exit(main())
