@@ -1,0 +1,92 @@
+//! The keeper in memory, with the one over a file that takes its place.
+
+ghost use Rattle.std.specs.Prelude.{◌≡◌, ◌<◌, ◌≤◌, None, IfErr, IfOk, IfSome};
+ghost use Rattle.base_core.specs.declared.refusal.Refusal.TheVariants as refusals;
+ghost use Rattle.programs.specs.Programs.{as_refusal};
+ghost use Rattle.keeper_core.specs.Calls.{stop_refusal};
+ghost use Rattle.keeper_core.specs.Keeping.{IsAttached};
+ghost use Rattle.keeper_shelf.specs.Shelved.{IsOverFile, moment_of, new_shelf};
+
+use base_core::Refusal;
+use keeper_core::{Keeper, KeeperStop};
+use keeper_mem::MemKeeper;
+use keeper_sqlite::SqliteKeeper;
+use programs::Target;
+use sqlite_database::Database;
+use std::alloc::Global;
+use std::marker::Model;
+
+/// A keeper of tables in memory, and over a file once it is given one. It fails no call of its own, and tells its tables unless it
+/// took a file.
+#[derive(Drop)]
+pub struct Shelf<D: Database> {
+    rt: HostRuntime,
+    pub(crate) memory: MemKeeper,
+    /// The keeper over the file that it took.
+    pub(crate) file: Option<SqliteKeeper<D>>,
+}
+
+impl<D: Database> Model for Shelf<D> {
+    ghost use Rattle.keeper_shelf.specs.Shelved.{IsMade, Shelved};
+    ghost use Rattle.expr_types.specs.contracts.expr.Expr as e;
+    ghost use Rattle.std.specs.Coded.{codes};
+
+    ghost Value = { Shelved };
+
+    ghost coded = { Prim.hlevel (codes, e.the_row.coded) };
+
+    ghost view = { λ s. record { memory = s.memory; file = s.file } };
+
+    ghost invariant = { λ s. IsMade s.memory };
+}
+
+/// A keeper over the file that a target names, where it names one that can be taken.
+fn over_file<D: Database + Drop>(
+    rt: HostRuntime,
+    alloc: Global,
+    target: &Target,
+) -> Option<SqliteKeeper<D>>
+    ensures { IfSome result (IsOverFile target.now) }
+{
+    let Target::File(name) = target else {
+        return None;
+    };
+    let Ok(name) = name.clone() else {
+        return None;
+    };
+    let mut keeper = SqliteKeeper::new(rt, alloc);
+    match keeper.attach(alloc, Target::File(name)) {
+        Ok(()) => Some(keeper),
+        Err(_) => None,
+    }
+}
+
+impl<D: Database + Drop> Shelf<D> {
+    /// A keeper that was given no target. The only refusal is that memory ran out.
+    pub fn new(rt: HostRuntime, alloc: Global) -> Result<Shelf<D>, Refusal>
+        ensures ok { IfOk result (λ shelf. shelf ≡ new_shelf) }
+        ensures err { IfErr result (λ e. e ≡ refusals.Memory) }
+    {
+        let memory = MemKeeper::new(alloc, &[])?;
+        Ok(Shelf {
+            rt,
+            memory,
+            file: None,
+        })
+    }
+
+    /// Takes the first target. A file that cannot be taken is a fault of the keeper in memory, which takes none.
+    #[tactic(auto, using(crate::proofs::Shelving::placing))]
+    pub(crate) fn place(&mut self, alloc: Global, target: Target) -> Result<(), KeeperStop>
+        requires memory { self.old.file ≡ None }
+        requires fresh { (moment_of self.old).target ≡ None }
+        ensures { IsAttached (moment_of self.old) target
+            (as_refusal stop_refusal result) (moment_of self.new) }
+    {
+        if let Some(keeper) = over_file(self.rt, alloc, &target) {
+            self.file = Some(keeper);
+            return Ok(());
+        }
+        self.memory.attach(alloc, target)
+    }
+}
