@@ -1,0 +1,12 @@
+pub mod AsRead
+pub mod LinkKinds
+pub mod MappingFacts
+pub mod Named
+pub mod NewKinds
+pub mod ObjectsApart
+pub mod OwnKinds
+pub mod PairKinds
+pub mod PairsRead
+pub mod Prefixes
+pub mod Projected
+pub mod SwitchKinds

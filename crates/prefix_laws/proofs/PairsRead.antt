@@ -1,0 +1,129 @@
+-- The row of a pair is all key, so what stands under its key is the row that was read.
+use Rattle.std.proofs.Common.{◌≡◌, ◌⊎◌, inl, inr, ℕ, Bool, true, false, cond, ◌&&◌, ◌==◌, List, [], ◌∷◌, length, map, fold, Option, None, Some, is_some, refl, sym, subst, ap, ◌∙◌}
+use Rattle.std.proofs.lemmas.List.{length-map}
+use Rattle.std.proofs.lemmas.List.Elements.{All-nil, recursion_from_All}
+use Rattle.std.proofs.lemmas.Map.Views.{All-insert_key}
+use Rattle.std.specs.BTreeSet.{insert_key}
+use Rattle.std.specs.List.{All, AllByRecursion, filter, flat_map, list_all, list_any}
+use Rattle.base_core.specs.declared.ids.ObjId.{ObjId}
+use Rattle.base_core.specs.declared.value.Value.{Value}
+use Rattle.schema_core.specs.declared.changes.GoneRow.{GoneRow}
+use Rattle.schema_core.specs.declared.table.ColumnSpec.{ColumnSpec}
+use Rattle.schema_core.specs.declared.table.ForeignSpec.{ForeignSpec}
+use Rattle.schema_core.specs.Catalog.{Catalog, has_name, spec_of}
+use Rattle.schema_core.specs.Tables.{Legal, Tables, cells_of, given_value, key_cells}
+use Rattle.class_types.specs.declared.mapped.Relation.{Relation}
+use Rattle.class_layouts.specs.Columns.{columns_in}
+use Rattle.class_layouts.specs.Faults.{foreigns_in}
+use Rattle.class_sides.specs.Keys.{TableKey}
+use Rattle.class_sides.specs.Sides.{is_all_keys}
+use Rattle.class_mapping.specs.Mapped.{Mapped, layout_of, relations_of}
+use Rattle.class_mapping.specs.Related.{AreRelated, IsRelated, has_keys}
+use Rattle.class_mapping.specs.Valid.{refers_to_class}
+use Rattle.class_mapping.proofs.Having.{Has, all_from, from_flat, from_map, from_numbered, has_at, has_either}
+use Rattle.class_mapping.proofs.Lists.{and_both, and_left, and_right}
+use Rattle.object_arena.specs.Fit.{IsFit}
+use Rattle.object_arena.specs.Graph.{Graph, IsObject, object_at}
+use Rattle.object_arena.proofs.FitLemmas.{fit_class}
+use Rattle.flush_order.specs.Orders.{place_of_gone}
+use Rattle.object_rows.specs.declared.prepared.Prepared.{Prepared}
+use Rattle.object_rows.specs.Seen.{link_of, object_ids}
+use Rattle.object_rows.proofs.ObjectSteps.{all_made}
+use Rattle.pair_rows.specs.Pairs as pairs
+use Rattle.row_project.proofs.Each.{all_given, all_map}
+use Rattle.plan_laws.proofs.Between.{legal_cells, legal_key}
+use Rattle.plan_laws.proofs.Blend.{Long, legal_is_long}
+use Rattle.plan_laws.proofs.Complete.{whole_is_long}
+use Rattle.project_laws.proofs.LateKeys.{each_has}
+use Rattle.prefix_laws.specs.Laws.{IsAsRead}
+
+abbrev pub is_all_key : List ColumnSpec → Bool
+is_all_key columns = list_all (λ (column : ColumnSpec). column.key) columns
+
+-- ---- rows that are all key
+
+key_step : (key : Bool) (v : Value) (parts row : List Value) → key ≡ true → parts ≡ row → cond key (v ∷ parts) parts ≡ v ∷ row
+key_step true v parts row e same = ap (λ (vs : List Value). v ∷ vs) same
+key_step false v parts row e same = absurd (cc)
+
+key_is_row : (columns : List ColumnSpec) (row : List Value) → is_all_key columns ≡ true → Long columns row → key_cells columns row ≡ row
+key_is_row [] [] all long = refl
+key_is_row [] (v ∷ row) all long = absurd long
+key_is_row (column ∷ columns) [] all long = absurd long
+key_is_row (column ∷ columns) (v ∷ row) all long =
+    key_step column.key v (key_cells columns row) row (and_left column.key (is_all_key columns) all) (key_is_row columns row (and_right column.key (is_all_key columns) all) long)
+
+key_as_read : (schema : Catalog) (old : Tables) (row : GoneRow) → Legal schema old → is_all_key (spec_of schema row.name.table).columns ≡ true → length row.base ≡ length (spec_of schema row.name.table).columns → IsAsRead schema old row
+key_as_read schema old row legal all whole stands at =
+    let columns = (spec_of schema row.name.table).columns in
+    let there : key_cells columns stands ≡ stands = key_is_row columns stands all (legal_is_long columns stands (legal_cells schema old legal (place_of_gone schema row) stands at)) in
+    let read : key_cells columns row.base ≡ row.base = key_is_row columns row.base all (whole_is_long columns row.base whole) in
+    let same : stands ≡ row.base = sym there ∙ legal_key schema old legal (place_of_gone schema row) stands at ∙ read in
+    all_given (λ (foreign : ForeignSpec). cells_of (spec_of schema row.name.table) stands foreign.columns ≡ cells_of (spec_of schema row.name.table) row.base foreign.columns)
+    (λ foreign. ap (λ (values : List Value). cells_of (spec_of schema row.name.table) values foreign.columns) same) (spec_of schema row.name.table).foreigns
+
+-- ---- the rows of pairs are
+
+keys_alone : (columns : List ColumnSpec) (foreigns : List ForeignSpec) → is_all_keys columns foreigns ≡ true → is_all_key columns ≡ true
+keys_alone [] foreigns h = refl
+keys_alone (column ∷ columns) foreigns h =
+    let named = λ (c : ColumnSpec). list_any (λ (foreign : ForeignSpec). has_name foreign.columns c.name) foreigns in
+    and_both column.key (is_all_key columns) (and_left column.key (named column) (and_left (column.key && named column) (list_all (λ (c : ColumnSpec). c.key && named c) columns) h))
+    (keys_alone columns foreigns (and_right (column.key && named column) (list_all (λ (c : ColumnSpec). c.key && named c) columns) h))
+
+far_keyed : (mapped : Mapped) (relation : Relation) (far : Option TableKey) → has_keys mapped relation far ≡ true → is_some far ≡ true → is_all_key (columns_in mapped.schema.tables relation.foreign.0) ≡ true
+far_keyed mapped relation None keys some = absurd (cc)
+far_keyed mapped relation (Some far) keys some =
+    let tables = mapped.schema.tables in
+    let key : TableKey = relation.foreign in
+    let same : Bool = key.0.0 == far.0.0 in
+    let all = is_all_keys (columns_in tables key.0) (foreigns_in tables key.0) in
+    let near = refers_to_class tables (Some (layout_of mapped relation.class)) key in
+    keys_alone (columns_in tables key.0) (foreigns_in tables key.0)
+    (and_right same all (and_left (same && all) near (and_left (same && all && near) (refers_to_class tables (Some (layout_of mapped relation.target)) far) keys)))
+
+has_if : {A : Type 0} (b : Bool) (xs : List A) (x : A) → Has (cond b xs []) x → (b ≡ true) × Has xs x
+has_if true xs x h = (refl, h)
+has_if false xs x h = absurd h
+
+all_in_set : (P : pairs.Pair → Type 0) (set list : List pairs.Pair) → All P set → AllByRecursion P list → All P (fold (insert_key pairs.pair_cmp) set list)
+all_in_set P set [] all each = all
+all_in_set P set (pair ∷ list) all each = all_in_set P (insert_key pairs.pair_cmp set pair) list (All-insert_key pairs.pair_cmp pair P set all each.0) each.1
+
+module _ (mapped : Mapped) (graph : Graph) (prepared : Prepared) (related : AreRelated mapped) (fit : IsFit mapped graph) where
+  abbrev IsKeyed : pairs.Pair → Type 0
+  IsKeyed pair = is_all_key (columns_in mapped.schema.tables pair.0) ≡ true
+
+  related_keyed : (object : ObjId) → Has (object_ids graph) object → (placed : ℕ × Relation) → Has (pairs.relations_at mapped graph object) placed → is_some placed.1.far ≡ true → is_all_key (columns_in mapped.schema.tables placed.1.foreign.0) ≡ true
+  related_keyed object has placed inside far =
+      let list = relations_of mapped (object_at graph object).class in
+      let made = each_has (IsObject graph) (object_ids graph) object (recursion_from_All (IsObject graph) (object_ids graph) (all_made graph (object_ids graph) refl)) has in
+      let at = from_numbered 0 list placed inside in
+      let is = each_has (IsRelated mapped) list placed.1 (recursion_from_All (IsRelated mapped) list (related.each (object_at graph object).class (fit_class mapped graph object fit made))) (has_at list at.0 placed.1 at.2) in
+      far_keyed mapped placed.1 placed.1.far is.keys far
+
+  lost_keyed : (object : ObjId) → Has (object_ids graph) object → (pair : pairs.Pair) → Has (pairs.lost_of mapped graph prepared object) pair → IsKeyed pair
+  lost_keyed object has pair inside =
+      let all = has_if (pairs.is_parted graph prepared object) (flat_map (pairs.lost_by graph prepared object) (pairs.relations_at mapped graph object)) pair inside in
+      let from = from_flat (pairs.lost_by graph prepared object) (pairs.relations_at mapped graph object) pair all.1 in
+      let placed : ℕ × Relation = from.0 in
+      let link = link_of (object_at graph object) (record { 0 = placed.0 }) in
+      let far = has_if (is_some placed.1.far) (pairs.lost_from graph prepared object placed.1 link) pair from.2 in
+      by placed (related_keyed object has placed from.1 far.0)
+      (has_either (map (pairs.pair_of placed.1 object) (filter (pairs.is_lost graph prepared object) (pairs.members_before link))) (map (pairs.pair_of placed.1 object) (filter (pairs.is_parted graph prepared) (pairs.members_removed link))) pair far.1)
+    where
+      by : (placed : ℕ × Relation) → is_all_key (columns_in mapped.schema.tables placed.1.foreign.0) ≡ true
+          → Has (map (pairs.pair_of placed.1 object) (filter (pairs.is_lost graph prepared object) (pairs.members_before (link_of (object_at graph object) (record { 0 = placed.0 }))))) pair
+          ⊎ Has (map (pairs.pair_of placed.1 object) (filter (pairs.is_parted graph prepared) (pairs.members_removed (link_of (object_at graph object) (record { 0 = placed.0 }))))) pair → IsKeyed pair
+      by placed all (inl h) = let one = from_map (pairs.pair_of placed.1 object) (filter (pairs.is_lost graph prepared object) (pairs.members_before (link_of (object_at graph object) (record { 0 = placed.0 })))) pair h in subst IsKeyed one.2 all
+      by placed all (inr h) = let one = from_map (pairs.pair_of placed.1 object) (filter (pairs.is_parted graph prepared) (pairs.members_removed (link_of (object_at graph object) (record { 0 = placed.0 })))) pair h in subst IsKeyed one.2 all
+
+  -- what stands under the key of a pair is the pair's row
+  pub pairs_read : (old : Tables) → Legal mapped.schema old → AllByRecursion (IsAsRead mapped.schema old) (pairs.lost_rows mapped graph prepared)
+  unfolding pairs.lost_rows pairs.lost_pairs
+  pairs_read old legal =
+      let list = flat_map (pairs.lost_of mapped graph prepared) (object_ids graph) in
+      let keyed : AllByRecursion IsKeyed list = all_from IsKeyed list (λ pair has. let from = from_flat (pairs.lost_of mapped graph prepared) (object_ids graph) pair has in lost_keyed from.0 from.1 pair from.2) in
+      all_map IsKeyed (IsAsRead mapped.schema old) (pairs.lost_row mapped graph)
+      (λ pair all. key_as_read mapped.schema old (pairs.lost_row mapped graph pair) legal all (length-map (columns_in mapped.schema.tables pair.0) (λ column. given_value (pairs.pair_cell mapped graph [] pair column))))
+      (pairs.as_set list) (recursion_from_All IsKeyed (pairs.as_set list) (all_in_set IsKeyed [] list (All-nil IsKeyed) keyed))

@@ -1,0 +1,39 @@
+//! What a flush of a prepared graph sends goes through: laws of the plan of what the graph changes.
+#![tactic(auto, using(crate::proofs::MappingFacts::once_law, crate::proofs::MappingFacts::free_law, crate::proofs::NewKinds::foreigns_of_one_kind, crate::proofs::Prefixes::whole_stated, crate::proofs::Prefixes::accepted_stated))]
+
+ghost use Rattle.prefix_laws.specs.Laws.{AcceptedFlushIsStated, ChangesAreProjected, DiscriminatorsStandFree, FlushPrefixesAreLegal, ForeignKeysAreOfOneKind, TablesStandOnce, WholeFlushIsStated};
+
+/// A class has no table twice, and the discriminator of a hierarchy is a column of no foreign key, in every mapping.
+pub fn tables_and_discriminators()
+    ensures once { TablesStandOnce }
+    ensures free { DiscriminatorsStandFree }
+{}
+
+/// Each foreign key of a new row is given as values, or is the whole key of one new row of the table to which it refers, where
+/// the mapping is configured and the objects fit.
+pub fn foreign_keys_are_of_one_kind()
+    ensures { ForeignKeysAreOfOneKind }
+{}
+
+/// All that a plan needs of changes holds of what a flush of a prepared graph changes.
+///
+/// What is asked of the graph, beside that it fits: two persistent objects have no row in common, and those that are to be
+/// deleted stand there once, with their rows as they were read under their keys; no two pairs that are taken away have one key.
+/// Of the tables: the rows of objects that are to be deleted stand with the foreign keys that were read. Of the mapping, beside
+/// that it is configured: only links of many-to-one are written late, as the language has it, and no class has the table of a
+/// pair.
+pub fn changes_are_projected()
+    ensures { ChangesAreProjected }
+{}
+
+/// Where the tables that a flush states are legal, every prefix of its plan is accepted and leaves legal tables, and the whole
+/// leaves the stated ones.
+pub fn flush_prefixes_are_legal()
+    ensures prefixes { FlushPrefixesAreLegal }
+    ensures whole { WholeFlushIsStated }
+{}
+
+/// Where the plan of a flush is accepted, it leaves the stated tables.
+pub fn accepted_flushes_are_stated()
+    ensures { AcceptedFlushIsStated }
+{}
