@@ -1,0 +1,11 @@
+use Rattle.class_mapping.specs.Mapped.{attributes_of}
+use Rattle.graph_flushed.specs.Ready.{written_of}
+use Rattle.graph_flushed.proofs.CellSteps.{attribute_is, staying_by_come}
+use Rattle.graph_flushed.proofs.flushing.Flushing.staying_cell.Goals as goal
+
+pub returns-in-Some-clause-cell : goal.returns-in-Some-clause-cell
+returns-in-Some-clause-cell c =
+    staying_by_come (written_of c.args.self.now) c.args.object c.args.class c.args.place c.args.cell.now c.key_attributes.result.now c.index-attributes-place.result c.in_ok-value.field-0 c.in-Some.value c.is_among.result c.held_cell.result
+    c.key_attributes.ensures.keys c.is_among.ensures c.if-is_among.false
+    (attribute_is c.attributes.result.now (attributes_of c.args.self.now.projection.now.mapping.now c.args.class) c.args.place c.index-attributes-place.result c.attributes.ensures c.index-attributes-place.is c.requires.place)
+    c.in_ok-value.ensures.value c.in-Some.is c.held_cell.ensures.cell

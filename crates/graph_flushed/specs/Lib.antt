@@ -1,0 +1,4 @@
+pub mod Fitting
+pub mod Flushed
+pub mod Keys
+pub mod Ready

@@ -1,0 +1,45 @@
+-- When it can be told what success of a flush makes of the objects.
+use Rattle.std.specs.Prelude.{◌≡◌, ℕ, ◌≤◌, List, length, map, Option, Some, if◌then◌else◌}
+use Rattle.base_core.specs.declared.ids.ClassId.{ClassId}
+use Rattle.base_core.specs.declared.ids.ObjId.{ObjId}
+use Rattle.base_core.specs.declared.value.Value.{Value}
+use Rattle.identity_maps.specs.Entries.{Keyed, entry_of}
+use Rattle.object_arena.specs.declared.object.Object.{Object}
+use Rattle.object_rows.specs.Ready.{IsReady}
+use Rattle.graph_flushed.specs.declared.flushing.Flushing.{Flushing}
+use Rattle.graph_flushed.specs.declared.keys.RowKeys.{RowKeys}
+use Rattle.graph_flushed.specs.Flushed.{Written}
+use Rattle.graph_flushed.specs.Keys.{Keys, is_given, new_holder}
+
+-- the names are those of the new and of the changed rows
+pub record AreRowKeys (rows : RowKeys) : Type 0 where
+  pub fresh : rows.fresh.now ≡ map (λ row. row.name) rows.changes.now.fresh
+  pub changed : rows.changed.now ≡ map (λ row. row.name) rows.changes.now.changed
+
+-- under each root and key is the new object that has them
+abbrev pub AreHolders : List Keyed → Keys → List ClassId → Type 0
+AreHolders maps keys roots = (root : ClassId) (key : List Value) → entry_of maps root key ≡ new_holder keys roots root key
+
+-- the object has come under its root and key, if it has one, and every other entry is as it was
+abbrev pub IsEntered : List Keyed → List Keyed → Option (List Value) → ClassId → ObjId → Type 0
+IsEntered old new own root object =
+    (wanted : ClassId) (key : List Value) → entry_of new wanted key ≡ (if is_given wanted key (own, root) then Some object else entry_of old wanted key)
+
+-- what was written, as it is told by the parts of a flush
+abbrev pub written_of : Flushing → Written
+written_of flushing = record {
+  mapping = flushing.projection.now.mapping.now;
+  graph = flushing.projection.now.arena.now;
+  prepared = flushing.projection.now.prepared.now;
+  names = flushing.projection.now.names.now;
+  keys = flushing.keys.now;
+}
+
+pub record IsFlushing (flushing : Flushing) : Type 0 where
+  pub ready : IsReady flushing.projection.now
+  pub long : length flushing.keys.now ≡ length flushing.projection.now.arena.now.objects
+  pub holders : AreHolders flushing.holders.now.maps.items flushing.keys.now flushing.projection.now.arena.now.roots
+
+-- the cells and links of an object have numbers
+abbrev pub IsNarrow : Object → Type 0
+IsNarrow object = (length object.cells ≤ 4294967295) × (length object.links ≤ 4294967295)

@@ -1,0 +1,52 @@
+//! The new objects by their keys.
+
+ghost use Rattle.std.specs.Prelude.{◌≡◌, length, IfOk, IfErr, OnOk};
+ghost use Rattle.base_core.specs.declared.refusal.Refusal.TheVariants.{Memory};
+ghost use Rattle.object_arena.specs.Graph.{IsObject, root_at};
+ghost use Rattle.graph_flushed.specs.Ready.{AreHolders, IsEntered};
+
+use base_core::{Copied, Key, ObjId, Refusal};
+use identity_maps::IdentityMap;
+use object_arena::Arena;
+use std::alloc::Global;
+
+/// The new objects by their roots and keys. Each is put in after those behind it, so that of several the first stays.
+pub(crate) fn key_holders(
+    alloc: Global,
+    arena: &Arena,
+    keys: &[Option<Key>],
+) -> Result<IdentityMap, Refusal>
+    requires { length keys.now ≡ length arena.now.objects }
+    ensures holders { IfOk result
+        (λ holders. AreHolders holders.maps.items keys.now arena.now.roots) }
+    ensures cause { IfErr result (λ e. e ≡ Memory) }
+{
+    let mut holders = IdentityMap::new(alloc);
+    let count = arena.count();
+    for behind in 0..count {
+        let place = count - 1 - behind;
+        enter(&mut holders, arena, ObjId(place + 1), &keys[place as usize])?;
+    }
+    Ok(holders)
+}
+
+/// An object is put under its key, if it has one.
+fn enter(
+    holders: &mut IdentityMap,
+    arena: &Arena,
+    object: ObjId,
+    key: &Option<Key>,
+) -> Result<(), Refusal>
+    requires { IsObject arena.now object }
+    ensures entered { OnOk result (IsEntered holders.old.maps.items holders.new.maps.items
+        key.now (root_at arena.now object) object) }
+    ensures cause { IfErr result (λ e. e ≡ Memory) }
+{
+    match key {
+        Some(key) => {
+            let copy = key.copied()?;
+            holders.put(arena.root_at(object), copy, object)
+        }
+        None => Ok(()),
+    }
+}

@@ -1,0 +1,105 @@
+//! The links of objects after success.
+
+ghost use Rattle.std.specs.Prelude.{◌≡◌, map, IfOk, IfErr};
+ghost use Rattle.std.specs.List.{enumerate_from};
+ghost use Rattle.base_core.specs.declared.refusal.Refusal.TheVariants.{Memory};
+ghost use Rattle.object_rows.specs.Seen.{is_cleared};
+ghost use Rattle.graph_flushed.specs.Flushed as spec;
+
+use base_core::{Copied, ListOf, ObjId, Refusal, RelNo};
+use class_layouts::number_of;
+use object_arena::Link;
+use object_rows::Prepared;
+use std::alloc::Global;
+
+/// Whether an object's link is to become none.
+fn is_cleared(prepared: &Prepared, object: ObjId, relation: RelNo) -> bool
+    ensures { result ≡ is_cleared prepared.now object relation }
+{
+    let cleared = prepared.cleared.as_slice();
+    cleared
+        .iter()
+        .any(|link| link.0.0 == object.0 && link.1.0 == relation.0)
+}
+
+/// A link of a prepared graph, where it may be one that becomes none.
+fn prepared_link(is_cleared: bool, link: &Link) -> Result<Link, Refusal>
+    ensures link { IfOk result (λ prepared. prepared ≡ spec.prepared_link is_cleared link.now) }
+    ensures cause { IfErr result (λ e. e ≡ Memory) }
+{
+    if is_cleared {
+        return Ok(Link::One {
+            end: None,
+            changed: true,
+        });
+    }
+    Ok(link.copied()?)
+}
+
+/// The links of an object in a prepared graph.
+#[tactic(auto, using(class_layouts::proofs::Steps::steps))]
+pub(crate) fn prepared_links(
+    alloc: Global,
+    prepared: &Prepared,
+    object: ObjId,
+    links: &[Link],
+) -> Result<ListOf<Link>, Refusal>
+    ensures links { IfOk result
+        (λ all. all ≡ spec.prepared_links prepared.now object links.now) }
+    ensures cause { IfErr result (λ e. e ≡ Memory) }
+{
+    let mut all = ListOf::new(alloc);
+    for (number, link) in links.iter().enumerate() {
+        let is_none = is_cleared(prepared, object, RelNo(number_of(number)?));
+        all.push(prepared_link(is_none, link)?)?;
+    }
+    Ok(all)
+}
+
+/// A link without flags and kept changes.
+fn kept_link(alloc: Global, link: &Link) -> Result<Link, Refusal>
+    ensures link { IfOk result (λ kept. kept ≡ spec.kept_link link.now) }
+    ensures cause { IfErr result (λ e. e ≡ Memory) }
+{
+    match link {
+        Link::Unset | Link::Unloaded { .. } => Ok(Link::Unloaded {
+            added: ListOf::new(alloc),
+            removed: ListOf::new(alloc),
+        }),
+        Link::One { end, .. } => Ok(Link::One {
+            end: *end,
+            changed: false,
+        }),
+        Link::Many { members, .. } => Ok(Link::Many {
+            members: members.copied()?,
+            base: members.copied()?,
+        }),
+    }
+}
+
+/// These links without flags and kept changes.
+#[tactic(auto, using(class_layouts::proofs::Steps::steps))]
+fn without_flags(alloc: Global, links: &[Link]) -> Result<ListOf<Link>, Refusal>
+    ensures links { IfOk result (λ all. all ≡ map spec.kept_link links.now) }
+    ensures cause { IfErr result (λ e. e ≡ Memory) }
+{
+    let mut all = ListOf::new(alloc);
+    for link in links {
+        all.push(kept_link(alloc, link)?)?;
+    }
+    Ok(all)
+}
+
+/// The links of an object that was written.
+pub(crate) fn kept_links(
+    alloc: Global,
+    prepared: &Prepared,
+    object: ObjId,
+    links: &[Link],
+) -> Result<ListOf<Link>, Refusal>
+    ensures links { IfOk result (λ all. all ≡ spec.kept_links prepared.now object links.now) }
+    ensures cause { IfErr result (λ e. e ≡ Memory) }
+{
+    let all = prepared_links(alloc, prepared, object, links)?;
+    without_flags(alloc, all.as_slice())
+}
