@@ -1,2 +1,3 @@
 pub mod Loaded
+pub mod Filled
 pub mod Rows

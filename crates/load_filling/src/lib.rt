@@ -1,8 +1,11 @@
-//! What rows that a load read make of the objects: a row finds the object of its key, or makes one of the class that it names.
+//! What rows that a load read make of the objects: a row finds the object of its key, or makes one of the class that it names, and
+//! the object's expired cells hold what was found of them.
 #![tactic(auto)]
 
+mod cells;
 mod loaded;
 mod rows;
 
+pub use cells::fill;
 pub use loaded::load_object;
 pub use rows::{class_named, row_key, row_object};
