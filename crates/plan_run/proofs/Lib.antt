@@ -1,0 +1,4 @@
+pub mod Noted
+pub mod Causes
+pub mod OneStatement
+pub mod Along
