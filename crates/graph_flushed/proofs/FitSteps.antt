@@ -1,7 +1,7 @@
 -- What success makes of objects that fit a mapping fits it, where what was written does.
-use Rattle.std.proofs.Common.{◌≡◌, ℕ, ◌+◌, ◌-◌, ◌<◌, ◌≤◌, Bool, true, false, ◌&&◌, List, [], ◌∷◌, length, map, get_or, suc, Option, None, Some, Result, Ok, Err, OnOk, refl, sym, ap, ◌∙◌, subst, arith}
+use Rattle.std.proofs.Common.{◌≡◌, ℕ, ◌+◌, ◌-◌, ◌<◌, Bool, true, false, ◌&&◌, List, [], ◌∷◌, length, map, get_or, suc, Option, None, Some, Result, Ok, Err, OnOk, refl, sym, ap, ◌∙◌, subst, arith}
 use Rattle.std.specs.Prelude.{not, ◌==◌, OnErr, if◌then◌else◌}
-use Rattle.std.specs.List.{All, enumerate_from, list_all, position, range_with_len}
+use Rattle.std.specs.List.{enumerate_from, list_all, position, range_with_len}
 use Rattle.std.specs.Cmp.Lexicographic.{pointwise}
 use Rattle.std.specs.Option.{unwrap_or}
 use Rattle.std.proofs.lemmas.Bool.{and_from, and_parts, eqb-true}
@@ -29,7 +29,7 @@ use Rattle.object_arena.specs.declared.object.Object.{Object}
 use Rattle.object_arena.specs.declared.object.State.{State}
 use Rattle.object_arena.specs.declared.object.State.TheVariants.{Transient, Pending, Persistent, Deleted, Detached}
 use Rattle.object_arena.specs.Every.{classes_of}
-use Rattle.object_arena.specs.Fit.{IsFit, ObjectFits, cell_fits, held_fit, is_just_of_kind, is_of_kind, is_of_root, key_fits, key_value_fits, link_fits, links_fit, no_relation, relation_of, value_fits}
+use Rattle.object_arena.specs.Fit.{IsFit, ObjectFits, cell_fits, held_fit, is_just_of_kind, is_of_kind, is_of_root, key_fits, key_value_fits, link_fits, links_fit, no_relation, value_fits}
 use Rattle.object_arena.specs.Graph.{Graph, IsObject, expired_cell, is_among, no_object, object_at, place_of}
 use Rattle.object_arena.specs.Identity.{id_of_place}
 use Rattle.object_arena.proofs.FitLemmas.{fit_at, fit_links}

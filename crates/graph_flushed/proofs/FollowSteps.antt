@@ -21,7 +21,7 @@ use Rattle.object_arena.specs.declared.object.Link.{Link}
 use Rattle.object_arena.specs.declared.object.Object.{Object}
 use Rattle.object_arena.specs.declared.object.State.{State}
 use Rattle.object_arena.specs.declared.object.State.TheVariants.{Transient, Pending, Persistent, Deleted, Detached}
-use Rattle.object_arena.specs.Graph.{Graph, has_identity, is_among, is_persistent, no_class_id, no_object, place_of, root_at}
+use Rattle.object_arena.specs.Graph.{has_identity, is_among, is_persistent, no_class_id, no_object, root_at}
 use Rattle.object_arena.specs.Identity.{IsGraph, IsOne, has_key, holds, holds_at, id_of_place, is_identified, is_other}
 use Rattle.object_arena.specs.Index.{number_of}
 use Rattle.object_arena.proofs.GraphLemmas.{held_inside, same_equiv}

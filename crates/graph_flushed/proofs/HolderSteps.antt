@@ -1,17 +1,17 @@
 -- New objects that are entered under their keys, from the last on.
-use Rattle.std.proofs.Common.{◌≡◌, ℕ, ◌+◌, ◌-◌, ◌<◌, ◌≤◌, Bool, true, false, cond, List, [], ◌∷◌, length, get_or, drop, Option, None, Some, refl, sym, ap, ◌∙◌, arith}
+use Rattle.std.proofs.Common.{◌≡◌, ℕ, ◌+◌, ◌-◌, ◌<◌, ◌≤◌, Bool, true, false, cond, List, [], length, get_or, drop, Option, None, Some, refl, sym, ap, ◌∙◌, arith}
 use Rattle.std.specs.Prelude.{slice_get}
-use Rattle.std.specs.List.{position, position_from, zip}
+use Rattle.std.specs.List.{position_from, zip}
 use Rattle.std.specs.Option.{option_map}
 use Rattle.std.proofs.lemmas.Slice.Zip.{get_or-zip, length-zip}
 use Rattle.base_core.specs.declared.ids.ClassId.{ClassId}
 use Rattle.base_core.specs.declared.ids.ObjId.{ObjId}
 use Rattle.base_core.specs.declared.value.Value.{Value}
-use Rattle.identity_maps.specs.Entries.{IsPut, Keyed, entry_in, entry_of}
+use Rattle.identity_maps.specs.Entries.{Keyed, entry_in, entry_of}
 use Rattle.object_arena.specs.Graph.{no_class_id}
 use Rattle.object_arena.specs.Identity.{id_of_place}
 use Rattle.object_rows.proofs.PlaceSteps.{found_first, found_from, none_behind}
-use Rattle.graph_flushed.specs.Keys.{Keys, is_given, new_holder}
+use Rattle.graph_flushed.specs.Keys.{Keys, is_given}
 use Rattle.graph_flushed.specs.Ready.{AreHolders, IsEntered}
 
 -- the new object that has a key under a root, of those from a place on the first

@@ -1,5 +1,5 @@
 -- Where each class is a plain root, what was written fits the mapping.
-use Rattle.std.proofs.Common.{◌≡◌, ℕ, ◌+◌, ◌-◌, ◌<◌, ◌≤◌, Bool, true, false, ◌&&◌, List, [], map, get_or, length, Option, None, Some, refl, sym, ap, ◌∙◌, subst, below_more, arith}
+use Rattle.std.proofs.Common.{◌≡◌, ℕ, ◌+◌, ◌-◌, ◌<◌, ◌≤◌, true, false, List, [], map, get_or, length, Option, sym, ap, ◌∙◌, subst, below_more, arith}
 use Rattle.std.specs.Prelude.{not}
 use Rattle.std.specs.List.{enumerate_from}
 use Rattle.std.specs.Option.{option_map}
@@ -8,20 +8,17 @@ use Rattle.std.proofs.lemmas.List.{get_or_past}
 use Rattle.std.proofs.lemmas.List.Sums.{AllPass-from_list_all}
 use Rattle.base_core.specs.declared.ids.ClassId.{ClassId}
 use Rattle.base_core.specs.declared.ids.ObjId.{ObjId}
-use Rattle.base_core.specs.declared.ids.RelNo.{RelNo}
 use Rattle.base_core.specs.declared.ids.TableId.{TableId}
-use Rattle.base_core.specs.declared.value.Value.{Value}
 use Rattle.class_types.specs.declared.declared.ClassSpec.{ClassSpec}
 use Rattle.class_types.specs.declared.mapped.Attribute.{Attribute}
 use Rattle.class_types.specs.declared.mapped.Relation.{Relation}
 use Rattle.class_layouts.specs.Faults.{is_named}
 use Rattle.class_layouts.specs.Hierarchy.{no_class}
-use Rattle.class_mapping.specs.Mapped.{IsClass, Mapped, class_spec, relations_of, root_of}
+use Rattle.class_mapping.specs.Mapped.{IsClass, Mapped, class_spec, root_of}
 use Rattle.class_mapping.specs.Plain.{is_plain_root}
 use Rattle.class_mapping.specs.PlainClass.{ArePlain, IsPlainClass}
 use Rattle.class_mapping.proofs.PlainLemmas.{plain_parts}
-use Rattle.object_arena.specs.declared.object.Object.{Object}
-use Rattle.object_arena.specs.Fit.{IsFit, no_relation, relation_of, value_fits}
+use Rattle.object_arena.specs.Fit.{IsFit, no_relation, value_fits}
 use Rattle.object_arena.specs.Graph.{Graph, IsObject, no_object, object_at, place_of}
 use Rattle.object_arena.proofs.FitLemmas.{fit_class}
 use Rattle.object_rows.specs.Cells.{first_cell, relation_cell}
