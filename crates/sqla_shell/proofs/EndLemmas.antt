@@ -253,22 +253,6 @@ concludes_faults (Err stopped.Keeper) refused mid last end s k n s' k' n' n'' c 
 concludes_faults (Err stopped.Memory) refused mid last end s k n s' k' n' n'' c p le same =
     subst (λ e. ShowsFaults e true (faults s k n) (faults s' k' n'')) (sym c.0) (p.0, p.1, omega (arith, p.2, le))
 
--- with words a run ends by the usage line, a fault of the sink or for memory
-pub usage_through : (before : Option (List ℕ)) (end : Status) (now : Option (List ℕ)) (old new : Option (List ℕ)) → IsUsage before end now → IsReadThrough end old new
-usage_through None end now old new (inl is) = subst (λ s. IsReadThrough s old new) (sym is) tt
-usage_through None end now old new (inr (inl is)) = subst (λ s. IsReadThrough s old new) (sym is) tt
-usage_through None end now old new (inr (inr is)) = subst (λ s. IsReadThrough s old new) (sym is) tt
-usage_through (Some b) status.Done None old new is = absurd is
-usage_through (Some b) status.Done (Some n) old new is = absurd is
-usage_through (Some b) status.Refused None old new is = absurd is
-usage_through (Some b) status.Refused (Some n) old new is = absurd is
-usage_through (Some b) status.Usage now old new is = tt
-usage_through (Some b) status.ReadFault now old new is = tt
-usage_through (Some b) status.WriteFault now old new is = tt
-usage_through (Some b) status.KeeperFault now old new is = tt
-usage_through (Some b) status.Memory now old new is = tt
-usage_through (Some b) status.TooLong now old new is = tt
-
 -- ---- a keeper at the end of a run
 
 -- nothing was to be rolled back

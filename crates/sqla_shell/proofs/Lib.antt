@@ -2,3 +2,4 @@ pub mod EndLemmas
 pub mod LinesLemmas
 pub mod WritingLemmas
 pub mod KeepsLemmas
+pub mod WordsLemmas

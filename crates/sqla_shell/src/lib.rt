@@ -8,5 +8,5 @@ mod status;
 mod stop;
 mod stops;
 
-pub use running::run;
+pub use running::{refuse_words, run};
 pub use status::Status;

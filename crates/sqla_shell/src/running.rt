@@ -1,18 +1,24 @@
 //! The top call.
 
-ghost use Rattle.std.specs.Prelude.{◌≡◌, ◌≢◌, ◌≤◌, ℕ, Bool, [], None, Some, true, Ok, IfOk};
+ghost use Rattle.std.specs.Prelude.{◌≡◌, ◌≢◌, ◌≤◌, ℕ, Bool, map, None, Some, true, Ok, Err, IfOk, string_bytes};
 ghost use Rattle.keeper_core.specs.Keeping.{new_store};
+ghost use Rattle.programs.specs.declared.target.Target.{Target};
 ghost use Rattle.programs.specs.declared.target.Target.TheVariants as targets;
 ghost use Rattle.sqla_shell.specs.Causes.{CountsFaults, ShowsFaults, done_status, faults, stop_status};
 ghost use Rattle.sqla_shell.specs.Outcome.{Concludes, IsDone, IsReadThrough, IsReference, IsRolledBack, IsUsage, Rests};
 ghost use Rattle.sqla_shell.specs.Seen.{KeepsKeeper, moment_seen};
+ghost use Rattle.sqla_shell.specs.Words as words;
+ghost use Rattle.sqla_shell.specs.Words.{IsGiven, IsRun, target_named, untaken_status};
 
 use crate::ending::Ending;
 use crate::script::{do_script, write_all};
 use crate::status::Status;
 use crate::stop::Stop;
+use base_core::Name;
 use byte_streams::{Sink, Source};
 use keeper_core::{Keeper, KeeperStop, Target};
+use program_words::{Options, WordsRefusal, read_words};
+use script_types::Dialect;
 use shell_steps::Shell;
 use std::alloc::Global;
 
@@ -21,10 +27,10 @@ const USAGE: &[u8] = b"usage: sqla [--dialect D] [--echo] [--store FILE] [--gene
 
 /// Does a script over a keeper, and answers to the sink.
 ///
-/// `words` are the words after the program's name; with any word the run writes the usage line and ends with `Usage`, since
-/// none is taken yet. The keeper is given memory as its target. Lines are done one by one as they are read, and what a line
-/// answers goes out after it has ended. At the script's end the session is closed; where the run ends before it, the
-/// keeper's transaction is rolled back.
+/// `words` are the words after the program's name. They name the keeper's target: memory, or a file. Where they are none that the
+/// program takes, or ask for the echo of statements or for another dialect than SQLite's, which are yet to come, the run writes the
+/// usage line and ends with `Usage`. Lines are done one by one as they are read, and what a line answers goes out after it has
+/// ended. At the script's end the session is closed; where the run ends before it, the keeper's transaction is rolled back.
 ///
 /// Where the source, the sink and the keeper tell what they have, what is written, the statements that are sent, the status
 /// and the tables at the end are those of the reference session (`specs/Reference.antt`).
@@ -36,28 +42,82 @@ pub fn run<S: Source, O: Sink, K: Keeper>(
     keeper: &mut K,
 ) -> Status
     requires { (K.moment keeper.old).target ≡ None }
-    // With words the usage line is written, and nothing else happens.
-    ensures usage { words.now.items ≢ []
+    // With words that name no target the usage line is written, and nothing else happens.
+    ensures usage { target_named (map string_bytes words.now.items) ≡ None
         → IsUsage (O.written sink.old) result (O.written sink.new) }
-    ensures unread { words.now.items ≢ [] → source.new ≡ source.old }
-    ensures unused { words.now.items ≢ [] → keeper.new ≡ keeper.old }
-    // Without words the run is the reference's, and the keeper's target is memory.
-    ensures reference { words.now.items ≡ [] → IsReference
+    ensures unread { target_named (map string_bytes words.now.items) ≡ None
+        → source.new ≡ source.old }
+    ensures unused { target_named (map string_bytes words.now.items) ≡ None
+        → keeper.new ≡ keeper.old }
+    // With words that name memory the run is the reference's.
+    ensures reference { target_named (map string_bytes words.now.items) ≡ Some targets.Memory → IsRun
         (moment_seen (S.left source.old) (S.faults source.old) (O.written sink.old) (O.faults sink.old)
         (K.moment keeper.old))
         result
         (moment_seen (S.left source.new) (S.faults source.new) (O.written sink.new) (O.faults sink.new)
         (K.moment keeper.new)) }
     ensures through { IsReadThrough result (S.left source.old) (S.left source.new) }
-    ensures target { words.now.items ≡ [] → (K.moment keeper.new).target ≡ Some targets.Memory }
-    ensures words { result ≡ Status.Usage → words.now.items ≢ [] }
+    ensures target { (target : Target) → target_named (map string_bytes words.now.items) ≡ Some target
+        → IsGiven (K.moment keeper.old) target result (K.moment keeper.new) }
+    ensures words { result ≡ Status.Usage
+        → target_named (map string_bytes words.now.items) ≡ None }
     ensures faults { ShowsFaults result (K.moment keeper.new).attached
         (faults (S.faults source.old) (O.faults sink.old) (K.moment keeper.old).faults)
         (faults (S.faults source.new) (O.faults sink.new) (K.moment keeper.new).faults) }
 {
-    if !words.is_empty() {
-        return answer_words(sink);
+    match target_of(alloc, words.as_slice()) {
+        Ok(Target::Memory) => run_in_memory(alloc, source, sink, keeper),
+        Ok(Target::File(name)) => run_in_file(alloc, name, source, sink, keeper),
+        Err(WordsRefusal::Usage) => refuse_words(sink),
+        Err(WordsRefusal::Memory) => Status::Memory,
     }
+}
+
+/// Whether a run does what is asked for.
+fn is_built(options: &Options) -> bool
+    ensures { result ≡ words.is_built options.now }
+{
+    match options.dialect {
+        Dialect::Sqlite => !options.echo,
+        Dialect::Postgresql | Dialect::Mysql => false,
+    }
+}
+
+/// The target that the words name.
+#[tactic(auto, using(crate::proofs::WordsLemmas::naming))]
+fn target_of(alloc: Global, words: &[String]) -> Result<Target, WordsRefusal>
+    ensures ok { IfOk result (λ target. target_named (map string_bytes words.now) ≡ Some target) }
+    ensures usage { result ≡ Err WordsRefusal.Usage
+        → target_named (map string_bytes words.now) ≡ None }
+{
+    let options = read_words(alloc, words)?;
+    if !is_built(&options) {
+        return Err(WordsRefusal::Usage);
+    }
+    Ok(options.target)
+}
+
+/// Does a script over a keeper in memory.
+fn run_in_memory<S: Source, O: Sink, K: Keeper>(
+    alloc: Global,
+    source: &mut S,
+    sink: &mut O,
+    keeper: &mut K,
+) -> Status
+    requires { (K.moment keeper.old).target ≡ None }
+    ensures reference { IsReference
+        (moment_seen (S.left source.old) (S.faults source.old) (O.written sink.old) (O.faults sink.old)
+        (K.moment keeper.old))
+        result
+        (moment_seen (S.left source.new) (S.faults source.new) (O.written sink.new) (O.faults sink.new)
+        (K.moment keeper.new)) }
+    ensures through { IsReadThrough result (S.left source.old) (S.left source.new) }
+    ensures target { (K.moment keeper.new).target ≡ Some targets.Memory }
+    ensures usage { result ≢ Status.Usage }
+    ensures faults { ShowsFaults result (K.moment keeper.new).attached
+        (faults (S.faults source.old) (O.faults sink.old) (K.moment keeper.old).faults)
+        (faults (S.faults source.new) (O.faults sink.new) (K.moment keeper.new).faults) }
+{
     match keeper.attach(alloc, Target::Memory) {
         Ok(()) => run_script(alloc, source, sink, keeper),
         Err(KeeperStop::Fault) => Status::KeeperFault,
@@ -65,8 +125,40 @@ pub fn run<S: Source, O: Sink, K: Keeper>(
     }
 }
 
-/// Writes the usage line.
-fn answer_words<O: Sink>(sink: &mut O) -> Status
+/// Does a script over a keeper in the file of a name.
+fn run_in_file<S: Source, O: Sink, K: Keeper>(
+    alloc: Global,
+    name: Name,
+    source: &mut S,
+    sink: &mut O,
+    keeper: &mut K,
+) -> Status
+    requires { (K.moment keeper.old).target ≡ None }
+    ensures through { IsReadThrough result (S.left source.old) (S.left source.new) }
+    ensures target { (K.moment keeper.new).target ≡ Some (targets.File name) }
+    ensures usage { result ≢ Status.Usage }
+    ensures faults { ShowsFaults result (K.moment keeper.new).attached
+        (faults (S.faults source.old) (O.faults sink.old) (K.moment keeper.old).faults)
+        (faults (S.faults source.new) (O.faults sink.new) (K.moment keeper.new).faults) }
+{
+    if let Err(stop) = keeper.attach(alloc, Target::File(name)) {
+        return status_untaken(stop);
+    }
+    run_script(alloc, source, sink, keeper)
+}
+
+/// The status of a run whose keeper did not take its target.
+fn status_untaken(stop: KeeperStop) -> Status
+    ensures { result ≡ untaken_status stop }
+{
+    match stop {
+        KeeperStop::Fault => Status::KeeperFault,
+        KeeperStop::Memory => Status::Memory,
+    }
+}
+
+/// Answers words that the program does not take: writes the usage line.
+pub fn refuse_words<O: Sink>(sink: &mut O) -> Status
     ensures usage { IsUsage (O.written sink.old) result (O.written sink.new) }
     ensures faults { (attached : Bool) (source keeper : ℕ) → ShowsFaults result attached
         (faults source (O.faults sink.old) keeper) (faults source (O.faults sink.new) keeper) }
