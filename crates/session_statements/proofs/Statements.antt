@@ -1,0 +1,92 @@
+-- Statements that a session sends by themselves, put together of their parts.
+use Rattle.std.proofs.Common.{◌≡◌, ℕ, Bool, true, false, List, [], ◌∷◌, length, Option, None, Some, Result, Ok, Err, refl, sym, ap, ◌∙◌, subst}
+use Rattle.base_core.specs.declared.refusal.RequestKind.TheVariants.{KeyChange}
+use Rattle.base_core.specs.declared.refusal.Refusal.{Refusal}
+use Rattle.base_core.specs.declared.refusal.Refusal.TheVariants.{InvalidRequestError, Memory}
+use Rattle.base_core.specs.declared.value.Value.{Value}
+use Rattle.schema_core.specs.Catalog.{Catalog}
+use Rattle.schema_core.specs.Tables.{Tables}
+use Rattle.expr_types.specs.declared.select.Bulk.{Bulk}
+use Rattle.expr_types.specs.declared.select.Select.{Select}
+use Rattle.sql_semantics.specs.Applied as bulks
+use Rattle.keeper_core.specs.Calls as call
+use Rattle.keeper_core.specs.Keeping.{IsBulk, IsQuery}
+use Rattle.programs.specs.declared.sent.Sent.TheVariants as sent
+use Rattle.programs.specs.Store.{Store}
+use Rattle.programs.specs.Programs.{Run, Sends}
+use Rattle.programs.specs.Moment.{Moment}
+use Rattle.programs.specs.Beside.{on_store}
+use Rattle.programs.proofs.Lifting.{spoiled}
+use Rattle.session_scopes.specs.SessionState.{IsInStep, SameObjects, SessionState, with_note, with_notes}
+use Rattle.session_calls.specs.Calling.{IsSessionCall}
+use Rattle.session_calls.specs.Parts.{World, checked, fault_if}
+use Rattle.session_calls.specs.Steps.{enter}
+use Rattle.session_calls.proofs.Joining.{chosen_call, err_call, fails, passes, same_itself, stays_early, then_call}
+use Rattle.session_calls.proofs.Noting.{IsAlwaysSent, stated_call}
+use Rattle.session_statements.specs.Steps.{enter_bulk, key_write_fault, rows, send_bulk, writes_key}
+
+-- ---- what is asked first
+
+-- the statement writes no key
+pub enters_bulk : {K : Type 0} (moment : K → Moment Store) (statement : Bulk) {own mid : SessionState} {old new : K} → writes_key mid.mapping.schema statement ≡ false
+    → IsSessionCall moment (λ (u : Unit {0}). u) enter (own, old) (Ok tt) (mid, new) → IsSessionCall moment (λ (u : Unit {0}). u) (enter_bulk statement) (own, old) (Ok tt) (mid, new)
+unfolding enter_bulk
+enters_bulk moment statement spares p =
+    then_call (λ u. checked (key_write_fault statement)) p (passes moment (key_write_fault statement) (ap (λ (b : Bool). fault_if b (InvalidRequestError KeyChange)) spares) p.kept.in_step)
+
+-- it does
+pub key_written : {K : Type 0} (moment : K → Moment Store) (statement : Bulk) {own mid : SessionState} {old new : K} → writes_key mid.mapping.schema statement ≡ true
+    → IsSessionCall moment (λ (u : Unit {0}). u) enter (own, old) (Ok tt) (mid, new) → IsSessionCall moment (λ (u : Unit {0}). u) (enter_bulk statement) (own, old) (Err (InvalidRequestError KeyChange)) (mid, new)
+unfolding enter_bulk
+key_written moment statement writes p =
+    then_call (λ u. checked (key_write_fault statement)) p
+    (fails moment (key_write_fault statement) {v = λ (u : Unit {0}). u} (ap (λ (b : Bool). fault_if b (InvalidRequestError KeyChange)) writes) (refl, refl) p.kept.in_step)
+
+pub enters_bulk_not : {Y K : Type 0} (moment : K → Moment Store) (statement : Bulk) {v : Y → Unit {0}} {own now : SessionState} {old new : K} {e : Refusal} → IsSessionCall moment (λ (u : Unit {0}). u) enter (own, old) (Err e) (now, new)
+    → IsSessionCall moment v (enter_bulk statement) (own, old) (Err e) (now, new)
+unfolding enter_bulk
+enters_bulk_not moment statement p = err_call (λ u. checked (key_write_fault statement)) p
+
+-- ---- the statements are sent, refused or not
+
+query_sent : (schema : Catalog) (select : Select) → IsAlwaysSent (sent.Query select) (call.query schema select)
+unfolding call.query
+query_sent schema select = λ w. (_, refl)
+
+bulk_by : (statement : Bulk) (outcome : bulks.Outcome) (w : Store) → (tables : Tables) × ((call.run_of_bulk statement outcome w).events ≡ Sends (sent.Bulk statement) tables ∷ [])
+bulk_by statement (Ok done) w = (_, refl)
+bulk_by statement (Err refusal) w = (_, refl)
+
+bulk_sent : (schema : Catalog) (statement : Bulk) → IsAlwaysSent (sent.Bulk statement) (call.bulk schema statement)
+unfolding call.bulk
+bulk_sent schema statement = λ w. bulk_by statement (bulks.bulk_outcome schema w.tables statement) w
+
+-- there was no memory for the note
+pub no_room_call : {A X K : Type 0} (moment : K → Moment Store) {v : X → A} {m : World → Run World A} {own now : SessionState} {keeper : K} → now ≡ own → IsSessionCall moment v m (own, keeper) (Err Memory) (now, keeper)
+no_room_call {X = X} moment {own = own} {now = now} {keeper = keeper} is = record {
+  step = spoiled moment;
+  kept = record {
+    same = subst (λ (s : SessionState). SameObjects own s) (sym is) (same_itself own);
+    in_step = stays_early X Memory (length now.frames.scopes) (moment keeper) refl;
+  };
+}
+
+-- ---- rows are asked for
+
+pub asks : {K : Type 0} (moment : K → Moment Store) (schema : Catalog) (select : Select) {own now : SessionState} {old new : K} {r : Result (List (List Value)) Refusal} → schema ≡ own.mapping.schema → now ≡ with_note (sent.Query select) own
+    → IsInStep own (moment old) → IsQuery moment schema select old r new → IsSessionCall moment (λ (x : List (List Value)). x) (rows select) (own, old) r (now, new)
+unfolding rows
+asks moment schema select {own = own} {now = now} {old = old} {new = new} {r = r} is noted in_step p =
+    chosen_call moment (λ session. on_store with_notes (call.query session.mapping.schema select))
+    (subst (λ (c : Catalog). IsSessionCall moment (λ (x : List (List Value)). x) (on_store with_notes (call.query c select)) (own, old) r (now, new)) is
+    (stated_call moment (call.query schema select) (sent.Query select) (query_sent schema select) noted in_step p))
+
+-- ---- a bulk statement is sent
+
+pub sends_bulk : {K : Type 0} (moment : K → Moment Store) (schema : Catalog) (statement : Bulk) {own now : SessionState} {old new : K} {r : Result ℕ Refusal} → schema ≡ own.mapping.schema → now ≡ with_note (sent.Bulk statement) own
+    → IsInStep own (moment old) → IsBulk moment schema statement old r new → IsSessionCall moment (λ (x : ℕ). x) (send_bulk statement) (own, old) r (now, new)
+unfolding send_bulk
+sends_bulk moment schema statement {own = own} {now = now} {old = old} {new = new} {r = r} is noted in_step p =
+    chosen_call moment (λ session. on_store with_notes (call.bulk session.mapping.schema statement))
+    (subst (λ (c : Catalog). IsSessionCall moment (λ (x : ℕ). x) (on_store with_notes (call.bulk c statement)) (own, old) r (now, new)) is
+    (stated_call moment (call.bulk schema statement) (sent.Bulk statement) (bulk_sent schema statement) noted in_step p))

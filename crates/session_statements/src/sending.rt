@@ -1,0 +1,91 @@
+//! Statements that a session sends by themselves, noted.
+
+ghost use Rattle.std.specs.Prelude.{◌≡◌, ◌<◌, IfErr, IfOk, OnErr, OnOk, length};
+ghost use Rattle.base_core.specs.declared.refusal.Refusal.TheVariants.{Memory};
+ghost use Rattle.programs.specs.declared.sent.Sent.TheVariants as sent;
+ghost use Rattle.sql_semantics.specs.Plain.{IsPlainBulk, IsPlainSelect};
+ghost use Rattle.sql_semantics.specs.Shapes.{AreGiven, AreOfItems, AreWide};
+ghost use Rattle.keeper_core.specs.Keeping.{HoldsLegalRows, HoldsRows};
+ghost use Rattle.session_scopes.specs.SessionState.{AreAlikeButNotes, IsInStep, with_note};
+ghost use Rattle.session_calls.specs.Calling.{IsSessionCall};
+ghost use Rattle.session_statements.specs.Steps as steps;
+
+use base_core::{Refusal, RowList};
+use expr_types::{Bulk, CopiedIn, Select};
+use keeper_core::{Keeper, Sent, calls};
+use session_scopes::Session;
+
+/// The rows of a select over the tables now. A refusal leaves the session as it was, but for the statement noted.
+///
+/// # Errors
+/// What the keeper refuses of a select.
+pub fn rows<K: Keeper>(
+    session: &mut Session,
+    keeper: &mut K,
+    select: &Select,
+) -> Result<RowList, Refusal>
+    requires in_step { IsInStep session.old (K.moment keeper.old) }
+    requires inside { 0 < length session.old.frames.scopes }
+    requires plain { IsPlainSelect session.old.mapping.schema select.now }
+    ensures call { IsSessionCall K.moment (λ rows. rows) (steps.rows select.now)
+        (session.old, keeper.old) result (session.new, keeper.new) }
+    ensures alike { AreAlikeButNotes session.old session.new }
+    ensures wide { IfOk result (λ rows. AreWide select.now rows) }
+    ensures kinds { HoldsRows session.old.mapping.schema (K.moment keeper.old).told
+        → IfOk result (λ rows. AreOfItems session.old.mapping.schema select.now rows) }
+    ensures given { HoldsLegalRows session.old.mapping.schema (K.moment keeper.old).told
+        → IfOk result (λ rows. AreGiven session.old.mapping.schema select.now rows) }
+{
+    match note_query(session, select) {
+        Ok(()) => calls::query(session.alloc(), keeper, session.mapping().schema(), select),
+        Err(_full) => Err(Refusal::Memory),
+    }
+}
+
+/// Sends a bulk statement, and answers the number of its rows. The objects stay as they are: its caller expires those of the
+/// written table. A refusal leaves the session as it was, but for the statement noted.
+///
+/// # Errors
+/// What the keeper refuses of a bulk statement.
+pub fn send_bulk<K: Keeper>(
+    session: &mut Session,
+    keeper: &mut K,
+    statement: &Bulk,
+) -> Result<u64, Refusal>
+    requires in_step { IsInStep session.old (K.moment keeper.old) }
+    requires inside { 0 < length session.old.frames.scopes }
+    requires plain { IsPlainBulk session.old.mapping.schema statement.now }
+    ensures call { IsSessionCall K.moment (λ count. count) (steps.send_bulk statement.now)
+        (session.old, keeper.old) result (session.new, keeper.new) }
+    ensures alike { AreAlikeButNotes session.old session.new }
+{
+    match note_bulk(session, statement) {
+        Ok(()) => calls::bulk(
+            session.alloc(),
+            keeper,
+            session.mapping().schema(),
+            statement,
+        ),
+        Err(_full) => Err(Refusal::Memory),
+    }
+}
+
+/// Notes a select. The only refusal is `Memory`.
+fn note_query(session: &mut Session, select: &Select) -> Result<(), Refusal>
+    ensures ok { OnOk result (session.new ≡ with_note (sent.Query select.now) session.old) }
+    ensures err { OnErr result (session.new ≡ session.old) }
+    ensures cause { IfErr result (λ e. e ≡ Memory) }
+{
+    let copy = select.copied_in(session.alloc())?;
+    session.note(Sent::Query(copy))
+}
+
+/// Notes a bulk statement. The only refusal is `Memory`.
+fn note_bulk(session: &mut Session, statement: &Bulk) -> Result<(), Refusal>
+    ensures ok { OnOk result (session.new ≡ with_note (sent.Bulk statement.now) session.old) }
+    ensures err { OnErr result (session.new ≡ session.old) }
+    ensures cause { IfErr result (λ e. e ≡ Memory) }
+{
+    let copy = statement.copied_in(session.alloc())?;
+    session.note(Sent::Bulk(copy))
+}
