@@ -62,8 +62,8 @@ unfolding call.bulk
 bulk_sent schema statement = λ w. bulk_by statement (bulks.bulk_outcome schema w.tables statement) w
 
 -- there was no memory for the note
-pub no_room_call : {A X K : Type 0} (moment : K → Moment Store) {v : X → A} {m : World → Run World A} {own now : SessionState} {keeper : K} → now ≡ own → IsSessionCall moment v m (own, keeper) (Err Memory) (now, keeper)
-no_room_call {X = X} moment {own = own} {now = now} {keeper = keeper} is = record {
+pub no_room_call : {A X K : Type 0} (moment : K → Moment Store) (m : World → Run World A) {v : X → A} {own now : SessionState} {keeper : K} → now ≡ own → IsSessionCall moment v m (own, keeper) (Err Memory) (now, keeper)
+no_room_call {X = X} moment m {own = own} {now = now} {keeper = keeper} is = record {
   step = spoiled moment;
   kept = record {
     same = subst (λ (s : SessionState). SameObjects own s) (sym is) (same_itself own);

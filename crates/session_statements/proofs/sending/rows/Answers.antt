@@ -1,6 +1,7 @@
 use Rattle.std.proofs.Common.{ap, ◌∙◌}
 use Rattle.class_mapping.specs.Mapped.{Mapped}
 use Rattle.session_scopes.specs.SessionState.{SessionState}
+use Rattle.session_statements.specs.Steps.{rows}
 use Rattle.session_statements.proofs.Statements.{asks, no_room_call}
 use Rattle.session_statements.proofs.sending.rows.Goals as goal
 
@@ -11,4 +12,4 @@ returns-in-Ok-clause-call g c =
     c.in-Ok.ensures.ok c.requires.in_step c.query.ensures.call
 
 pub returns-in-Err-clause-call : goal.returns-in-Err-clause-call
-returns-in-Err-clause-call g c = no_room_call g.K.Keeper.moment c.in-Err.ensures.err
+returns-in-Err-clause-call g c = no_room_call g.K.Keeper.moment (rows c.args.select.now) c.in-Err.ensures.err

@@ -1,6 +1,7 @@
 use Rattle.std.proofs.Common.{ap, ◌∙◌}
 use Rattle.class_mapping.specs.Mapped.{Mapped}
 use Rattle.session_scopes.specs.SessionState.{SessionState}
+use Rattle.session_statements.specs.Steps.{send_bulk}
 use Rattle.session_statements.proofs.Statements.{sends_bulk, no_room_call}
 use Rattle.session_statements.proofs.sending.send_bulk.Goals as goal
 
@@ -11,4 +12,4 @@ returns-in-Ok-clause-call g c =
     c.in-Ok.ensures.ok c.requires.in_step c.bulk.ensures
 
 pub returns-in-Err-clause-call : goal.returns-in-Err-clause-call
-returns-in-Err-clause-call g c = no_room_call g.K.Keeper.moment c.in-Err.ensures.err
+returns-in-Err-clause-call g c = no_room_call g.K.Keeper.moment (send_bulk c.args.statement.now) c.in-Err.ensures.err
