@@ -2,7 +2,9 @@ pub mod Alike
 pub mod CellLemmas
 pub mod Cycles
 pub mod GoneLemmas
+pub mod IndexSteps
 pub mod ListSteps
+pub mod Listing
 pub mod Ranges
 pub mod ReadyLemmas
 pub mod SearchLemmas

@@ -51,7 +51,7 @@ among_within n (x ∷ xs) all o h = elim (eqb_tells o x) [
 left_cons : (placed : List ℕ) (x : ℕ) (xs : List ℕ) → left_in placed (x ∷ xs) ≡ cond (not (is_among placed x)) 1 0 + left_in placed xs
 left_cons placed x xs = sum_by-cons (λ row. cond (not (is_among placed row)) 1 0) x xs
 
-times_cons : (row x : ℕ) (xs : List ℕ) → times row (x ∷ xs) ≡ cond (nat_eq row x) 1 0 + times row xs
+pub times_cons : (row x : ℕ) (xs : List ℕ) → times row (x ∷ xs) ≡ cond (nat_eq row x) 1 0 + times row xs
 times_cons row x xs = sum_by-cons (λ other. cond (nat_eq row other) 1 0) x xs
 
 pub left_all : (xs : List ℕ) → left_in [] xs ≡ length xs

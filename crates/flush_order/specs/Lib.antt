@@ -6,3 +6,4 @@ pub mod Sorted
 pub mod Orders
 pub mod Told
 pub mod Ready
+pub mod Index

@@ -1,6 +1,6 @@
 -- Rows of which each lists those for which it waits, and those that wait for it.
 use Rattle.std.specs.Prelude.{◌≡◌, ◌<◌, ℕ, Bool, true, false, not, ◌&&◌, List, [], length, slice_index_or, slice_index, nat_eq, nat_lt}
-use Rattle.std.specs.List.{All, count_by}
+use Rattle.std.specs.List.{All, count_by, filter}
 use Rattle.std.specs.Ordering.{nat_cmp}
 use Rattle.std.specs.BTreeSet.{BTreeSet, contains}
 use Rattle.flush_order.specs.Places.{is_among}
@@ -12,6 +12,10 @@ list_at lists row = slice_index_or lists row []
 -- a row waits for those that it lists
 abbrev pub waits_in : List (List ℕ) → ℕ → ℕ → Bool
 waits_in lists row other = is_among (list_at lists row) other
+
+-- a list without what is none of so many rows
+abbrev pub rows_within : ℕ → List ℕ → List ℕ
+rows_within size list = filter (λ row. nat_lt row size) list
 
 -- how often a row stands in a list
 abbrev pub times : ℕ → List ℕ → ℕ

@@ -114,7 +114,7 @@ pub fn some_comes_from(place: u32, cells: &[RowCell]) -> bool
 }
 
 /// The cell in the column of a name; none where the row has none.
-fn cell_of<'a>(columns: &[ColumnSpec], row: &'a [Value], name: &Name) -> Option<&'a Value>
+pub fn cell_of<'a>(columns: &[ColumnSpec], row: &'a [Value], name: &Name) -> Option<&'a Value>
     ensures { value_or_null (option_copied result) ≡ cell_of columns.now row.now name.now }
 {
     let (column, columns) = columns.split_first()?;

@@ -1,7 +1,9 @@
 //! The order in which a flush sends new and deleted rows.
 #![tactic(auto)]
 
+mod blockers;
 mod cells;
+mod index;
 mod lists;
 mod places;
 mod ready;

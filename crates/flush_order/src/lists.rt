@@ -1,17 +1,18 @@
 //! The order of rows, or a cycle, in time by the number of pairs of which one waits for the other.
 
-ghost use Rattle.std.specs.Prelude.{◌≡◌, ◌<◌, ◌≤◌, ◌&&◌, ◌||◌, ℕ, true, false, length, nat_eq, slice_index_or, IfOk, IfErr, IfSome, IfNone, OnOk};
+ghost use Rattle.std.specs.Prelude.{◌≡◌, ◌<◌, ◌≤◌, ◌++◌, ℕ, true, false, length, slice_index_or, IfOk, IfErr, IfSome, IfNone, OnOk};
 ghost use Rattle.std.specs.List.{All};
 ghost use Rattle.base_core.specs.declared.refusal.Refusal.TheVariants.{Memory};
-ghost use Rattle.flush_order.specs.Places.{is_among, order_or_cycle};
-ghost use Rattle.flush_order.specs.Lists.{AreListsOf, AreRows, waits_in};
+ghost use Rattle.flush_order.specs.Index.{AreTold};
+ghost use Rattle.flush_order.specs.Lists.{AreRows, list_at, rows_within, waits_in};
+ghost use Rattle.flush_order.specs.Places.{order_or_cycle};
 ghost use Rattle.flush_order.specs.Told.{rows_of, order_result};
 
 use crate::places::{Ordered, Waits, cycle_from, is_among};
 use crate::search::{Rows, search_order};
 use crate::waiting::waiting_of;
 use base_core::{ListOf, Refusal};
-use std::alloc::Global;
+use std::alloc::{AllocError, Global};
 
 impl<'a> Waits for Rows<'a> {
     ghost use Rattle.std.specs.Prelude.{◌≤◌, length};
@@ -29,6 +30,11 @@ impl<'a> Waits for Rows<'a> {
 
     fn waits(&self, row: u32, other: u32) -> bool {
         is_among(self.lists[row as usize].as_slice(), other)
+    }
+
+    #[tactic(auto, using(crate::proofs::Listing::within_are_listed))]
+    fn lists(&self, alloc: Global) -> Result<Vec<ListOf<u32>>, Refusal> {
+        Ok(lists_within(alloc, self.lists)?)
     }
 }
 
@@ -74,57 +80,40 @@ pub fn order_of_lists(alloc: Global, lists: &[ListOf<u32>]) -> Result<Ordered, R
     }
 }
 
-/// Puts a row behind others, where it is waited for.
-fn push_waited<W: Waits>(
-    list: &mut ListOf<u32>,
-    rows: &W,
-    row: u32,
-    other: u32,
-) -> Result<(), Refusal>
-    requires holds { W.holds rows.now }
-    requires row { row < W.size rows.now }
-    requires other { other < W.size rows.now }
-    ensures within { OnOk result (All (λ one. one < W.size rows.now) list.old
-        → All (λ one. one < W.size rows.now) list.new) }
-    ensures others { OnOk result ((one : ℕ) → is_among list.new one
-        ≡ (is_among list.old one || (nat_eq one other && W.waits rows.now row other))) }
-    ensures cause { IfErr result (λ e. e ≡ Memory) }
+/// Puts the rows of a list behind others, without what is none of so many rows.
+fn push_within(out: &mut Vec<u32>, size: usize, rows: &[u32]) -> Result<(), AllocError>
+    ensures { OnOk result (out.new.items ≡ out.old.items ++ rows_within size rows.now) }
 {
-    if rows.waits(row, other) {
-        list.push(other)?;
+    if let Some((row, rows)) = rows.split_first() {
+        if (*row as usize) < size {
+            out.push(*row)?;
+        }
+        push_within(out, size, rows)?;
     }
     Ok(())
 }
 
-/// The rows for which a row waits.
-fn list_of<W: Waits>(alloc: Global, rows: &W, row: u32) -> Result<ListOf<u32>, Refusal>
-    requires holds { W.holds rows.now }
-    requires row { row < W.size rows.now }
-    ensures within { IfOk result (λ list. All (λ other. other < W.size rows.now) list) }
-    ensures each { IfOk result (λ list. (other : ℕ) → other < W.size rows.now
-        → is_among list other ≡ W.waits rows.now row other) }
-    ensures cause { IfErr result (λ e. e ≡ Memory) }
+/// A list without what is none of so many rows.
+fn list_within(alloc: Global, size: usize, rows: &[u32]) -> Result<ListOf<u32>, AllocError>
+    ensures { IfOk result (λ list. list ≡ rows_within size rows.now) }
 {
-    let mut list = ListOf::new(alloc);
-    for other in 0..rows.size() {
-        push_waited(&mut list, rows, row, other)?;
-    }
-    Ok(list)
+    let mut list = Vec::new(alloc);
+    push_within(&mut list, size, rows)?;
+    Ok(ListOf::from_vec(list))
 }
 
-/// For each row those for which it waits.
-fn lists_of<W: Waits>(alloc: Global, rows: &W) -> Result<Vec<ListOf<u32>>, Refusal>
-    requires { W.holds rows.now }
-    ensures lists { IfOk result
-        (λ lists. AreListsOf (W.waits rows.now) (W.size rows.now) lists.items) }
-    ensures fewer { IfOk result (λ lists. length lists.items ≤ 4294967295) }
-    ensures cause { IfErr result (λ e. e ≡ Memory) }
+#[tactic(auto, using(crate::proofs::ReadyLemmas::push_steps))]
+/// The lists without what is no row.
+fn lists_within(alloc: Global, lists: &[ListOf<u32>]) -> Result<Vec<ListOf<u32>>, AllocError>
+    ensures { IfOk result (λ within. AreTold
+        (λ row. rows_within (length lists.now) (list_at lists.now row))
+        (length lists.now) within.items) }
 {
-    let mut lists = Vec::new(alloc);
-    for row in 0..rows.size() {
-        lists.push(list_of(alloc, rows, row)?)?;
+    let mut within = Vec::new(alloc);
+    for row in 0..lists.len() {
+        within.push(list_within(alloc, lists.len(), lists[row].as_slice())?)?;
     }
-    Ok(lists)
+    Ok(within)
 }
 
 /// The order, or a cycle where rows are left. The only refusal is `Memory`.
@@ -136,6 +125,6 @@ pub fn order_or_cycle<W: Waits>(alloc: Global, rows: &W) -> Result<Ordered, Refu
         (λ ordered. All (λ row. row < W.size rows.now) (rows_of ordered)) }
     ensures cause { IfErr result (λ e. e ≡ Memory) }
 {
-    let lists = lists_of(alloc, rows)?;
+    let lists = rows.lists(alloc)?;
     order_of_lists(alloc, lists.as_slice())
 }

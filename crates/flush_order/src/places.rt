@@ -1,9 +1,10 @@
 //! The order of rows of which some wait for others.
 
-ghost use Rattle.std.specs.Prelude.{◌≡◌, ◌<◌, ◌++◌, ℕ, Bool, not, length, IfOk, IfErr, IfSome, OnOk, OnErr, Some, Ok, Err};
+ghost use Rattle.std.specs.Prelude.{◌≡◌, ◌<◌, ◌≤◌, ◌++◌, ℕ, Bool, not, length, IfOk, IfErr, IfSome, OnOk, OnErr, Some, Ok, Err};
 ghost use Rattle.std.specs.List.{All, find, list_any};
 ghost use Rattle.std.specs.Option.{option_to_list};
 ghost use Rattle.base_core.specs.declared.refusal.Refusal.TheVariants.{Memory};
+ghost use Rattle.flush_order.specs.Lists.{AreListsOf};
 ghost use Rattle.flush_order.specs.Told.{rows_of, order_result};
 ghost use Rattle.flush_order.specs.Places.{cycle_from, from_row, holds_up, is_among, is_ready, least_left, next_blocker, next_place, order, order_or_cycle};
 
@@ -29,6 +30,14 @@ pub trait Waits {
         requires row { row < size self.now }
         requires other { other < size self.now }
         ensures { result ≡ waits self.now row other };
+
+    /// For each row those for which it waits. The only refusal is `Memory`.
+    fn lists(&self, alloc: Global) -> Result<Vec<ListOf<u32>>, Refusal>
+        requires { holds self.now }
+        ensures lists { IfOk result
+            (λ lists. AreListsOf (waits self.now) (size self.now) lists.items) }
+        ensures fewer { IfOk result (λ lists. length lists.items ≤ 4294967295) }
+        ensures cause { IfErr result (λ e. e ≡ Memory) };
 }
 
 /// Whether the row is one of these.

@@ -7,10 +7,12 @@ ghost use Rattle.flush_order.specs.Refers.{comes_from, is_table, names, new_refe
 ghost use Rattle.flush_order.specs.Orders.{gone_at, gone_rows};
 ghost use Rattle.flush_order.specs.Ready.{AreReady, AreReadyGone, ready_gone, ready_row};
 
+use crate::blockers::{gone_lists, new_lists};
 use crate::cells::{are_cells, has_null_in, some_comes_from};
 use crate::places::Waits;
-use base_core::{Key, ListOf, RowName, RowValues, TableId, Value};
+use base_core::{Key, ListOf, Refusal, RowName, RowValues, TableId, Value};
 use schema_core::{ForeignSpec, RowCell, RowChanges, Schema, TableSpec};
+use std::alloc::Global;
 
 /// Whether a foreign key refers to this table.
 fn is_target(schema: &Schema, foreign: &ForeignSpec, table: TableId) -> bool
@@ -115,6 +117,10 @@ impl<'a> Waits for NewRows<'a> {
                 two.key.as_slice(),
             )
     }
+
+    fn lists(&self, alloc: Global) -> Result<Vec<ListOf<u32>>, Refusal> {
+        new_lists(alloc, self)
+    }
 }
 
 /// A deleted row made ready: its key, and its base without what is cleared before it is deleted.
@@ -177,5 +183,9 @@ impl<'a> Waits for GoneRows<'a> {
             one.name.table,
             one.key.as_slice(),
         )
+    }
+
+    fn lists(&self, alloc: Global) -> Result<Vec<ListOf<u32>>, Refusal> {
+        gone_lists(alloc, self)
     }
 }

@@ -12,8 +12,9 @@ use Rattle.table_laws.proofs.Entries.{all_map}
 use Rattle.table_laws.proofs.SameValues.{is_equal}
 use Rattle.plan_laws.specs.AsSets.{AreByPlace, IsLastAt, place_at}
 use Rattle.plan_laws.proofs.Lookups.{all_found, first, less, lookup_insert, second}
+use Rattle.flush_order.proofs.IndexSteps.{place_total}
 use Rattle.plan_laws.proofs.Newness.{place_same, same_is}
-use Rattle.plan_laws.proofs.Numbers.{less_equal, entered_sorted, latest_have, place_is, place_total, values_all}
+use Rattle.plan_laws.proofs.Numbers.{less_equal, entered_sorted, latest_have, place_is, values_all}
 use Rattle.plan_laws.proofs.Facts.{none_some, true_false, or_cases}
 use Rattle.base_core.proofs.Tests.{or_then}
 use Rattle.flush_order.specs.Places.{is_among}

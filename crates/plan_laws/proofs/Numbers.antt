@@ -3,7 +3,7 @@ use Rattle.std.proofs.Common.{◌≡◌, inl, inr, ℕ, zero, suc, ◌+◌, ◌<
 use Rattle.std.proofs.lemmas.Bool.{eq-eqb, eqb-true}
 use Rattle.std.specs.declared.cmp.Ordering.TheVariants.{Less, Equal}
 use Rattle.std.specs.Ordering.{is_eq, is_lt}
-use Rattle.std.specs.Cmp.{IsTotalOrder, on_total, then_total, tied_itself}
+use Rattle.std.specs.Cmp.{tied_itself}
 use Rattle.std.specs.List.{AllByRecursion, IsDistinct, list_any}
 use Rattle.std.specs.Map.{lookup, values_of}
 use Rattle.std.specs.BTreeMap.{insert_entry, is_at}
@@ -16,14 +16,10 @@ use Rattle.table_laws.proofs.SameValues.{same_key, same_table, both_equal, is_eq
 use Rattle.plan_laws.proofs.Lookups.{lookup_insert, sorted_insert, less, first, second}
 use Rattle.plan_laws.proofs.Newness.{place_same}
 use Rattle.plan_laws.proofs.Facts.{none_some, or_cases, or_false, true_false, apart_false}
-use Rattle.base_core.proofs.Exact.{values_total}
-use Rattle.schema_core.proofs.TableOrder.{tables_total}
 use Rattle.base_core.proofs.Tests.{or_then}
+use Rattle.flush_order.proofs.IndexSteps.{place_total}
 use Rattle.flush_order.specs.Places.{is_among}
 use Rattle.flush_order.specs.Sorted.{Place, entries_with_places, place_cmp, same_place, sorted_numbers}
-
-pub place_total : IsTotalOrder place_cmp
-place_total = then_total (on_total (λ (p : Place). p.0) tables_total) (on_total (λ (p : Place). p.1) values_total)
 
 pub place_is : (p q : Place) → place_cmp p q ≡ Equal → p ≡ q
 place_is p q e =
