@@ -50,6 +50,11 @@ pub handle_of : (own mid : SessionState) (r : Result ℕ Refusal) → AreAlikeBu
 handle_of own mid (Ok number) alike is = is ∙ ap (λ (s : SessionState). s.drawn.drawn + 1) alike
 handle_of own mid (Err e) alike is = tt
 
+-- it was drawn last
+pub drawn_last : (mid now : SessionState) (r : Result ℕ Refusal) → OnOk r (now ≡ session_nested mid) → IfOk r (λ handle. handle ≡ mid.drawn.drawn + 1) → IfOk r (λ handle. handle ≡ now.drawn.drawn)
+drawn_last mid now (Ok number) is named = named ∙ sym (ap (λ (s : SessionState). s.drawn.drawn) is)
+drawn_last mid now (Err e) is named = tt
+
 -- the store ended it early
 pub nests_not : {K : Type 0} (moment : K → Moment Store) (depth : ℕ) {own now : SessionState} {old new : K} {e : Refusal} → IsNotedCall moment call.savepoint depth (own, old) (Err e) (now, new) → IsSessionCall moment (λ (handle : ℕ). handle) begin_savepoint (own, old) (Err e) (now, new)
 unfolding begin_savepoint

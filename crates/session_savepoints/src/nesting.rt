@@ -24,6 +24,7 @@ pub fn begin_savepoint<K: Keeper>(session: &mut Session, keeper: &mut K) -> Resu
     ensures call { IsSessionCall K.moment (λ handle. handle) steps.begin_savepoint
         (session.old, keeper.old) result (session.new, keeper.new) }
     ensures handle { IfOk result (λ handle. handle ≡ session.old.drawn.drawn + 1) }
+    ensures drawn { IfOk result (λ handle. handle ≡ session.new.drawn.drawn) }
     ensures stops { IfErr result (λ e. ends_early e ≡ true) }
 {
     send_savepoint(session, keeper)?;

@@ -1,7 +1,7 @@
 use Rattle.std.proofs.Common.{◌+◌, length, ap, ◌∙◌, arith}
 use Rattle.session_scopes.specs.SessionState.{SessionState}
 use Rattle.session_calls.proofs.Acting.{alike_scopes, memory_stops}
-use Rattle.session_savepoints.proofs.Acting.{handle_of, nests, nests_not}
+use Rattle.session_savepoints.proofs.Acting.{drawn_last, handle_of, nests, nests_not}
 use Rattle.session_calls.proofs.Joining.{passed_call}
 use Rattle.session_savepoints.proofs.nesting.begin_savepoint.Goals as goal
 
@@ -23,6 +23,9 @@ nest-requires g c =
 
 pub returns-clause-handle : goal.returns-clause-handle
 returns-clause-handle g c = handle_of c.args.session.now c.send_savepoint.new.session c.nest.result c.in_ok-send_savepoint.ensures.alike c.nest.ensures.handle
+
+pub returns-clause-drawn : goal.returns-clause-drawn
+returns-clause-drawn g c = drawn_last c.send_savepoint.new.session c.nest.new.self c.nest.result c.nest.ensures.ok c.nest.ensures.handle
 
 pub returns-clause-stops : goal.returns-clause-stops
 returns-clause-stops g c = memory_stops c.nest.result c.nest.ensures.cause
