@@ -1,1 +1,3 @@
 pub mod Statements
+mod RereadLemmas
+mod Turns

@@ -1,5 +1,5 @@
 -- Statements that a session sends by themselves, put together of their parts.
-use Rattle.std.proofs.Common.{◌≡◌, ℕ, Bool, true, false, List, [], ◌∷◌, length, Option, None, Some, Result, Ok, Err, refl, sym, ap, ◌∙◌, subst}
+use Rattle.std.proofs.Common.{◌≡◌, ℕ, Bool, true, false, List, [], ◌∷◌, length, Result, Ok, Err, refl, sym, ap, ◌∙◌, subst}
 use Rattle.base_core.specs.declared.refusal.RequestKind.TheVariants.{KeyChange}
 use Rattle.base_core.specs.declared.refusal.Refusal.{Refusal}
 use Rattle.base_core.specs.declared.refusal.Refusal.TheVariants.{InvalidRequestError, Memory}
@@ -9,21 +9,24 @@ use Rattle.schema_core.specs.Tables.{Tables}
 use Rattle.expr_types.specs.declared.select.Bulk.{Bulk}
 use Rattle.expr_types.specs.declared.select.Select.{Select}
 use Rattle.sql_semantics.specs.Applied as bulks
+use Rattle.sql_semantics.specs.Applied.{table_of}
 use Rattle.keeper_core.specs.Calls as call
 use Rattle.keeper_core.specs.Keeping.{IsBulk, IsQuery}
 use Rattle.programs.specs.declared.sent.Sent.TheVariants as sent
 use Rattle.programs.specs.Store.{Store}
-use Rattle.programs.specs.Programs.{Run, Sends}
+use Rattle.programs.specs.Programs.{Run, ◌>>=◌, Sends, give}
 use Rattle.programs.specs.Moment.{Moment}
-use Rattle.programs.specs.Beside.{on_store}
-use Rattle.programs.proofs.Lifting.{spoiled}
+use Rattle.programs.specs.Beside.{changes, on_store}
+use Rattle.programs.proofs.Lifting.{lost, spoiled}
+use Rattle.programs.proofs.Sequence.{then_ok}
 use Rattle.session_scopes.specs.SessionState.{IsInStep, SameObjects, SessionState, with_note, with_notes}
 use Rattle.session_calls.specs.Calling.{IsSessionCall}
 use Rattle.session_calls.specs.Parts.{World, checked, fault_if}
 use Rattle.session_calls.specs.Steps.{enter}
-use Rattle.session_calls.proofs.Joining.{chosen_call, err_call, fails, passes, same_itself, stays_early, then_call}
+use Rattle.session_calls.proofs.Joining.{change_call, chosen_call, err_call, fails, memory_early, passes, same_itself, same_more, stays_early, still_call, then_call}
 use Rattle.session_calls.proofs.Noting.{IsAlwaysSent, stated_call}
-use Rattle.session_statements.specs.Steps.{enter_bulk, key_write_fault, rows, send_bulk, writes_key}
+use Rattle.session_statements.specs.Rewriting.{session_reread}
+use Rattle.session_statements.specs.Steps.{bulk, enter_bulk, key_write_fault, rows, send_bulk, writes_key}
 
 -- ---- what is asked first
 
@@ -90,3 +93,30 @@ sends_bulk moment schema statement {own = own} {now = now} {old = old} {new = ne
     chosen_call moment (λ session. on_store with_notes (call.bulk session.mapping.schema statement))
     (subst (λ (c : Catalog). IsSessionCall moment (λ (x : ℕ). x) (on_store with_notes (call.bulk c statement)) (own, old) r (now, new)) is
     (stated_call moment (call.bulk schema statement) (sent.Bulk statement) (bulk_sent schema statement) noted in_step p))
+
+-- and the objects of its table are to be read again
+pub bulk_done : {K : Type 0} (moment : K → Moment Store) (statement : Bulk) (count : ℕ) {own mid now : SessionState} {old new : K} → IsSessionCall moment (λ (x : ℕ). x) (send_bulk statement) (own, old) (Ok count) (mid, new)
+    → now ≡ session_reread (table_of statement) mid → SameObjects mid now → now.frames.scopes ≡ mid.frames.scopes → IsSessionCall moment (λ (x : ℕ). x) (bulk statement) (own, old) (Ok count) (now, new)
+unfolding bulk
+bulk_done moment statement count {mid = mid} {now = now} {new = new} p is same scopes =
+    let in_step : IsInStep now (moment new) = (p.kept.in_step.0, p.kept.in_step.1 ∙ ap length (sym scopes)) in
+    then_call (λ (x : ℕ). changes (session_reread (table_of statement)) >>= λ u. give x) p
+    (then_call (λ u. give count) (change_call moment (session_reread (table_of statement)) {r = Ok tt} is tt same in_step) (still_call moment {v = λ (x : ℕ). x} refl in_step))
+
+-- memory ran out then
+pub bulk_lost : {Y K : Type 0} (moment : K → Moment Store) (statement : Bulk) (count : ℕ) {v : Y → ℕ} {own mid now : SessionState} {old new : K} {e : Refusal} → IsSessionCall moment (λ (x : ℕ). x) (send_bulk statement) (own, old) (Ok count) (mid, new)
+    → e ≡ Memory → SameObjects mid now → IsSessionCall moment v (bulk statement) (own, old) (Err e) (now, new)
+unfolding bulk
+bulk_lost {Y = Y} moment statement count {v = v} {now = now} {new = new} {e = e} p cause same = record {
+  step = then_ok {v' = v} (λ (x : ℕ). changes (session_reread (table_of statement)) >>= λ u. give x) p.step (lost moment cause);
+  kept = record {
+    same = same_more p.kept.same same;
+    in_step = stays_early Y e (length now.frames.scopes) (moment new) (memory_early e cause);
+  };
+}
+
+-- it was refused
+pub bulk_refused : {Y K : Type 0} (moment : K → Moment Store) (statement : Bulk) {v : Y → ℕ} {own now : SessionState} {old new : K} {e : Refusal} → IsSessionCall moment (λ (x : ℕ). x) (send_bulk statement) (own, old) (Err e) (now, new)
+    → IsSessionCall moment v (bulk statement) (own, old) (Err e) (now, new)
+unfolding bulk
+bulk_refused moment statement p = err_call (λ (x : ℕ). changes (session_reread (table_of statement)) >>= λ u. give x) p

@@ -9,13 +9,15 @@ use Rattle.schema_core.specs.Catalog.{Catalog}
 use Rattle.expr_types.specs.declared.select.Bulk.{Bulk}
 use Rattle.expr_types.specs.declared.select.Bulk.TheVariants as bulks
 use Rattle.expr_types.specs.declared.select.Select.{Select}
+use Rattle.sql_semantics.specs.Applied.{table_of}
 use Rattle.sql_semantics.specs.Plain.{is_free_column}
-use Rattle.programs.specs.Programs.{Run, ◌>>=◌}
-use Rattle.programs.specs.Beside.{by_own, on_store}
+use Rattle.programs.specs.Programs.{Run, ◌>>=◌, give}
+use Rattle.programs.specs.Beside.{by_own, changes, on_store}
 use Rattle.keeper_core.specs.Calls as call
 use Rattle.session_scopes.specs.SessionState.{SessionState, with_notes}
 use Rattle.session_calls.specs.Parts.{World, checked, fault_if}
 use Rattle.session_calls.specs.Steps.{enter}
+use Rattle.session_statements.specs.Rewriting.{session_reread}
 
 -- ---- what is asked before the flush
 
@@ -40,3 +42,7 @@ rows select = by_own (λ session. on_store with_notes (call.query session.mappin
 -- a bulk statement is sent, and the number of its rows is answered
 unfoldable pub send_bulk : Bulk → World → Run World ℕ
 send_bulk statement = by_own (λ session. on_store with_notes (call.bulk session.mapping.schema statement))
+
+-- the objects of the table that a statement wrote are to be read again then
+unfoldable pub bulk : Bulk → World → Run World ℕ
+bulk statement = send_bulk statement >>= λ count. (changes (session_reread (table_of statement)) >>= λ u. give count)

@@ -10,8 +10,10 @@ ghost use Rattle.session_scopes.specs.SessionState.{AreAlikeButNotes, IsInStep, 
 ghost use Rattle.session_calls.specs.Calling.{IsSessionCall};
 ghost use Rattle.session_statements.specs.Steps as steps;
 
+use crate::rereading::Reread;
 use base_core::{Refusal, RowList};
 use expr_types::{Bulk, CopiedIn, Select};
+use keeper_core::calls::table_of_bulk;
 use keeper_core::{Keeper, Sent, calls};
 use session_scopes::Session;
 
@@ -42,12 +44,33 @@ pub fn rows<K: Keeper>(
     }
 }
 
-/// Sends a bulk statement, and answers the number of its rows. The objects stay as they are: its caller expires those of the
-/// written table. A refusal leaves the session as it was, but for the statement noted.
+/// Sends a bulk statement, and answers the number of its rows. The persistent objects with rows in the written table are expired
+/// then, and touched where their records come to differ. A refusal of the keeper leaves the session as it was, but for the
+/// statement noted.
 ///
 /// # Errors
 /// What the keeper refuses of a bulk statement.
-pub fn send_bulk<K: Keeper>(
+pub fn bulk<K: Keeper>(
+    session: &mut Session,
+    keeper: &mut K,
+    statement: &Bulk,
+) -> Result<u64, Refusal>
+    requires in_step { IsInStep session.old (K.moment keeper.old) }
+    requires inside { 0 < length session.old.frames.scopes }
+    requires plain { IsPlainBulk session.old.mapping.schema statement.now }
+    ensures call { IsSessionCall K.moment (λ count. count) (steps.bulk statement.now)
+        (session.old, keeper.old) result (session.new, keeper.new) }
+    ensures scopes { length session.new.frames.scopes ≡ length session.old.frames.scopes }
+{
+    let count = send_bulk(session, keeper, statement)?;
+    session.step(Reread {
+        table: table_of_bulk(statement),
+    })?;
+    Ok(count)
+}
+
+/// Sends a bulk statement, and answers the number of its rows.
+fn send_bulk<K: Keeper>(
     session: &mut Session,
     keeper: &mut K,
     statement: &Bulk,

@@ -1,4 +1,4 @@
-use Rattle.std.proofs.Common.{◌≡◌, Bool, sym, ap, ◌∙◌}
+use Rattle.std.proofs.Common.{sym, ap, ◌∙◌}
 use Rattle.class_mapping.specs.Mapped.{Mapped}
 use Rattle.schema_core.specs.Catalog.{Catalog}
 use Rattle.session_calls.proofs.Joining.{passed_call}
