@@ -1,0 +1,5 @@
+mod Guarding
+mod Outcomes
+mod Planned
+mod Ready
+mod Steps
