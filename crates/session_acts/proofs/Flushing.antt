@@ -1,0 +1,41 @@
+-- Calls that flush between what they ask and what they do.
+use Rattle.std.proofs.Common.{◌≡◌, ℕ, ◌+◌, ◌<◌, ◌≤◌, true, List, [], ◌∷◌, length, is_some, ◌==◌, Result, Ok, Err, arith}
+use Rattle.std.specs.Prelude.{IfOk}
+use Rattle.std.specs.List.{position}
+use Rattle.base_core.specs.declared.refusal.Refusal.{Refusal}
+use Rattle.programs.specs.Store.{Store}
+use Rattle.programs.specs.Programs.{Run, ◌>>=◌}
+use Rattle.programs.specs.Moment.{Moment}
+use Rattle.session_scopes.specs.SessionState.{SessionState}
+use Rattle.session_calls.specs.Calling.{IsSessionCall}
+use Rattle.session_calls.specs.Parts.{World}
+use Rattle.session_calls.proofs.Joining.{err_call, then_call}
+use Rattle.session_flush.specs.Flush.{flush}
+use Rattle.session_acts.specs.Steps.{flushing}
+
+-- what is asked was refused
+pub asking_refused : {A Y K : Type 0} (moment : K → Moment Store) {v : Y → A} {asked : World → Run World (Unit {0})} (act : World → Run World A) {old new : SessionState × K} {e : Refusal}
+    → IsSessionCall moment (λ (u : Unit {0}). u) asked old (Err e) new → IsSessionCall moment v (flushing asked act) old (Err e) new
+asking_refused moment act p = err_call (λ u. flush >>= λ u. act) p
+
+-- the flush was refused
+pub flush_refused : {A Y K : Type 0} (moment : K → Moment Store) {v : Y → A} {asked : World → Run World (Unit {0})} (act : World → Run World A) {old mid new : SessionState × K} {x : Unit {0}} {e : Refusal}
+    → IsSessionCall moment (λ (u : Unit {0}). u) asked old (Ok x) mid → IsSessionCall moment (λ (u : Unit {0}). u) flush mid (Err e) new → IsSessionCall moment v (flushing asked act) old (Err e) new
+flush_refused moment act p q = then_call (λ u. flush >>= λ u. act) p (err_call (λ u. act) q)
+
+-- all was written, and the act answered or was refused
+pub flushed_then : {A Y K : Type 0} (moment : K → Moment Store) {v : Y → A} {asked : World → Run World (Unit {0})} (act : World → Run World A) {old mid late new : SessionState × K} {x y : Unit {0}} {r : Result Y Refusal}
+    → IsSessionCall moment (λ (u : Unit {0}). u) asked old (Ok x) mid → IsSessionCall moment (λ (u : Unit {0}). u) flush mid (Ok y) late → IsSessionCall moment v act late r new → IsSessionCall moment v (flushing asked act) old r new
+flushed_then moment act p q s = then_call (λ u. flush >>= λ u. act) p (then_call (λ u. act) q s)
+
+-- ---- handles
+
+-- where a handle has a place there are handles
+pub some_place : (handles : List ℕ) (handle : ℕ) → is_some (position (λ other. other == handle) handles) ≡ true → 0 < length handles
+some_place [] handle is = absurd cc
+some_place (other ∷ handles) handle is = omega arith
+
+-- a handle that is the next one, and the last one drawn
+pub next_drawn : (r : Result ℕ Refusal) (before now : ℕ) → IfOk r (λ handle. handle ≡ before + 1) → IfOk r (λ handle. handle ≡ now) → IfOk r (λ handle. (0 < handle) × (handle ≤ now))
+next_drawn (Ok handle) before now next last = (omega arith, omega arith)
+next_drawn (Err e) before now next last = tt
