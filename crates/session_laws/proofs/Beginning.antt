@@ -1,0 +1,162 @@
+-- A session is sound at its beginning, and where its transaction begins.
+use Rattle.std.proofs.Common.{◌≡◌, ◌≢◌, ℕ, ◌<◌, ◌≤◌, Bool, true, false, List, [], ◌∷◌, length, map, get_or, Ok, refl, sym, ap, ◌∙◌, subst, ⊎_elim, arith}
+use Rattle.std.proofs.lemmas.Bool.{cases_lt}
+use Rattle.std.proofs.lemmas.List.{get_or-map, get_or_past, length-map}
+use Rattle.base_core.specs.declared.refusal.Refusal.TheVariants.{PendingRollbackError}
+use Rattle.class_mapping.specs.Mapped.{Mapped}
+use Rattle.keeper_core.specs.Calls as call
+use Rattle.object_arena.specs.declared.object.Object.{Object}
+use Rattle.object_arena.specs.declared.object.State.TheVariants.{Pending}
+use Rattle.object_arena.specs.Graph.{Graph, no_object}
+use Rattle.programs.specs.Store.{Store}
+use Rattle.programs.specs.Programs.{Event, ◌>>=◌, give, refuse}
+use Rattle.programs.specs.Beside.{by_own, changes, on_store}
+use Rattle.schema_core.specs.Tables.{Legal, Tables}
+use Rattle.savepoints.specs.declared.scope.Scope.{Scope}
+use Rattle.savepoints.specs.declared.scope.Standing.{Standing}
+use Rattle.savepoints.specs.Scopes.{Framed, begun_at, made_since, standing_at, standing_of}
+use Rattle.session_parts.specs.Depths.{has_scope}
+use Rattle.session_scopes.specs.Scoping.{session_begun}
+use Rattle.session_scopes.specs.SessionState.{SessionState, in_transaction, new_session, with_notes}
+use Rattle.session_calls.specs.Parts.{World, checked, fault_if, unless}
+use Rattle.session_calls.specs.Steps.{begin_unless, enter}
+use Rattle.session_calls.proofs.Acting.{no_scope_open}
+use Rattle.session_laws.specs.Sound.{AreSoundScopes, EachObject, IsAtRest, IsFresh, IsSettled, IsSound, IsSoundScope, KeepsSound, RestIf}
+
+-- ---- a new session
+
+pub new_sound : (mapping : Mapped) → IsSound (record { own = new_session mapping; store = record { tables = []; scopes = [] } })
+new_sound mapping = record {
+  graph = record { rooted = refl; few = omega arith; identified = λ i d less. absurd (omega (arith, less)); one = λ root key i j held other. absurd (let h : false ≡ true = held in cc) };
+  legal = record { created = tt; keys = tt; cells = tt; uniques = tt; foreigns = refl };
+  fresh = λ place less. absurd (omega (arith, less));
+  marked = λ place less. absurd (omega (arith, less));
+  scopes = tt;
+  rest = λ place less. absurd (omega (arith, less));
+}
+
+-- ---- a scope begins
+
+pub no_starts : (mapped : Mapped) (graph : Graph) (frames : Framed) (scopes : List Scope) (starts : List Tables) → scopes ≡ [] → AreSoundScopes mapped graph frames scopes starts → starts ≡ []
+no_starts mapped graph frames [] [] none sound = refl
+no_starts mapped graph frames [] (tables ∷ starts) none sound = absurd sound
+no_starts mapped graph frames (scope ∷ scopes) starts none sound = absurd cc
+
+at_rest : (graph : Graph) (scopes : List Scope) → scopes ≡ [] → RestIf scopes graph → EachObject IsAtRest graph
+at_rest graph [] none rest = rest
+at_rest graph (scope ∷ scopes) none rest = absurd cc
+
+started_at : (graph : Graph) (place : ℕ) → place < length graph.objects → standing_of (get_or graph.objects place no_object) ≡ standing_at (begun_at graph) place
+started_at graph place less = sym (get_or-map (λ object. standing_of object) graph.objects place no_object made_since less)
+
+pending_none : (graph : Graph) → EachObject IsSettled graph → (place : ℕ) → (standing_at (begun_at graph) place).state ≢ Pending
+pending_none graph settled place is =
+    ⊎_elim
+    (λ (inside : place < length graph.objects). (settled place inside).settled (ap (λ (s : Standing). s.state) (started_at graph place inside) ∙ is))
+    (λ (past : length graph.objects ≤ place).
+    let long : length (map (λ (o : Object). standing_of o) graph.objects) ≡ length graph.objects = length-map graph.objects (λ (o : Object). standing_of o) in
+    let since : standing_at (begun_at graph) place ≡ made_since = get_or_past (begun_at graph).standings place made_since (omega (arith, long, past)) in
+    let h : made_since.state ≡ Pending = sym (ap (λ (s : Standing). s.state) since) ∙ is in
+    absurd cc)
+    (cases_lt place (length graph.objects))
+
+-- where nothing is pending or to be deleted, and what is known of objects is what the tables have, a scope may begin
+pub scope_begun : (mapped : Mapped) (graph : Graph) (frames : Framed) (depth : ℕ) (tables : Tables) → EachObject IsSettled graph → EachObject (IsFresh mapped tables) graph → Legal mapped.schema tables
+    → IsSoundScope mapped graph frames depth (begun_at graph) tables
+scope_begun mapped graph frames depth tables settled fresh legal = record {
+  legal = legal;
+  few = omega (arith, length-map graph.objects (λ (o : Object). standing_of o));
+  settled = pending_none graph settled;
+  untouched = λ place less is. record { stands = started_at graph place less; unmarked = (settled place less).unmarked; fresh = fresh place less };
+}
+
+none_sound : (mapped : Mapped) (graph : Graph) (frames : Framed) (scopes : List Scope) (starts : List Tables) → scopes ≡ [] → starts ≡ [] → AreSoundScopes mapped graph frames scopes starts
+none_sound mapped graph frames [] [] none outside = tt
+none_sound mapped graph frames [] (tables ∷ starts) none outside = absurd cc
+none_sound mapped graph frames (scope ∷ scopes) starts none outside = absurd cc
+
+begun_sound : (own : SessionState) (store : Store) (events : List Event) → own.frames.scopes ≡ [] → IsSound (record { own = own; store = store })
+    → IsSound (record { own = session_begun (with_notes events own); store = record { tables = store.tables; scopes = store.tables ∷ store.scopes } })
+begun_sound own store events none sound =
+    let rest : EachObject IsAtRest own.graph = at_rest own.graph own.frames.scopes none sound.rest in
+    let frames : Framed = (session_begun (with_notes events own)).frames in
+    record {
+      graph = sound.graph;
+      legal = sound.legal;
+      fresh = sound.fresh;
+      marked = sound.marked;
+      scopes = (
+        scope_begun own.mapping own.graph frames (length (begun_at own.graph ∷ own.frames.scopes)) store.tables (λ place less. record { settled = (rest place less).settled; unmarked = (rest place less).unmarked }) sound.fresh sound.legal,
+        none_sound own.mapping own.graph frames own.frames.scopes store.scopes none (no_starts own.mapping own.graph own.frames own.frames.scopes store.scopes none sound.scopes),
+      );
+      rest = tt;
+    }
+
+-- ---- the call
+
+-- the session and the store once the transaction began, unless it had begun
+after_begin : Bool → World → World
+after_begin true w = w
+after_begin false w = record { own = session_begun (with_notes (call.begin w.store).events w.own); store = (call.begin w.store).after }
+
+begin_is : (begun : Bool) (w : World) → (begin_unless begun w).after ≡ after_begin begun w
+unfolding after_begin ◌>>=◌ give changes on_store call.begin
+begin_is true w = refl
+begin_is false w = refl
+
+after_enter : Bool → World → World
+after_enter true w = w
+after_enter false w = after_begin (in_transaction w.own) w
+
+unless_is : (failed : Bool) (w : World) → ((unless (fault_if failed PendingRollbackError) >>= λ u. by_own (λ session. begin_unless (in_transaction session))) w).after ≡ after_enter failed w
+unfolding after_enter ◌>>=◌ give refuse by_own
+unless_is true w = refl
+unless_is false w = begin_is (in_transaction w.own) w
+
+enter_is : (w : World) → (enter w).after ≡ after_enter w.own.failed w
+unfolding enter checked by_own ◌>>=◌
+enter_is w = unless_is w.own.failed w
+
+begin_sound : (begun : Bool) (w : World) → in_transaction w.own ≡ begun → IsSound w → IsSound (after_begin begun w)
+unfolding after_begin call.begin
+begin_sound true w is sound = sound
+begin_sound false w is sound = begun_sound w.own w.store (call.begin w.store).events (no_scope_open w.own.frames.scopes is) sound
+
+enter_with : (failed : Bool) (w : World) → IsSound w → IsSound (after_enter failed w)
+unfolding after_enter
+enter_with true w sound = sound
+enter_with false w sound = begin_sound (in_transaction w.own) w refl sound
+
+pub enter_sound : KeepsSound enter
+enter_sound w sound = subst IsSound (sym (enter_is w)) (enter_with w.own.failed w sound)
+
+-- ---- once it began
+
+begun_open : (begun : Bool) (w : World) → in_transaction w.own ≡ begun → has_scope (after_begin begun w).own.frames.scopes ≡ true
+unfolding after_begin
+begun_open true w is = is
+begun_open false w is = refl
+
+answer_open : (failed : Bool) (w : World) (u : Unit {0}) → ((unless (fault_if failed PendingRollbackError) >>= λ u. by_own (λ session. begin_unless (in_transaction session))) w).answer ≡ Ok u → has_scope (after_enter failed w).own.frames.scopes ≡ true
+unfolding after_enter ◌>>=◌ give refuse by_own
+answer_open true w u is = absurd cc
+answer_open false w u is = begun_open (in_transaction w.own) w refl
+
+-- it is in progress
+pub entered_open : (w : World) (u : Unit {0}) → (enter w).answer ≡ Ok u → has_scope (enter w).after.own.frames.scopes ≡ true
+unfolding enter checked by_own ◌>>=◌
+entered_open w u is = subst (λ (v : World). has_scope v.own.frames.scopes ≡ true) (sym (enter_is w)) (answer_open w.own.failed w u is)
+
+begun_graph : (begun : Bool) (w : World) → (after_begin begun w).own.graph ≡ w.own.graph
+unfolding after_begin
+begun_graph true w = refl
+begun_graph false w = refl
+
+graph_then : (failed : Bool) (w : World) → (after_enter failed w).own.graph ≡ w.own.graph
+unfolding after_enter
+graph_then true w = refl
+graph_then false w = begun_graph (in_transaction w.own) w
+
+-- and the objects are as they were
+pub entered_graph : (w : World) → (enter w).after.own.graph ≡ w.own.graph
+entered_graph w = ap (λ (v : World). v.own.graph) (enter_is w) ∙ graph_then w.own.failed w

@@ -1,0 +1,8 @@
+pub mod Beginning
+mod Touches
+mod Changes
+mod Programs
+pub mod Objects
+pub mod Adding
+mod Everyone
+pub mod Ending

@@ -1,0 +1,105 @@
+-- When a session that is told is sound: what its objects hold is what the store has.
+use Rattle.std.specs.Prelude.{◌≡◌, ◌≢◌, ℕ, ◌<◌, ◌≤◌, true, false, List, [], ◌∷◌, length, slice_get, slice_index_or, Option, None, Some}
+use Rattle.std.specs.Option.{option_and_then}
+use Rattle.base_core.specs.declared.value.Value.{Value}
+use Rattle.class_types.specs.declared.mapped.Attribute.{Attribute}
+use Rattle.class_mapping.specs.Mapped.{Mapped, attribute_of}
+use Rattle.schema_core.specs.Tables.{Legal, Tables, row_under, rows_in}
+use Rattle.object_arena.specs.declared.object.Object.{Object}
+use Rattle.object_arena.specs.declared.object.State.TheVariants.{Pending}
+use Rattle.object_arena.specs.Graph.{Graph, IsObject, cell_in, expired_cell, is_persistent, no_object}
+use Rattle.object_arena.specs.Identity.{IsGraph}
+use Rattle.base_core.specs.declared.ids.AttrNo.{AttrNo}
+use Rattle.base_core.specs.declared.ids.ObjId.{ObjId}
+use Rattle.programs.specs.Beside.{Beside}
+use Rattle.programs.specs.Programs.{Run}
+use Rattle.savepoints.specs.declared.scope.Scope.{Scope}
+use Rattle.savepoints.specs.declared.scope.Standing.{Standing}
+use Rattle.savepoints.specs.Scopes.{Framed, is_touched, standing_at, standing_of}
+use Rattle.session_scopes.specs.SessionState.{SessionState}
+
+-- what the tables have in the column of an object's cell
+abbrev pub in_row : Attribute → Option (List Value) → Option Value
+in_row attribute None = None
+in_row attribute (Some row) = slice_get row attribute.column.0
+
+-- the row under the object's key in the attribute's table
+abbrev pub row_for : Tables → Attribute → Option (List Value) → Option (List Value)
+row_for tables attribute None = None
+row_for tables attribute (Some key) = option_and_then (λ rows. row_under rows key) (rows_in tables attribute.table)
+
+-- a cell whose base is known has the base that stands in the row of this key, which is there
+abbrev pub IsFreshCell : Mapped → Tables → Object → Option (List Value) → AttrNo → Type 0
+IsFreshCell mapped tables object key attr =
+    (base : Value) → (cell_in object attr).base ≡ Some base → in_row (attribute_of mapped object.class attr) (row_for tables (attribute_of mapped object.class attr) key) ≡ Some base
+
+abbrev pub IsFreshUnder : Mapped → Tables → Object → Option (List Value) → Type 0
+IsFreshUnder mapped tables object key = (attr : AttrNo) → attr.0 < length object.cells → IsFreshCell mapped tables object key attr
+
+-- the bases of a persistent object are those of its rows
+abbrev pub IsFresh : Mapped → Tables → Object → Type 0
+IsFresh mapped tables object = is_persistent object.state ≡ true → IsFreshUnder mapped tables object object.identity
+
+-- what holds of each object of a graph
+abbrev pub EachObject : (Object → Type 0) → Graph → Type 0
+EachObject P graph = (place : ℕ) → place < length graph.objects → P (slice_index_or graph.objects place no_object)
+
+-- an object that was not touched since a scope's start stands as it stood then, has no delete mark, and what is known of its rows
+-- is what they held then
+pub record IsAsAtStart (mapped : Mapped) (tables : Tables) (start : Standing) (object : Object) : Type 0 where
+  pub stands : standing_of object ≡ start
+  pub unmarked : object.marked ≡ false
+  pub fresh : IsFresh mapped tables object
+
+-- what holds of the scope at a depth, with the tables at its start: nothing was pending then, and each object that was touched
+-- neither in it nor inside it is as it was
+pub record IsSoundScope (mapped : Mapped) (graph : Graph) (frames : Framed) (depth : ℕ) (scope : Scope) (tables : Tables) : Type 0 where
+  pub legal : Legal mapped.schema tables
+  pub few : length scope.standings ≤ length graph.objects
+  pub settled : (place : ℕ) → (standing_at scope place).state ≢ Pending
+  pub untouched : (place : ℕ) → place < length graph.objects → is_touched frames depth place ≡ false
+      → IsAsAtStart mapped tables (standing_at scope place) (slice_index_or graph.objects place no_object)
+
+-- the scopes, the innermost first, each with the tables that the store has of its start
+abbrev pub AreSoundScopes : Mapped → Graph → Framed → List Scope → List Tables → Type 0
+AreSoundScopes mapped graph frames [] [] = Unit {0}
+AreSoundScopes mapped graph frames (scope ∷ scopes) (tables ∷ starts) =
+    IsSoundScope mapped graph frames (length (scope ∷ scopes)) scope tables × AreSoundScopes mapped graph frames scopes starts
+AreSoundScopes mapped graph frames scopes starts = ⊥
+
+-- only persistent objects have a delete mark
+abbrev pub IsMarkedRight : Object → Type 0
+IsMarkedRight object = object.marked ≡ true → is_persistent object.state ≡ true
+
+-- an object with nothing to be written: it is not pending, and has no delete mark
+pub record IsSettled (object : Object) : Type 0 where
+  pub settled : object.state ≢ Pending
+  pub unmarked : object.marked ≡ false
+
+-- outside transactions nothing is pending or marked, and every persistent object is wholly expired
+pub record IsAtRest (object : Object) : Type 0 where
+  pub settled : object.state ≢ Pending
+  pub unmarked : object.marked ≡ false
+  pub expired : is_persistent object.state ≡ true → (attr : AttrNo) → attr.0 < length object.cells → cell_in object attr ≡ expired_cell
+
+-- outside transactions objects are at rest
+abbrev pub RestIf : List Scope → Graph → Type 0
+RestIf [] graph = EachObject IsAtRest graph
+RestIf (scope ∷ scopes) graph = Unit {0}
+
+-- a told session is sound
+pub record IsSound (world : Beside SessionState) : Type 0 where
+  pub graph : IsGraph world.own.graph.objects world.own.graph.roots
+  pub legal : Legal world.own.mapping.schema world.store.tables
+  pub fresh : EachObject (IsFresh world.own.mapping world.store.tables) world.own.graph
+  pub marked : EachObject IsMarkedRight world.own.graph
+  pub scopes : AreSoundScopes world.own.mapping world.own.graph world.own.frames world.own.frames.scopes world.store.scopes
+  pub rest : RestIf world.own.frames.scopes world.own.graph
+
+-- a program keeps a sound session sound, whatever it answers
+abbrev pub KeepsSound : {A : Type 0} → (Beside SessionState → Run (Beside SessionState) A) → Type 0
+KeepsSound m = (world : Beside SessionState) → IsSound world → IsSound (m world).after
+
+-- a program on an object keeps a sound session sound, where the object has been made
+abbrev pub KeepsSoundOf : {A : Type 0} → (ObjId → Beside SessionState → Run (Beside SessionState) A) → Type 0
+KeepsSoundOf m = (object : ObjId) (world : Beside SessionState) → IsObject world.own.graph object → IsSound world → IsSound (m object world).after
