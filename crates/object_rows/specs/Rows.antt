@@ -1,5 +1,5 @@
 -- The rows that objects make, change and take away.
-use Rattle.std.specs.Prelude.{ℕ, ◌-◌, Bool, true, false, not, ◌&&◌, ◌==◌, List, [], ◌∷◌, map, take, slice_get, Option, None, Some, if◌then◌else◌}
+use Rattle.std.specs.Prelude.{ℕ, ◌-◌, Bool, false, not, ◌&&◌, ◌==◌, List, [], map, take, slice_get, Option, None, Some, if◌then◌else◌}
 use Rattle.std.specs.List.{count_by, enumerate_from, filter, filter_map, flat_map, position}
 use Rattle.std.specs.Option.{option_and_then}
 use Rattle.std.specs.Ordering.{is_eq}

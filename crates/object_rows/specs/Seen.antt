@@ -1,7 +1,9 @@
 -- The objects of a graph as a flush finds them once it is prepared.
-use Rattle.std.specs.Prelude.{Bool, true, false, not, ◌&&◌, ◌||◌, ◌==◌, List, [], map, fold, length, slice_index_or, Option, None, Some, if◌then◌else◌}
+use Rattle.std.specs.Prelude.{◌≡◌, ℕ, Bool, true, false, not, ◌&&◌, ◌||◌, ◌==◌, List, [], map, fold, length, slice_index_or, Option, None, Some, if◌then◌else◌}
 use Rattle.std.specs.List.{All, list_any, range_with_len}
 use Rattle.std.specs.BTreeMap.{insert_entry}
+use Rattle.std.specs.BTreeSet.{BTreeSet, contains}
+use Rattle.std.specs.Ordering.{nat_cmp}
 use Rattle.std.specs.Map.{values_of}
 use Rattle.base_core.specs.declared.ids.ObjId.{ObjId}
 use Rattle.base_core.specs.declared.ids.RelNo.{RelNo}
@@ -26,6 +28,10 @@ keeps_rows graph prepared object = is_persistent (object_at graph object).state 
 
 abbrev pub is_in_session : Graph → Prepared → ObjId → Bool
 is_in_session graph prepared object = is_persistent (object_at graph object).state || is_new graph prepared object
+
+-- a set has the numbers of the objects, and no others
+abbrev pub AreNumbers : List ObjId → BTreeSet ℕ → Type 0
+AreNumbers objects numbers = (number : ℕ) → contains nat_cmp numbers number ≡ list_any (λ (other : ObjId). other.0 == number) objects
 
 -- the objects that are to be deleted have been made
 abbrev pub AreMade : Graph → Prepared → Type 0

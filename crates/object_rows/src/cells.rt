@@ -211,7 +211,7 @@ impl<'a> Projection<'a> {
 
     #[tactic(auto, using(class_layouts::proofs::Steps::steps, object_arena::proofs::FitLemmas::fit_class))]
     /// What the changed links of an object give the column of a name in a table. The only refusal is `Memory`.
-    pub(crate) fn linked_cell(
+    pub fn linked_cell(
         &self,
         object: ObjId,
         table: TableId,

@@ -10,6 +10,7 @@ mod late;
 mod names;
 mod places;
 mod prepared;
+mod sets;
 mod standing;
 
 pub use cells::Projection;
@@ -20,4 +21,8 @@ pub use late::late_keys;
 pub use names::{new_names, object_ids};
 pub use places::RowNames;
 pub use prepared::Prepared;
-pub use standing::{end_put, is_among, is_in_session, is_new, keeps_rows, part_of_key};
+pub use sets::numbers_of;
+pub use standing::{
+    end_put, is_among, is_cleared, is_in_session, is_new, is_new_beside, keeps_rows,
+    keeps_rows_beside, part_of_key,
+};

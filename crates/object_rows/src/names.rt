@@ -12,12 +12,13 @@ ghost use Rattle.object_rows.specs.Seen as spec;
 
 use crate::places::RowNames;
 use crate::prepared::Prepared;
-use crate::standing::{is_new, keeps_rows};
+use crate::sets::numbers_of;
+use crate::standing::{is_new_beside, keeps_rows_beside};
 use base_core::{ObjId, Refusal, RowName, TableId};
 use class_mapping::Mapping;
 use object_arena::Arena;
 use std::alloc::Global;
-use std::collections::BTreeMap;
+use std::collections::{BTreeMap, BTreeSet};
 
 /// The new objects by add number, and then by number.
 type Queue = BTreeMap<(u64, u32), ObjId>;
@@ -40,15 +41,17 @@ pub fn object_ids(alloc: Global, arena: &Arena) -> Result<Vec<ObjId>, Refusal>
 fn put_in_queue(
     arena: &Arena,
     prepared: &Prepared,
+    transient: &BTreeSet<u32>,
     queue: &mut Queue,
     object: ObjId,
 ) -> Result<(), Refusal>
-    requires { IsObject arena.now object }
+    requires object { IsObject arena.now object }
+    requires numbers { spec.AreNumbers prepared.now.transient transient.now }
     ensures put { OnOk result (queue.new.entries
         ≡ spec.with_queued arena.now prepared.now queue.old.entries object) }
     ensures cause { IfErr result (λ e. e ≡ Memory) }
 {
-    if is_new(arena, prepared, object) {
+    if is_new_beside(arena, prepared, transient, object) {
         queue.insert((arena.object(object).added, object.0), object)?;
     }
     Ok(())
@@ -61,10 +64,11 @@ fn queue(alloc: Global, arena: &Arena, prepared: &Prepared) -> Result<Queue, Ref
         ≡ fold (spec.with_queued arena.now prepared.now) [] (spec.object_ids arena.now)) }
     ensures cause { IfErr result (λ e. e ≡ Memory) }
 {
+    let transient = numbers_of(alloc, &prepared.transient)?;
     let ids = object_ids(alloc, arena)?;
     let mut queue = BTreeMap::new(alloc);
     for object in &ids {
-        put_in_queue(arena, prepared, &mut queue, *object)?;
+        put_in_queue(arena, prepared, &transient, &mut queue, *object)?;
     }
     Ok(queue)
 }
@@ -97,10 +101,11 @@ fn kept_list(alloc: Global, arena: &Arena, prepared: &Prepared) -> Result<Vec<Ob
         ≡ filter (spec.keeps_rows arena.now prepared.now) (spec.object_ids arena.now)) }
     ensures cause { IfErr result (λ e. e ≡ Memory) }
 {
+    let deleted = numbers_of(alloc, &prepared.deleted)?;
     let ids = object_ids(alloc, arena)?;
     let mut kept = Vec::new(alloc);
     for object in &ids {
-        if keeps_rows(arena, prepared, *object) {
+        if keeps_rows_beside(arena, prepared, &deleted, *object) {
             kept.push(*object)?;
         }
     }

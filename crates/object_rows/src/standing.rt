@@ -12,6 +12,7 @@ ghost use Rattle.object_rows.specs.Cells.{key_value};
 use crate::prepared::Prepared;
 use base_core::{Copied, Key, ObjId, ObjList, Refusal, RelNo, Value};
 use object_arena::{Arena, Link, State};
+use std::collections::BTreeSet;
 
 /// An object's state; one that has not been made is transient.
 fn state_of(arena: &Arena, object: ObjId) -> State
@@ -57,6 +58,32 @@ pub fn keeps_rows(arena: &Arena, prepared: &Prepared, object: ObjId) -> bool
     is_persistent(state_of(arena, object)) && !is_among(&prepared.deleted, object)
 }
 
+/// Whether an object's rows are to be made, where the numbers of the objects that are to be transient are known.
+pub fn is_new_beside(
+    arena: &Arena,
+    prepared: &Prepared,
+    transient: &BTreeSet<u32>,
+    object: ObjId,
+) -> bool
+    requires { spec.AreNumbers prepared.now.transient transient.now }
+    ensures { result ≡ spec.is_new arena.now prepared.now object }
+{
+    is_pending(state_of(arena, object)) && !transient.contains(&object.0)
+}
+
+/// Whether an object has rows, and keeps them, where the numbers of the objects that are to be deleted are known.
+pub fn keeps_rows_beside(
+    arena: &Arena,
+    prepared: &Prepared,
+    deleted: &BTreeSet<u32>,
+    object: ObjId,
+) -> bool
+    requires { spec.AreNumbers prepared.now.deleted deleted.now }
+    ensures { result ≡ spec.keeps_rows arena.now prepared.now object }
+{
+    is_persistent(state_of(arena, object)) && !deleted.contains(&object.0)
+}
+
 /// Whether an object is in the session.
 pub fn is_in_session(arena: &Arena, prepared: &Prepared, object: ObjId) -> bool
     ensures { result ≡ spec.is_in_session arena.now prepared.now object }
@@ -85,7 +112,7 @@ fn changed_end(link: &Link) -> Option<Option<ObjId>>
 }
 
 /// Whether an object's link is to become none.
-fn is_cleared(prepared: &Prepared, object: ObjId, relation: RelNo) -> bool
+pub fn is_cleared(prepared: &Prepared, object: ObjId, relation: RelNo) -> bool
     ensures { result ≡ spec.is_cleared prepared.now object relation }
 {
     prepared.cleared.as_slice().iter().any(|cleared| cleared.0.0 == object.0
