@@ -29,6 +29,7 @@ use Rattle.session_objects.proofs.ConflictLemmas.{may_return}
 use Rattle.session_objects.proofs.TakingLemmas.{identity_left, state_left}
 use Rattle.session_laws.specs.Sound.{IsFresh, IsSound, KeepsSoundOf}
 use Rattle.session_laws.proofs.Changes.{object_of, one_changed}
+use Rattle.session_laws.proofs.Everyone.{identified_as}
 use Rattle.session_laws.proofs.Objects.{made_there, stands_kept}
 use Rattle.session_laws.proofs.Programs.{checked_then, entered_then}
 
@@ -71,12 +72,6 @@ taken_fresh mapped tables Deleted number o fresh = fresh
 taken_fresh mapped tables Detached number o fresh = fresh_unknown mapped tables (object_unmarked (returned_object o)) (returned_bases o)
 
 -- ---- one object for each key
-
-identified_as : (o : Object) (state : State) → o.state ≡ state → has_identity state ≡ true → is_identified o ≡ true → is_some o.identity ≡ true
-identified_as o state is has identified =
-    let P : State → Type 0 = λ s. (if has_identity s then is_some o.identity else not (is_some o.identity)) ≡ true in
-    let here : (if has_identity state then is_some o.identity else not (is_some o.identity)) ≡ true = subst P is identified in
-    subst (λ (b : Bool). (if b then is_some o.identity else not (is_some o.identity)) ≡ true) has here
 
 persists_as : (o : Object) → o.state ≡ Persistent → is_some o.identity ≡ true → is_identified o ≡ true
 persists_as o is some = subst (λ (s : State). (if has_identity s then is_some o.identity else not (is_some o.identity)) ≡ true) (sym is) some

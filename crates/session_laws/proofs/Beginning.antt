@@ -1,13 +1,14 @@
 -- A session is sound at its beginning, and where its transaction begins.
-use Rattle.std.proofs.Common.{◌≡◌, ◌≢◌, ℕ, ◌<◌, ◌≤◌, Bool, true, false, List, [], ◌∷◌, length, map, get_or, Ok, refl, sym, ap, ◌∙◌, subst, ⊎_elim, arith}
+use Rattle.std.proofs.Common.{◌≡◌, ◌≢◌, ℕ, ◌<◌, ◌≤◌, Bool, true, false, List, [], ◌∷◌, length, map, get_or, zero, suc, Ok, refl, sym, ap, ◌∙◌, subst, ⊎_elim, arith}
 use Rattle.std.proofs.lemmas.Bool.{cases_lt}
-use Rattle.std.proofs.lemmas.List.{get_or-map, get_or_past, length-map}
+use Rattle.std.proofs.lemmas.List.{get_or_past, length-map}
 use Rattle.base_core.specs.declared.refusal.Refusal.TheVariants.{PendingRollbackError}
 use Rattle.class_mapping.specs.Mapped.{Mapped}
 use Rattle.keeper_core.specs.Calls as call
 use Rattle.object_arena.specs.declared.object.Object.{Object}
-use Rattle.object_arena.specs.declared.object.State.TheVariants.{Pending}
-use Rattle.object_arena.specs.Graph.{Graph, no_object}
+use Rattle.object_arena.specs.declared.object.State.TheVariants.{Pending, Transient}
+use Rattle.object_arena.specs.Graph.{Graph, no_class_id, no_object}
+use Rattle.object_arena.specs.Identity.{IsGraph, holds, is_identified}
 use Rattle.programs.specs.Store.{Store}
 use Rattle.programs.specs.Programs.{Event, ◌>>=◌, give, refuse}
 use Rattle.programs.specs.Beside.{by_own, changes, on_store}
@@ -21,7 +22,7 @@ use Rattle.session_scopes.specs.SessionState.{SessionState, in_transaction, new_
 use Rattle.session_calls.specs.Parts.{World, checked, fault_if, unless}
 use Rattle.session_calls.specs.Steps.{begin_unless, enter}
 use Rattle.session_calls.proofs.Acting.{no_scope_open}
-use Rattle.session_laws.specs.Sound.{AreSoundScopes, EachObject, IsAtRest, IsFresh, IsSettled, IsSound, IsSoundScope, KeepsSound, RestIf}
+use Rattle.session_laws.specs.Sound.{AreSoundScopes, EachObject, as_object, IsAtRest, IsFresh, IsSettled, IsSound, IsSoundScope, KeepsSound, RestIf}
 
 -- ---- a new session
 
@@ -46,28 +47,42 @@ at_rest : (graph : Graph) (scopes : List Scope) → scopes ≡ [] → RestIf sco
 at_rest graph [] none rest = rest
 at_rest graph (scope ∷ scopes) none rest = absurd cc
 
-started_at : (graph : Graph) (place : ℕ) → place < length graph.objects → standing_of (get_or graph.objects place no_object) ≡ standing_at (begun_at graph) place
-started_at graph place less = sym (get_or-map (λ object. standing_of object) graph.objects place no_object made_since less)
+-- where each object stands when a scope begins
+started_in : (objects : List Object) (place : ℕ) → get_or (map (λ object. standing_of object) objects) place made_since ≡ standing_of (get_or objects place no_object)
+started_in [] place = refl
+started_in (o ∷ objects) zero = refl
+started_in (o ∷ objects) (suc place) = started_in objects place
+
+started_at : (graph : Graph) (place : ℕ) → standing_at (begun_at graph) place ≡ standing_of (get_or graph.objects place no_object)
+started_at graph place = started_in graph.objects place
 
 pending_none : (graph : Graph) → EachObject IsSettled graph → (place : ℕ) → (standing_at (begun_at graph) place).state ≢ Pending
 pending_none graph settled place is =
+    let there : (get_or graph.objects place no_object).state ≡ Pending = sym (ap (λ (s : Standing). s.state) (started_at graph place)) ∙ is in
     ⊎_elim
-    (λ (inside : place < length graph.objects). (settled place inside).settled (ap (λ (s : Standing). s.state) (started_at graph place inside) ∙ is))
-    (λ (past : length graph.objects ≤ place).
-    let long : length (map (λ (o : Object). standing_of o) graph.objects) ≡ length graph.objects = length-map graph.objects (λ (o : Object). standing_of o) in
-    let since : standing_at (begun_at graph) place ≡ made_since = get_or_past (begun_at graph).standings place made_since (omega (arith, long, past)) in
-    let h : made_since.state ≡ Pending = sym (ap (λ (s : Standing). s.state) since) ∙ is in
-    absurd cc)
+    (λ (inside : place < length graph.objects). (settled place inside).settled there)
+    (λ (past : length graph.objects ≤ place). let h : Transient ≡ Pending = sym (ap (λ (o : Object). o.state) (get_or_past graph.objects place no_object past)) ∙ there in absurd cc)
+    (cases_lt place (length graph.objects))
+
+identified_all : (graph : Graph) → IsGraph graph.objects graph.roots → (place : ℕ) → is_identified (get_or graph.objects place no_object) ≡ true
+identified_all graph is place =
+    ⊎_elim
+    (λ (inside : place < length graph.objects). is.identified place no_object inside)
+    (λ (past : length graph.objects ≤ place). ap (λ (o : Object). is_identified o) (get_or_past graph.objects place no_object past))
     (cases_lt place (length graph.objects))
 
 -- where nothing is pending or to be deleted, and what is known of objects is what the tables have, a scope may begin
-pub scope_begun : (mapped : Mapped) (graph : Graph) (frames : Framed) (depth : ℕ) (tables : Tables) → EachObject IsSettled graph → EachObject (IsFresh mapped tables) graph → Legal mapped.schema tables
+pub scope_begun : (mapped : Mapped) (graph : Graph) (frames : Framed) (depth : ℕ) (tables : Tables) → IsGraph graph.objects graph.roots → EachObject IsSettled graph → EachObject (IsFresh mapped tables) graph → Legal mapped.schema tables
     → IsSoundScope mapped graph frames depth (begun_at graph) tables
-scope_begun mapped graph frames depth tables settled fresh legal = record {
+scope_begun mapped graph frames depth tables is settled fresh legal = record {
   legal = legal;
   few = omega (arith, length-map graph.objects (λ (o : Object). standing_of o));
   settled = pending_none graph settled;
-  untouched = λ place less is. record { stands = started_at graph place less; unmarked = (settled place less).unmarked; fresh = fresh place less };
+  identified = λ place. ap (λ (s : Standing). is_identified (as_object s)) (started_at graph place) ∙ identified_all graph is place;
+  apart = λ root key i j one other.
+      let Held : ℕ → Standing → Type 0 = λ k s. holds root key (as_object s, get_or graph.roots k no_class_id) ≡ true in
+      is.one root key i j (subst (Held i) (started_at graph i) one) (subst (Held j) (started_at graph j) other);
+  untouched = λ place less is. record { stands = sym (started_at graph place); unmarked = (settled place less).unmarked; fresh = fresh place less };
 }
 
 none_sound : (mapped : Mapped) (graph : Graph) (frames : Framed) (scopes : List Scope) (starts : List Tables) → scopes ≡ [] → starts ≡ [] → AreSoundScopes mapped graph frames scopes starts
@@ -86,7 +101,7 @@ begun_sound own store events none sound =
       fresh = sound.fresh;
       marked = sound.marked;
       scopes = (
-        scope_begun own.mapping own.graph frames (length (begun_at own.graph ∷ own.frames.scopes)) store.tables (λ place less. record { settled = (rest place less).settled; unmarked = (rest place less).unmarked }) sound.fresh sound.legal,
+        scope_begun own.mapping own.graph frames (length (begun_at own.graph ∷ own.frames.scopes)) store.tables sound.graph (λ place less. record { settled = (rest place less).settled; unmarked = (rest place less).unmarked }) sound.fresh sound.legal,
         none_sound own.mapping own.graph frames own.frames.scopes store.scopes none (no_starts own.mapping own.graph own.frames own.frames.scopes store.scopes none sound.scopes),
       );
       rest = tt;

@@ -1,13 +1,14 @@
 -- Where every object changes, one object for each key is left, if none becomes persistent or gets another identity.
-use Rattle.std.proofs.Common.{◌≡◌, ℕ, ◌<◌, true, ◌&&◌, List, length, get_or, sym, ap, ◌∙◌, subst, arith}
-use Rattle.std.specs.Prelude.{◌==◌}
+use Rattle.std.proofs.Common.{◌≡◌, ℕ, Bool, ◌<◌, true, ◌&&◌, List, length, get_or, sym, ap, ◌∙◌, subst, arith}
+use Rattle.std.specs.Prelude.{◌==◌, if◌then◌else◌, is_some, not}
 use Rattle.std.proofs.lemmas.Bool.{and_from, and_parts}
 use Rattle.std.proofs.lemmas.List.{get_or-map, length-map}
 use Rattle.base_core.specs.declared.ids.ClassId.{ClassId}
 use Rattle.base_core.specs.declared.value.Value.{Value}
 use Rattle.object_arena.specs.declared.object.Object.{Object}
+use Rattle.object_arena.specs.declared.object.State.{State}
 use Rattle.object_arena.specs.Every.{each_object}
-use Rattle.object_arena.specs.Graph.{Graph, is_persistent, no_class_id, no_object}
+use Rattle.object_arena.specs.Graph.{Graph, has_identity, is_persistent, no_class_id, no_object}
 use Rattle.object_arena.specs.Identity.{IsGraph, has_key, holds, holds_at, is_identified}
 use Rattle.object_arena.proofs.GraphLemmas.{held_inside}
 use Rattle.session_laws.specs.Sound.{EachObject}
@@ -50,3 +51,10 @@ each_graph change graph keeps is = record {
       subst (λ (o : Object). is_identified o ≡ true) (sym (changed_at change graph place d within)) (keeps.identified (get_or graph.objects place no_object) (is.identified place no_object within));
   one = λ root key i j one other. is.one root key i j (held_there change graph root key i keeps one) (held_there change graph root key j keeps other);
 }
+
+-- an object of a state that has an identity has one
+pub identified_as : (o : Object) (state : State) → o.state ≡ state → has_identity state ≡ true → is_identified o ≡ true → is_some o.identity ≡ true
+identified_as o state is has identified =
+    let P : State → Type 0 = λ s. (if has_identity s then is_some o.identity else not (is_some o.identity)) ≡ true in
+    let here : (if has_identity state then is_some o.identity else not (is_some o.identity)) ≡ true = subst P is identified in
+    subst (λ (b : Bool). (if b then is_some o.identity else not (is_some o.identity)) ≡ true) has here

@@ -6,3 +6,4 @@ pub mod Objects
 pub mod Adding
 mod Everyone
 pub mod Ending
+pub mod Nesting

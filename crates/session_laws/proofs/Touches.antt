@@ -62,11 +62,11 @@ touched_passing graph test n (o ∷ objects) k frames depth first last is low hi
 
 -- ---- what is untouched
 
-not_true : (b : Bool) → (b ≡ true → ⊥) → b ≡ false
+pub not_true : (b : Bool) → (b ≡ true → ⊥) → b ≡ false
 not_true true never = absurd (never refl)
 not_true false never = refl
 
-other_answer : (b : Bool) → b ≡ false → b ≡ true → ⊥
+pub other_answer : (b : Bool) → b ≡ false → b ≡ true → ⊥
 other_answer b left right = let h : false ≡ true = sym left ∙ right in cc
 
 same_record : (old new : Graph) (place : ℕ) → differs old new (id_of_place place) ≡ false → get_or old.objects place no_object ≡ get_or new.objects place no_object

@@ -7,9 +7,10 @@ use Rattle.class_mapping.specs.Mapped.{Mapped, attribute_of}
 use Rattle.schema_core.specs.Tables.{Legal, Tables, row_under, rows_in}
 use Rattle.object_arena.specs.declared.object.Object.{Object}
 use Rattle.object_arena.specs.declared.object.State.TheVariants.{Pending}
-use Rattle.object_arena.specs.Graph.{Graph, IsObject, cell_in, expired_cell, is_persistent, no_object}
-use Rattle.object_arena.specs.Identity.{IsGraph}
+use Rattle.object_arena.specs.Graph.{Graph, IsObject, cell_in, expired_cell, is_persistent, no_class_id, no_object}
+use Rattle.object_arena.specs.Identity.{IsGraph, holds, is_identified}
 use Rattle.base_core.specs.declared.ids.AttrNo.{AttrNo}
+use Rattle.base_core.specs.declared.ids.ClassId.{ClassId}
 use Rattle.base_core.specs.declared.ids.ObjId.{ObjId}
 use Rattle.programs.specs.Beside.{Beside}
 use Rattle.programs.specs.Programs.{Run}
@@ -51,12 +52,23 @@ pub record IsAsAtStart (mapped : Mapped) (tables : Tables) (start : Standing) (o
   pub unmarked : object.marked ≡ false
   pub fresh : IsFresh mapped tables object
 
--- what holds of the scope at a depth, with the tables at its start: nothing was pending then, and each object that was touched
--- neither in it nor inside it is as it was
+-- an object that stands so
+abbrev pub as_object : Standing → Object
+as_object standing = record no_object { state = standing.state; identity = standing.identity }
+
+-- no two objects that stood at a scope's start were persistent under one root and key
+abbrev pub AreApart : List ClassId → Scope → Type 0
+AreApart roots scope = (root : ClassId) (key : List Value) (i j : ℕ) → holds root key (as_object (standing_at scope i), slice_index_or roots i no_class_id) ≡ true
+    → holds root key (as_object (standing_at scope j), slice_index_or roots j no_class_id) ≡ true → i ≡ j
+
+-- what holds of the scope at a depth, with the tables at its start: nothing was pending then, one object stood for each key, and
+-- each object that was touched neither in it nor inside it is as it was
 pub record IsSoundScope (mapped : Mapped) (graph : Graph) (frames : Framed) (depth : ℕ) (scope : Scope) (tables : Tables) : Type 0 where
   pub legal : Legal mapped.schema tables
   pub few : length scope.standings ≤ length graph.objects
   pub settled : (place : ℕ) → (standing_at scope place).state ≢ Pending
+  pub identified : (place : ℕ) → is_identified (as_object (standing_at scope place)) ≡ true
+  pub apart : AreApart graph.roots scope
   pub untouched : (place : ℕ) → place < length graph.objects → is_touched frames depth place ≡ false
       → IsAsAtStart mapped tables (standing_at scope place) (slice_index_or graph.objects place no_object)
 
@@ -99,6 +111,14 @@ pub record IsSound (world : Beside SessionState) : Type 0 where
 -- a program keeps a sound session sound, whatever it answers
 abbrev pub KeepsSound : {A : Type 0} → (Beside SessionState → Run (Beside SessionState) A) → Type 0
 KeepsSound m = (world : Beside SessionState) → IsSound world → IsSound (m world).after
+
+-- a program keeps those sound sessions sound of which something holds
+abbrev pub KeepsSoundWhere : {A : Type 0} → (Beside SessionState → Type 0) → (Beside SessionState → Run (Beside SessionState) A) → Type 0
+KeepsSoundWhere P m = (world : Beside SessionState) → P world → IsSound world → IsSound (m world).after
+
+-- nothing of any object is to be written, as it is behind a flush
+abbrev pub IsWritten : Beside SessionState → Type 0
+IsWritten world = EachObject IsSettled world.own.graph
 
 -- a program on an object keeps a sound session sound, where the object has been made
 abbrev pub KeepsSoundOf : {A : Type 0} → (ObjId → Beside SessionState → Run (Beside SessionState) A) → Type 0

@@ -1,13 +1,14 @@
 //! Sessions that are sound: what their objects hold is what the store has.
 
-ghost use Rattle.std.specs.Prelude.{[]};
+ghost use Rattle.std.specs.Prelude.{◌<◌, ℕ, [], length};
 ghost use Rattle.base_core.specs.declared.ids.AttrNo.{AttrNo};
 ghost use Rattle.base_core.specs.declared.value.Value.{Value};
 ghost use Rattle.class_mapping.specs.Mapped.{Mapped};
 ghost use Rattle.session_scopes.specs.SessionState.{new_session};
 ghost use Rattle.session_calls.specs.Steps as steps;
 ghost use Rattle.session_objects.specs.Steps as objects;
-ghost use Rattle.session_laws.specs.Sound.{IsSound, KeepsSound, KeepsSoundOf};
+ghost use Rattle.session_savepoints.specs.Steps as savepoints;
+ghost use Rattle.session_laws.specs.Sound.{IsSound, IsWritten, KeepsSound, KeepsSoundOf, KeepsSoundWhere};
 
 #[tactic(auto, using(crate::proofs::Beginning::new_sound))]
 /// A new session is sound beside a store without tables.
@@ -37,4 +38,17 @@ pub fn calls_on_objects_keep_sound()
 /// The close of a session leaves it sound.
 pub fn closing_keeps_sound()
     ensures { KeepsSound steps.close }
+{}
+
+/// Behind a flush, where nothing is to be written, the beginning of a savepoint keeps a session sound. The innermost savepoints end
+/// and leave it sound, as long as the transaction goes on.
+pub fn savepoints_keep_sound()
+    ensures begin { KeepsSoundWhere IsWritten savepoints.begin_savepoint }
+    ensures release { (count : ℕ) → KeepsSoundWhere
+        (λ world. count < length world.own.frames.scopes) (savepoints.release_many count) }
+{}
+
+/// Behind a flush, where nothing is to be written, the commit of the transaction leaves a session sound.
+pub fn committing_keeps_sound()
+    ensures { KeepsSoundWhere IsWritten savepoints.commit_transaction }
 {}
