@@ -1,5 +1,5 @@
 -- One more value, behind those that are given before.
-use Rattle.std.proofs.Common.{◌≡◌, List, [], ◌∷◌, ◌++◌, Result, Ok, Err, refl, sym, ap, append_assoc}
+use Rattle.std.proofs.Common.{◌≡◌, [], ◌∷◌, ◌++◌, Ok, Err, refl, sym, ap, append_assoc}
 use Rattle.base_core.specs.declared.ids.AttrNo.{AttrNo}
 use Rattle.base_core.specs.declared.value.Value.{Value}
 use Rattle.sql_semantics.specs.Checked.{Checked, ◌>>=◌}

@@ -8,6 +8,10 @@ use Rattle.sql_semantics.specs.Checked.{Checked, ◌>>=◌}
 use Rattle.script_types.specs.declared.command.Command.{Command}
 use Rattle.script_types.specs.declared.command.Command.TheVariants as line
 use Rattle.script_types.specs.declared.command.Term.{Term}
+use Rattle.script_types.specs.declared.select.SynBulk.{SynBulk}
+use Rattle.script_types.specs.declared.select.SynSelect.{SynSelect}
+use Rattle.script_resolve.specs.Bulks.{resolved_bulk}
+use Rattle.script_resolve.specs.Selects.{resolved_select}
 use Rattle.command_resolve.specs.declared.resolved.Resolved.{Resolved}
 use Rattle.command_resolve.specs.declared.resolved.Resolved.TheVariants as resolved
 use Rattle.command_resolve.specs.Attributes.{Giving, attribute_named, cells_of, class_named, unless_fault, value_fault}
@@ -33,8 +37,19 @@ resolved_show mapped names term member = object_of names term >>= resolved_show_
 abbrev pub id_of_term : Bindings → Term → Checked ObjId
 id_of_term names term = object_of names term >>= λ named. Ok named.0
 
+abbrev pub resolved_thing : Bindings → Term → Checked Resolved
+resolved_thing names term = shown_of names term >>= λ thing. Ok (resolved.Show thing)
+
 abbrev pub resolved_same : Bindings → Term → Term → Checked Resolved
 resolved_same names term other = id_of_term names term >>= λ first. (id_of_term names other >>= λ second. Ok (resolved.Same first second))
+
+-- the select of a line
+abbrev pub resolved_rows : Mapped → SynSelect → Checked Resolved
+resolved_rows mapped written = resolved_select mapped.schema written >>= λ select. Ok (resolved.Rows select)
+
+-- the bulk statement of a line
+abbrev pub resolved_statement : Mapped → SynBulk → Checked Resolved
+resolved_statement mapped written = resolved_bulk mapped.schema written >>= λ statement. Ok (resolved.Bulk statement)
 
 -- what the line asks for; its names are read in the order of the line, and kinds of values behind all of them
 abbrev pub resolve : Mapped → Bindings → Command → Checked Resolved
@@ -46,7 +61,7 @@ resolve mapped names (line.BeginNested name) = Ok (resolved.BeginNested name)
 resolve mapped names (line.SetValue term member value) = resolved_set mapped names term member value
 resolve mapped names (line.Add term) = id_of_term names term >>= λ object. Ok (resolved.Add object)
 resolve mapped names (line.Delete term) = id_of_term names term >>= λ object. Ok (resolved.Delete object)
-resolve mapped names (line.Show term) = shown_of names term >>= λ thing. Ok (resolved.Show thing)
+resolve mapped names (line.Show term) = resolved_thing names term
 resolve mapped names (line.ShowMember term member) = resolved_show mapped names term member
 resolve mapped names (line.State term) = id_of_term names term >>= λ object. Ok (resolved.State object)
 resolve mapped names (line.Same term other) = resolved_same names term other
@@ -54,4 +69,6 @@ resolve mapped names line.Flush = Ok resolved.Flush
 resolve mapped names (line.Commit name) = handle_if_named names name >>= λ number. Ok (resolved.Commit number)
 resolve mapped names (line.Rollback name) = handle_if_named names name >>= λ number. Ok (resolved.Rollback number)
 resolve mapped names line.Close = Ok resolved.Close
+resolve mapped names (line.Rows written) = resolved_rows mapped written
+resolve mapped names (line.Bulk written) = resolved_statement mapped written
 resolve mapped names other = Err NotBuilt

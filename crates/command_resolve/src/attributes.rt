@@ -1,11 +1,12 @@
 //! Classes and attributes by their names.
 
-ghost use Rattle.std.specs.Prelude.{◌≡◌, ◌<◌, length, true, None, Err, IfOk, IfSome};
+ghost use Rattle.std.specs.Prelude.{◌≡◌, ◌<◌, length, true, None, Err, IfErr, IfOk, IfSome};
 ghost use Rattle.std.specs.List.{position};
 ghost use Rattle.base_core.specs.Answers.{Gives};
 ghost use Rattle.schema_core.specs.Catalog.{same_name};
 ghost use Rattle.schema_core.specs.Refusals.{kind_fault};
 ghost use Rattle.class_mapping.specs.Mapped.{IsAttribute, IsClass};
+ghost use Rattle.script_resolve.specs.Refusals.{CanRefuse};
 ghost use Rattle.command_resolve.specs.Attributes as spec;
 
 use crate::terms::{unknown, wrong_kind};
@@ -22,6 +23,7 @@ use std::alloc::AllocError;
 /// `Unknown`, and `Memory`.
 pub(crate) fn class_named(mapping: &Mapping, name: &Name) -> Result<ClassId, Refusal>
     ensures class { Gives (λ class. class) result (spec.class_named mapping.now name.now) }
+    ensures cause { IfErr result CanRefuse }
     ensures declared { IfOk result (IsClass mapping.now) }
 {
     match mapping.find_class(name) {
@@ -61,6 +63,7 @@ pub(crate) fn attribute_named(
     requires class { IsClass mapping.now class }
     ensures attribute { Gives (λ attr. attr) result
         (spec.attribute_named mapping.now class name.now) }
+    ensures cause { IfErr result CanRefuse }
     ensures exists { IfOk result (IsAttribute mapping.now class) }
 {
     match place_of(mapping.attributes(class), name) {
@@ -71,7 +74,8 @@ pub(crate) fn attribute_named(
 
 /// Why a name stands for no attribute. The only error is that memory ran out.
 fn no_attribute(relations: &[Relation], name: &Name) -> Result<Refusal, AllocError>
-    ensures { IfOk result (λ e. spec.attribute_or_refusal relations.now name.now None ≡ Err e) }
+    ensures told { IfOk result (λ e. spec.attribute_or_refusal relations.now name.now None ≡ Err e) }
+    ensures cause { IfOk result CanRefuse }
 {
     if has_relation(relations, name) {
         return Ok(wrong_kind());
@@ -81,7 +85,8 @@ fn no_attribute(relations: &[Relation], name: &Name) -> Result<Refusal, AllocErr
 
 /// The kinds that are wanted and found, where a value goes to a place of another kind.
 fn kind_fault(wanted: Kind, found: Option<Kind>) -> Option<Refusal>
-    ensures { result ≡ kind_fault wanted found }
+    ensures fault { result ≡ kind_fault wanted found }
+    ensures cause { IfSome result CanRefuse }
 {
     let found = found?;
     if same_kind(wanted, found) {
@@ -100,7 +105,8 @@ pub(crate) fn value_fault(
     requires configured { mapping.now.configured ≡ true }
     requires class { IsClass mapping.now class }
     requires attr { IsAttribute mapping.now class attr }
-    ensures { result ≡ spec.value_fault mapping.now class attr value.now }
+    ensures fault { result ≡ spec.value_fault mapping.now class attr value.now }
+    ensures cause { IfSome result CanRefuse }
 {
     let wanted = mapping.attributes(class)[attr.0 as usize].kind;
     kind_fault(wanted, kind_of_value(value))

@@ -1,9 +1,10 @@
 //! The values of a new object.
 
-ghost use Rattle.std.specs.Prelude.{◌≡◌, [], true, None, IfOk};
+ghost use Rattle.std.specs.Prelude.{◌≡◌, [], true, None, IfErr, IfOk, IfSome};
 ghost use Rattle.std.specs.List.{All};
 ghost use Rattle.base_core.specs.Answers.{Gives};
 ghost use Rattle.class_mapping.specs.Mapped.{IsAttribute, IsClass};
+ghost use Rattle.script_resolve.specs.Refusals.{CanRefuse};
 ghost use Rattle.command_resolve.specs.Attributes as spec;
 
 use crate::attributes::{attribute_named, value_fault};
@@ -33,6 +34,7 @@ fn attribute_given(
     requires class { IsClass mapping.now class }
     ensures attribute { Gives (λ attr. attr) result
         (spec.attribute_given mapping.now class before.now name.now) }
+    ensures cause { IfErr result CanRefuse }
     ensures exists { IfOk result (IsAttribute mapping.now class) }
 {
     let attr = attribute_named(mapping, class, name)?;
@@ -54,6 +56,7 @@ fn cells_named(
     requires class { IsClass mapping.now class }
     ensures cells { Gives (λ cells. cells) result
         (spec.cells_behind mapping.now class [] given.now) }
+    ensures cause { IfErr result CanRefuse }
     ensures exist { IfOk result (All (λ cell. IsAttribute mapping.now class cell.0)) }
 {
     let mut cells = ListOf::new(alloc);
@@ -69,7 +72,8 @@ fn cells_fault(mapping: &Mapping, class: ClassId, cells: &[(AttrNo, Value)]) -> 
     requires configured { mapping.now.configured ≡ true }
     requires class { IsClass mapping.now class }
     requires exist { All (λ cell. IsAttribute mapping.now class cell.0) cells.now }
-    ensures { result ≡ spec.cells_fault mapping.now class cells.now }
+    ensures fault { result ≡ spec.cells_fault mapping.now class cells.now }
+    ensures cause { IfSome result CanRefuse }
 {
     for cell in cells {
         if let Some(fault) = value_fault(mapping, class, cell.0, &cell.1) {
@@ -93,6 +97,7 @@ pub(crate) fn cells_of(
     requires configured { mapping.now.configured ≡ true }
     requires class { IsClass mapping.now class }
     ensures cells { Gives (λ cells. cells) result (spec.cells_of mapping.now class given.now) }
+    ensures cause { IfErr result CanRefuse }
     ensures exist { IfOk result (All (λ cell. IsAttribute mapping.now class cell.0)) }
     ensures fit { IfOk result (λ cells. spec.cells_fault mapping.now class cells ≡ None) }
 {

@@ -1,7 +1,9 @@
 //! Lines of the script with numbers in the place of their names.
 
 use base_core::{AttrNo, ClassId, ListOf, Name, ObjId, Value};
+use expr_types::{Bulk, Select};
 use shell_parts::Bound;
+use sqlite_items::Boxed;
 
 /// What a line asks for.
 #[derive(Drop)]
@@ -38,4 +40,6 @@ pub enum Resolved {
     /// The number of a savepoint, or the whole transaction.
     Rollback(Option<u32>),
     Close,
+    Rows(Boxed<Select>),
+    Bulk(Boxed<Bulk>),
 }

@@ -1,15 +1,18 @@
 //! What a line asks for.
 
-ghost use Rattle.std.specs.Prelude.{◌≡◌, ℕ, List, true, IfOk};
+ghost use Rattle.std.specs.Prelude.{◌≡◌, ℕ, true, IfErr, IfOk};
 ghost use Rattle.base_core.specs.Answers.{Gives};
-ghost use Rattle.base_core.specs.declared.ids.ClassId.{ClassId};
 ghost use Rattle.class_mapping.specs.Mapped.{Mapped};
+ghost use Rattle.object_arena.specs.Graph.{Graph, IsObject};
+ghost use Rattle.sayable_lines.specs.Sayable.{IsSayable};
+ghost use Rattle.script_resolve.specs.Refusals.{CanRefuse};
 ghost use Rattle.command_resolve.specs.Resolving as spec;
-ghost use Rattle.command_resolve.specs.Standing.{AreOfDeclared, AreThere, IsMade, IsResolved};
+ghost use Rattle.command_resolve.specs.Standing.{AreOfDeclared, AreThere, IsOfResolving, IsResolved};
 
 use crate::attributes::{attribute_named, class_named, value_fault};
 use crate::cells::cells_of;
 use crate::resolved::Resolved;
+use crate::statements::{resolved_rows, resolved_statement};
 use crate::terms::{handle_if_named, object_of, shown_of};
 use base_core::{Copied, Name, ObjId, Refusal, Value};
 use class_mapping::Mapping;
@@ -28,8 +31,9 @@ fn resolved_new(
     requires configured { mapping.now.configured ≡ true }
     ensures line { Gives (λ line. line) result
         (spec.resolved_new mapping.now name.now class.now given.now) }
-    ensures stands { (classes : List ClassId) → (drawn : ℕ)
-        → IfOk result (IsResolved mapping.now classes drawn) }
+    ensures cause { IfErr result CanRefuse }
+    ensures stands { (graph : Graph) → (drawn : ℕ)
+        → IfOk result (IsResolved mapping.now graph drawn) }
 {
     let class = class_named(mapping, class)?;
     let cells = cells_of(alloc, mapping, class, given)?;
@@ -52,8 +56,9 @@ fn resolved_set(
     requires declared { AreOfDeclared mapping.now names.now }
     ensures line { Gives (λ line. line) result
         (spec.resolved_set mapping.now names.now term.now member.now value.now) }
-    ensures stands { (classes : List ClassId) → (drawn : ℕ) → AreThere classes drawn names.now
-        → IfOk result (IsResolved mapping.now classes drawn) }
+    ensures cause { IfErr result CanRefuse }
+    ensures stands { (graph : Graph) → (drawn : ℕ) → AreThere graph drawn names.now
+        → IfOk result (IsResolved mapping.now graph drawn) }
 {
     let (object, class) = object_of(names, term)?;
     let attr = attribute_named(mapping, class, member)?;
@@ -78,8 +83,9 @@ fn resolved_show(
     requires declared { AreOfDeclared mapping.now names.now }
     ensures line { Gives (λ line. line) result
         (spec.resolved_show mapping.now names.now term.now member.now) }
-    ensures stands { (classes : List ClassId) → (drawn : ℕ) → AreThere classes drawn names.now
-        → IfOk result (IsResolved mapping.now classes drawn) }
+    ensures cause { IfErr result CanRefuse }
+    ensures stands { (graph : Graph) → (drawn : ℕ) → AreThere graph drawn names.now
+        → IfOk result (IsResolved mapping.now graph drawn) }
 {
     let (object, class) = object_of(names, term)?;
     let attr = attribute_named(mapping, class, member)?;
@@ -89,19 +95,32 @@ fn resolved_show(
 /// An object that has been made.
 fn id_of_term(names: &Names, term: &Term) -> Result<ObjId, Refusal>
     ensures object { Gives (λ object. object) result (spec.id_of_term names.now term.now) }
-    ensures made { (classes : List ClassId) → (drawn : ℕ) → AreThere classes drawn names.now
-        → IfOk result (IsMade classes) }
+    ensures cause { IfErr result CanRefuse }
+    ensures made { (graph : Graph) → (drawn : ℕ) → AreThere graph drawn names.now
+        → IfOk result (IsObject graph) }
 {
     let (object, _class) = object_of(names, term)?;
     Ok(object)
+}
+
+/// What is shown of a thing that is bound.
+fn resolved_thing(alloc: Global, names: &Names, term: &Term) -> Result<Resolved, Refusal>
+    ensures line { Gives (λ line. line) result (spec.resolved_thing names.now term.now) }
+    ensures cause { IfErr result CanRefuse }
+    ensures stands { (mapped : Mapped) (graph : Graph) → (drawn : ℕ)
+        → AreOfDeclared mapped names.now → AreThere graph drawn names.now
+        → IfOk result (IsResolved mapped graph drawn) }
+{
+    Ok(Resolved::Show(shown_of(alloc, names, term)?))
 }
 
 /// Two objects that may be one.
 fn resolved_same(names: &Names, term: &Term, other: &Term) -> Result<Resolved, Refusal>
     ensures line { Gives (λ line. line) result
         (spec.resolved_same names.now term.now other.now) }
-    ensures stands { (mapped : Mapped) (classes : List ClassId) → (drawn : ℕ)
-        → AreThere classes drawn names.now → IfOk result (IsResolved mapped classes drawn) }
+    ensures cause { IfErr result CanRefuse }
+    ensures stands { (mapped : Mapped) (graph : Graph) → (drawn : ℕ)
+        → AreThere graph drawn names.now → IfOk result (IsResolved mapped graph drawn) }
 {
     let first = id_of_term(names, term)?;
     let second = id_of_term(names, other)?;
@@ -113,7 +132,8 @@ fn resolved_same(names: &Names, term: &Term, other: &Term) -> Result<Resolved, R
 /// # Errors
 /// `Unknown` of the first name that is not bound, or that no class or attribute has; `WrongKind` of the first that stands for
 /// something else than its place wants, or that is given twice; then `TypeMismatch` of the first value of another kind than its
-/// attribute. `NotBuilt` of a form that is not built. `Memory`.
+/// attribute. Of a select or a bulk statement the first fault that `resolve_select` or `resolve_bulk` answers. `NotBuilt` of a form
+/// that is not built. `Memory`.
 pub fn resolve(
     alloc: Global,
     mapping: &Mapping,
@@ -122,10 +142,12 @@ pub fn resolve(
 ) -> Result<Resolved, Refusal>
     requires configured { mapping.now.configured ≡ true }
     requires declared { AreOfDeclared mapping.now names.now }
+    requires sayable { IsSayable command.now }
     ensures line { Gives (λ line. line) result
         (spec.resolve mapping.now names.now command.now) }
-    ensures stands { (classes : List ClassId) → (drawn : ℕ) → AreThere classes drawn names.now
-        → IfOk result (IsResolved mapping.now classes drawn) }
+    ensures cause { IfErr result IsOfResolving }
+    ensures stands { (graph : Graph) → (drawn : ℕ) → AreThere graph drawn names.now
+        → IfOk result (IsResolved mapping.now graph drawn) }
 {
     match command {
         Command::CreateAll => Ok(Resolved::CreateAll),
@@ -142,7 +164,7 @@ pub fn resolve(
         } => resolved_set(mapping, names, term, member, value),
         Command::Add(term) => Ok(Resolved::Add(id_of_term(names, term)?)),
         Command::Delete(term) => Ok(Resolved::Delete(id_of_term(names, term)?)),
-        Command::Show(term) => Ok(Resolved::Show(shown_of(alloc, names, term)?)),
+        Command::Show(term) => resolved_thing(alloc, names, term),
         Command::ShowMember(term, member) => resolved_show(mapping, names, term, member),
         Command::State(term) => Ok(Resolved::State(id_of_term(names, term)?)),
         Command::Same(term, other) => resolved_same(names, term, other),
@@ -150,6 +172,8 @@ pub fn resolve(
         Command::Commit(name) => Ok(Resolved::Commit(handle_if_named(names, name)?)),
         Command::Rollback(name) => Ok(Resolved::Rollback(handle_if_named(names, name)?)),
         Command::Close => Ok(Resolved::Close),
+        Command::Rows(written) => resolved_rows(alloc, mapping, written),
+        Command::Bulk(written) => resolved_statement(alloc, mapping, written),
         _ => Err(Refusal::NotBuilt),
     }
 }

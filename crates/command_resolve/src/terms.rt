@@ -1,12 +1,14 @@
 //! What the terms of a line stand for.
 
-ghost use Rattle.std.specs.Prelude.{◌≡◌, ℕ, List, Some, IfOk, IfErr};
+ghost use Rattle.std.specs.Prelude.{◌≡◌, ℕ, Some, IfOk, IfErr};
 ghost use Rattle.base_core.specs.Answers.{Gives};
-ghost use Rattle.base_core.specs.declared.ids.ClassId.{ClassId};
 ghost use Rattle.base_core.specs.declared.refusal.Refusal.TheVariants.{InvalidRequestError, Memory};
 ghost use Rattle.base_core.specs.declared.refusal.RequestKind.TheVariants.{Unknown};
 ghost use Rattle.class_mapping.specs.Mapped.{IsClass, Mapped};
-ghost use Rattle.command_resolve.specs.Standing.{AreOfDeclared, AreThere, IsDrawn, IsDrawnIfNamed, IsOfClass, IsOfDeclared, IsThere};
+ghost use Rattle.object_arena.specs.Graph.{Graph};
+ghost use Rattle.session_scopes.specs.SessionState.{IsMadeOf};
+ghost use Rattle.script_resolve.specs.Refusals.{CanRefuse};
+ghost use Rattle.command_resolve.specs.Standing.{AreOfDeclared, AreThere, IsDrawn, IsDrawnIfNamed, IsOfDeclared, IsThere};
 ghost use Rattle.command_resolve.specs.Terms as spec;
 
 use base_core::{ClassId, Copied, ListOf, Name, ObjId, Refusal, RequestKind};
@@ -31,8 +33,9 @@ pub(crate) fn wrong_kind() -> Refusal
 /// A member of a list, counted from 0.
 fn member_of(thing: &Bound, place: u64) -> Result<(ObjId, ClassId), Refusal>
     ensures member { result ≡ spec.member_at place thing.now }
-    ensures there { (classes : List ClassId) → (drawn : ℕ) → IsThere classes drawn thing.now
-        → IfOk result (λ named. IsOfClass classes named.0 named.1) }
+    ensures cause { IfErr result CanRefuse }
+    ensures there { (graph : Graph) → (drawn : ℕ) → IsThere graph drawn thing.now
+        → IfOk result (λ named. IsMadeOf graph named.0 named.1) }
     ensures declared { (mapped : Mapped) → IsOfDeclared mapped thing.now
         → IfOk result (λ named. IsClass mapped named.1) }
 {
@@ -48,8 +51,9 @@ fn member_of(thing: &Bound, place: u64) -> Result<(ObjId, ClassId), Refusal>
 /// The object that is bound.
 fn object_in(thing: &Bound) -> Result<(ObjId, ClassId), Refusal>
     ensures object { result ≡ spec.as_object thing.now }
-    ensures there { (classes : List ClassId) → (drawn : ℕ) → IsThere classes drawn thing.now
-        → IfOk result (λ named. IsOfClass classes named.0 named.1) }
+    ensures cause { IfErr result CanRefuse }
+    ensures there { (graph : Graph) → (drawn : ℕ) → IsThere graph drawn thing.now
+        → IfOk result (λ named. IsMadeOf graph named.0 named.1) }
     ensures declared { (mapped : Mapped) → IsOfDeclared mapped thing.now
         → IfOk result (λ named. IsClass mapped named.1) }
 {
@@ -62,8 +66,9 @@ fn object_in(thing: &Bound) -> Result<(ObjId, ClassId), Refusal>
 /// The object that is bound, or a member of the list that is.
 fn object_at(thing: &Bound, index: Option<u64>) -> Result<(ObjId, ClassId), Refusal>
     ensures object { result ≡ spec.object_at index thing.now }
-    ensures there { (classes : List ClassId) → (drawn : ℕ) → IsThere classes drawn thing.now
-        → IfOk result (λ named. IsOfClass classes named.0 named.1) }
+    ensures cause { IfErr result CanRefuse }
+    ensures there { (graph : Graph) → (drawn : ℕ) → IsThere graph drawn thing.now
+        → IfOk result (λ named. IsMadeOf graph named.0 named.1) }
     ensures declared { (mapped : Mapped) → IsOfDeclared mapped thing.now
         → IfOk result (λ named. IsClass mapped named.1) }
 {
@@ -80,8 +85,9 @@ fn object_at(thing: &Bound, index: Option<u64>) -> Result<(ObjId, ClassId), Refu
 /// no such member. `Memory`.
 pub(crate) fn object_of(names: &Names, term: &Term) -> Result<(ObjId, ClassId), Refusal>
     ensures object { Gives (λ named. named) result (spec.object_of names.now term.now) }
-    ensures there { (classes : List ClassId) → (drawn : ℕ) → AreThere classes drawn names.now
-        → IfOk result (λ named. IsOfClass classes named.0 named.1) }
+    ensures cause { IfErr result CanRefuse }
+    ensures there { (graph : Graph) → (drawn : ℕ) → AreThere graph drawn names.now
+        → IfOk result (λ named. IsMadeOf graph named.0 named.1) }
     ensures declared { (mapped : Mapped) → AreOfDeclared mapped names.now
         → IfOk result (λ named. IsClass mapped named.1) }
 {
@@ -109,8 +115,11 @@ fn members_copied(
 /// What is shown of a thing that is bound, but for a member.
 fn whole_shown(alloc: Global, thing: &Bound) -> Result<Bound, Refusal>
     ensures thing { Gives (λ thing. thing) result (spec.as_shown thing.now) }
-    ensures there { (classes : List ClassId) → (drawn : ℕ) → IsThere classes drawn thing.now
-        → IfOk result (IsThere classes drawn) }
+    ensures cause { IfErr result CanRefuse }
+    ensures there { (graph : Graph) → (drawn : ℕ) → IsThere graph drawn thing.now
+        → IfOk result (IsThere graph drawn) }
+    ensures declared { (mapped : Mapped) → IsOfDeclared mapped thing.now
+        → IfOk result (IsOfDeclared mapped) }
 {
     match thing {
         Bound::Nothing => Ok(Bound::Nothing),
@@ -123,8 +132,11 @@ fn whole_shown(alloc: Global, thing: &Bound) -> Result<Bound, Refusal>
 /// What is shown of a thing that is bound.
 fn shown_at(alloc: Global, thing: &Bound, index: Option<u64>) -> Result<Bound, Refusal>
     ensures thing { Gives (λ thing. thing) result (spec.shown_at index thing.now) }
-    ensures there { (classes : List ClassId) → (drawn : ℕ) → IsThere classes drawn thing.now
-        → IfOk result (IsThere classes drawn) }
+    ensures cause { IfErr result CanRefuse }
+    ensures there { (graph : Graph) → (drawn : ℕ) → IsThere graph drawn thing.now
+        → IfOk result (IsThere graph drawn) }
+    ensures declared { (mapped : Mapped) → IsOfDeclared mapped thing.now
+        → IfOk result (IsOfDeclared mapped) }
 {
     let Some(place) = index else {
         return whole_shown(alloc, thing);
@@ -140,8 +152,11 @@ fn shown_at(alloc: Global, thing: &Bound, index: Option<u64>) -> Result<Bound, R
 /// name is bound to no list that has it. `Memory`.
 pub(crate) fn shown_of(alloc: Global, names: &Names, term: &Term) -> Result<Bound, Refusal>
     ensures thing { Gives (λ thing. thing) result (spec.shown_of names.now term.now) }
-    ensures there { (classes : List ClassId) → (drawn : ℕ) → AreThere classes drawn names.now
-        → IfOk result (IsThere classes drawn) }
+    ensures cause { IfErr result CanRefuse }
+    ensures there { (graph : Graph) → (drawn : ℕ) → AreThere graph drawn names.now
+        → IfOk result (IsThere graph drawn) }
+    ensures declared { (mapped : Mapped) → AreOfDeclared mapped names.now
+        → IfOk result (IsOfDeclared mapped) }
 {
     match names.get(&term.name) {
         Some(thing) => shown_at(alloc, thing, term.index),
@@ -152,7 +167,8 @@ pub(crate) fn shown_of(alloc: Global, names: &Names, term: &Term) -> Result<Boun
 /// The number of the savepoint that is bound.
 fn handle_in(thing: &Bound) -> Result<u32, Refusal>
     ensures handle { result ≡ spec.as_handle thing.now }
-    ensures there { (classes : List ClassId) → (drawn : ℕ) → IsThere classes drawn thing.now
+    ensures cause { IfErr result CanRefuse }
+    ensures there { (graph : Graph) → (drawn : ℕ) → IsThere graph drawn thing.now
         → IfOk result (IsDrawn drawn) }
 {
     match thing {
@@ -164,7 +180,8 @@ fn handle_in(thing: &Bound) -> Result<u32, Refusal>
 /// The number of the savepoint that a name stands for.
 fn handle_of(names: &Names, name: &Name) -> Result<u32, Refusal>
     ensures handle { Gives (λ number. number) result (spec.handle_of names.now name.now) }
-    ensures there { (classes : List ClassId) → (drawn : ℕ) → AreThere classes drawn names.now
+    ensures cause { IfErr result CanRefuse }
+    ensures there { (graph : Graph) → (drawn : ℕ) → AreThere graph drawn names.now
         → IfOk result (IsDrawn drawn) }
 {
     match names.get(name) {
@@ -179,7 +196,8 @@ fn handle_of(names: &Names, name: &Name) -> Result<u32, Refusal>
 /// `Unknown` where the name is not bound, `WrongKind` where it is bound to something else. `Memory`.
 pub(crate) fn handle_if_named(names: &Names, name: &Option<Name>) -> Result<Option<u32>, Refusal>
     ensures handle { Gives (λ number. number) result (spec.handle_if_named names.now name.now) }
-    ensures there { (classes : List ClassId) → (drawn : ℕ) → AreThere classes drawn names.now
+    ensures cause { IfErr result CanRefuse }
+    ensures there { (graph : Graph) → (drawn : ℕ) → AreThere graph drawn names.now
         → IfOk result (IsDrawnIfNamed drawn) }
 {
     match name {

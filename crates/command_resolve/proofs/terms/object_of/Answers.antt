@@ -2,4 +2,4 @@ use Rattle.std.proofs.Common.{sym}
 use Rattle.command_resolve.proofs.terms.object_of.Goals as goal
 
 pub returns-in-Some-clause-there : goal.returns-in-Some-clause-there
-returns-in-Some-clause-there c = λ classes drawn there. c.object_at.ensures.there classes drawn (there c.args.term.now.name c.in-Some.thing.now (sym c.in-Some.ensures))
+returns-in-Some-clause-there c = λ graph drawn there. c.object_at.ensures.there graph drawn (there c.args.term.now.name c.in-Some.thing.now (sym c.in-Some.ensures))
