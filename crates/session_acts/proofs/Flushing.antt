@@ -1,11 +1,12 @@
 -- Calls that flush between what they ask and what they do.
-use Rattle.std.proofs.Common.{◌≡◌, ℕ, ◌+◌, ◌<◌, ◌≤◌, true, List, [], ◌∷◌, length, is_some, ◌==◌, Result, Ok, Err, arith}
+use Rattle.std.proofs.Common.{◌≡◌, ℕ, ◌+◌, ◌<◌, ◌≤◌, true, List, [], ◌∷◌, length, is_some, ◌==◌, Result, Ok, Err, OnOk, ap, arith}
 use Rattle.std.specs.Prelude.{IfOk}
 use Rattle.std.specs.List.{position}
 use Rattle.base_core.specs.declared.refusal.Refusal.{Refusal}
 use Rattle.programs.specs.Store.{Store}
 use Rattle.programs.specs.Programs.{Run, ◌>>=◌}
 use Rattle.programs.specs.Moment.{Moment}
+use Rattle.savepoints.specs.declared.scope.Scope.{Scope}
 use Rattle.session_scopes.specs.SessionState.{SessionState}
 use Rattle.session_calls.specs.Calling.{IsSessionCall}
 use Rattle.session_calls.specs.Parts.{World}
@@ -27,6 +28,11 @@ flush_refused moment act p q = then_call (λ u. flush >>= λ u. act) p (err_call
 pub flushed_then : {A Y K : Type 0} (moment : K → Moment Store) {v : Y → A} {asked : World → Run World (Unit {0})} (act : World → Run World A) {old mid late new : SessionState × K} {x y : Unit {0}} {r : Result Y Refusal}
     → IsSessionCall moment (λ (u : Unit {0}). u) asked old (Ok x) mid → IsSessionCall moment (λ (u : Unit {0}). u) flush mid (Ok y) late → IsSessionCall moment v act late r new → IsSessionCall moment v (flushing asked act) old r new
 flushed_then moment act p q s = then_call (λ u. flush >>= λ u. act) p (then_call (λ u. act) q s)
+
+-- some scope is in progress still
+pub deep_still : (old new : List Scope) (r : Result (Unit {0}) Refusal) → OnOk r (new ≡ old) → 0 < length old → OnOk r (0 < length new)
+deep_still old new (Ok u) same inside = omega (arith, inside, ap length same)
+deep_still old new (Err e) same inside = tt
 
 -- ---- handles
 

@@ -12,17 +12,23 @@ use Rattle.session_flush.specs.Flush.{flush}
 use Rattle.session_savepoints.specs.Steps.{begin_savepoint, check_handle, commit_whole, enter_nested, release_handle}
 use Rattle.session_statements.specs.Steps as statements
 
--- what is asked, then what is to be written is written, and then the act
-abbrev pub flushing : {A : Type 0} → (World → Run World (Unit {0})) → (World → Run World A) → World → Run World A
-flushing asked act = asked >>= λ u. (flush >>= λ u. act)
-
 -- what is to be written is written
 unfoldable pub flush_now : World → Run World (Unit {0})
 flush_now = enter >>= λ u. flush
 
 -- all is written, and the transaction is committed with its savepoints
 unfoldable pub commit : World → Run World (Unit {0})
-commit = flushing enter commit_whole
+commit = flush_now >>= λ u. commit_whole
+
+-- the rows of a select, once all is written
+unfoldable pub rows : Select → World → Run World (List (List Value))
+rows select = flush_now >>= λ u. statements.rows select
+
+-- ---- calls that ask more before the flush
+
+-- what is asked, then what is to be written is written, and then the act
+abbrev pub flushing : {A : Type 0} → (World → Run World (Unit {0})) → (World → Run World A) → World → Run World A
+flushing asked act = asked >>= λ u. (flush >>= λ u. act)
 
 -- all is written, and a savepoint begins, whose handle is answered
 unfoldable pub begin_nested : World → Run World ℕ
@@ -31,12 +37,6 @@ begin_nested = flushing enter_nested begin_savepoint
 -- all is written, and the savepoint of a handle ends with those inside it
 unfoldable pub commit_handle : ℕ → World → Run World (Unit {0})
 commit_handle handle = flushing (check_handle handle) (release_handle handle)
-
--- all is written, and the rows of a select are answered
-unfoldable pub rows : Select → World → Run World (List (List Value))
-rows select = flushing enter (statements.rows select)
-
--- ---- bulk statements
 
 -- the statement is plain, unless it writes a key
 abbrev pub IsPlainButForKeys : Catalog → Bulk → Type 0

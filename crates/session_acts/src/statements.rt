@@ -7,10 +7,10 @@ ghost use Rattle.session_scopes.specs.SessionState.{IsInStep};
 ghost use Rattle.session_calls.specs.Calling.{IsSessionCall};
 ghost use Rattle.session_acts.specs.Steps as steps;
 
+use crate::transaction::flush_now;
 use base_core::{Refusal, RowList};
 use expr_types::{Bulk, Select};
 use keeper_core::Keeper;
-use session_calls::enter;
 use session_flush::flush;
 use session_scopes::Session;
 use session_statements as statements;
@@ -32,8 +32,7 @@ pub fn rows<K: Keeper>(
         (session.old, keeper.old) result (session.new, keeper.new) }
     ensures wide { IfOk result (λ rows. AreWide select.now rows) }
 {
-    enter(session, keeper)?;
-    flush(session, keeper)?;
+    flush_now(session, keeper)?;
     statements::rows(session, keeper, select)
 }
 

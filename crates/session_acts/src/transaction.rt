@@ -1,6 +1,6 @@
 //! The flush, and the end of the transaction.
 
-ghost use Rattle.std.specs.Prelude.{◌≡◌, [], OnOk};
+ghost use Rattle.std.specs.Prelude.{◌≡◌, ◌<◌, [], false, length, OnOk};
 ghost use Rattle.session_scopes.specs.SessionState.{IsInStep};
 ghost use Rattle.session_calls.specs.Calling.{IsSessionCall};
 ghost use Rattle.session_acts.specs.Steps as steps;
@@ -19,8 +19,10 @@ use session_scopes::Session;
 /// innermost scope is rolled back then.
 pub fn flush_now<K: Keeper>(session: &mut Session, keeper: &mut K) -> Result<(), Refusal>
     requires in_step { IsInStep session.old (K.moment keeper.old) }
-    ensures { IsSessionCall K.moment (λ u. u) steps.flush_now
+    ensures call { IsSessionCall K.moment (λ u. u) steps.flush_now
         (session.old, keeper.old) result (session.new, keeper.new) }
+    ensures inside { OnOk result (0 < length session.new.frames.scopes) }
+    ensures well { OnOk result (session.new.failed ≡ false) }
 {
     enter(session, keeper)?;
     flush(session, keeper)
@@ -36,7 +38,6 @@ pub fn commit<K: Keeper>(session: &mut Session, keeper: &mut K) -> Result<(), Re
         (session.old, keeper.old) result (session.new, keeper.new) }
     ensures outside { OnOk result (session.new.frames.scopes ≡ []) }
 {
-    enter(session, keeper)?;
-    flush(session, keeper)?;
+    flush_now(session, keeper)?;
     commit_whole(session, keeper)
 }
