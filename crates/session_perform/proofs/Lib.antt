@@ -1,0 +1,2 @@
+mod Performed
+mod Sendable

@@ -1,0 +1,136 @@
+-- Lines that were performed, put together of calls of the session and of what is told of them.
+use Rattle.std.proofs.Common.{◌≡◌, ℕ, List, length, Result, Ok, Err, IsErrAnd, refl, sym, ap, ◌∙◌, subst, arith}
+use Rattle.base_core.specs.declared.ids.AttrNo.{AttrNo}
+use Rattle.base_core.specs.declared.ids.ClassId.{ClassId}
+use Rattle.base_core.specs.declared.ids.ObjId.{ObjId}
+use Rattle.base_core.specs.declared.refusal.Refusal.{Refusal}
+use Rattle.base_core.specs.declared.value.Value.{Value}
+use Rattle.class_mapping.specs.Mapped.{IsClass, Mapped}
+use Rattle.programs.specs.Alone.{IsQuiet}
+use Rattle.programs.specs.Store.{Store}
+use Rattle.programs.specs.Programs.{Run, give}
+use Rattle.programs.specs.Moment.{Moment}
+use Rattle.programs.proofs.Lifting.{chosen, quietly}
+use Rattle.programs.proofs.Sequence.{done, then_err, then_ok}
+use Rattle.session_parts.proofs.ObjectLemmas.{class_still, made_still}
+use Rattle.session_scopes.specs.Making.{object_made}
+use Rattle.session_scopes.specs.SessionState.{AreThereStill, IsInStep, IsMadeOf, SameObjects, SessionState}
+use Rattle.session_calls.specs.Calling.{IsSessionCall}
+use Rattle.session_calls.specs.Parts.{World}
+use Rattle.shell_parts.specs.declared.names.Bound.TheVariants.{Object}
+use Rattle.command_resolve.specs.declared.answer.Answer.{Answer}
+use Rattle.command_resolve.specs.declared.answer.Answer.TheVariants as answer
+use Rattle.command_resolve.specs.declared.resolved.Resolved.{Resolved}
+use Rattle.command_resolve.specs.Standing.{IsAnswer}
+use Rattle.session_perform.specs.Performing as spec
+use Rattle.session_perform.specs.Performing.{IsPerformed, as_it_is, nothing_told, program_of_resolved, telling}
+
+-- ---- what stays
+
+there_same : (old new : SessionState) → SameObjects old new → AreThereStill old.graph new.graph
+there_same old new same object made = (made_still old.graph new.graph object same.classes made, class_still old.graph new.graph object same.classes made)
+
+there_itself : (session : SessionState) → AreThereStill session.graph session.graph
+there_itself session object made = (made, refl)
+
+-- ---- the answer of a call
+
+-- it is told, and what is told is there
+pub told : {A X K : Type 0} (moment : K → Moment Store) {v : X → A} {m : World → Run World A} (tell : A → Answer) {old new : SessionState × K} {x : X}
+    → IsAnswer new.0.mapping new.0.graph new.0.drawn.drawn (tell (v x)) → IsSessionCall moment v m old (Ok x) new → IsPerformed moment (telling tell m) old (Ok (tell (v x))) new
+told moment tell {old = old} {new = new} there p = record {
+  step = then_ok (λ a. give (tell a)) p.step (done {v = λ (a : Answer). a} refl);
+  mapping = p.kept.same.mapping;
+  stay = there_same old.0 new.0 p.kept.same;
+  drawn = p.kept.same.drawn;
+  in_step = p.kept.in_step;
+  answer = there;
+}
+
+-- it was refused
+pub untold : {A X K : Type 0} (moment : K → Moment Store) {v : X → A} {m : World → Run World A} (tell : A → Answer) {old new : SessionState × K} {e : Refusal}
+    → IsSessionCall moment v m old (Err e) new → IsPerformed moment (telling tell m) old (Err e) new
+untold moment tell {old = old} {new = new} p = record {
+  step = then_err (λ a. give (tell a)) p.step;
+  mapping = p.kept.same.mapping;
+  stay = there_same old.0 new.0 p.kept.same;
+  drawn = p.kept.same.drawn;
+  in_step = p.kept.in_step;
+  answer = tt;
+}
+
+pass_on : {K : Type 0} (moment : K → Moment Store) (m : World → Run World Answer) (old new : SessionState × K) (e : Refusal) (r : Result Answer Refusal) → IsErrAnd r (λ d. d ≡ e) → IsPerformed moment m old (Err e) new → IsPerformed moment m old r new
+pass_on moment m old new e (Ok x) is p = absurd is
+pass_on moment m old new e (Err d) is p = subst (λ (c : Refusal). IsPerformed moment m old (Err c) new) (sym is) p
+
+-- the same refusal, as the answer of the call around
+pub passed : {K : Type 0} (moment : K → Moment Store) {m : World → Run World Answer} {old new : SessionState × K} {e : Refusal} {r : Result Answer Refusal} → IsErrAnd r (λ d. d ≡ e) → IsPerformed moment m old (Err e) new → IsPerformed moment m old r new
+passed moment {m = m} {old = old} {new = new} {e = e} {r = r} is p = pass_on moment m old new e r is p
+
+nothing_of : {K : Type 0} (moment : K → Moment Store) (m : World → Run World (Unit {0})) (old new : SessionState × K) (r : Result (Unit {0}) Refusal) → IsSessionCall moment (λ (u : Unit {0}). u) m old r new → IsPerformed moment (spec.quietly m) old (nothing_told r) new
+nothing_of moment m old new (Ok u) p = told moment (λ (u : Unit {0}). answer.Nothing) tt p
+nothing_of moment m old new (Err e) p = untold moment (λ (u : Unit {0}). answer.Nothing) p
+
+-- nothing is told of it
+pub performs : {K : Type 0} (moment : K → Moment Store) {m : World → Run World (Unit {0})} {old new : SessionState × K} {r : Result (Unit {0}) Refusal} {a : Result Answer Refusal} → a ≡ nothing_told r → IsSessionCall moment (λ (u : Unit {0}). u) m old r new
+    → IsPerformed moment (spec.quietly m) old a new
+performs moment {m = m} {old = old} {new = new} {r = r} is p = subst (λ (b : Result Answer Refusal). IsPerformed moment (spec.quietly m) old b new) (sym is) (nothing_of moment m old new r p)
+
+-- ---- what is told of the session as it is
+
+pub as_it_stands : {K : Type 0} (moment : K → Moment Store) (tell : SessionState → Answer) {own : SessionState} {keeper : K} {a : Answer} → a ≡ tell own → IsAnswer own.mapping own.graph own.drawn.drawn (tell own) → IsInStep own (moment keeper)
+    → IsPerformed moment (as_it_is tell) (own, keeper) (Ok a) (own, keeper)
+as_it_stands moment tell {own = own} {keeper = keeper} is there in_step =
+    subst (λ (b : Answer). IsPerformed moment (as_it_is tell) (own, keeper) (Ok b) (own, keeper)) (sym is) (record {
+      step = chosen moment (λ session. give (tell session)) (done {v = λ (a : Answer). a} refl);
+      mapping = refl;
+      stay = there_itself own;
+      drawn = omega arith;
+      in_step = in_step;
+      answer = there;
+    })
+
+pub stands : {K : Type 0} (moment : K → Moment Store) (shown : Answer) {own : SessionState} {keeper : K} {a : Answer} → a ≡ shown → IsAnswer own.mapping own.graph own.drawn.drawn shown → IsInStep own (moment keeper)
+    → IsPerformed moment (give shown) (own, keeper) (Ok a) (own, keeper)
+stands moment shown {own = own} {keeper = keeper} is there in_step =
+    subst (λ (b : Answer). IsPerformed moment (give shown) (own, keeper) (Ok b) (own, keeper)) (sym is) (record {
+      step = done {v = λ (a : Answer). a} refl;
+      mapping = refl;
+      stay = there_itself own;
+      drawn = omega arith;
+      in_step = in_step;
+      answer = there;
+    })
+
+-- ---- an object is made
+
+module _ {K : Type 0} (moment : K → Moment Store) (name : List ℕ) (class : ClassId) (cells : List (AttrNo × Value)) where
+  made_step : (own now : SessionState) (keeper : K) → now ≡ record own { graph = now.graph } → IsInStep own (moment keeper) → IsInStep now (moment keeper)
+  made_step own now keeper rest in_step = (in_step.0, in_step.1 ∙ sym (ap (λ (s : SessionState). length s.frames.scopes) rest))
+
+  pub makes : {own now : SessionState} {keeper : K} {object : ObjId} → IsQuiet (λ (o : ObjId). o) (object_made class cells own) (Ok object) now → now ≡ record own { graph = now.graph } → IsMadeOf now.graph object class → AreThereStill own.graph now.graph
+      → IsClass own.mapping class → IsInStep own (moment keeper) → IsPerformed moment (spec.make name class cells) (own, keeper) (Ok (answer.Bind name (Object object class))) (now, keeper)
+  makes {own = own} {now = now} {keeper = keeper} {object = object} quiet rest made stay declared in_step = record {
+    step = then_ok (λ o. give (answer.Bind name (Object o class))) (quietly moment {v = λ (o : ObjId). o} (object_made class cells) {own = own} {now = now} {keeper = keeper} {r = Ok object} quiet) (done {v = λ (a : Answer). a} refl);
+    mapping = ap (λ (s : SessionState). s.mapping) rest;
+    stay = stay;
+    drawn = omega (arith, ap (λ (s : SessionState). s.drawn.drawn) rest);
+    in_step = made_step own now keeper rest in_step;
+    answer = (made, subst (λ (m : Mapped). IsClass m class) (sym (ap (λ (s : SessionState). s.mapping) rest)) declared);
+  }
+
+  pub makes_not : {own now : SessionState} {keeper : K} {e : Refusal} → IsQuiet (λ (o : ObjId). o) (object_made class cells own) (Err e) now → now ≡ record own { graph = now.graph } → AreThereStill own.graph now.graph → IsInStep own (moment keeper)
+      → IsPerformed moment (spec.make name class cells) (own, keeper) (Err e) (now, keeper)
+  makes_not {own = own} {now = now} {keeper = keeper} {e = e} quiet rest stay in_step = record {
+    step = then_err (λ o. give (answer.Bind name (Object o class))) (quietly moment {v = λ (o : ObjId). o} (object_made class cells) {own = own} {now = now} {keeper = keeper} {r = Err e} quiet);
+    mapping = ap (λ (s : SessionState). s.mapping) rest;
+    stay = stay;
+    drawn = omega (arith, ap (λ (s : SessionState). s.drawn.drawn) rest);
+    in_step = λ own_refusal. made_step own now keeper rest in_step;
+    answer = tt;
+  }
+
+-- ---- a case of a line
+
+pub at_case : {K : Type 0} (moment : K → Moment Store) {line other : Resolved} {old new : SessionState × K} {r : Result Answer Refusal} → line ≡ other → IsPerformed moment (program_of_resolved other) old r new → IsPerformed moment (program_of_resolved line) old r new
+at_case moment {old = old} {new = new} {r = r} is p = subst (λ (l : Resolved). IsPerformed moment (program_of_resolved l) old r new) (sym is) p

@@ -1,0 +1,109 @@
+-- What a resolved line does to a session and its store: one program for each case, which answers what its reply tells.
+use Rattle.std.specs.Prelude.{◌≡◌, ℕ, ◌≤◌, ◌==◌, List, length, Option, None, Some, Result, Ok, Err, IfOk}
+use Rattle.base_core.specs.declared.ids.AttrNo.{AttrNo}
+use Rattle.base_core.specs.declared.ids.ClassId.{ClassId}
+use Rattle.base_core.specs.declared.ids.ObjId.{ObjId}
+use Rattle.base_core.specs.declared.refusal.Refusal.{Refusal}
+use Rattle.base_core.specs.declared.value.Value.{Value}
+use Rattle.object_arena.specs.Graph.{object_at}
+use Rattle.programs.specs.Store.{Store}
+use Rattle.programs.specs.Programs.{Run, ◌>>=◌, give}
+use Rattle.programs.specs.Moment.{Moment, Runs}
+use Rattle.programs.specs.Beside.{by_own, moment_beside, on_own}
+use Rattle.session_parts.specs.Depths.{StaysAt}
+use Rattle.session_scopes.specs.Making.{object_made}
+use Rattle.session_scopes.specs.SessionState.{AreThereStill, SessionState}
+use Rattle.session_calls.specs.Parts.{World}
+use Rattle.session_calls.specs.Steps as calls
+use Rattle.session_tables.specs.Steps.{change_all}
+use Rattle.session_tables.specs.declared.tables.TableChange.TheVariants.{Create, Drop}
+use Rattle.session_objects.specs.Steps.{add}
+use Rattle.session_acts.specs.Steps as acts
+use Rattle.session_dump.specs.Dump.{scan_tables}
+use Rattle.shell_parts.specs.declared.names.Bound.TheVariants.{Object, Saved}
+use Rattle.command_resolve.specs.declared.answer.Answer.{Answer}
+use Rattle.command_resolve.specs.declared.answer.Answer.TheVariants as answer
+use Rattle.command_resolve.specs.declared.resolved.Resolved.{Resolved}
+use Rattle.command_resolve.specs.declared.resolved.Resolved.TheVariants as resolved
+use Rattle.command_resolve.specs.Standing.{IsAnswer, IsResolved}
+
+-- ---- the programs
+
+-- a program, and what is told of its answer
+abbrev pub telling : {A : Type 0} → (A → Answer) → (World → Run World A) → World → Run World Answer
+telling tell m = m >>= λ a. give (tell a)
+
+-- the answer where nothing is told
+abbrev pub nothing_told : Result (Unit {0}) Refusal → Result Answer Refusal
+nothing_told (Ok u) = Ok answer.Nothing
+nothing_told (Err e) = Err e
+
+-- a program of whose answer nothing is told
+abbrev pub quietly : (World → Run World (Unit {0})) → World → Run World Answer
+quietly m = telling (λ u. answer.Nothing) m
+
+-- an object is made, for which the name is to stand
+abbrev pub make : List ℕ → ClassId → List (AttrNo × Value) → World → Run World Answer
+make name class cells = telling (λ object. answer.Bind name (Object object class)) (on_own (object_made class cells))
+
+-- what is to be written is written, and a savepoint begins, for which the name is to stand
+abbrev pub begin_nested : List ℕ → World → Run World Answer
+begin_nested name = telling (λ handle. answer.Bind name (Saved handle)) acts.begin_nested
+
+-- what is to be written is written, and the whole transaction ends, or the savepoint of a handle
+abbrev pub commit : Option ℕ → World → Run World (Unit {0})
+commit None = acts.commit
+commit (Some handle) = acts.commit_handle handle
+
+-- the whole transaction is rolled back, or the savepoint of a handle
+abbrev pub roll_back : Option ℕ → World → Run World (Unit {0})
+roll_back None = calls.rollback
+roll_back (Some handle) = calls.rollback_handle handle
+
+-- what is told of the session as it is
+abbrev pub as_it_is : (SessionState → Answer) → World → Run World Answer
+as_it_is tell = by_own (λ session. give (tell session))
+
+abbrev pub state_of : ObjId → SessionState → Answer
+state_of object session = answer.State (object_at session.graph object).state
+
+-- whether two objects are one
+abbrev pub same : ObjId → ObjId → Answer
+same object other = answer.Same (object.0 == other.0)
+
+-- what a resolved line does
+abbrev pub program_of_resolved : Resolved → World → Run World Answer
+program_of_resolved resolved.CreateAll = quietly (change_all Create)
+program_of_resolved resolved.DropAll = quietly (change_all Drop)
+program_of_resolved resolved.Dump = telling answer.Tables scan_tables
+program_of_resolved (resolved.New name class cells) = make name class cells
+program_of_resolved (resolved.BeginNested name) = begin_nested name
+program_of_resolved (resolved.SetCell object attr value) = quietly (calls.set_cell object attr value)
+program_of_resolved (resolved.Add object) = quietly (add object)
+program_of_resolved (resolved.Delete object) = quietly (calls.delete object)
+program_of_resolved (resolved.Show thing) = give (answer.Thing thing)
+program_of_resolved (resolved.ShowCell object attr) = telling answer.Value (calls.read_cell object attr)
+program_of_resolved (resolved.State object) = as_it_is (state_of object)
+program_of_resolved (resolved.Same object other) = give (same object other)
+program_of_resolved resolved.Flush = quietly acts.flush_now
+program_of_resolved (resolved.Commit handle) = quietly (commit handle)
+program_of_resolved (resolved.Rollback handle) = quietly (roll_back handle)
+program_of_resolved resolved.Close = quietly calls.close
+program_of_resolved (resolved.Rows select) = telling answer.Rows (acts.rows select)
+program_of_resolved (resolved.Bulk statement) = telling answer.Count (acts.bulk statement)
+
+-- ---- what a line is asked, and what it keeps
+
+-- all that the line names is there in the session
+abbrev pub IsReady : SessionState → Resolved → Type 0
+IsReady session line = IsResolved session.mapping session.graph session.drawn.drawn line
+
+-- The line ran its program. The mapping stays, each object is there still, of its class, and no handle fewer was drawn; unless it
+-- ended early the keeper is in step. What is to be bound or shown is there.
+pub record IsPerformed {K : Type 0} (moment : K → Moment Store) (m : World → Run World Answer) (old : SessionState × K) (result : Result Answer Refusal) (new : SessionState × K) : Type 0 where
+  pub step : Runs (moment_beside moment) (λ a. a) m old result new
+  pub mapping : new.0.mapping ≡ old.0.mapping
+  pub stay : AreThereStill old.0.graph new.0.graph
+  pub drawn : old.0.drawn.drawn ≤ new.0.drawn.drawn
+  pub in_step : StaysAt result (length new.0.frames.scopes) (moment new.1)
+  pub answer : IfOk result (IsAnswer new.0.mapping new.0.graph new.0.drawn.drawn)

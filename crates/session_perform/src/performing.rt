@@ -1,0 +1,63 @@
+//! What each case of a resolved line does.
+
+ghost use Rattle.session_scopes.specs.SessionState.{IsInStep};
+ghost use Rattle.session_perform.specs.Performing.{IsPerformed, IsReady, program_of_resolved};
+
+use crate::acting::{begin_nested, bulk, commit, nothing_told, roll_back, rows, tables};
+use crate::objects::{make, read_cell, same, state};
+use base_core::Refusal;
+use command_resolve::{Answer, Resolved};
+use keeper_core::Keeper;
+use session_acts::flush_now;
+use session_calls::{close, delete, set_cell};
+use session_objects::add;
+use session_scopes::Session;
+use session_tables::{create_all, drop_all};
+
+/// Does what a resolved line asks for, and answers what its reply tells. All that the line names is to be there.
+///
+/// # Errors
+/// What needs no statement is told first; then a transaction begins, where the line begins one, and what is to be written is written,
+/// where the line asks for that; then comes what the store refuses. Each call that a case makes says its own refusals and what they
+/// leave.
+pub fn perform<K: Keeper>(
+    session: &mut Session,
+    keeper: &mut K,
+    resolved: Resolved,
+) -> Result<Answer, Refusal>
+    requires in_step { IsInStep session.old (K.moment keeper.old) }
+    requires ready { IsReady session.old resolved }
+    ensures { IsPerformed K.moment (program_of_resolved resolved)
+        (session.old, keeper.old) result (session.new, keeper.new) }
+{
+    match resolved {
+        Resolved::CreateAll => nothing_told(create_all(session, keeper)),
+        Resolved::DropAll => nothing_told(drop_all(session, keeper)),
+        Resolved::Dump => tables(session, keeper),
+        Resolved::New { name, class, cells } => make(
+            session,
+            keeper,
+            name,
+            class,
+            cells.as_slice(),
+        ),
+        Resolved::BeginNested(name) => begin_nested(session, keeper, name),
+        Resolved::SetCell {
+            object,
+            attr,
+            value,
+        } => nothing_told(set_cell(session, keeper, object, attr, value)),
+        Resolved::Add(object) => nothing_told(add(session, keeper, object)),
+        Resolved::Delete(object) => nothing_told(delete(session, keeper, object)),
+        Resolved::Show(thing) => Ok(Answer::Thing(thing)),
+        Resolved::ShowCell(object, attr) => read_cell(session, keeper, object, attr),
+        Resolved::State(object) => Ok(state(session, object)),
+        Resolved::Same(object, other) => Ok(same(object, other)),
+        Resolved::Flush => nothing_told(flush_now(session, keeper)),
+        Resolved::Commit(handle) => nothing_told(commit(session, keeper, handle)),
+        Resolved::Rollback(handle) => nothing_told(roll_back(session, keeper, handle)),
+        Resolved::Close => nothing_told(close(session, keeper)),
+        Resolved::Rows(select) => rows(session, keeper, select.get()),
+        Resolved::Bulk(statement) => bulk(session, keeper, statement.get()),
+    }
+}
