@@ -28,7 +28,7 @@ expired_stands Deleted object = refl
 expired_stands Detached object = refl
 
 -- what is to be read again stands as before
-read_stands : (touched : Bool) (object : Object) → standing_of (expired_where touched object) ≡ standing_of object
+pub read_stands : (touched : Bool) (object : Object) → standing_of (expired_where touched object) ≡ standing_of object
 read_stands true object = expired_stands object.state object
 read_stands false object = refl
 
@@ -105,7 +105,7 @@ not_lost start graph traces place (Some key) whole later less persistent is =
     (λ (kept : is_lost there place (Some key) ≡ false). kept)
     (cases_Bool (is_lost there place (Some key)))
 
-uncontested : (lost : Bool) (state : State) → (is_persistent state ≡ true → lost ≡ false) → contested_state lost state ≡ state
+pub uncontested : (lost : Bool) (state : State) → (is_persistent state ≡ true → lost ≡ false) → contested_state lost state ≡ state
 uncontested false state kept = refl
 uncontested true Transient kept = refl
 uncontested true Pending kept = refl

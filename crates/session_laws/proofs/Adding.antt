@@ -1,5 +1,5 @@
 -- An object that comes into a session keeps it sound.
-use Rattle.std.proofs.Common.{◌≡◌, ℕ, ◌<◌, Bool, true, List, [], ◌∷◌, length, map, get_or, zero, suc, None, Some, refl, sym, ap, ◌∙◌, subst, arith}
+use Rattle.std.proofs.Common.{◌≡◌, ℕ, ◌<◌, true, List, [], ◌∷◌, length, map, get_or, zero, suc, None, Some, refl, sym, ap, ◌∙◌, subst, arith}
 use Rattle.std.specs.Prelude.{if◌then◌else◌, is_some, not, slice_set}
 use Rattle.base_core.specs.Counts.{one_more}
 use Rattle.base_core.specs.declared.ids.AttrNo.{AttrNo}

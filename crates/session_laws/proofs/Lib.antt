@@ -7,3 +7,5 @@ pub mod Adding
 mod Everyone
 pub mod Ending
 pub mod Nesting
+pub mod Restoring
+pub mod Rolling

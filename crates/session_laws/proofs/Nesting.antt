@@ -1,5 +1,5 @@
 -- Scopes that begin and end keep a session sound, where nothing is to be written at their beginning.
-use Rattle.std.proofs.Common.{◌≡◌, ◌≢◌, ℕ, ◌+◌, ◌-◌, ◌<◌, ◌≤◌, Bool, true, false, List, [], ◌∷◌, drop, length, get_or, map, zero, suc, None, Option, Some, refl, sym, ap, ◌∙◌, subst, arith}
+use Rattle.std.proofs.Common.{◌≡◌, ℕ, ◌+◌, ◌-◌, ◌<◌, ◌≤◌, true, false, List, [], ◌∷◌, drop, length, get_or, map, zero, suc, None, Some, refl, sym, ap, ◌∙◌, subst, arith}
 use Rattle.keeper_core.specs.Calls as call
 use Rattle.class_mapping.specs.Mapped.{Mapped}
 use Rattle.object_arena.specs.declared.object.Cell.{Cell}
@@ -13,7 +13,7 @@ use Rattle.programs.specs.Programs.{◌>>=◌, give}
 use Rattle.programs.specs.Beside.{by_own, changes, on_store}
 use Rattle.schema_core.specs.Tables.{Tables}
 use Rattle.savepoints.specs.declared.scope.Scope.{Scope}
-use Rattle.savepoints.specs.Scopes.{Framed, begun_at, is_touched, left_at, scope_released}
+use Rattle.savepoints.specs.Scopes.{Framed, begun_at, is_touched, scope_released}
 use Rattle.scope_laws.specs.Inside.{Release}
 use Rattle.scope_laws.proofs.Traces.{touches_grow}
 use Rattle.session_parts.specs.Ends.{object_committed, object_committed_in}

@@ -1,5 +1,5 @@
 -- When a session that is told is sound: what its objects hold is what the store has.
-use Rattle.std.specs.Prelude.{◌≡◌, ◌≢◌, ℕ, ◌<◌, ◌≤◌, true, false, List, [], ◌∷◌, length, slice_get, slice_index_or, Option, None, Some}
+use Rattle.std.specs.Prelude.{◌≡◌, ◌≢◌, ℕ, ◌-◌, ◌<◌, ◌≤◌, true, false, List, [], ◌∷◌, length, slice_get, slice_index_or, Option, None, Some}
 use Rattle.std.specs.Option.{option_and_then}
 use Rattle.base_core.specs.declared.value.Value.{Value}
 use Rattle.class_types.specs.declared.mapped.Attribute.{Attribute}
@@ -17,7 +17,7 @@ use Rattle.programs.specs.Programs.{Run}
 use Rattle.savepoints.specs.declared.scope.Scope.{Scope}
 use Rattle.savepoints.specs.declared.scope.Standing.{Standing}
 use Rattle.savepoints.specs.Scopes.{Framed, is_touched, standing_at, standing_of}
-use Rattle.session_scopes.specs.SessionState.{SessionState}
+use Rattle.session_scopes.specs.SessionState.{SessionState, depth_of}
 
 -- what the tables have in the column of an object's cell
 abbrev pub in_row : Attribute → Option (List Value) → Option Value
@@ -119,6 +119,14 @@ KeepsSoundWhere P m = (world : Beside SessionState) → P world → IsSound worl
 -- nothing of any object is to be written, as it is behind a flush
 abbrev pub IsWritten : Beside SessionState → Type 0
 IsWritten world = EachObject IsSettled world.own.graph
+
+-- each savepoint in progress has a handle, one that failed too
+abbrev pub IsHandled : Beside SessionState → Type 0
+IsHandled world = length world.own.drawn.handles ≡ depth_of world.own - 1
+
+-- the scope at a depth is in progress
+abbrev pub IsInProgress : ℕ → Beside SessionState → Type 0
+IsInProgress depth world = (1 ≤ depth) × (depth ≤ length world.own.frames.scopes)
 
 -- a program on an object keeps a sound session sound, where the object has been made
 abbrev pub KeepsSoundOf : {A : Type 0} → (ObjId → Beside SessionState → Run (Beside SessionState) A) → Type 0

@@ -5,10 +5,11 @@ ghost use Rattle.base_core.specs.declared.ids.AttrNo.{AttrNo};
 ghost use Rattle.base_core.specs.declared.value.Value.{Value};
 ghost use Rattle.class_mapping.specs.Mapped.{Mapped};
 ghost use Rattle.session_scopes.specs.SessionState.{new_session};
+ghost use Rattle.session_calls.specs.Parts.{go_back};
 ghost use Rattle.session_calls.specs.Steps as steps;
 ghost use Rattle.session_objects.specs.Steps as objects;
 ghost use Rattle.session_savepoints.specs.Steps as savepoints;
-ghost use Rattle.session_laws.specs.Sound.{IsSound, IsWritten, KeepsSound, KeepsSoundOf, KeepsSoundWhere};
+ghost use Rattle.session_laws.specs.Sound.{IsHandled, IsInProgress, IsSound, IsWritten, KeepsSound, KeepsSoundOf, KeepsSoundWhere};
 
 #[tactic(auto, using(crate::proofs::Beginning::new_sound))]
 /// A new session is sound beside a store without tables.
@@ -51,4 +52,12 @@ pub fn savepoints_keep_sound()
 /// Behind a flush, where nothing is to be written, the commit of the transaction leaves a session sound.
 pub fn committing_keeps_sound()
     ensures { KeepsSoundWhere IsWritten savepoints.commit_transaction }
+{}
+
+/// Rollbacks leave a session sound: of the scope at a depth, of the transaction, and of a savepoint by its handle, also where a
+/// failed flush awaits its rollback.
+pub fn rolling_back_keeps_sound()
+    ensures scope { (depth : ℕ) → KeepsSoundWhere (IsInProgress depth) (go_back depth) }
+    ensures rollback { KeepsSound steps.rollback }
+    ensures handle { (handle : ℕ) → KeepsSoundWhere IsHandled (steps.rollback_handle handle) }
 {}
