@@ -9,3 +9,4 @@ pub mod Ending
 pub mod Nesting
 pub mod Restoring
 pub mod Rolling
+pub mod Making

@@ -1,9 +1,12 @@
 //! Sessions that are sound: what their objects hold is what the store has.
 
-ghost use Rattle.std.specs.Prelude.{◌<◌, ℕ, [], length};
+ghost use Rattle.std.specs.Prelude.{◌<◌, ℕ, List, [], length};
 ghost use Rattle.base_core.specs.declared.ids.AttrNo.{AttrNo};
+ghost use Rattle.base_core.specs.declared.ids.ClassId.{ClassId};
 ghost use Rattle.base_core.specs.declared.value.Value.{Value};
 ghost use Rattle.class_mapping.specs.Mapped.{Mapped};
+ghost use Rattle.programs.specs.Beside.{on_own};
+ghost use Rattle.session_scopes.specs.Making.{object_made};
 ghost use Rattle.session_scopes.specs.SessionState.{new_session};
 ghost use Rattle.session_calls.specs.Parts.{go_back};
 ghost use Rattle.session_calls.specs.Steps as steps;
@@ -24,6 +27,13 @@ pub fn a_new_session_is_sound()
 /// pending or to be deleted, and what is known of objects is what the tables have.
 pub fn entering_keeps_sound()
     ensures { KeepsSound steps.enter }
+{}
+
+/// The making of an object with values keeps a session sound, and so does its refusal; the object was touched in no scope, and stands
+/// as one that was not there yet.
+pub fn making_keeps_sound()
+    ensures { (class : ClassId) (given : List (AttrNo × Value))
+        → KeepsSound (on_own (object_made class given)) }
 {}
 
 /// What is done to one object keeps a session sound, whether it is refused or not: a value in a cell, a read of a cell, a delete
