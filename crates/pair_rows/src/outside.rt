@@ -5,7 +5,7 @@ ghost use Rattle.std.specs.List.{All, enumerate_from, flat_map};
 ghost use Rattle.base_core.specs.declared.refusal.Refusal.TheVariants.{Memory};
 ghost use Rattle.object_arena.specs.Fit.{IsFit};
 ghost use Rattle.object_arena.specs.Graph.{IsObject};
-ghost use Rattle.object_rows.specs.Seen.{object_ids as all_ids};
+ghost use Rattle.object_rows.specs.Seen.{AreNumbers, object_ids as all_ids};
 ghost use Rattle.pair_rows.specs.Warnings as spec;
 
 use crate::members::{members_added, members_removed};
@@ -14,7 +14,9 @@ use base_core::{ListOf, ObjId, ObjList, Refusal, RelNo, Warning};
 use class_layouts::number_of;
 use class_mapping::{Mapping, Relation};
 use object_arena::{Arena, Link};
-use object_rows::{Prepared, end_put, is_in_session, is_new, keeps_rows, object_ids};
+use object_rows::{
+    Prepared, end_put, is_in_session, is_new_beside, keeps_rows_beside, numbers_of, object_ids,
+};
 use std::alloc::Global;
 use std::collections::BTreeSet;
 
@@ -176,10 +178,19 @@ fn push_warned_of(
     Ok(())
 }
 
-fn is_written(arena: &Arena, prepared: &Prepared, object: ObjId) -> bool
+fn is_written(
+    arena: &Arena,
+    prepared: &Prepared,
+    transient: &BTreeSet<u32>,
+    deleted: &BTreeSet<u32>,
+    object: ObjId,
+) -> bool
+    requires transient { AreNumbers prepared.now.transient transient.now }
+    requires deleted { AreNumbers prepared.now.deleted deleted.now }
     ensures { result ≡ spec.is_written arena.now prepared.now object }
 {
-    is_new(arena, prepared, object) || keeps_rows(arena, prepared, object)
+    is_new_beside(arena, prepared, transient, object)
+        || keeps_rows_beside(arena, prepared, deleted, object)
 }
 
 /// The objects in the session that are not to be deleted.
@@ -188,10 +199,12 @@ fn written_list(alloc: Global, arena: &Arena, prepared: &Prepared) -> Result<Vec
         ≡ filter (spec.is_written arena.now prepared.now) (all_ids arena.now)) }
     ensures cause { IfErr result (λ e. e ≡ Memory) }
 {
+    let transient = numbers_of(alloc, &prepared.transient)?;
+    let deleted = numbers_of(alloc, &prepared.deleted)?;
     let ids = object_ids(alloc, arena)?;
     let mut written = Vec::new(alloc);
     for object in &ids {
-        if is_written(arena, prepared, *object) {
+        if is_written(arena, prepared, &transient, &deleted, *object) {
             written.push(*object)?;
         }
     }
