@@ -1,1 +1,1 @@
-mod Nothing
+pub mod Nothing

@@ -58,7 +58,7 @@ nothing_mapped : {A B : Type 0} (f : A → Option B) (xs : List A) → ((x : A) 
 nothing_mapped f [] none = refl
 nothing_mapped f (x ∷ xs) none = rw (none x) (nothing_mapped f xs none)
 
-nothing_passes : {A B : Type 0} (test : B → Bool) (f : A → B) (xs : List A) → ((x : A) → test (f x) ≡ false) → filter test (map f xs) ≡ []
+pub nothing_passes : {A B : Type 0} (test : B → Bool) (f : A → B) (xs : List A) → ((x : A) → test (f x) ≡ false) → filter test (map f xs) ≡ []
 nothing_passes test f [] none = refl
 nothing_passes test f (x ∷ xs) none = rw (none x) (nothing_passes test f xs none)
 
@@ -107,17 +107,18 @@ settled_in written object it Deleted is = ap is_pending is
 settled_in written object it Detached is = ap is_pending is
 
 -- what holds of each object after success, and of none, holds of each number
-at_each : (P : Object → Type 0) (written : Written) (object : ObjId) → ((place : ℕ) (it : Object) → P (object_flushed written (id_of_place place) it)) → P no_object → P (object_at (graph_written written) object)
+pub at_each : (P : Object → Type 0) (written : Written) (object : ObjId)
+    → ((place : ℕ) → place < length written.graph.objects → P (object_flushed written (id_of_place place) (get_or written.graph.objects place no_object))) → P no_object → P (object_at (graph_written written) object)
 at_each P written object each none =
-    ⊎_elim
-    (λ (inside : place_of object < length written.graph.objects). subst P (sym (flushed_at written (place_of object) inside)) (each (place_of object) (get_or written.graph.objects (place_of object) no_object)))
+    ⊎_elim (λ (inside : place_of object < length written.graph.objects). subst P (sym (flushed_at written (place_of object) inside)) (each (place_of object) inside))
     (λ (past : length written.graph.objects ≤ place_of object). subst P (sym (get_or_past (graph_written written).objects (place_of object) no_object (rw (flushed_long written) past))) none)
     (cases_lt (place_of object) (length written.graph.objects))
 
 not_new : (written : Written) (object : ObjId) → is_new (graph_written written) nothing_prepared object ≡ false
 not_new written object =
     ap (λ (b : Bool). b && not (is_among nothing_prepared.transient object))
-    (at_each (λ (it : Object). is_pending it.state ≡ false) written object (λ place it. settled_in written (id_of_place place) it it.state refl) refl)
+    (at_each (λ (it : Object). is_pending it.state ≡ false) written object
+    (λ place inside. settled_in written (id_of_place place) (get_or written.graph.objects place no_object) (get_or written.graph.objects place no_object).state refl) refl)
 
 not_queued : (written : Written) (queue : Queue) (objects : List ObjId) → fold (with_queued (graph_written written) nothing_prepared) queue objects ≡ queue
 not_queued written queue [] = refl
@@ -219,7 +220,8 @@ quiet_in written object it Detached is kept = gone_loud Detached it.state is ref
 
 quiet_at : (written : Written) (object : ObjId) → is_persistent (object_at (graph_written written) object).state ≡ true → IsQuiet (object_at (graph_written written) object)
 quiet_at written object =
-    at_each (λ (it : Object). is_persistent it.state ≡ true → IsQuiet it) written object (λ place it. quiet_in written (id_of_place place) it it.state refl) (λ kept. absurd cc)
+    at_each (λ (it : Object). is_persistent it.state ≡ true → IsQuiet it) written object
+    (λ place inside. quiet_in written (id_of_place place) (get_or written.graph.objects place no_object) (get_or written.graph.objects place no_object).state refl) (λ kept. absurd cc)
 
 -- ---- no row changes
 

@@ -1,0 +1,23 @@
+-- The laws of a flush, of its parts.
+use Rattle.std.proofs.Common.{refl}
+use Rattle.flush_plan.specs.Flushing.{Sofar}
+use Rattle.session_calls.specs.Parts.{World}
+use Rattle.session_flush.specs.Flush.{flush}
+use Rattle.session_flush_laws.specs.Laws.{LeavesLegalTables, SendsItsPlan, SendsNothingAgain}
+use Rattle.session_flush_laws.proofs.Again.{quiet_again}
+use Rattle.session_flush_laws.proofs.Flushing.{IsFlushSent, flush_sent}
+use Rattle.session_flush_laws.proofs.Legal.{flush_legal}
+
+pub sends_law : SendsItsPlan
+sends_law world is =
+    let sent : IsFlushSent world (flush world).after = flush_sent world is in
+    let sofar : Sofar = record { tables = (flush world).after.store.tables; keys = sent.keys } in
+    (sent.statements, sofar, sent.planned, sent.sent, refl)
+
+pub again_law : SendsNothingAgain
+again_law world marks is = quiet_again world marks is
+
+pub legal_law : LeavesLegalTables
+legal_law world legal = flush_legal world legal
+
+pub ruleset flush_laws = (sends_law, again_law, legal_law)

@@ -1,0 +1,50 @@
+-- What a flush leaves in the tables, where the store is told.
+use Rattle.std.specs.Prelude.{◌≡◌, true, List, [], Option, IfSome, Ok}
+use Rattle.base_core.specs.declared.ids.ObjId.{ObjId}
+use Rattle.schema_core.specs.declared.changes.Planned.{Planned}
+use Rattle.object_arena.specs.Graph.{Graph, is_persistent, object_at}
+use Rattle.flush_plan.specs.Flushing.{Sofar, send_all}
+use Rattle.flush_plan.specs.Planning.{plan}
+use Rattle.programs.specs.Store.{Store}
+use Rattle.programs.specs.Moment.{Told}
+use Rattle.legality_laws.specs.Legality.{IsLegalStore}
+use Rattle.session_scopes.specs.SessionState.{SessionState}
+use Rattle.session_calls.specs.Parts.{World}
+use Rattle.session_flush.specs.Flush.{flush}
+use Rattle.session_flush.specs.Outcome.{changes_of}
+
+-- ---- over a keeper that tells
+
+-- the session and the store that is told
+abbrev pub world_of : SessionState → Told Store → World
+world_of own told = record { own = own; store = told.world }
+
+-- the flush of a world answers, and what is told then, with the session, is what it leaves
+pub record IsRunOf (world : World) (now : SessionState) (told : Option (Told Store)) : Type 0 where
+  pub answer : (flush world).answer ≡ Ok tt
+  pub own : now ≡ (flush world).after.own
+  pub store : IfSome told (λ t. t.world ≡ (flush world).after.store)
+
+-- ---- what is sent
+
+-- a flush that answers has sent its whole plan, each statement of which was accepted
+abbrev pub SendsItsPlan : Type 0
+SendsItsPlan =
+    (world : World) → (flush world).answer ≡ Ok tt
+    → (statements : List Planned) × (sofar : Sofar) × (plan world.own.mapping.schema (changes_of world.own) ≡ Ok statements)
+    × (send_all world.own.mapping.schema (changes_of world.own) (Ok (record { tables = world.store.tables; keys = [] })) statements ≡ Ok sofar) × ((flush world).after.store.tables ≡ sofar.tables)
+
+-- only persistent objects are marked
+abbrev pub MarksArePersistent : Graph → Type 0
+MarksArePersistent graph = (object : ObjId) → (object_at graph object).marked ≡ true → is_persistent (object_at graph object).state ≡ true
+
+-- a flush right after it sends nothing, and answers
+abbrev pub SendsNothingAgain : Type 0
+SendsNothingAgain =
+    (world : World) → MarksArePersistent world.own.graph → (flush world).answer ≡ Ok tt → ((flush (flush world).after).events ≡ []) × ((flush (flush world).after).answer ≡ Ok tt)
+
+-- ---- what is left
+
+-- whatever a flush answers, it leaves legal tables where it found them
+abbrev pub LeavesLegalTables : Type 0
+LeavesLegalTables = (world : World) → IsLegalStore world.own.mapping.schema world.store → IsLegalStore world.own.mapping.schema (flush world).after.store
