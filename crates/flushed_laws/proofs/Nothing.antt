@@ -1,5 +1,5 @@
 -- Nothing is left to write after success of a flush.
-use Rattle.std.proofs.Common.{◌≡◌, ℕ, ◌+◌, ◌-◌, ◌<◌, ◌≤◌, Bool, true, false, cond, ◌&&◌, ◌||◌, ◌==◌, List, [], ◌∷◌, ◌++◌, length, map, get_or, Option, None, Some, refl, sym, ap, ◌∙◌, subst, ⊎_elim, arith}
+use Rattle.std.proofs.Common.{◌≡◌, ℕ, ◌+◌, ◌<◌, ◌≤◌, Bool, true, false, cond, ◌&&◌, ◌||◌, ◌==◌, List, [], ◌∷◌, ◌++◌, length, map, get_or, Option, None, Some, refl, sym, ap, ◌∙◌, subst, ⊎_elim}
 use Rattle.std.specs.Prelude.{Ok, fold, is_some, not, slice_get, unwrap_or, if◌then◌else◌}
 use Rattle.std.specs.List.{enumerate_from, filter, filter_map, flat_map, position}
 use Rattle.std.specs.Map.{values_of}
@@ -23,7 +23,6 @@ use Rattle.schema_core.specs.declared.changes.RowChanges.{RowChanges}
 use Rattle.schema_core.specs.declared.table.ColumnSpec.{ColumnSpec}
 use Rattle.schema_core.specs.Catalog.{Catalog}
 use Rattle.schema_core.specs.DependencyOrder.{table_ids}
-use Rattle.class_types.specs.declared.mapped.Relation.{Relation}
 use Rattle.class_layouts.specs.Faults.{foreigns_in}
 use Rattle.class_mapping.specs.Mapped.{Mapped, attribute_of, attributes_of, is_key_attribute, relations_of, tables_of}
 use Rattle.object_arena.specs.declared.object.Cell.{Cell}
@@ -47,7 +46,7 @@ use Rattle.pair_rows.specs.Warnings.{warnings}
 use Rattle.row_project.specs.Changes.{object_changes, rows_lost}
 use Rattle.row_project.specs.Switch.{partners, with_switches}
 use Rattle.touching.proofs.Exact.{value_itself}
-use Rattle.graph_flushed.specs.Flushed.{Written, deleted_object, graph_written, held_cell, held_or, kept_cell, kept_link, kept_links, key_of, new_cell, new_object, new_value, object_flushed, object_in, prepared_links, staying_cell, staying_object, state_under, state_unless, value_come}
+use Rattle.graph_flushed.specs.Flushed.{Written, deleted_object, graph_written, held_cell, held_or, kept_cell, kept_link, key_of, new_cell, new_object, new_value, object_flushed, object_in, prepared_links, staying_cell, staying_object, state_under, state_unless, value_come}
 use Rattle.graph_flushed.specs.Keys.{new_holder}
 use Rattle.graph_flushed.proofs.ObjectSteps.{flushed_at, flushed_long}
 use Rattle.flushed_laws.specs.Laws.{NoRowChanges, NoRowIsNew, NoStatementIsPlanned, nothing_prepared}

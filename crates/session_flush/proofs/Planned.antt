@@ -1,6 +1,6 @@
 -- A plan is asked for: it is answered, or its cycle is the refusal.
 use Rattle.std.proofs.Common.{◌≡◌, ℕ, List, map, Result, Ok, Err, MatchBool, refl, ap, subst}
-use Rattle.base_core.specs.Answers.{Gives, is_memory}
+use Rattle.base_core.specs.Answers.{is_memory}
 use Rattle.base_core.specs.declared.refusal.Refusal.{Refusal}
 use Rattle.base_core.specs.declared.refusal.Refusal.TheVariants.{CircularDependencyError, Memory}
 use Rattle.schema_core.specs.declared.changes.Planned.{Planned}

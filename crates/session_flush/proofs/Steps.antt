@@ -1,5 +1,5 @@
 -- The flush, put together of its parts.
-use Rattle.std.proofs.Common.{◌≡◌, ℕ, ◌-◌, List, length, Result, Ok, Err, IfErr, MatchBool, OnOk, refl, sym, ap, ◌∙◌, subst, arith}
+use Rattle.std.proofs.Common.{◌≡◌, ℕ, ◌-◌, List, length, Result, Ok, Err, IfErr, MatchBool, OnOk, sym, ap, ◌∙◌, subst, arith}
 use Rattle.base_core.specs.Answers.{is_memory}
 use Rattle.base_core.specs.declared.refusal.Refusal.{Refusal}
 use Rattle.base_core.specs.declared.refusal.Refusal.TheVariants.{Memory}

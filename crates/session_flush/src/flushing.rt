@@ -1,7 +1,6 @@
 //! The flush.
 
 ghost use Rattle.std.specs.Prelude.{◌≡◌, ◌<◌, ◌-◌, false, true, length, IfErr, OnOk};
-ghost use Rattle.programs.specs.Moment.{IsCalm, counters};
 ghost use Rattle.programs.specs.Programs.{ends_early};
 ghost use Rattle.session_scopes.specs.Scoping.{session_failed};
 ghost use Rattle.session_scopes.specs.SessionState.{AreAlikeButNotes, IsInStep};

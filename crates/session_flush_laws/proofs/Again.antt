@@ -1,5 +1,5 @@
 -- A flush right after one that answered sends nothing.
-use Rattle.std.proofs.Common.{◌≡◌, ℕ, zero, suc, ◌+◌, ◌-◌, ◌<◌, Bool, true, false, cond, ◌&&◌, ◌||◌, ◌==◌, List, [], ◌∷◌, length, map, get_or, Option, None, Some, Result, Ok, refl, sym, ap, ◌∙◌, subst, arith}
+use Rattle.std.proofs.Common.{◌≡◌, ℕ, zero, suc, ◌+◌, ◌-◌, ◌<◌, Bool, true, false, cond, ◌&&◌, ◌==◌, List, [], ◌∷◌, length, map, get_or, Option, None, Some, Result, Ok, refl, sym, ap, ◌∙◌, subst, arith}
 use Rattle.std.specs.Prelude.{if◌then◌else◌}
 use Rattle.std.specs.List.{filter, range_with_len}
 use Rattle.std.proofs.lemmas.Bool.{eq-eqb, or_left, or_right}
@@ -22,7 +22,7 @@ use Rattle.row_project.specs.Switch.{project}
 use Rattle.graph_flushed.specs.Flushed.{Written, deleted_object, graph_written, key_of, new_object, object_in, staying_object, state_under, written_with}
 use Rattle.flushed_laws.specs.Laws.{nothing_prepared}
 use Rattle.flushed_laws.proofs.Nothing.{at_each, no_statement, nothing_passes}
-use Rattle.programs.specs.Programs.{Event, Run, ◌>>=◌, ask, continue_from, each, give, undo_on_refusal, with_events_before, with_undo}
+use Rattle.programs.specs.Programs.{Run, ◌>>=◌, ask, continue_from, each, give, undo_on_refusal, with_events_before, with_undo}
 use Rattle.programs.specs.Beside.{by_own, changes, on_own}
 use Rattle.session_scopes.specs.SessionState.{with_warnings}
 use Rattle.session_calls.specs.Parts.{World}

@@ -14,7 +14,6 @@ use Rattle.row_project.specs.Switch.{project}
 use Rattle.graph_flushed.specs.Flushed.{graph_flushed}
 use Rattle.programs.specs.Programs.{Run, ◌>>=◌, ask, each, give}
 use Rattle.programs.specs.Beside.{by_own, changes, on_own, on_store}
-use Rattle.legality_laws.specs.Legality.{Keeps}
 use Rattle.session_scopes.specs.SessionState.{with_warnings}
 use Rattle.session_calls.specs.Parts.{World}
 use Rattle.plan_run.specs.Run.{keys_by_place, send_one, send_plan}

@@ -11,7 +11,7 @@ use Rattle.schema_core.specs.WellFormed.{IsWellFormed}
 use Rattle.fitting_statements.specs.Fitting.{fits_schema}
 use Rattle.fitting_statements.proofs.Tests.{fitting}
 use Rattle.flush_plan.specs.Flushing.{Keys, keys_then, statement_sent, was_missing}
-use Rattle.programs.specs.Programs.{Run, ◌>>=◌, each, give, refuse}
+use Rattle.programs.specs.Programs.{each, give}
 use Rattle.programs.specs.Beside.{on_store}
 use Rattle.keeper_core.specs.Calls as call
 use Rattle.legality_laws.specs.Legality.{Keeps}

@@ -1,7 +1,6 @@
 -- The laws of a flush, of its parts.
 use Rattle.std.proofs.Common.{refl}
 use Rattle.flush_plan.specs.Flushing.{Sofar}
-use Rattle.session_calls.specs.Parts.{World}
 use Rattle.session_flush.specs.Flush.{flush}
 use Rattle.session_flush_laws.specs.Laws.{LeavesLegalTables, SendsItsPlan, SendsNothingAgain}
 use Rattle.session_flush_laws.proofs.Again.{quiet_again}

@@ -1,5 +1,5 @@
 -- A plan that was sent to a store is the plan sent statement by statement.
-use Rattle.std.proofs.Common.{◌≡◌, Bool, true, false, List, [], ◌∷◌, Result, Ok, Err, sym, ap, ◌∙◌}
+use Rattle.std.proofs.Common.{◌≡◌, Bool, true, false, List, [], ◌∷◌, Ok, Err, sym, ap, ◌∙◌}
 use Rattle.std.specs.Prelude.{if◌then◌else◌}
 use Rattle.base_core.specs.declared.value.Value.{Value}
 use Rattle.schema_core.specs.declared.changes.Planned.{Planned}
@@ -8,8 +8,8 @@ use Rattle.schema_core.specs.declared.statement.RowStmt.{RowStmt}
 use Rattle.schema_core.specs.declared.statement.Violation.TheVariants.{Missing}
 use Rattle.schema_core.specs.Apply.{Outcome, apply}
 use Rattle.schema_core.specs.Catalog.{Catalog}
-use Rattle.flush_plan.specs.Flushing.{Flushed, Keys, Sofar, after_outcome, keys_then, send, send_all, send_on, statement_sent, table_of, was_missing}
-use Rattle.programs.specs.Programs.{Run, ◌>>=◌, each, give, refuse}
+use Rattle.flush_plan.specs.Flushing.{Flushed, Keys, Sofar, after_outcome, keys_then, send, send_all, statement_sent, table_of, was_missing}
+use Rattle.programs.specs.Programs.{Run, each, give, refuse}
 use Rattle.programs.specs.Beside.{on_store}
 use Rattle.keeper_core.specs.Calls as call
 use Rattle.keeper_core.specs.Calls.{run_of_write}

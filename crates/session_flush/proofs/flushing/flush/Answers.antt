@@ -1,4 +1,4 @@
-use Rattle.std.proofs.Common.{◌≡◌, true, false, length, sym, ap, ◌∙◌, arith}
+use Rattle.std.proofs.Common.{true, false, length, sym, ap, ◌∙◌, arith}
 use Rattle.session_calls.proofs.Joining.{passed_call}
 use Rattle.session_flush.specs.Flush.{flush, give_up}
 use Rattle.session_flush.specs.Outcome.{IsFlushCause, IsGivenUp, changes_of}

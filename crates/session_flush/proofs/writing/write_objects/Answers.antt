@@ -1,4 +1,4 @@
-use Rattle.std.proofs.Common.{◌≡◌, IfErr, OnOk, refl}
+use Rattle.std.proofs.Common.{IfErr, OnOk, refl}
 use Rattle.schema_core.specs.declared.changes.RowChanges.{RowChanges}
 use Rattle.object_rows.specs.declared.prepared.Prepared.{Prepared}
 use Rattle.session_calls.proofs.Joining.{passed_call}

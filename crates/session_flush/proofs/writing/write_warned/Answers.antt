@@ -1,4 +1,4 @@
-use Rattle.std.proofs.Common.{◌≡◌, IfErr, length, sym, ap, ◌∙◌, subst, arith}
+use Rattle.std.proofs.Common.{IfErr, length, sym, ap, ◌∙◌, subst, arith}
 use Rattle.std.proofs.lemmas.Result.{IfErr-weaker}
 use Rattle.flush_order.specs.Ready.{AreInRange}
 use Rattle.schema_core.specs.Catalog.{Catalog}
