@@ -1,7 +1,7 @@
 mod Again
-mod Answered
-mod Flushing
-mod Kept
+pub mod Answered
+pub mod Flushing
+pub mod Kept
 mod LawProofs
 mod Legal
 mod Sending
