@@ -1,9 +1,10 @@
-//! Resolves selects and bulk statements that stand in lines of scripts, and writes their texts in SQLite or why they are refused.
+//! Answers the lines of scripts that compile, and writes what is echoed where their tables are made.
 //!
-//! The input is scripts with `----` between each two: blocks of tables, `configure`, and lines `compile sqlite rows ..` and
-//! `compile sqlite bulk ..`. For each of these lines the output has what the language says that it answers: the text with its
-//! values, or the refusal with the line's number in its script. The first script has one or more lines for each rule, names
-//! first, then kinds, groups, names of sources, and bulk statements.
+//! The input is scripts with `----` between each two: blocks of tables, `configure`, and lines `compile DIALECT ..`. For each of
+//! these the output has what the language says that it answers: the text with its values, or the refusal with the line's number in
+//! its script. The first script has one or more lines for each rule, names first, then kinds, groups, names of sources, and bulk
+//! statements. The last ones have three dialects: names that are quoted, cuts, tables, and `create_all`, which is answered by its
+//! echo in each dialect, or the first table that has no text.
 #![tactic(auto)]
 
 mod play;

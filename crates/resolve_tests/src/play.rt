@@ -1,14 +1,17 @@
 //! Plays the lines of a script.
 
-use crate::shown::{show_refusal, show_text};
+ghost use Rattle.std.specs.Prelude.{◌≡◌, true};
+ghost use Rattle.sayable_lines.specs.Sayable.{IsSayable};
+
+use crate::shown::show_refusal;
 use base_core::Refusal;
-use expr_types::Statement;
+use compiled_lines::{compile_bulk, compile_rows, compile_table, compile_tables};
+use echo_lines::echo;
+use keeper_core::{Note, Notes, Sent};
+use sayable_lines::read_line;
 use schema_core::{Schema, TableSpec};
-use script_read::read_line;
-use script_resolve::{resolve_bulk, resolve_select};
-use script_types::{Command, Inside};
+use script_types::{Command, Dialect, Inside};
 use shell_parts::Declared;
-use sqlite_items::Boxed;
 use std::alloc::{AllocError, Global};
 
 /// A script so far.
@@ -39,27 +42,36 @@ fn end_block(schema: &mut Schema, declared: Declared) -> Result<(), Refusal> {
     }
 }
 
-/// The statement that a line says.
-fn statement(alloc: Global, schema: &Schema, line: &Command) -> Result<Boxed<Statement>, Refusal> {
-    let statement = match line {
-        Command::CompileRows(_, select) => Statement::Select(resolve_select(
-            alloc, schema, select,
-        )?),
-        Command::CompileBulk(_, bulk) => Statement::Bulk(resolve_bulk(alloc, schema, bulk)?),
-        _ => return Err(Refusal::NotBuilt),
-    };
-    Ok(Boxed::new(alloc, statement)?)
+/// What is echoed in a dialect where all tables are made, or the first table that has no text.
+fn made(alloc: Global, schema: &Schema, dialect: Dialect) -> Result<String, Refusal>
+    requires { schema.now.resolved ≡ true }
+{
+    compile_tables(alloc, dialect, schema)?;
+    let mut notes = Notes::new(alloc);
+    for table in &schema.tables_in_order(alloc)? {
+        notes.push(Note::Sent(Sent::Create(*table)))?;
+    }
+    echo(alloc, dialect, schema, notes.as_slice())
+}
+
+/// What is answered to a line that compiles.
+fn compiled(alloc: Global, schema: &Schema, line: &Command) -> Result<String, Refusal>
+    requires { IsSayable line.now }
+{
+    match line {
+        Command::CompileRows(dialect, select) => compile_rows(alloc, *dialect, schema, select),
+        Command::CompileBulk(dialect, bulk) => compile_bulk(alloc, *dialect, schema, bulk),
+        Command::CompileTable(dialect, name) => compile_table(alloc, *dialect, schema, name),
+        _ => Err(Refusal::NotBuilt),
+    }
 }
 
 /// The answer to a line other than those of blocks.
-fn answer(
-    alloc: Global,
-    schema: &Schema,
-    line: &Command,
-    said: &mut String,
-) -> Result<(), Refusal> {
-    let statement = statement(alloc, schema, line)?;
-    show_text(alloc, schema, statement.get(), said)
+fn answer(alloc: Global, schema: &Schema, line: &Command, said: &mut String) -> Result<(), Refusal>
+    requires { IsSayable line.now }
+{
+    said.push_str(compiled(alloc, schema, line)?.as_str())?;
+    Ok(())
 }
 
 impl Player {
@@ -80,10 +92,23 @@ impl Player {
         }
     }
 
+    /// Says what is echoed in each dialect where all tables are made.
+    #[tactic(auto, unfolding(schema_core::specs::Declaration::resolve))]
+    fn make_all(&mut self, said: &mut String) -> Result<(), Refusal> {
+        self.schema.resolve()?;
+        said.push_str(made(self.alloc, &self.schema, Dialect::Sqlite)?.as_str())?;
+        said.push_str(made(self.alloc, &self.schema, Dialect::Postgresql)?.as_str())?;
+        said.push_str(made(self.alloc, &self.schema, Dialect::Mysql)?.as_str())?;
+        Ok(())
+    }
+
     /// Takes a line that was read.
-    fn take(&mut self, line: Command, said: &mut String) -> Result<(), Refusal> {
+    fn take(&mut self, line: Command, said: &mut String) -> Result<(), Refusal>
+        requires { IsSayable line }
+    {
         match line {
             Command::Skip | Command::Configure => Ok(()),
+            Command::CreateAll => self.make_all(said),
             Command::End => match self.open.take() {
                 Some(declared) => end_block(&mut self.schema, declared),
                 None => Ok(()),

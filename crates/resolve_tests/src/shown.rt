@@ -1,31 +1,7 @@
 //! What is written of an answer.
 
-use base_core::{Kind, Refusal, RequestKind};
-use expr_types::Statement;
-use printing::RowText;
-use schema_core::Schema;
-use sql_statements::has_cuts;
+use base_core::{ColumnNo, Kind, Refusal, RequestKind, TableId};
 use std::alloc::{AllocError, Global};
-
-/// A statement's text, and in a second line the values of its marks, if it has some.
-pub(crate) fn show_text(
-    alloc: Global,
-    schema: &Schema,
-    statement: &Statement,
-    said: &mut String,
-) -> Result<(), Refusal> {
-    if !has_cuts(statement) {
-        return Err(Refusal::NotBuilt);
-    }
-    let compiled = dialect_sqlite::compile(alloc, schema, statement)?;
-    let text = compiled.text.get();
-    said.push_str(format!(in alloc; "{text}\n")?.as_str())?;
-    if !compiled.names.is_empty() {
-        let values = RowText(&compiled.values);
-        said.push_str(format!(in alloc; "par> {values}\n")?.as_str())?;
-    }
-    Ok(())
-}
 
 fn request_text(alloc: Global, kind: &RequestKind) -> Result<String, AllocError> {
     if let RequestKind::Unknown(name) = kind {
@@ -57,6 +33,9 @@ fn refusal_text(alloc: Global, refusal: &Refusal) -> Result<String, AllocError> 
             let wanted = kind_word(*wanted);
             let found = kind_word(*found);
             format!(in alloc; "TypeMismatch({wanted}, {found})")
+        }
+        Refusal::CompileError(TableId(table), ColumnNo(column)) => {
+            format!(in alloc; "CompileError(table {table}, column {column})")
         }
         _ => String::from_str(alloc, "another refusal"),
     }

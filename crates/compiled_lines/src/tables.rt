@@ -1,0 +1,104 @@
+//! The texts that make tables.
+
+ghost use Rattle.std.specs.Prelude.{◌≡◌, ◌++◌, [], true, IfErr, IfOk, codes, string_bytes};
+ghost use Rattle.base_core.specs.Answers.{Gives};
+ghost use Rattle.schema_core.specs.Catalog.{IsTable};
+ghost use Rattle.sql_tables.specs.Ddl.{ddl as text_of};
+ghost use Rattle.compiled_lines.specs.CompiledLines as spec;
+
+use base_core::{Copied, Name, Refusal, RequestKind, TableId, Text};
+use schema_core::Schema;
+use script_types::Dialect;
+use sql_tables::ddl;
+use sql_text::Quoting;
+use statement_lines::quoting_of;
+use std::alloc::Global;
+
+/// The line of a text. The only refusal is `Memory`.
+fn line_of(alloc: Global, text: &Text) -> Result<String, Refusal>
+    ensures line { IfOk result (λ line. string_bytes line ≡ text.now ++ codes "\n") }
+    ensures cause { IfErr result (λ e. e ≡ Refusal.Memory) }
+{
+    let shown = text.get();
+    Ok(format!(in alloc; "{shown}\n")?)
+}
+
+/// The line that makes a table, with all its foreign keys.
+fn line_of_table(
+    alloc: Global,
+    quoting: Quoting,
+    schema: &Schema,
+    table: TableId,
+) -> Result<String, Refusal>
+    requires { IsTable schema.now table }
+    ensures { Gives string_bytes result (spec.line_of_table quoting schema.now table) }
+{
+    let text = ddl(alloc, quoting, schema, table, &[])?;
+    line_of(alloc, &text)
+}
+
+/// What is answered to `compile DIALECT table NAME`: the text that makes the table, all its foreign keys in it.
+///
+/// # Errors
+/// `Unknown` of a name that no table has; in MySQL `CompileError` with the first varchar that has no length.
+#[tactic(auto, using(crate::proofs::Declared::found))]
+pub fn compile_table(
+    alloc: Global,
+    dialect: Dialect,
+    schema: &Schema,
+    name: &Name,
+) -> Result<String, Refusal>
+    ensures { Gives string_bytes result
+        (spec.compiled_table dialect schema.now name.now) }
+{
+    match schema.find(name) {
+        Some(table) => line_of_table(alloc, quoting_of(dialect), schema, table),
+        None => {
+            let unknown = RequestKind::Unknown(name.copied()?);
+            Err(Refusal::InvalidRequestError(unknown))
+        }
+    }
+}
+
+/// Whether a table has a text.
+#[tactic(auto, using(crate::proofs::Declared::undeclared))]
+fn compile_one(
+    alloc: Global,
+    quoting: Quoting,
+    schema: &Schema,
+    table: TableId,
+) -> Result<(), Refusal>
+    ensures { Gives (λ u. u) result (spec.table_compiled quoting schema.now table) }
+{
+    if table.0 < schema.count() {
+        let _text = ddl(alloc, quoting, schema, table, &[])?;
+    }
+    Ok(())
+}
+
+/// Whether each table has a text.
+fn compile_each(
+    alloc: Global,
+    quoting: Quoting,
+    schema: &Schema,
+    tables: &[TableId],
+) -> Result<(), Refusal>
+    ensures { Gives (λ u. u) result (spec.each_compiled quoting schema.now tables.now) }
+{
+    for table in tables {
+        compile_one(alloc, quoting, schema, *table)?;
+    }
+    Ok(())
+}
+
+/// Whether all tables have texts in a dialect, as is asked before the first is made.
+///
+/// # Errors
+/// In MySQL `CompileError` with the first varchar that has no length, of the tables in the order in which they are made.
+pub fn compile_tables(alloc: Global, dialect: Dialect, schema: &Schema) -> Result<(), Refusal>
+    requires { schema.now.resolved ≡ true }
+    ensures { Gives (λ u. u) result (spec.tables_compiled dialect schema.now) }
+{
+    let order = schema.tables_in_order(alloc)?;
+    compile_each(alloc, quoting_of(dialect), schema, order.as_slice())
+}
