@@ -13,7 +13,7 @@ use Rattle.object_arena.specs.declared.object.Object.{Object}
 use Rattle.object_arena.specs.Graph.{Graph, IsObject, cell_at, cell_in, cell_put, expired_cell, no_object, object_at, place_of, with_cell, with_object}
 use Rattle.object_arena.specs.Fit.{KeepsWith}
 use Rattle.object_arena.proofs.PartLemmas.{set_twice}
-use Rattle.load_filling.specs.Filled.{AreFoundFor, Found, filled_cell, with_filled}
+use Rattle.load_filling.specs.Filled.{AreFoundFor, Found, IsFilledInPart, filled_cell, filled_to, first_filled, with_filled}
 
 object_same : (graph : Graph) (object : ObjId) → with_object graph object (object_at graph object) ≡ graph
 object_same graph object = ap (λ (objects : List Object). let new : Graph = record { objects = objects; roots = graph.roots } in new) (set-get_or graph.objects (place_of object) no_object)
@@ -23,13 +23,6 @@ pub cell_same : (graph : Graph) (object : ObjId) (attr : AttrNo) → with_cell g
 cell_same graph object attr =
     let own : Object = object_at graph object in
     ap (λ (cells : List Cell). with_object graph object (record own { cells = cells })) (set-get_or own.cells attr.0 expired_cell) ∙ object_same graph object
-
-abbrev first_filled : Found → List Cell → ℕ → List Cell
-first_filled found cells n = map (filled_cell found) (enumerate_from 0 (take n cells)) ++ drop n cells
-
--- the graph in which the first cells of an object are filled
-abbrev pub filled_to : Graph → ObjId → Found → ℕ → Graph
-filled_to graph object found n = with_object graph object (record (object_at graph object) { cells = first_filled found (object_at graph object).cells n })
 
 pub none_filled : (graph : Graph) (object : ObjId) (found : Found) → graph ≡ filled_to graph object found 0
 none_filled graph object found = sym (object_same graph object)
@@ -149,3 +142,7 @@ next_keeps graph now new object found n is made before after =
       fits = λ mapped given fit. after.fits mapped (subst (λ (class : ClassId). AreFoundFor class found mapped) (sym same) given) (before.fits mapped given fit);
       classes = after.classes ∙ before.classes;
     }
+
+-- memory ran out at a cell
+pub filled_in_part : (graph now new : Graph) (object : ObjId) (found : Found) (n : ℕ) → now ≡ filled_to graph object found n → new ≡ now → IsFilledInPart graph object found new
+filled_in_part graph now new object found n is same = (n, same ∙ is)

@@ -1,10 +1,10 @@
 -- What becomes of the graph where an object is made, made persistent under a key, and expired.
-use Rattle.std.proofs.Common.{◌≡◌, ℕ, ◌+◌, ◌-◌, Bool, true, false, cond, List, [], ◌∷◌, ◌++◌, map, length, get_or, Option, Some, None, refl, sym, ap, ◌∙◌, arith, length-append, ◌<◌, Result, Ok, Err, if◌then◌else◌}
+use Rattle.std.proofs.Common.{◌≡◌, ℕ, ◌+◌, ◌-◌, Bool, true, false, cond, List, [], ◌∷◌, ◌++◌, map, length, get_or, Option, Some, None, refl, sym, ap, ◌∙◌, arith, append-nil, length-append, subst, ◌<◌, Result, Ok, Err, if◌then◌else◌}
 use Rattle.std.specs.Prelude.{nat_lt, slice_set}
 use Rattle.std.specs.Option.{option_map}
 use Rattle.std.specs.List.{position, position_or_len, zip}
 use Rattle.std.proofs.Math.Seq.{set-append_seam}
-use Rattle.std.proofs.lemmas.List.{get_or_push}
+use Rattle.std.proofs.lemmas.List.{get_or_push, map-append}
 use Rattle.std.proofs.lemmas.Bool.{lt-ltb}
 use Rattle.std.proofs.lemmas.Bool.Decides.{nat_tests}
 use Rattle.std.proofs.lemmas.List.Folds.{position_or_len_push}
@@ -21,8 +21,10 @@ use Rattle.object_arena.specs.declared.object.Cell.{Cell}
 use Rattle.object_arena.specs.declared.object.Link.{Link}
 use Rattle.object_arena.specs.declared.object.Link.TheVariants.{Unloaded, Unset}
 use Rattle.object_arena.specs.declared.object.State.TheVariants.{Persistent}
+use Rattle.object_arena.specs.Every.{classes_of}
 use Rattle.object_arena.specs.Graph.{Graph, expired_cell, expired_object, fresh_object, make, no_class_id, no_object, null_cell, object_at, object_limit, root_at, with_fresh, with_object}
 use Rattle.object_arena.specs.Identity.{find_identity, holds, id_of_place, is_other, is_taken, with_identity}
+use Rattle.load_filling.specs.Growing.{Grows}
 use Rattle.load_filling.specs.Loaded.{load, loaded_object, with_loaded}
 
 -- ---- a fresh object takes no key
@@ -170,3 +172,29 @@ load_is mapped class key graph fresh new object room e is =
     ap (λ (b : Bool). let answer : Result (ObjId × Graph) Refusal = if b then Ok (next_object graph, whole) else Err (LimitReached Objects) in answer) (lt-ltb (length graph.objects) object_limit room)
     ∙ ap (λ (one : ObjId). let answer : Result (ObjId × Graph) Refusal = Ok (one, whole) in answer) (sym (made_object mapped class graph fresh object e))
     ∙ ap (λ (now : Graph). let answer : Result (ObjId × Graph) Refusal = Ok (object, now) in answer) (sym is)
+
+-- ---- the objects that there were
+
+pub grows_same : (old new : Graph) → new ≡ old → Grows old new
+grows_same old new is = subst (Grows old) (sym is) (record { classes = []; roots = []; longer = sym (append-nil (classes_of old).0); rooted = sym (append-nil (classes_of old).1) })
+
+loaded_grows : (mapped : Mapped) (class : ClassId) (key : List Value) (graph : Graph) → Grows graph (with_loaded mapped class key graph)
+unfolding classes_of
+loaded_grows mapped class key graph = record {
+  classes = class ∷ [];
+  roots = root_of mapped class ∷ [];
+  longer = map-append (λ (o : Object). o.class) graph.objects (loaded_object mapped class key ∷ []);
+  rooted = refl;
+}
+
+pub grows_loaded : (mapped : Mapped) (class : ClassId) (key : List Value) (old new : Graph) → new ≡ with_loaded mapped class key old → Grows old new
+grows_loaded mapped class key old new is = subst (Grows old) (sym is) (loaded_grows mapped class key old)
+
+-- the object that was made is of its class's root
+pub loaded_rooted : (mapped : Mapped) (class : ClassId) (key : List Value) (graph fresh new : Graph) (object : ObjId) → length graph.roots ≡ length graph.objects → make graph mapped class ≡ Ok (object, fresh)
+    → new ≡ with_loaded mapped class key graph → (root_at new object).0 ≡ (root_of mapped class).0
+loaded_rooted mapped class key graph fresh new object rooted e is =
+    let place : length graph.roots ≡ length graph.objects + 1 - 1 = rooted ∙ sym (last_place (length graph.objects)) in
+    ap (λ (now : Graph). (root_at now object).0) is
+    ∙ ap (λ (one : ObjId). (root_at (with_loaded mapped class key graph) one).0) (made_object mapped class graph fresh object e)
+    ∙ ap (λ (root : ClassId). root.0) (get_or_push graph.roots (root_of mapped class) no_class_id (length graph.objects + 1 - 1) place)

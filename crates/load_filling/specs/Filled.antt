@@ -1,5 +1,5 @@
 -- The expired cells of an object hold what a load found of them.
-use Rattle.std.specs.Prelude.{ℕ, true, ◌≡◌, List, map, slice_get, Option, None, Some, is_none, if◌then◌else◌}
+use Rattle.std.specs.Prelude.{ℕ, true, ◌≡◌, List, ◌++◌, drop, map, slice_get, take, Option, None, Some, is_none, if◌then◌else◌}
 use Rattle.std.specs.List.{enumerate_from}
 use Rattle.base_core.specs.declared.ids.AttrNo.{AttrNo}
 use Rattle.base_core.specs.declared.ids.ClassId.{ClassId}
@@ -37,6 +37,21 @@ filled_object found object = record object { cells = map (filled_cell found) (en
 -- the graph in which the expired cells of an object hold what was found of them
 unfoldable pub with_filled : Graph → ObjId → Found → Graph
 with_filled graph object found = with_object graph object (filled_object found (object_at graph object))
+
+-- ---- where memory runs out
+
+abbrev pub first_filled : Found → List Cell → ℕ → List Cell
+first_filled found cells n = map (filled_cell found) (enumerate_from 0 (take n cells)) ++ drop n cells
+
+-- the graph in which the first cells of an object are filled so, and the others are as they were
+abbrev pub filled_to : Graph → ObjId → Found → ℕ → Graph
+filled_to graph object found n = with_object graph object (record (object_at graph object) { cells = first_filled found (object_at graph object).cells n })
+
+-- some of the first cells are filled, or none
+abbrev pub IsFilledInPart : Graph → ObjId → Found → Graph → Type 0
+IsFilledInPart old object found new = (n : ℕ) × (new ≡ filled_to old object found n)
+
+-- ---- kinds
 
 -- each value is NULL or of the kind of the attribute at its place
 abbrev pub AreFoundFor : ClassId → Found → Mapped → Type 0

@@ -1,3 +1,4 @@
 pub mod Loaded
 pub mod Filled
 pub mod Rows
+pub mod Growing

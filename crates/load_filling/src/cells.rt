@@ -84,11 +84,13 @@ fn cell_count(arena: &Arena, object: ObjId) -> usize
 }
 
 /// The expired cells of an object hold what was found of them: the cell at a place the value there, if there is one. The only
-/// refusal is `Memory`, which may leave some of them filled.
+/// refusal is `Memory`, which leaves the cells before a place filled, and the others as they were.
 pub fn fill(arena: &mut Arena, object: ObjId, found: &[Option<Value>]) -> Result<(), Refusal>
     requires { IsObject arena.old object }
     ensures filled { OnOk result (arena.new ≡ spec.with_filled arena.old object found.now) }
     ensures cause { IfErr result (λ e. e ≡ Memory) }
+    ensures left { OnErr result
+        (spec.IsFilledInPart arena.old object found.now arena.new) }
     ensures keeps { KeepsWith (spec.AreFoundFor (object_at arena.old object).class found.now)
         arena.old arena.new }
 {

@@ -5,8 +5,9 @@ ghost use Rattle.base_core.specs.Answers.{Takes};
 ghost use Rattle.base_core.specs.declared.refusal.Refusal.TheVariants.{Memory};
 ghost use Rattle.class_mapping.specs.Mapped.{IsClass, root_of};
 ghost use Rattle.object_arena.specs.Fit.{IsFit, KeepsWith, key_fits};
-ghost use Rattle.object_arena.specs.Graph.{IsObject, object_at, object_limit};
+ghost use Rattle.object_arena.specs.Graph.{IsObject, object_at, object_limit, root_at};
 ghost use Rattle.object_arena.specs.Identity.{find_identity, is_taken, with_identity};
+ghost use Rattle.load_filling.specs.Growing.{Grows};
 ghost use Rattle.load_filling.specs.Loaded as spec;
 
 use base_core::{ClassId, Key, ObjId, Refusal};
@@ -49,6 +50,9 @@ pub fn load_object(
     ensures made { OnOk result (arena.new ≡ spec.with_loaded mapping.now class key arena.old) }
     ensures cause { result ≡ Err Memory → length arena.old.objects < object_limit }
     ensures exists { IfOk result (λ object. IsObject arena.new object) }
+    ensures rooted { IfOk result
+        (λ object. (root_at arena.new object).0 ≡ (root_of mapping.now class).0) }
+    ensures grows { Grows arena.old arena.new }
     ensures fits { IsFit mapping.now arena.old → IsFit mapping.now arena.new }
 {
     let _count = arena.count();

@@ -8,9 +8,10 @@ ghost use Rattle.base_core.specs.declared.refusal.Refusal.TheVariants.{Memory};
 ghost use Rattle.class_mapping.specs.Mapped.{IsClass, root_of};
 ghost use Rattle.class_mapping.specs.Paired.{HasPairs, is_at_or_under};
 ghost use Rattle.object_arena.specs.Fit.{IsFit};
-ghost use Rattle.object_arena.specs.Graph.{IsObject};
+ghost use Rattle.object_arena.specs.Graph.{IsObject, root_at};
 ghost use Rattle.relations.specs.Parents.{is_column};
 ghost use Rattle.load_selects.specs.Branches as branches;
+ghost use Rattle.load_filling.specs.Growing.{Grows};
 ghost use Rattle.load_filling.specs.Rows as spec;
 
 use crate::loaded::load_object;
@@ -172,6 +173,9 @@ pub fn row_object(
     ensures step { Takes (λ object. object)
         (spec.row_object mapping.now class values.now arena.old) arena.old result arena.new }
     ensures exists { IfOk result (λ object. IsObject arena.new object) }
+    ensures rooted { IfOk result
+        (λ object. (root_at arena.new object).0 ≡ (root_of mapping.now class).0) }
+    ensures grows { Grows arena.old arena.new }
     ensures fits { IsFit mapping.now arena.old → IsFit mapping.now arena.new }
 {
     let key = row_key(alloc, mapping, class, values)?;

@@ -41,12 +41,13 @@ use Rattle.load_selects.specs.Branches.{branch, class_ids, discriminator_of, ide
 use Rattle.load_selects.specs.Sources.{keyed_source, other_tables, rank_tied, ranked_source}
 use Rattle.load_selects.specs.Selects.{cell_column, cells_select, class_rows, class_select, inner_joined, key_select, origin_of, targets_select}
 use Rattle.mapping_laws.specs.Hierarchies.{HasHierarchies, HasTables, TellsApart, kinds_of, name_in}
+use Rattle.mapping_laws.proofs.Attributes.{numbered_there}
 use Rattle.mapping_laws.proofs.Tables.{from_filter_map, not_zero, tables_declared}
 use Rattle.mapping_laws.proofs.Ties.{class_tables, table_faultless}
 use Rattle.mapping_laws.proofs.Told.{place_of_found, tells_apart}
-use Rattle.load_laws.proofs.Keys.{IsAt, column_there, key_fits, key_typed, keys_some, numbered_there}
+use Rattle.load_laws.proofs.Keys.{IsAt, column_there, key_fits, key_typed, keys_some}
 use Rattle.load_laws.proofs.Plain.{AreTied, IsColumn, IsPart, select_is_plain}
-use Rattle.load_laws.proofs.Standing.{column_stands, in_stands, in_whole, is_of}
+use Rattle.load_laws.proofs.Standing.{IsThere, column_stands, in_stands, in_whole, is_of}
 use Rattle.load_laws.proofs.Typed.{AreTyped, equal_some, equal_stand, fit_kinds, one_of_stands, values_stand}
 
 -- ---- places
@@ -210,7 +211,7 @@ module _ (mapped : Mapped) (class : ClassId) (has : HasHierarchies mapped) (less
   abbrev made : List SourceColumn → List Expr → Select
   made columns conditions = class_select mapped class columns conditions
 
-  sources_are : (columns : List SourceColumn) (conditions : List Expr) → sources_of (made columns conditions) ≡ sources
+  pub sources_are : (columns : List SourceColumn) (conditions : List Expr) → sources_of (made columns conditions) ≡ sources
   sources_are columns conditions =
       ap (λ (more : List Further). origin_of root ∷ map (λ (join : Joined). join.origin) (map inner_joined more)) others_are
       ∙ ap (λ (origins : List Origin). origin_of root ∷ origins) (origins_from known.rest 1 0 refl)
@@ -232,8 +233,10 @@ module _ (mapped : Mapped) (class : ClassId) (has : HasHierarchies mapped) (less
 
   -- ---- its attributes
 
-  attribute_there : (attribute : Attribute) → Has (attributes_of mapped class) attribute → IsColumn mapped.schema sources (attribute_column mapped class (from_root 0) attribute)
-  attribute_there attribute there =
+  -- the column of an attribute is there, and of the attribute's kind
+  pub attribute_typed : (attribute : Attribute) → Has (attributes_of mapped class) attribute
+      → IsThere mapped.schema sources (place_of_table mapped class (from_root 0) attribute.table) attribute.column attribute.kind
+  attribute_typed attribute there =
       let line : List ClassId = line_of mapped.classes class.0 in
       let found = from_flat (table_attributes mapped.schema.tables mapped.classes line) (enumerate_from 0 own) attribute there in
       let ranked = found.0 in
@@ -246,11 +249,12 @@ module _ (mapped : Mapped) (class : ClassId) (has : HasHierarchies mapped) (less
       let column : ColumnNo = record { 0 = placed.0 } in
       let stands : slice_get own (place_of_table mapped class (from_root 0) table) ≡ Some table =
       ap (slice_get own) (rank_is (rank_of mapped class table)) ∙ rank_finds own table (has_at own numbered.0 table numbered.2) in
-      subst (λ (one : Attribute). IsColumn mapped.schema sources (attribute_column mapped class (from_root 0) one)) shown.2 (
-        kind_of placed.1.kind,
-        column_there mapped.schema sources (place_of_table mapped class (from_root 0) table) table column placed.1 (at_sources own (place_of_table mapped class (from_root 0) table) table stands)
-            (numbered_there columns placed kept.0),
-      )
+      subst (λ (one : Attribute). IsThere mapped.schema sources (place_of_table mapped class (from_root 0) one.table) one.column one.kind) shown.2
+      (column_there mapped.schema sources (place_of_table mapped class (from_root 0) table) table column placed.1 (at_sources own (place_of_table mapped class (from_root 0) table) table stands)
+      (numbered_there columns placed kept.0))
+
+  attribute_there : (attribute : Attribute) → Has (attributes_of mapped class) attribute → IsColumn mapped.schema sources (attribute_column mapped class (from_root 0) attribute)
+  attribute_there attribute there = (attribute.kind, attribute_typed attribute there)
 
   attributes_there : AllByRecursion (IsColumn mapped.schema sources) (attribute_columns mapped class (from_root 0))
   attributes_there =
@@ -290,7 +294,7 @@ module _ (mapped : Mapped) (class : ClassId) (has : HasHierarchies mapped) (less
       let keyed = (table_faultless mapped root has (tables_declared mapped class root first)).keyed in
       one_of_stands mapped.schema sources root_columns (kinds_of (key_columns (root_spec mapped class))) keys (keys_some mapped sources 0 root root_at keyed) some root_typed (all_fit keys h)
 
-  branch_under : (other : ClassId) → Has (branch mapped class) other → is_at_or_under mapped other class ≡ true
+  pub branch_under : (other : ClassId) → Has (branch mapped class) other → is_at_or_under mapped other class ≡ true
   branch_under other (inl e) = ap (λ (one : ClassId). is_at_or_under mapped one class) (sym e) ∙ has_class_from (line_of mapped.classes class.0) class class.0 (own_line mapped has.lined has.lines class less) refl
   branch_under other (inr h) = and_right (not (other.0 == class.0)) (is_at_or_under mapped other class) (from_filter (is_under mapped class) (class_ids mapped) other h).1
 

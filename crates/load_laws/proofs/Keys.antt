@@ -21,6 +21,7 @@ use Rattle.class_mapping.specs.Mapped.{Mapped}
 use Rattle.class_mapping.proofs.Having.{Has, all_from, from_filter, from_numbered, has_filter, some_of}
 use Rattle.load_columns.specs.Placing.{columns_at, key_numbers, number_at}
 use Rattle.mapping_laws.specs.Hierarchies.{kinds_of}
+use Rattle.mapping_laws.proofs.Attributes.{numbered_there}
 use Rattle.load_laws.proofs.Standing.{IsThere, is_of}
 use Rattle.load_laws.proofs.Typed.{AreTyped, fit_kinds, typed_long}
 
@@ -36,12 +37,6 @@ column_there schema sources source table c spec at there = record {
   is = ap (λ (found : Option TableId). option_and_then (λ t. slice_get (spec_of schema t).columns c.0) found) at ∙ there;
   alike = refl;
 }
-
-pub numbered_there : (columns : List ColumnSpec) (placed : ℕ × ColumnSpec) → Has (enumerate_from 0 columns) placed → slice_get columns placed.0 ≡ Some placed.1
-numbered_there columns placed has =
-    let found = from_numbered 0 columns placed has in
-    let same : placed.0 ≡ found.0 = omega (arith, found.1) in
-    ap (slice_get columns) same ∙ found.2
 
 -- ---- the columns of a table's key
 
@@ -59,7 +54,7 @@ kept_same : (b : Bool) (one : ℕ × ColumnSpec) (placed : List (ℕ × ColumnSp
 kept_same true one placed columns h = ap (λ (rest : List Kind). kind_of one.1.kind ∷ rest) h
 kept_same false one placed columns h = h
 
-kinds_placed : (n : ℕ) (columns : List ColumnSpec) → kinds_at (filter (λ placed. placed.1.key) (enumerate_from n columns)) ≡ kinds_of (filter (λ column. column.key) columns)
+pub kinds_placed : (n : ℕ) (columns : List ColumnSpec) → kinds_at (filter (λ placed. placed.1.key) (enumerate_from n columns)) ≡ kinds_of (filter (λ column. column.key) columns)
 kinds_placed n [] = refl
 kinds_placed n (column ∷ columns) =
     kept_same column.key (n, column) (filter (λ placed. placed.1.key) (enumerate_from (n + 1) columns)) (filter (λ other. other.key) columns) (kinds_placed (n + 1) columns)
@@ -105,7 +100,7 @@ never_null : {A : Type 0} (b : Bool) → not (b || true) ≡ true → A
 never_null true h = absurd cc
 never_null false h = absurd cc
 
-turned_kind : (one other : Kind) → same_kind one other ≡ true → same_kind other one ≡ true
+pub turned_kind : (one other : Kind) → same_kind one other ≡ true → same_kind other one ≡ true
 turned_kind kinds.Integer kinds.Integer h = refl
 turned_kind kinds.Text kinds.Text h = refl
 turned_kind kinds.Boolean kinds.Boolean h = refl

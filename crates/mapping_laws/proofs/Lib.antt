@@ -1,3 +1,4 @@
 pub mod Tables
 pub mod Ties
 pub mod Told
+pub mod Attributes

@@ -1,6 +1,6 @@
 use Rattle.std.proofs.Common.{ℕ, ◌<◌, ◌≤◌, ◌∙◌, length, refl, subst}
 use Rattle.object_arena.specs.Graph.{object_at}
-use Rattle.load_filling.proofs.FilledLemmas.{all_filled, cell_there, next_filled, next_keeps, none_filled, object_there}
+use Rattle.load_filling.proofs.FilledLemmas.{all_filled, cell_there, filled_in_part, next_filled, next_keeps, none_filled, object_there}
 use Rattle.load_filling.proofs.cells.fill.Goals as goal
 
 pub loop-place-init : goal.loop-place-init

@@ -1,8 +1,7 @@
 use Rattle.std.proofs.Common.{◌≡◌}
 use Rattle.object_arena.specs.Fit.{KeepsWith}
 use Rattle.object_arena.specs.Graph.{object_at}
-use Rattle.load_filling.specs.Filled.{AreFoundFor}
-use Rattle.load_filling.proofs.FilledLemmas.{filled_to}
+use Rattle.load_filling.specs.Filled.{AreFoundFor, filled_to}
 use Rattle.load_filling.proofs.cells.fill.Given as goal
 
 abbrev pub invariant-loop-place : goal.invariant-loop-place
