@@ -2,7 +2,8 @@
 use Rattle.std.proofs.Common.{refl}
 use Rattle.flush_plan.specs.Flushing.{Sofar}
 use Rattle.session_flush.specs.Flush.{flush}
-use Rattle.session_flush_laws.specs.Laws.{LeavesLegalTables, SendsItsPlan, SendsNothingAgain}
+use Rattle.session_flush_laws.specs.Laws.{AnswersWhereAccepted, LeavesLegalTables, SendsItsPlan, SendsNothingAgain}
+use Rattle.session_flush_laws.proofs.Accepting.{accepted_answers}
 use Rattle.session_flush_laws.proofs.Again.{quiet_again}
 use Rattle.session_flush_laws.proofs.Flushing.{IsFlushSent, flush_sent}
 use Rattle.session_flush_laws.proofs.Legal.{flush_legal}
@@ -13,10 +14,13 @@ sends_law world is =
     let sofar : Sofar = record { tables = (flush world).after.store.tables; keys = sent.keys } in
     (sent.statements, sofar, sent.planned, sent.sent, refl)
 
+pub answers_law : AnswersWhereAccepted
+answers_law world statements sofar planned fit sent = accepted_answers world statements sofar planned fit sent
+
 pub again_law : SendsNothingAgain
 again_law world marks is = quiet_again world marks is
 
 pub legal_law : LeavesLegalTables
 legal_law world legal = flush_legal world legal
 
-pub ruleset flush_laws = (sends_law, again_law, legal_law)
+pub ruleset flush_laws = (sends_law, answers_law, again_law, legal_law)

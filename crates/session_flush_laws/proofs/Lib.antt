@@ -1,3 +1,4 @@
+mod Accepting
 mod Again
 pub mod Answered
 pub mod Flushing

@@ -1,15 +1,18 @@
 -- What a flush leaves in the tables, where the store is told.
-use Rattle.std.specs.Prelude.{◌≡◌, true, List, [], Option, IfSome, Ok}
+use Rattle.std.specs.Prelude.{◌≡◌, true, List, [], ◌∷◌, Option, IfSome, Ok}
 use Rattle.base_core.specs.declared.ids.ObjId.{ObjId}
 use Rattle.schema_core.specs.declared.changes.Planned.{Planned}
+use Rattle.schema_core.specs.declared.changes.RowChanges.{RowChanges}
+use Rattle.schema_core.specs.Catalog.{Catalog}
 use Rattle.object_arena.specs.Graph.{Graph, is_persistent, object_at}
-use Rattle.flush_plan.specs.Flushing.{Sofar, send_all}
+use Rattle.flush_plan.specs.Flushing.{Sofar, send, send_all}
 use Rattle.flush_plan.specs.Planning.{plan}
 use Rattle.programs.specs.Store.{Store}
 use Rattle.programs.specs.Moment.{Told}
 use Rattle.legality_laws.specs.Legality.{IsLegalStore}
 use Rattle.session_scopes.specs.SessionState.{SessionState}
 use Rattle.session_calls.specs.Parts.{World}
+use Rattle.plan_statements.specs.Known.{is_sendable}
 use Rattle.session_flush.specs.Flush.{flush}
 use Rattle.session_flush.specs.Outcome.{changes_of}
 
@@ -33,6 +36,20 @@ SendsItsPlan =
     (world : World) → (flush world).answer ≡ Ok tt
     → (statements : List Planned) × (sofar : Sofar) × (plan world.own.mapping.schema (changes_of world.own) ≡ Ok statements)
     × (send_all world.own.mapping.schema (changes_of world.own) (Ok (record { tables = world.store.tables; keys = [] })) statements ≡ Ok sofar) × ((flush world).after.store.tables ≡ sofar.tables)
+
+-- each statement is of new rows and fits the schema when it is sent
+abbrev pub AreSendable : Catalog → RowChanges → Sofar → List Planned → Type 0
+AreSendable schema rows sofar [] = Unit {0}
+AreSendable schema rows sofar (planned ∷ plan) =
+    (is_sendable schema rows sofar.keys planned ≡ true) × ((next : Sofar) → send schema rows sofar planned ≡ Ok next → AreSendable schema rows next plan)
+
+-- and a flush each of whose statements fits and is accepted answers, and leaves the tables that this gives
+abbrev pub AnswersWhereAccepted : Type 0
+AnswersWhereAccepted =
+    (world : World) (statements : List Planned) (sofar : Sofar) → plan world.own.mapping.schema (changes_of world.own) ≡ Ok statements
+    → AreSendable world.own.mapping.schema (changes_of world.own) (record { tables = world.store.tables; keys = [] }) statements
+    → send_all world.own.mapping.schema (changes_of world.own) (Ok (record { tables = world.store.tables; keys = [] })) statements ≡ Ok sofar
+    → ((flush world).answer ≡ Ok tt) × ((flush world).after.store.tables ≡ sofar.tables)
 
 -- only persistent objects are marked
 abbrev pub MarksArePersistent : Graph → Type 0

@@ -27,6 +27,12 @@ pub fn a_flush_sends_its_plan()
     ensures { law.SendsItsPlan }
 {}
 
+/// A flush for which there is a plan, each statement of which fits the schema and is accepted by the tables so far, answers, and leaves
+/// the tables of that.
+pub fn an_accepted_flush_answers()
+    ensures { law.AnswersWhereAccepted }
+{}
+
 /// A flush right after one that answers sends nothing, and answers, where only persistent objects were marked.
 pub fn a_second_flush_sends_nothing()
     ensures { law.SendsNothingAgain }
