@@ -2,15 +2,19 @@
 use Rattle.std.specs.Prelude.{◌≡◌, ◌||◌, ℕ, true, List, Some, Ok}
 use Rattle.std.specs.List.{AllByRecursion}
 use Rattle.schema_core.specs.declared.changes.ChangedRow.{ChangedRow}
-use Rattle.schema_core.specs.Tables.{Legal, is_created}
+use Rattle.schema_core.specs.declared.changes.Planned.{Planned}
+use Rattle.schema_core.specs.Tables.{Legal, Tables, is_created}
 use Rattle.flush_order.specs.Orders.{insert_order}
-use Rattle.flush_plan.specs.Planning.{writes_some}
+use Rattle.flush_plan.specs.Flushing.{Sofar}
+use Rattle.flush_plan.specs.Planning.{plan, writes_some}
 use Rattle.flush_plan.specs.Stating.{stated_tables}
+use Rattle.plan_laws.specs.Laws.{before}
 use Rattle.plan_laws.specs.Premises.{IsSorted}
-use Rattle.prefix_laws.specs.Laws.{IsTold, IsWellMapped}
+use Rattle.prefix_laws.specs.Laws.{AreStated, IsTold, IsWellMapped}
 use Rattle.session_calls.specs.Parts.{World}
 use Rattle.session_flush.specs.Flush.{flush, prepared_of}
 use Rattle.session_flush.specs.Outcome.{changes_of}
+use Rattle.session_flush_laws.specs.Laws.{AreSendable}
 
 -- The mapping is as every configured one is, the objects have their own rows, and those that are to be deleted stand as they were
 -- read, in legal and ascending tables. A changed row of which no cell is written is of a created table. The new rows have this order.
@@ -28,3 +32,11 @@ abbrev pub LeavesStatedRows : Type 0
 LeavesStatedRows =
     (world : World) (order : List ℕ) → IsFlushable world order → (flush world).answer ≡ Ok tt
     → stated_tables world.own.mapping.schema world.store.tables (changes_of world.own) order ≡ Some (flush world).after.store.tables
+
+-- Where the tables that the objects state are legal, and each statement of the plan fits the schema when it is sent, a flush
+-- answers and leaves those tables.
+abbrev pub AnswersWhereStated : Type 0
+AnswersWhereStated =
+    (world : World) (order : List ℕ) (placed : Sofar) (after : Tables) (statements : List Planned) → IsWellMapped world.own.mapping → IsTold world.own.mapping world.own.graph (prepared_of world.own.graph) world.store.tables
+    → AreStated world.own.mapping.schema world.store.tables (changes_of world.own) order placed after → plan world.own.mapping.schema (changes_of world.own) ≡ Ok statements
+    → AreSendable world.own.mapping.schema (changes_of world.own) (before world.store.tables) statements → ((flush world).answer ≡ Ok tt) × ((flush world).after.store.tables ≡ after)
