@@ -1,12 +1,13 @@
-//! The program `sqla`: a script from standard input, done over a keeper in memory, and answered to standard output.
+//! The program `sqla`: a script from standard input, done over a keeper in memory or in a file, and answered to standard output.
 #![tactic(auto)]
 
 ghost use Rattle.std.specs.Prelude.{◌≡◌, None};
 
 use byte_streams::{StdSink, StdSource};
 use keeper_core::Keeper;
-use keeper_mem::MemKeeper;
-use sqla_shell::{Status, run};
+use keeper_shelf::Shelf;
+use sqla_shell::{Status, refuse_words, run};
+use sqlite_database::{Database, Sqlite};
 use std::alloc::Global;
 use std::io::writer;
 use std::process::ExitCode;
@@ -14,11 +15,7 @@ use std::rt::Env;
 use std::{env, io};
 
 fn main(rt: HostRuntime) -> ExitCode {
-    let status = match words_of(&rt) {
-        Ok(words) => run_words(&rt, &words),
-        Err(_) => Status::Memory,
-    };
-    ExitCode::from(status.code())
+    ExitCode::from(status_of::<Sqlite>(rt).code())
 }
 
 /// The words after the program's name.
@@ -30,11 +27,26 @@ fn words_of(rt: &(impl Env + AllocGlobal)) -> io::Result<Vec<String>> {
     Ok(words)
 }
 
+/// Runs the script of standard input. A word that is no UTF-8 is none that the program takes.
+fn status_of<D: Database + Drop>(rt: HostRuntime) -> Status {
+    match words_of(&rt) {
+        Ok(words) => run_words::<D>(rt, &words),
+        Err(error) => status_without_words(&rt, error.kind()),
+    }
+}
+
+/// The status where the words could not be read.
+fn status_without_words(rt: &(impl Print + AllocGlobal), kind: io::ErrorKind) -> Status {
+    match kind {
+        io::ErrorKind::InvalidData => refuse_words(&mut StdSink::new(writer(rt))),
+        _ => Status::Memory,
+    }
+}
+
 /// Runs the script of standard input with these words.
-fn run_words(rt: &(impl Input + Print + AllocGlobal), words: &Vec<String>) -> Status {
-    let alloc: Global = rt.alloc();
-    match MemKeeper::new(alloc, &[]) {
-        Ok(keeper) => run_over(rt, words, keeper),
+fn run_words<D: Database + Drop>(rt: HostRuntime, words: &Vec<String>) -> Status {
+    match Shelf::<D>::new(rt, rt.alloc()) {
+        Ok(keeper) => run_over(&rt, words, keeper),
         Err(_) => Status::Memory,
     }
 }
