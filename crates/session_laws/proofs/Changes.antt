@@ -11,7 +11,7 @@ use Rattle.object_arena.specs.Identity.{IsGraph}
 use Rattle.programs.specs.Store.{Store}
 use Rattle.savepoints.specs.declared.scope.Scope.{Scope}
 use Rattle.savepoints.specs.Scopes.{Framed, is_touched, standing_at}
-use Rattle.schema_core.specs.Tables.{Tables}
+use Rattle.schema_core.specs.Tables.{Legal, Tables}
 use Rattle.session_parts.specs.Depths.{has_scope}
 use Rattle.session_scopes.specs.SessionState.{SessionState, with_graph}
 use Rattle.touching.specs.Touched.{frames_touched_between}
@@ -48,22 +48,23 @@ rest_inside : (scopes : List Scope) (graph : Graph) → has_scope scopes ≡ tru
 rest_inside [] graph is = absurd cc
 rest_inside (scope ∷ scopes) graph is = tt
 
--- other objects, of which each holds what the store has
+-- other objects, of which each holds what the store has then
 pub changed_sound : (own : SessionState) (store : Store) (graph : Graph) → has_scope own.frames.scopes ≡ true → length graph.objects ≡ length own.graph.objects → graph.roots ≡ own.graph.roots → IsGraph graph.objects graph.roots
-    → EachObject (IsFresh own.mapping store.tables) graph → EachObject IsMarkedRight graph → IsSound (record { own = own; store = store }) → IsSound (record { own = with_graph graph own; store = store })
+    → EachObject (IsFresh own.mapping store.tables) graph → EachObject IsMarkedRight graph → Legal own.mapping.schema store.tables → AreSoundScopes own.mapping own.graph own.frames own.frames.scopes store.scopes
+    → IsSound (record { own = with_graph graph own; store = store })
 unfolding IsLater
-changed_sound own store graph opened long roots is fresh marked sound =
+changed_sound own store graph opened long roots is fresh marked legal starts =
     let after : Framed = frames_touched_between own.graph graph own.frames in
     let scopes : after.scopes ≡ own.frames.scopes = between_scopes own.graph graph own.frames in
     record {
       graph = is;
-      legal = sound.legal;
+      legal = legal;
       fresh = fresh;
       marked = marked;
       scopes = subst (λ (s : List Scope). AreSoundScopes own.mapping graph after s store.scopes) (sym scopes)
           (scopes_kept own.mapping own.graph graph own.frames after (length own.frames.scopes) long roots
           (λ depth place low high less untouched. left_alone own.graph graph own.frames depth place low high (omega (arith, long, less)) untouched)
-          own.frames.scopes store.scopes (omega arith) sound.scopes);
+          own.frames.scopes store.scopes (omega arith) starts);
       rest = subst (λ (s : List Scope). RestIf s graph) (sym scopes) (rest_inside own.frames.scopes graph opened);
     }
 
@@ -84,7 +85,7 @@ pub one_changed : (own : SessionState) (store : Store) (object : ObjId) (new : O
 one_changed own store object new opened made is fresh marked sound =
     changed_sound own store (with_object own.graph object new) opened (length-set own.graph.objects (place_of object) new) refl is
     (each_put (IsFresh own.mapping store.tables) own.graph object new made sound.fresh fresh)
-    (each_put IsMarkedRight own.graph object new made sound.marked marked) sound
+    (each_put IsMarkedRight own.graph object new made sound.marked marked) sound.legal sound.scopes
 
 pub object_of : (P : Object → Type 0) (graph : Graph) (object : ObjId) → IsObject graph object → EachObject P graph → P (object_at graph object)
 object_of P graph object made all = all (place_of object) (omega (arith, made.0, made.1))

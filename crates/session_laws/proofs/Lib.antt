@@ -10,3 +10,6 @@ pub mod Nesting
 pub mod Restoring
 pub mod Rolling
 pub mod Making
+mod Writing
+pub mod Rereading
+pub mod Whole

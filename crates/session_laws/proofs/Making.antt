@@ -1,5 +1,5 @@
 -- The making of an object keeps a session sound.
-use Rattle.std.proofs.Common.{◌≡◌, ◌≢◌, ℕ, ◌+◌, ◌-◌, ◌<◌, ◌≤◌, Bool, true, false, List, [], ◌∷◌, ◌++◌, length, get_or, Option, None, Some, Result, Ok, Err, ⊎_elim, refl, sym, ap, ◌∙◌, subst, arith}
+use Rattle.std.proofs.Common.{◌≡◌, ◌≢◌, ℕ, ◌+◌, ◌-◌, ◌<◌, ◌≤◌, Bool, true, false, List, [], ◌∷◌, length, get_or, Option, None, Some, Ok, Err, ⊎_elim, refl, sym, ap, ◌∙◌, subst, arith}
 use Rattle.std.proofs.lemmas.Bool.{cases_lt}
 use Rattle.std.proofs.lemmas.Bool.Decides.{nat_tests}
 use Rattle.std.proofs.lemmas.List.{get_or-set_other, get_or-set_same, get_or_append_left, get_or_at, get_or_past, length-append, length-set}
@@ -14,7 +14,7 @@ use Rattle.base_core.specs.declared.value.Value.{Value}
 use Rattle.class_mapping.specs.Mapped.{Mapped, root_of}
 use Rattle.object_arena.specs.declared.object.Object.{Object}
 use Rattle.object_arena.specs.declared.object.State.TheVariants.{Pending, Transient}
-use Rattle.object_arena.specs.Graph.{Graph, IsObject, cell_put, fresh_object, is_persistent, make, no_class_id, no_object, object_at, object_limit, place_of, with_fresh}
+use Rattle.object_arena.specs.Graph.{Graph, cell_put, fresh_object, make, no_class_id, no_object, object_at, object_limit, place_of, with_fresh}
 use Rattle.object_arena.specs.Identity.{IsGraph, holds}
 use Rattle.object_arena.proofs.GraphLemmas.{graph_pushed}
 use Rattle.programs.specs.Beside.{on_own}
@@ -26,7 +26,7 @@ use Rattle.schema_core.specs.Tables.{Tables}
 use Rattle.session_scopes.specs.Making.{first_given_fault, made_unless, object_made, object_with, unwritten_cell, with_given}
 use Rattle.session_scopes.specs.SessionState.{SessionState}
 use Rattle.session_objects.proofs.TakingLemmas.{identity_left, state_left}
-use Rattle.session_laws.specs.Sound.{AreApart, AreSoundScopes, EachObject, IsAsAtStart, IsAtRest, IsFresh, IsMarkedRight, IsSound, KeepsSound, RestIf, as_object}
+use Rattle.session_laws.specs.Sound.{AreSoundScopes, EachObject, IsAsAtStart, IsAtRest, IsFresh, IsMarkedRight, IsSound, KeepsSound, RestIf, as_object}
 use Rattle.session_laws.proofs.Nesting.{not_held}
 use Rattle.session_laws.proofs.Objects.{stands_kept}
 use Rattle.session_laws.proofs.Programs.{own_sound}

@@ -157,7 +157,7 @@ sent_back false depth own store at low high sound =
 pub scope_rolled_back : (depth : ℕ) (own : SessionState) (store : Store) → 1 ≤ depth → depth ≤ length own.frames.scopes → HasSoundScopes own store → IsSound (record { own = session_restored depth own; store = (roll_back_scope depth store).after })
 scope_rolled_back depth own store low high sound = sent_back (depth == 1) depth own store refl low high sound
 
-answered_back : (first : Bool) (depth : ℕ) (store : Store) → ((if first then call.rollback else call.rollback_to (depth - 1)) store).answer ≡ Ok tt
+pub answered_back : (first : Bool) (depth : ℕ) (store : Store) → ((if first then call.rollback else call.rollback_to (depth - 1)) store).answer ≡ Ok tt
 unfolding call.rollback call.rollback_to
 answered_back true depth store = refl
 answered_back false depth store = refl

@@ -3,11 +3,15 @@ use Rattle.std.specs.Prelude.{◌≡◌, ◌≢◌, ℕ, ◌-◌, ◌<◌, ◌�
 use Rattle.std.specs.Option.{option_and_then}
 use Rattle.base_core.specs.declared.value.Value.{Value}
 use Rattle.class_types.specs.declared.mapped.Attribute.{Attribute}
-use Rattle.class_mapping.specs.Mapped.{Mapped, attribute_of}
+use Rattle.class_mapping.specs.Mapped.{IsClass, Mapped, attribute_of}
+use Rattle.class_mapping.specs.PlainClass.{IsPlainClass}
+use Rattle.expr_types.specs.declared.select.Bulk.{Bulk}
+use Rattle.sql_semantics.specs.Plain.{IsPlainBulk}
 use Rattle.schema_core.specs.Tables.{Legal, Tables, row_under, rows_in}
 use Rattle.object_arena.specs.declared.object.Object.{Object}
 use Rattle.object_arena.specs.declared.object.State.TheVariants.{Pending}
 use Rattle.object_arena.specs.Graph.{Graph, IsObject, cell_in, expired_cell, is_persistent, no_class_id, no_object}
+use Rattle.object_arena.specs.Fit.{IsFit}
 use Rattle.object_arena.specs.Identity.{IsGraph, holds, is_identified}
 use Rattle.base_core.specs.declared.ids.AttrNo.{AttrNo}
 use Rattle.base_core.specs.declared.ids.ClassId.{ClassId}
@@ -17,6 +21,7 @@ use Rattle.programs.specs.Programs.{Run}
 use Rattle.savepoints.specs.declared.scope.Scope.{Scope}
 use Rattle.savepoints.specs.declared.scope.Standing.{Standing}
 use Rattle.savepoints.specs.Scopes.{Framed, is_touched, standing_at, standing_of}
+use Rattle.session_parts.specs.Depths.{has_scope}
 use Rattle.session_scopes.specs.SessionState.{SessionState, depth_of}
 
 -- what the tables have in the column of an object's cell
@@ -123,6 +128,27 @@ IsWritten world = EachObject IsSettled world.own.graph
 -- each savepoint in progress has a handle, one that failed too
 abbrev pub IsHandled : Beside SessionState → Type 0
 IsHandled world = length world.own.drawn.handles ≡ depth_of world.own - 1
+
+-- no rollback is awaited, and each savepoint in progress has a handle
+pub record IsWell (world : Beside SessionState) : Type 0 where
+  pub handled : IsHandled world
+  pub well : world.own.failed ≡ false
+
+-- the transaction may be committed: it is in progress, no rollback is awaited, and nothing is to be written
+pub record IsCommittable (world : Beside SessionState) : Type 0 where
+  pub inside : 0 < length world.own.frames.scopes
+  pub well : IsWell world
+  pub written : IsWritten world
+
+-- a transaction is in progress, each class is a plain root, and the objects fit their classes
+pub record IsFitting (session : SessionState) : Type 0 where
+  pub inside : has_scope session.frames.scopes ≡ true
+  pub plain : (class : ClassId) → IsClass session.mapping class → IsPlainClass session.mapping class
+  pub fit : IsFit session.mapping session.graph
+
+-- a bulk statement may be sent
+abbrev pub IsSendable : Bulk → Beside SessionState → Type 0
+IsSendable statement world = IsFitting world.own × IsPlainBulk world.own.mapping.schema statement
 
 -- the scope at a depth is in progress
 abbrev pub IsInProgress : ℕ → Beside SessionState → Type 0

@@ -5,6 +5,8 @@ ghost use Rattle.base_core.specs.declared.ids.AttrNo.{AttrNo};
 ghost use Rattle.base_core.specs.declared.ids.ClassId.{ClassId};
 ghost use Rattle.base_core.specs.declared.value.Value.{Value};
 ghost use Rattle.class_mapping.specs.Mapped.{Mapped};
+ghost use Rattle.expr_types.specs.declared.select.Bulk.{Bulk};
+ghost use Rattle.expr_types.specs.declared.select.Select.{Select};
 ghost use Rattle.programs.specs.Beside.{on_own};
 ghost use Rattle.session_scopes.specs.Making.{object_made};
 ghost use Rattle.session_scopes.specs.SessionState.{new_session};
@@ -12,7 +14,8 @@ ghost use Rattle.session_calls.specs.Parts.{go_back};
 ghost use Rattle.session_calls.specs.Steps as steps;
 ghost use Rattle.session_objects.specs.Steps as objects;
 ghost use Rattle.session_savepoints.specs.Steps as savepoints;
-ghost use Rattle.session_laws.specs.Sound.{IsHandled, IsInProgress, IsSound, IsWritten, KeepsSound, KeepsSoundOf, KeepsSoundWhere};
+ghost use Rattle.session_statements.specs.Steps as statements;
+ghost use Rattle.session_laws.specs.Sound.{IsCommittable, IsHandled, IsInProgress, IsSendable, IsSound, IsWell, IsWritten, KeepsSound, KeepsSoundOf, KeepsSoundWhere};
 
 #[tactic(auto, using(crate::proofs::Beginning::new_sound))]
 /// A new session is sound beside a store without tables.
@@ -51,17 +54,22 @@ pub fn closing_keeps_sound()
     ensures { KeepsSound steps.close }
 {}
 
-/// Behind a flush, where nothing is to be written, the beginning of a savepoint keeps a session sound. The innermost savepoints end
-/// and leave it sound, as long as the transaction goes on.
+/// What is asked before the flush of a savepoint keeps a session sound. Behind it, where nothing is to be written, the beginning of a
+/// savepoint does. The innermost savepoints end and leave it sound, as long as the transaction goes on.
 pub fn savepoints_keep_sound()
+    ensures enter { KeepsSound savepoints.enter_nested }
+    ensures check { (handle : ℕ) → KeepsSound (savepoints.check_handle handle) }
     ensures begin { KeepsSoundWhere IsWritten savepoints.begin_savepoint }
     ensures release { (count : ℕ) → KeepsSoundWhere
         (λ world. count < length world.own.frames.scopes) (savepoints.release_many count) }
+    ensures handle { (handle : ℕ) → KeepsSoundWhere IsWell (savepoints.release_handle handle) }
 {}
 
-/// Behind a flush, where nothing is to be written, the commit of the transaction leaves a session sound.
+/// Behind a flush, where nothing is to be written, the commit of the transaction leaves a session sound, and so does the whole commit,
+/// which ends the savepoints first.
 pub fn committing_keeps_sound()
-    ensures { KeepsSoundWhere IsWritten savepoints.commit_transaction }
+    ensures transaction { KeepsSoundWhere IsWritten savepoints.commit_transaction }
+    ensures whole { KeepsSoundWhere IsCommittable savepoints.commit_whole }
 {}
 
 /// Rollbacks leave a session sound: of the scope at a depth, of the transaction, and of a savepoint by its handle, also where a
@@ -70,4 +78,13 @@ pub fn rolling_back_keeps_sound()
     ensures scope { (depth : ℕ) → KeepsSoundWhere (IsInProgress depth) (go_back depth) }
     ensures rollback { KeepsSound steps.rollback }
     ensures handle { (handle : ℕ) → KeepsSoundWhere IsHandled (steps.rollback_handle handle) }
+{}
+
+/// A bulk statement, accepted or refused, keeps a session of plain classes sound: each object with rows in the table that it writes
+/// is to be read again, and every other table has the rows that it had. A query changes nothing.
+pub fn statements_keep_sound()
+    ensures enter { (statement : Bulk) → KeepsSound (statements.enter_bulk statement) }
+    ensures bulk { (statement : Bulk)
+        → KeepsSoundWhere (IsSendable statement) (statements.bulk statement) }
+    ensures rows { (select : Select) → KeepsSound (statements.rows select) }
 {}
