@@ -1,0 +1,24 @@
+use Rattle.programs.proofs.Lifting.{no_room}
+use Rattle.programs.proofs.Sequence.{passed_on}
+use Rattle.load_rows.specs.Reading.{identity_key}
+use Rattle.load_calls.proofs.ReadLemmas.{passed_stays}
+use Rattle.load_collections.proofs.CollectionLemmas.{declared_told, members_read, members_rows}
+use Rattle.load_collections.proofs.collections.read_members.Goals as goal
+
+pub returns-in_err-wanted-clause-step : goal.returns-in_err-wanted-clause-step
+returns-in_err-wanted-clause-step g c = passed_on c.from_residual.ensures.1 (no_room c.in_err-wanted.ensures.cause)
+
+pub returns-in_err-wanted-clause-stays : goal.returns-in_err-wanted-clause-stays
+returns-in_err-wanted-clause-stays g c = passed_stays c.args.mapping.now.schema (g.K.Keeper.moment c.args.keeper.now) _ c.from_residual.result c.from_residual.ensures.1 c.in_err-wanted.ensures.cause
+
+pub returns-clause-step : goal.returns-clause-step
+returns-clause-step g c =
+    members_read g.K.Keeper.moment c.args.mapping.now c.args.relation.now c.args.owner c.args.arena.now c.in_ok-wanted.wanted c.in_ok-wanted.ensures.select (c.read.ensures.step c.args.arena.now)
+
+pub returns-clause-rows : goal.returns-clause-rows
+returns-clause-rows g c =
+    members_rows c.args.mapping.now c.args.relation.now (identity_key c.args.arena.now c.args.owner) c.in_ok-wanted.wanted c.read.result c.in_ok-wanted.ensures.hierarchies c.in_ok-wanted.ensures.target c.requires.far
+    c.in_ok-wanted.ensures.select c.read.ensures.kinds c.read.ensures.given
+
+pub returns-clause-target : goal.returns-clause-target
+returns-clause-target g c = declared_told c.args.mapping.now c.args.relation.now.target c.read.result c.in_ok-wanted.ensures.target
