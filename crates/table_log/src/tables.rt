@@ -11,6 +11,7 @@ ghost use Rattle.table_rows.specs.Rows.{rows_at, rows_present, tables_present};
 
 use crate::undoing::{LogEntry, forget, make_room, undo_from};
 use base_core::{Copied, Key, ListOf, RowList, RowValues, TableId};
+use schema_core::TableSpec;
 use std::alloc::{AllocError, Global};
 use std::marker::Model;
 use table_rows::{TableMap, TableRows};
@@ -83,6 +84,18 @@ impl TableLog {
         ensures { IfOk result (λ tables. tables ≡ bare self.now.tables) }
     {
         self.tables.bare(alloc)
+    }
+
+    /// Makes an index for each unique constraint of a table that has none. No table changes.
+    pub fn index_uniques(
+        &mut self,
+        alloc: Global,
+        spec: &TableSpec,
+        table: TableId,
+    ) -> Result<(), AllocError>
+        ensures { self.new ≡ self.old }
+    {
+        self.tables.index_uniques(alloc, spec, table)
     }
 
     /// What was replaced, the oldest first, and each scope's first place in it, the outermost first.

@@ -22,6 +22,7 @@ use Rattle.table_rows.specs.Rows.{Places, rows_present, rows_at}
 use Rattle.table_rows.specs.declared.judging.Before.{Before}
 use Rattle.table_rows.specs.Lost.{is_lost, is_table, refers_to, some_lost, was_named}
 use Rattle.table_rows.specs.declared.judging.Before.TheVariants as before
+use Rattle.table_index.proofs.Entered.{is_equal}
 use Rattle.table_rows.proofs.Entries.{found_put}
 use Rattle.base_core.proofs.Exact.{exact_values, values_total}
 use Rattle.schema_core.proofs.TableOrder.{tables_total}
@@ -29,15 +30,10 @@ use Rattle.schema_core.proofs.TableOrder.{tables_total}
 exact_tables : CmpEqualImpliesEq table_cmp
 exact_tables a b e = ap (λ n. record { 0 = n }) (ranked a.0 b.0 Equal (sym e))
 
-is_equal : (o : Ordering) → is_eq o ≡ true → o ≡ Equal
-is_equal Less e = cc
-is_equal Equal e = refl
-is_equal Greater e = cc
-
 -- ---- other keys
 
 -- what stands under another key is as it was after an insert
-put_other : {K X : Type 0} {R : K → K → Ordering} (exact : CmpEqualImpliesEq R) (q k : K) (v : X) (es : List (K × X)) → is_at (R q) k ≡ false → lookup (is_at (R q)) (insert_entry R es k v) ≡ lookup (is_at (R q)) es
+pub put_other : {K X : Type 0} {R : K → K → Ordering} (exact : CmpEqualImpliesEq R) (q k : K) (v : X) (es : List (K × X)) → is_at (R q) k ≡ false → lookup (is_at (R q)) (insert_entry R es k v) ≡ lookup (is_at (R q)) es
 put_other exact q k v [] other = rw other refl
 put_other {R = R} exact q k v (e ∷ es) other = at (R k e.0) refl (put_other exact q k v es other)
   where
@@ -47,7 +43,7 @@ put_other {R = R} exact q k v (e ∷ es) other = at (R k e.0) refl (put_other ex
     at Greater is rest = rw (is, rest) refl
 
 -- and after a removal
-removed_other : {K X : Type 0} {R : K → K → Ordering} (exact : CmpEqualImpliesEq R) (q k : K) (es : List (K × X)) → is_at (R q) k ≡ false → lookup (is_at (R q)) (remove_entry (is_at (R k)) es) ≡ lookup (is_at (R q)) es
+pub removed_other : {K X : Type 0} {R : K → K → Ordering} (exact : CmpEqualImpliesEq R) (q k : K) (es : List (K × X)) → is_at (R q) k ≡ false → lookup (is_at (R q)) (remove_entry (is_at (R k)) es) ≡ lookup (is_at (R q)) es
 removed_other exact q k [] other = refl
 removed_other {R = R} exact q k (e ∷ es) other = at (R k e.0) refl (removed_other exact q k es other)
   where

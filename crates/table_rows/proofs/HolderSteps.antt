@@ -1,97 +1,101 @@
--- Steps of a search for unique values in a map.
-use Rattle.std.proofs.Common.{◌≡◌, ℕ, Bool, true, false, not, ◌&&◌, ◌||◌, cond, if◌then◌else◌, List, [], ◌∷◌, ◌++◌, None, Some, refl, sym, ap, ◌∙◌, append_assoc, append-nil}
-use Rattle.std.specs.List.{list_any}
-use Rattle.std.specs.Option.{unwrap_or}
-use Rattle.std.specs.HashMap.Eq.{lookup_congr}
-use Rattle.std.specs.BTreeMap.{BTreeMap, get}
-use Rattle.std.specs.Cmp.{IsEquivalence, eq_by_cmp_equiv}
-use Rattle.std.specs.Cmp.Lexicographic.{lists_total}
-use Rattle.base_core.proofs.Tests.{and_false, and_true}
+-- Steps of a search for unique values in an index.
+use Rattle.std.proofs.Common.{◌≡◌, ℕ, Bool, true, false, not, ◌&&◌, ◌||◌, cond, List, [], ◌∷◌, Option, None, Some, refl, sym, ap, ◌∙◌}
+use Rattle.std.proofs.lemmas.Bool.{true≢false}
+use Rattle.std.specs.List.{AllByRecursion, list_any}
+use Rattle.std.specs.Cmp.{both_ways}
+use Rattle.std.specs.List.Sorted.{IsStrictlySortedBy}
+use Rattle.std.specs.Map.{keys_of}
+use Rattle.base_core.proofs.Tests.{and_none, and_then, or_first, or_then, or_rest}
 use Rattle.schema_core.proofs.AnySteps.{any_never}
 use Rattle.base_core.specs.declared.value.Value.{Value}
 use Rattle.base_core.specs.Order.{values_cmp}
-use Rattle.base_core.specs.OrderLaws.{value_cmp_total}
 use Rattle.schema_core.specs.declared.table.TableSpec.{TableSpec}
 use Rattle.schema_core.specs.Judged.{some_repeats}
-use Rattle.schema_core.specs.Tables.{Rows, cells_of, has_null, same_values}
-use Rattle.table_rows.specs.Holders.{IsHolders, holders, is_held, is_held_by, keys_at}
+use Rattle.schema_core.specs.Tables.{Rows, cells_of, collide, has_null, row_under, same_values}
+use Rattle.table_index.specs.declared.index.ValueIndex.{ValueIndex}
+use Rattle.table_index.specs.Indexed.{IsComplete, cells_at, keys_at}
+use Rattle.table_index.proofs.Entered.{same_is}
+use Rattle.table_rows.proofs.IndexSteps.{each_found}
+use Rattle.table_rows.specs.Holders.{collides_there, is_held, some_key_collides}
 
-abbrev Index : Type 0
-Index = BTreeMap (List Value) (List (List Value))
+-- a key of the list passes where it passes
+key_passes : (test : List Value → Bool) (q : List Value) (keys : List (List Value)) → list_any (same_values q) keys ≡ true → test q ≡ true → list_any test keys ≡ true
+key_passes test q [] there passes = cc
+key_passes test q (k ∷ keys) there passes = by (same_values q k) refl (λ later. key_passes test q keys later passes)
+  where
+    by : (b : Bool) → same_values q k ≡ b → (list_any (same_values q) keys ≡ true → list_any test keys ≡ true) → (test k || list_any test keys) ≡ true
+    by true e rest = or_first (test k) (list_any test keys) (ap test (sym (same_is q k e)) ∙ passes)
+    by false e rest = or_then (test k) (list_any test keys) (rest (or_rest (same_values q k) (list_any (same_values q) keys) there e))
 
-same_values_equiv : IsEquivalence same_values
-same_values_equiv = eq_by_cmp_equiv (lists_total value_cmp_total)
+-- a row that stands under a key passes where it passes
+row_passes : (test : List Value × List Value → Bool) (rows : Rows) (q r : List Value) → row_under rows q ≡ Some r → test (q, r) ≡ true → list_any test rows ≡ true
+row_passes test [] q r there passes = cc
+row_passes test (e ∷ rows) q r there passes = by (same_values q e.0) refl (λ later. row_passes test rows q r later passes)
+  where
+    by : (b : Bool) → same_values q e.0 ≡ b → (row_under rows q ≡ Some r → list_any test rows ≡ true) → (test e || list_any test rows) ≡ true
+    by true is rest =
+        let row : Some e.1 ≡ Some r = sym (ap (λ b. cond b (Some e.1) (row_under rows q)) is) ∙ there in
+        let it : e.1 ≡ r = cc in
+        or_first (test e) (list_any test rows) (ap (λ k. test (k, e.1)) (sym (same_is q e.0 is)) ∙ ap (λ v. test (q, v)) it ∙ passes)
+    by false is rest = or_then (test e) (list_any test rows) (rest (sym (ap (λ b. cond b (Some e.1) (row_under rows q)) is) ∙ there))
 
--- ---- one more key that has a value
+-- what each of some entries that passes leads to
+from_some : (test : List Value × List Value → Bool) (P : List Value × List Value → Type 0) (Q : Type 0) → ((e : List Value × List Value) → P e → test e ≡ true → Q) → (some : Rows) → AllByRecursion P some → list_any test some ≡ true → Q
+from_some test P Q leads [] each there = cc
+from_some test P Q leads (e ∷ some) each there = by (test e) refl (λ later. from_some test P Q leads some each.1 later)
+  where
+    by : (b : Bool) → test e ≡ b → (list_any test some ≡ true → Q) → Q
+    by true is rest = leads e each.0 is
+    by false is rest = rest (or_rest (test e) (list_any test some) there is)
 
-holder_by : (index taken new : Index) (value key : List Value) (more : List (List Value)) (q : List Value) (b : Bool) → same_values value q ≡ b → get values_cmp taken q ≡ cond b None (get values_cmp index q)
-    → get values_cmp new q ≡ cond b (Some more) (get values_cmp taken q) → more ≡ keys_at index value ++ key ∷ [] → keys_at new q ≡ keys_at index q ++ (if b then key ∷ [] else [])
-holder_by index taken new value key more q true s t n e =
-    ap (λ o. unwrap_or o []) n ∙ e ∙ ap (λ o. unwrap_or o [] ++ key ∷ []) (lookup_congr same_values same_values_equiv.congr index.entries value q s)
-holder_by index taken new value key more q false s t n e = ap (λ o. unwrap_or o []) (n ∙ t) ∙ sym (append-nil (keys_at index q))
+from_key : (test : List Value → Bool) (Q : Type 0) → ((k : List Value) → test k ≡ true → Q) → (keys : List (List Value)) → list_any test keys ≡ true → Q
+from_key test Q leads [] there = cc
+from_key test Q leads (k ∷ keys) there = by (test k) refl (λ later. from_key test Q leads keys later)
+  where
+    by : (b : Bool) → test k ≡ b → (list_any test keys ≡ true → Q) → Q
+    by true is rest = leads k is
+    by false is rest = rest (or_rest (test k) (list_any test keys) there is)
 
-pub holder_more : (index taken new : Index) (value key : List Value) (more : List (List Value)) → ((q : List Value) → get values_cmp taken q ≡ cond (same_values value q) None (get values_cmp index q))
-    → ((q : List Value) → get values_cmp new q ≡ cond (same_values value q) (Some more) (get values_cmp taken q)) → more ≡ keys_at index value ++ key ∷ []
-    → (q : List Value) → keys_at new q ≡ keys_at index q ++ (if same_values value q then key ∷ [] else [])
-holder_more index taken new value key more t n e q = holder_by index taken new value key more q (same_values value q) refl (t q) (n q) e
+-- the keys at the row's value tell whether another row collides with it
+pub held_by_keys : (spec : TableSpec) (unique : List (List ℕ)) (rows : Rows) (index : ValueIndex) (keys : List (List Value)) (key row : List Value) → IsStrictlySortedBy values_cmp (keys_of rows) → IsComplete (row_under rows) index
+    → ((cells : List Value) → cells_at index.columns.items cells ≡ cells_of spec cells unique) → keys ≡ keys_at index.holders (cells_of spec row unique)
+    → some_key_collides spec unique rows keys key row ≡ is_held spec unique rows key row
+held_by_keys spec unique rows index keys key row sorted complete columns found =
+    both_ways (some_key_collides spec unique rows keys key row) (is_held spec unique rows key row)
+    (from_key here (is_held spec unique rows key row ≡ true) to keys)
+    (from_some test (λ e. row_under rows e.0 ≡ Some e.1) (some_key_collides spec unique rows keys key row ≡ true) back rows (each_found rows sorted))
+  where
+    test : List Value × List Value → Bool
+    test e = not (same_values key e.0) && collide spec unique row e.1
 
-holders_by : (spec : TableSpec) (unique : List (List ℕ)) (row : List Value × List Value) (rows : Rows) (q : List Value) (b : Bool) → same_values (cells_of spec row.1 unique) q ≡ b
-    → holders spec unique (row ∷ rows) q ≡ cond b (row.0 ∷ holders spec unique rows q) (holders spec unique rows q)
-holders_by spec unique row rows q true e = rw e refl
-holders_by spec unique row rows q false e = rw e refl
+    here : List Value → Bool
+    here k = not (same_values key k) && collides_there spec unique row (row_under rows k)
 
-first_holds : (b : Bool) (key : List Value) (keys : List (List Value)) → cond b (key ∷ keys) keys ≡ (if b then key ∷ [] else []) ++ keys
-first_holds true key keys = refl
-first_holds false key keys = refl
+    to : (k : List Value) → here k ≡ true → list_any test rows ≡ true
+    to k is = by (row_under rows k) refl
+      where
+        by : (o : Option (List Value)) → row_under rows k ≡ o → list_any test rows ≡ true
+        by None none = absurd (true≢false (sym (and_then (not (same_values key k)) (collides_there spec unique row (row_under rows k)) is) ∙ ap (collides_there spec unique row) none))
+        by (Some r) there = row_passes test rows k r there (ap (λ o. not (same_values key k) && collides_there spec unique row o) (sym there) ∙ is)
 
--- the rows that are left, behind those that are in the map
-pub holders_more : (spec : TableSpec) (unique : List (List ℕ)) (index new : Index) (key row : List Value) (rows : Rows) (value q : List Value) → value ≡ cells_of spec row unique
-    → keys_at new q ≡ keys_at index q ++ (if same_values value q then key ∷ [] else []) → keys_at new q ++ holders spec unique rows q ≡ keys_at index q ++ holders spec unique ((key, row) ∷ rows) q
-holders_more spec unique index new key row rows value q is more =
-    ap (λ keys. keys ++ holders spec unique rows q) more
-    ∙ append_assoc (keys_at index q) (if same_values value q then key ∷ [] else []) (holders spec unique rows q)
-    ∙ ap (λ keys. keys_at index q ++ keys)
-    (ap (λ v. (if same_values v q then key ∷ [] else []) ++ holders spec unique rows q) is
-    ∙ sym (first_holds (same_values (cells_of spec row unique) q) key (holders spec unique rows q))
-    ∙ sym (holders_by spec unique (key, row) rows q (same_values (cells_of spec row unique) q) refl))
+    back : (e : List Value × List Value) → row_under rows e.0 ≡ Some e.1 → test e ≡ true → list_any here keys ≡ true
+    back e there is =
+        let collides : collide spec unique row e.1 ≡ true = and_then (not (same_values key e.0)) (collide spec unique row e.1) is in
+        let same : cells_of spec row unique ≡ cells_of spec e.1 unique = same_is (cells_of spec row unique) (cells_of spec e.1 unique) (and_then (not (has_null (cells_of spec row unique))) (same_values (cells_of spec row unique) (cells_of spec e.1 unique)) collides) in
+        key_passes here e.0 keys
+        (ap (list_any (same_values e.0)) (found ∙ ap (keys_at index.holders) (same ∙ sym (columns e.1))) ∙ complete e.0 e.1 there)
+        (ap (λ o. not (same_values key e.0) && collides_there spec unique row o) there ∙ is)
 
--- ---- a value that another key has
+-- a row with a NULL collides with none
+null_collides : (spec : TableSpec) (unique : List (List ℕ)) (row : List Value) → has_null (cells_of spec row unique) ≡ true → (key : List Value) (rows : Rows) → list_any (λ other. not (same_values key other.0) && collide spec unique row other.1) rows ≡ false
+null_collides spec unique row null key [] = refl
+null_collides spec unique row null key (other ∷ rows) =
+    ap (λ b. b || list_any (λ (e : List Value × List Value). not (same_values key e.0) && collide spec unique row e.1) rows)
+    (and_none (not (same_values key other.0)) (collide spec unique row other.1) (ap (λ b. not b && same_values (cells_of spec row unique) (cells_of spec other.1 unique)) null))
+    ∙ null_collides spec unique row null key rows
 
-null_held : (key : List Value) (rows : Rows) → false ≡ list_any (λ other. not (same_values key other.0) && false) rows
-null_held key [] = refl
-null_held key (row ∷ rows) = null_held key rows ∙ ap (λ b. b || list_any (λ (other : List Value × List Value). not (same_values key other.0) && false) rows) (sym (and_false (not (same_values key row.0))))
-
-first_held : (key first : List Value) (keys : List (List Value)) (b later : Bool) → list_any (λ other. not (same_values key other)) keys ≡ later
-    → list_any (λ other. not (same_values key other)) (cond b (first ∷ keys) keys) ≡ ((not (same_values key first) && b) || later)
-first_held key first keys true later is = ap (λ c. not (same_values key first) || c) is ∙ ap (λ c. c || later) (sym (and_true (not (same_values key first))))
-first_held key first keys false later is = is ∙ ap (λ c. c || later) (sym (and_false (not (same_values key first))))
-
-scanned : (spec : TableSpec) (unique : List (List ℕ)) (key value : List Value) (rows : Rows)
-    → list_any (λ other. not (same_values key other)) (holders spec unique rows value) ≡ list_any (λ other. not (same_values key other.0) && same_values value (cells_of spec other.1 unique)) rows
-scanned spec unique key value [] = refl
-scanned spec unique key value (row ∷ rows) =
-    ap (list_any (λ other. not (same_values key other))) (holders_by spec unique row rows value (same_values (cells_of spec row.1 unique) value) refl)
-    ∙ first_held key row.0 (holders spec unique rows value) (same_values (cells_of spec row.1 unique) value) (list_any (λ (other : List Value × List Value). not (same_values key other.0) && same_values value (cells_of spec other.1 unique)) rows)
-    (scanned spec unique key value rows)
-    ∙ ap (λ b. (not (same_values key row.0) && b) || list_any (λ (other : List Value × List Value). not (same_values key other.0) && same_values value (cells_of spec other.1 unique)) rows)
-    (same_values_equiv.symm (cells_of spec row.1 unique) value)
-
-held_if : (spec : TableSpec) (unique : List (List ℕ)) (key value : List Value) (rows : Rows) (b : Bool) → (not b && list_any (λ other. not (same_values key other)) (holders spec unique rows value))
-    ≡ list_any (λ other. not (same_values key other.0) && (not b && same_values value (cells_of spec other.1 unique))) rows
-held_if spec unique key value rows true = null_held key rows
-held_if spec unique key value rows false = scanned spec unique key value rows
-
-held_one : (spec : TableSpec) (unique : List (List ℕ)) (rows : Rows) (index : Index) (key row : List Value) → IsHolders spec unique rows index → is_held_by spec unique index key row ≡ is_held spec unique rows key row
-held_one spec unique rows index key row h =
-    ap (λ keys. not (has_null (cells_of spec row unique)) && list_any (λ other. not (same_values key other)) keys) (h.same (cells_of spec row unique))
-    ∙ held_if spec unique key (cells_of spec row unique) rows (has_null (cells_of spec row unique))
-
-pub all_held : (spec : TableSpec) (unique : List (List ℕ)) (rows entries : Rows) (index : Index) → IsHolders spec unique rows index
-    → list_any (λ entry. is_held_by spec unique index entry.0 entry.1) entries ≡ list_any (λ entry. is_held spec unique rows entry.0 entry.1) entries
-all_held spec unique rows [] index h = refl
-all_held spec unique rows (entry ∷ entries) index h =
-    ap (λ b. b || list_any (λ (e : List Value × List Value). is_held_by spec unique index e.0 e.1) entries) (held_one spec unique rows index entry.0 entry.1 h)
-    ∙ ap (λ b. is_held spec unique rows entry.0 entry.1 || b) (all_held spec unique rows entries index h)
+pub held_never : (spec : TableSpec) (unique : List (List ℕ)) (rows : Rows) (key row value : List Value) → value ≡ cells_of spec row unique → has_null value ≡ true → false ≡ is_held spec unique rows key row
+held_never spec unique rows key row value is null = sym (null_collides spec unique row (ap has_null (sym is) ∙ null) key rows)
 
 -- ---- constraint by constraint
 

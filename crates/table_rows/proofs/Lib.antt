@@ -2,6 +2,7 @@ mod CellSteps
 pub mod Entries
 pub mod Gone
 mod HolderSteps
+mod IndexSteps
 pub mod Laws
 mod Places
 mod Seen

@@ -17,7 +17,7 @@ above_full R k [] above = tt
 above_full R k ((q, None) ∷ es) above = above_full R k es above.1
 above_full R k ((q, Some x) ∷ es) above = (above.0, above_full R k es above.1)
 
-none_above : {K X : Type 0} (R : K → K → Ordering) (k : K) (es : List (K × X)) → AllByRecursion (λ q. R k q ≡ Less) (keys_of es) → lookup (is_at (R k)) es ≡ None
+pub none_above : {K X : Type 0} (R : K → K → Ordering) (k : K) (es : List (K × X)) → AllByRecursion (λ q. R k q ≡ Less) (keys_of es) → lookup (is_at (R k)) es ≡ None
 none_above R k [] above = refl
 none_above R k (e ∷ es) above = rw above.0 (none_above R k es above.1)
 
@@ -30,7 +30,7 @@ put_above R k v [] above = refl
 put_above R k v (e ∷ es) above = rw above.0 refl
 
 -- what is above an equal key, or above one that is above
-as_above : {K : Type 0} {R : K → K → Ordering} (o : IsTotalOrder R) (k q : K) → R k q ≡ Equal → (ks : List K) → AllByRecursion (λ p. R q p ≡ Less) ks → AllByRecursion (λ p. R k p ≡ Less) ks
+pub as_above : {K : Type 0} {R : K → K → Ordering} (o : IsTotalOrder R) (k q : K) → R k q ≡ Equal → (ks : List K) → AllByRecursion (λ p. R q p ≡ Less) ks → AllByRecursion (λ p. R k p ≡ Less) ks
 as_above o k q is [] above = tt
 as_above o k q is (p ∷ ks) above = (o.congr k q p is ∙ above.0, as_above o k q is ks above.1)
 

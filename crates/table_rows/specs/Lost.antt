@@ -1,5 +1,5 @@
 -- Rows that refer to rows that were taken out.
-use Rattle.std.specs.Prelude.{Bool, true, false, ◌&&◌, List, Option, None, Some, is_some}
+use Rattle.std.specs.Prelude.{Bool, false, ◌&&◌, List, Option, None, Some, is_some}
 use Rattle.std.specs.List.{list_any}
 use Rattle.std.specs.Ordering.{is_eq}
 use Rattle.base_core.specs.declared.ids.TableId.{TableId}

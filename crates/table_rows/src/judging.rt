@@ -3,8 +3,8 @@
 ghost use Rattle.std.specs.Prelude.{◌≡◌, ◌&&◌, ◌<◌, not, length, IfOk};
 ghost use Rattle.std.specs.List.{list_any};
 ghost use Rattle.schema_core.specs.Catalog.{spec_of, IsTable};
-ghost use Rattle.schema_core.specs.Judged.{some_repeats, some_written_dangles};
-ghost use Rattle.schema_core.specs.Tables.{collide, dangles, names_row, repeats_unique, same_values, some_dangles};
+ghost use Rattle.schema_core.specs.Judged.{some_written_dangles};
+ghost use Rattle.schema_core.specs.Tables.{collide, dangles, names_row, same_values, some_dangles};
 ghost use Rattle.table_rows.specs.Lost.{is_lost, refers_to, some_lost, was_named};
 ghost use Rattle.table_rows.specs.Rows.{rows_present, tables_present};
 
@@ -23,7 +23,7 @@ pub(crate) fn same_values(one: &ListOf<Value>, other: &ListOf<Value>) -> bool
 }
 
 /// Whether two rows have the same value, without a NULL, in the columns of a unique constraint.
-fn collide(
+pub(crate) fn collide(
     alloc: Global,
     spec: &TableSpec,
     unique: &[Name],
@@ -227,7 +227,7 @@ pub fn some_lost(
     ensures { IfOk result (λ yes. yes ≡ some_lost schema.now before.now (tables_present left.now)) }
 {
     for (table, rows) in left.entries() {
-        if table_lost(alloc, schema, before, left, *table, rows)? {
+        if table_lost(alloc, schema, before, left, *table, rows.rows())? {
             return Ok(true);
         }
     }
@@ -235,7 +235,7 @@ pub fn some_lost(
 }
 
 /// Whether a row under another key collides with this one in a unique constraint.
-fn some_collides(
+pub(crate) fn some_collides(
     alloc: Global,
     spec: &TableSpec,
     unique: &[Name],
@@ -252,43 +252,6 @@ fn some_collides(
             continue;
         };
         if !same_values(key, other_key) && collide(alloc, spec, unique, row, other.as_slice())? {
-            return Ok(true);
-        }
-    }
-    Ok(false)
-}
-
-#[tactic(auto, using(schema_core::proofs::AnySteps::any_steps))]
-/// Whether a row under another key collides with this one.
-fn repeats_unique(
-    alloc: Global,
-    spec: &TableSpec,
-    rows: &TableRows,
-    key: &Key,
-    row: &[Value],
-) -> Result<bool, AllocError>
-    ensures { IfOk result (λ yes. yes ≡ repeats_unique spec.now (rows_present rows.now) key.now row.now) }
-{
-    for unique in spec.uniques.as_slice() {
-        if some_collides(alloc, spec, unique.as_slice(), rows, key, row)? {
-            return Ok(true);
-        }
-    }
-    Ok(false)
-}
-
-#[tactic(auto, using(schema_core::proofs::AnySteps::any_steps))]
-/// Whether a written row has a unique value of another row that is left.
-pub(crate) fn repeats_by_scan(
-    alloc: Global,
-    spec: &TableSpec,
-    left: &TableRows,
-    entries: &[(Key, RowValues)],
-) -> Result<bool, AllocError>
-    ensures { IfOk result (λ yes. yes ≡ some_repeats spec.now (rows_present left.now) entries.now) }
-{
-    for entry in entries {
-        if repeats_unique(alloc, spec, left, &entry.0, entry.1.as_slice())? {
             return Ok(true);
         }
     }

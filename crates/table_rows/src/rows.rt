@@ -63,6 +63,14 @@ impl TableRows {
     }
 
     #[tactic(auto, using(crate::proofs::Standing::standing))]
+    /// Tells that the rows rise by key.
+    pub fn are_sorted(&self)
+        ensures { IsStrictlySortedBy values_cmp (keys_of (rows_present self.now)) }
+    {
+        let _rows = &self.rows;
+    }
+
+    #[tactic(auto, using(crate::proofs::Standing::standing))]
     /// Puts a row under a key, and gives what stood there. At an error the rows are as they were.
     pub fn put(&mut self, key: Key, row: RowValues) -> Result<Option<RowValues>, AllocError>
         ensures ok { OnOk result (rows_present self.new ≡ with_row (rows_present self.old) key row) }

@@ -8,7 +8,9 @@ ghost use Rattle.sql_semantics.specs.Created.{bare};
 ghost use Rattle.table_rows.specs.Rows.{AreSorted, IsPlaced, KeepsAllPlaces, rows_present, with_former_row, rows_at, tables_present};
 
 use crate::rows::TableRows;
+use crate::table::IndexedRows;
 use base_core::{Key, ListOf, RowList, RowValues, TableId};
+use schema_core::TableSpec;
 use std::alloc::{AllocError, Global};
 use std::collections::BTreeMap;
 use std::marker::Model;
@@ -16,7 +18,7 @@ use std::marker::Model;
 /// The created tables, by number, each with its rows in their places.
 #[derive(Drop)]
 pub struct TableMap {
-    tables: BTreeMap<TableId, TableRows>,
+    tables: BTreeMap<TableId, IndexedRows>,
 }
 
 impl Model for TableMap {
@@ -42,15 +44,41 @@ impl TableMap {
         }
     }
 
-    /// The rows of a table.
-    pub fn get(&self, table: TableId) -> Option<&TableRows>
+    /// The rows of a table, with its indexes.
+    pub fn find(&self, table: TableId) -> Option<&IndexedRows>
         ensures { option_map rows_present (option_copied result) ≡ rows_in (tables_present self.now) table }
     {
         self.tables.get(&table)
     }
 
+    /// The rows of a table.
+    pub fn get(&self, table: TableId) -> Option<&TableRows>
+        ensures { option_map rows_present (option_copied result) ≡ rows_in (tables_present self.now) table }
+    {
+        match self.find(table) {
+            Some(rows) => Some(rows.rows()),
+            None => None,
+        }
+    }
+
+    #[tactic(auto, using(crate::proofs::Seen::seeing))]
+    /// Makes an index for each unique constraint of a table that has none. No table changes.
+    pub fn index_uniques(
+        &mut self,
+        alloc: Global,
+        spec: &TableSpec,
+        table: TableId,
+    ) -> Result<(), AllocError>
+        ensures { self.new ≡ self.old }
+    {
+        let Some(rows) = self.tables.get_mut(&table) else {
+            return Ok(());
+        };
+        rows.index_uniques(alloc, spec)
+    }
+
     /// Each table's rows with its number, lent.
-    pub fn entries(&self) -> &BTreeMap<TableId, TableRows>
+    pub fn entries(&self) -> &BTreeMap<TableId, IndexedRows>
         ensures { result.now.entries ≡ self.now }
     {
         &self.tables
@@ -62,7 +90,7 @@ impl TableMap {
     {
         let mut tables = Vec::new(alloc);
         for (table, rows) in &self.tables {
-            tables.push((*table, rows.list(alloc)?))?;
+            tables.push((*table, rows.rows().list(alloc)?))?;
         }
         Ok(ListOf::from_vec(tables))
     }
@@ -73,7 +101,7 @@ impl TableMap {
         ensures ok { OnOk result (tables_present self.new ≡ with_empty_table (tables_present self.old) table) }
         ensures err { OnErr result (self.new ≡ self.old) }
     {
-        self.tables.insert(table, TableRows::new(alloc))?;
+        self.tables.insert(table, IndexedRows::new(alloc))?;
         Ok(())
     }
 

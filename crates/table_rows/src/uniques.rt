@@ -1,115 +1,156 @@
-//! Unique values of written rows, looked for in one ordered map for each constraint.
+//! Unique values of written rows, looked up in the indexes of their table.
 
-ghost use Rattle.std.specs.Prelude.{◌≡◌, [], ◌∷◌, ◌++◌, List, if◌then◌else◌, not, IfOk, OnOk};
+ghost use Rattle.std.specs.Prelude.{◌≡◌, true, List, is_some, IfOk, IfSome};
 ghost use Rattle.std.specs.List.{list_any};
-ghost use Rattle.std.specs.Option.{unwrap_or};
 ghost use Rattle.base_core.specs.declared.value.Value.{Value};
 ghost use Rattle.schema_core.specs.Judged.{some_repeats};
-ghost use Rattle.schema_core.specs.Tables.{same_values};
-ghost use Rattle.table_rows.specs.Rows.{rows_present};
-ghost use Rattle.table_rows.specs.Holders.{IsHolders, is_held, is_held_by, keys_at};
+ghost use Rattle.schema_core.specs.Tables.{cells_of, row_under, rows_in};
+ghost use Rattle.table_index.specs.Indexed.{IsComplete, cells_at};
+ghost use Rattle.table_rows.specs.Rows.{rows_at, rows_present, tables_present};
+ghost use Rattle.table_rows.specs.Holders.{collides_there, is_held, some_key_collides};
 
 use crate::cells::{cells_of, has_null};
-use crate::judging::{repeats_by_scan, same_values};
+use crate::judging::{collide, same_values, some_collides};
 use crate::rows::TableRows;
-use base_core::{Copied, Key, KeyList, ListOf, Name, RowValues, Value};
+use crate::table::IndexedRows;
+use crate::tables::TableMap;
+use base_core::{Key, Name, RowValues, TableId, Value};
 use schema_core::TableSpec;
 use std::alloc::{AllocError, Global};
-use std::collections::BTreeMap;
+use table_index::{ValueIndex, column_places};
 
-/// The keys of the rows that have each value.
-type Holders = BTreeMap<RowValues, KeyList>;
-
-fn keys_of(alloc: Global, found: Option<KeyList>) -> Vec<Key>
-    ensures { result.items ≡ unwrap_or found [] }
-{
-    match found {
-        Some(keys) => keys.into_vec(),
-        None => Vec::new(alloc),
-    }
-}
-
-/// One more key that has a value.
-fn add_holder(
+/// Whether a row collides with the one of a key, if there is one.
+fn collides_there(
     alloc: Global,
-    index: &mut Holders,
-    value: RowValues,
+    rows: &TableRows,
     key: &Key,
-) -> Result<(), AllocError>
-    ensures { OnOk result ((q : List Value)
-        → keys_at index.new q
-        ≡ keys_at index.old q ++ (if same_values value q then key.now ∷ [] else [])) }
+    spec: &TableSpec,
+    unique: &[Name],
+    row: &[Value],
+) -> Result<bool, AllocError>
+    ensures { IfOk result (λ yes. yes
+        ≡ collides_there spec.now unique.now row.now (row_under (rows_present rows.now) key.now)) }
 {
-    let mut keys = keys_of(alloc, index.remove(&value));
-    keys.push(key.copied()?)?;
-    index.insert(value, ListOf::from_vec(keys))?;
-    Ok(())
+    let Some(other) = rows.get(key) else {
+        return Ok(false);
+    };
+    collide(alloc, spec, unique, row, other.as_slice())
 }
 
-/// The keys of the rows that have each value of a unique constraint.
-fn holders(
+#[tactic(auto, using(schema_core::proofs::AnySteps::any_steps))]
+/// Whether another one of these keys has a row that collides with this one.
+fn some_key_collides(
     alloc: Global,
     spec: &TableSpec,
     unique: &[Name],
     rows: &TableRows,
-) -> Result<Holders, AllocError>
-    ensures { IfOk result (IsHolders spec.now unique.now (rows_present rows.now)) }
-{
-    let mut index = BTreeMap::new(alloc);
-    for (key, place) in rows.places() {
-        let Some(row) = place else {
-            continue;
-        };
-        let value = cells_of(alloc, spec.columns.as_slice(), row.as_slice(), unique)?;
-        add_holder(alloc, &mut index, value, key)?;
-    }
-    Ok(index)
-}
-
-/// Whether another key has the value that a row has without a NULL.
-fn is_held(
-    alloc: Global,
-    spec: &TableSpec,
-    unique: &[Name],
-    index: &Holders,
+    keys: &[Key],
     key: &Key,
     row: &[Value],
 ) -> Result<bool, AllocError>
-    ensures { IfOk result (λ yes. yes
-        ≡ is_held_by spec.now unique.now index.now key.now row.now) }
+    ensures { IfOk result (λ yes. yes ≡ some_key_collides
+        spec.now unique.now (rows_present rows.now) keys.now key.now row.now) }
 {
+    for other in keys {
+        if !same_values(key, other) && collides_there(alloc, rows, other, spec, unique, row)? {
+            return Ok(true);
+        }
+    }
+    Ok(false)
+}
+
+/// Whether another row has the value that a row has without a NULL, by an index on the columns of the constraint.
+fn is_held_by(
+    alloc: Global,
+    spec: &TableSpec,
+    unique: &[Name],
+    rows: &IndexedRows,
+    index: &ValueIndex,
+    key: &Key,
+    row: &[Value],
+) -> Result<bool, AllocError>
+    requires complete { IsComplete (row_under (rows_present rows.now)) index.now }
+    requires columns { (cells : List Value) → cells_at index.now.columns.items cells
+        ≡ cells_of spec.now cells unique.now }
+    ensures { IfOk result (λ yes. yes
+        ≡ is_held spec.now unique.now (rows_present rows.now) key.now row.now) }
+{
+    let present = rows.rows();
     let value = cells_of(alloc, spec.columns.as_slice(), row, unique)?;
     if has_null(value.as_slice()) {
         return Ok(false);
     }
-    let Some(keys) = index.get(&value) else {
+    let Some(keys) = index.keys(&value) else {
         return Ok(false);
     };
-    Ok(some_other(keys.as_slice(), key))
+    some_key_collides(alloc, spec, unique, present, keys.as_slice(), key, row)
 }
 
-/// Whether one of the keys is another than this.
-fn some_other(keys: &[Key], key: &Key) -> bool
-    ensures { result ≡ list_any (λ other. not (same_values key.now other)) keys.now }
-{
-    keys.iter().any(|other| !same_values(key, other))
-}
-
-#[tactic(auto, using(schema_core::proofs::AnySteps::any_steps))]
-/// Whether another key has the value of one of the rows.
-fn some_held_by(
+/// Whether another row has the value that a row has without a NULL. The rows are gone through only where there is no index on
+/// columns of these places.
+fn is_held(
     alloc: Global,
     spec: &TableSpec,
     unique: &[Name],
-    index: &Holders,
+    rows: &IndexedRows,
+    places: &[usize],
+    key: &Key,
+    row: &[Value],
+) -> Result<bool, AllocError>
+    requires { (cells : List Value) → cells_at places.now cells ≡ cells_of spec.now cells unique.now }
+    ensures { IfOk result (λ yes. yes
+        ≡ is_held spec.now unique.now (rows_present rows.now) key.now row.now) }
+{
+    match rows.index_on(places) {
+        Some(index) => is_held_by(alloc, spec, unique, rows, index, key, row),
+        None => some_collides(alloc, spec, unique, rows.rows(), key, row),
+    }
+}
+
+#[tactic(auto, using(schema_core::proofs::AnySteps::any_steps))]
+/// Whether a written row has the value of another row that is left, in columns of these places.
+fn some_held_at(
+    alloc: Global,
+    spec: &TableSpec,
+    unique: &[Name],
+    left: &IndexedRows,
+    places: &[usize],
+    entries: &[(Key, RowValues)],
+) -> Result<bool, AllocError>
+    requires { (cells : List Value) → cells_at places.now cells ≡ cells_of spec.now cells unique.now }
+    ensures { IfOk result (λ yes. yes
+        ≡ list_any (λ entry. is_held spec.now unique.now (rows_present left.now) entry.0 entry.1) entries.now) }
+{
+    for entry in entries {
+        if is_held(
+            alloc,
+            spec,
+            unique,
+            left,
+            places,
+            &entry.0,
+            entry.1.as_slice(),
+        )? {
+            return Ok(true);
+        }
+    }
+    Ok(false)
+}
+
+#[tactic(auto, using(schema_core::proofs::AnySteps::any_steps))]
+/// The same of a constraint some of whose columns the table has not.
+fn some_collide(
+    alloc: Global,
+    spec: &TableSpec,
+    unique: &[Name],
+    left: &TableRows,
     entries: &[(Key, RowValues)],
 ) -> Result<bool, AllocError>
     ensures { IfOk result (λ yes. yes
-        ≡ list_any (λ entry. is_held_by spec.now unique.now index.now entry.0 entry.1)
-        entries.now) }
+        ≡ list_any (λ entry. is_held spec.now unique.now (rows_present left.now) entry.0 entry.1) entries.now) }
 {
-    for entry in entries {
-        if is_held(alloc, spec, unique, index, &entry.0, entry.1.as_slice())? {
+    for (key, row) in entries {
+        if some_collides(alloc, spec, unique, left, key, row.as_slice())? {
             return Ok(true);
         }
     }
@@ -121,14 +162,16 @@ fn some_held(
     alloc: Global,
     spec: &TableSpec,
     unique: &[Name],
-    left: &TableRows,
+    left: &IndexedRows,
     entries: &[(Key, RowValues)],
 ) -> Result<bool, AllocError>
     ensures { IfOk result (λ yes. yes
         ≡ list_any (λ entry. is_held spec.now unique.now (rows_present left.now) entry.0 entry.1) entries.now) }
 {
-    let index = holders(alloc, spec, unique, left)?;
-    some_held_by(alloc, spec, unique, &index, entries)
+    match column_places(alloc, spec.columns.as_slice(), unique)? {
+        Some(places) => some_held_at(alloc, spec, unique, left, places.as_slice(), entries),
+        None => some_collide(alloc, spec, unique, left.rows(), entries),
+    }
 }
 
 #[tactic(auto, using(schema_core::proofs::AnySteps::any_steps))]
@@ -136,7 +179,7 @@ fn some_held(
 fn some_unique_held(
     alloc: Global,
     spec: &TableSpec,
-    left: &TableRows,
+    left: &IndexedRows,
     entries: &[(Key, RowValues)],
 ) -> Result<bool, AllocError>
     ensures { IfOk result (λ yes. yes
@@ -152,18 +195,22 @@ fn some_unique_held(
     Ok(false)
 }
 
-/// Whether a written row has a unique value of another row that is left. The rows are gone through for a single row, and
-/// once for each constraint where there are more.
+#[tactic(auto, using(crate::proofs::Seen::seeing, crate::proofs::Laws::rows_there))]
+/// Whether a row that was written in a created table has a unique value of another row that is left. The rows of the table
+/// are gone through only for a constraint without an index.
 pub fn some_repeats(
     alloc: Global,
     spec: &TableSpec,
-    left: &TableRows,
+    left: &TableMap,
+    table: TableId,
     entries: &[(Key, RowValues)],
 ) -> Result<bool, AllocError>
-    ensures { IfOk result (λ yes. yes ≡ some_repeats spec.now (rows_present left.now) entries.now) }
+    requires { is_some (rows_in (tables_present left.now) table) ≡ true }
+    ensures { IfOk result (λ yes. yes
+        ≡ some_repeats spec.now (rows_at (tables_present left.now) table) entries.now) }
 {
-    if entries.len() < 2 {
-        return repeats_by_scan(alloc, spec, left, entries);
-    }
-    some_unique_held(alloc, spec, left, entries)
+    let Some(rows) = left.find(table) else {
+        return Ok(false);
+    };
+    some_unique_held(alloc, spec, rows, entries)
 }

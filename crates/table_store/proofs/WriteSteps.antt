@@ -63,24 +63,19 @@ bound schema tables table entries b = if b then Err Foreign else Ok tt
 abbrev once : Catalog → Tables → TableId → Rows → Bool → Judged (Unit {0})
 once schema tables table entries b = if b then Err Unique else bound schema tables table entries (some_written_dangles schema tables (spec_of schema table) entries)
 
-there : (schema : Catalog) (tables : Tables) (table : TableId) (rows entries : Rows) → rows_in tables table ≡ Some rows → some_repeats (spec_of schema table) (rows_at tables table) entries ≡ some_repeats (spec_of schema table) rows entries
-there schema tables table rows entries found = ap (λ r. some_repeats (spec_of schema table) (unwrap_or r []) entries) found
-
-pub stand_repeats : (schema : Catalog) (tables : Tables) (table : TableId) (rows entries : Rows) → rows_in tables table ≡ Some rows → some_repeats (spec_of schema table) rows entries ≡ true → stand schema tables table entries ≡ Err Unique
+pub stand_repeats : (schema : Catalog) (tables : Tables) (table : TableId) (entries : Rows) → some_repeats (spec_of schema table) (rows_at tables table) entries ≡ true → stand schema tables table entries ≡ Err Unique
 unfolding stand
-stand_repeats schema tables table rows entries found twice = ap (once schema tables table entries) (there schema tables table rows entries found ∙ twice)
+stand_repeats schema tables table entries twice = ap (once schema tables table entries) twice
 
-pub stand_dangles : (schema : Catalog) (tables : Tables) (table : TableId) (rows entries : Rows) → rows_in tables table ≡ Some rows → some_repeats (spec_of schema table) rows entries ≡ false
+pub stand_dangles : (schema : Catalog) (tables : Tables) (table : TableId) (entries : Rows) → some_repeats (spec_of schema table) (rows_at tables table) entries ≡ false
     → some_written_dangles schema tables (spec_of schema table) entries ≡ true → stand schema tables table entries ≡ Err Foreign
 unfolding stand
-stand_dangles schema tables table rows entries found alone dangles =
-    ap (once schema tables table entries) (there schema tables table rows entries found ∙ alone) ∙ ap (bound schema tables table entries) dangles
+stand_dangles schema tables table entries alone dangles = ap (once schema tables table entries) alone ∙ ap (bound schema tables table entries) dangles
 
-pub stand_fine : (schema : Catalog) (tables : Tables) (table : TableId) (rows entries : Rows) → rows_in tables table ≡ Some rows → some_repeats (spec_of schema table) rows entries ≡ false
+pub stand_fine : (schema : Catalog) (tables : Tables) (table : TableId) (entries : Rows) → some_repeats (spec_of schema table) (rows_at tables table) entries ≡ false
     → some_written_dangles schema tables (spec_of schema table) entries ≡ false → stand schema tables table entries ≡ Ok tt
 unfolding stand
-stand_fine schema tables table rows entries found alone fine =
-    ap (once schema tables table entries) (there schema tables table rows entries found ∙ alone) ∙ ap (bound schema tables table entries) fine
+stand_fine schema tables table entries alone fine = ap (once schema tables table entries) alone ∙ ap (bound schema tables table entries) fine
 
 pub ruleset stand_steps = (stand_repeats, stand_dangles, stand_fine)
 

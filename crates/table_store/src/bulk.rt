@@ -12,7 +12,7 @@ ghost use Rattle.table_rows.specs.Rows.{rows_at};
 ghost use Rattle.table_store.specs.Held.{IsDivided, Made, put_all, take_all, without_key};
 ghost use Rattle.table_store.specs.Written.{Leaves, WroteBulk, keys_to_remove, rows_to_write};
 
-use crate::references::some_lost;
+use crate::references::{make_indexes, some_lost};
 use crate::refusals::{taking_refusal, unwritten_refusal};
 use crate::writing::{insert_rows, put_copy, row_under, stand};
 use base_core::{ColumnNo, Copied, Key, ListOf, Refusal, RowValues, TableId};
@@ -345,7 +345,7 @@ fn apply_inside(
 #[tactic(auto, using(crate::proofs::BulkSteps::settled_steps))]
 /// Does a bulk statement in a scope of its own, and answers the number of its rows. Where it is refused, or finds no memory,
 /// everything is as it was.
-pub(crate) fn applied(
+fn apply_in_scope(
     alloc: Global,
     schema: &Schema,
     store: &mut TableLog,
@@ -360,4 +360,21 @@ pub(crate) fn applied(
     };
     let answer = apply_inside(alloc, schema, store, statement);
     store.close(answer)
+}
+
+/// Does a bulk statement, and answers the number of its rows. Where it is refused, or finds no memory, everything is as it was.
+pub(crate) fn applied(
+    alloc: Global,
+    schema: &Schema,
+    store: &mut TableLog,
+    statement: &Bulk,
+) -> Result<u64, WriteRefusal>
+    requires { IsPlainBulk schema.now statement.now }
+    ensures { Leaves (spec.table_of statement.now)
+        (spec.bulk_outcome schema.now store.old.tables statement.now) store.old result store.new }
+{
+    let Ok(()) = make_indexes(alloc, schema, store, table_of_bulk(statement)) else {
+        return Err(WriteRefusal::Memory);
+    };
+    apply_in_scope(alloc, schema, store, statement)
 }

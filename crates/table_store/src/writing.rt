@@ -11,14 +11,13 @@ ghost use Rattle.schema_core.specs.WellFormed.{IsWellFormed};
 ghost use Rattle.table_rows.specs.Rows.{rows_at, rows_present};
 ghost use Rattle.table_store.specs.Held.{DidOrLeft, Wrote, put_from, stand, with_entry};
 
-use crate::references::{some_lost, some_written_dangles};
+use crate::references::{make_indexes, some_lost, some_repeats, some_written_dangles};
 use base_core::{ColumnNo, Copied, Key, KeyList, ListOf, RowValues, TableId, Value};
 use schema_core::{RowStmt, Schema, Unwritten, Violation};
 use std::alloc::{AllocError, Global};
 use table_log::TableLog;
 use table_rows::{
-    Before, TableRows, has_null, key_of, lacks_given, lacks_value, some_repeats, with_cells,
-    with_key,
+    Before, TableRows, has_null, key_of, lacks_given, lacks_value, with_cells, with_key,
 };
 
 /// A copy of the row of a key.
@@ -52,11 +51,8 @@ pub(crate) fn stand(
     requires created { is_some (rows_in store.now.tables table) ≡ true }
     ensures { Told (stand schema.now store.now.tables table entries.now) result }
 {
-    let Some(rows) = store.get(table) else {
-        return Ok(());
-    };
     let spec = schema.spec(table);
-    if some_repeats(alloc, spec, rows, entries)? {
+    if some_repeats(alloc, store, spec, table, entries)? {
         return Err(Unwritten::Violates(Violation::Unique));
     }
     if some_written_dangles(alloc, schema, store, spec, entries)? {
@@ -337,7 +333,7 @@ fn apply_inside(
 
 #[tactic(auto, using(crate::proofs::WriteSteps::settled_steps))]
 /// Does a statement on rows in a scope of its own. Where it is refused, or finds no memory, everything is as it was.
-pub fn apply(
+fn apply_in_scope(
     alloc: Global,
     schema: &Schema,
     store: &mut TableLog,
@@ -350,4 +346,19 @@ pub fn apply(
     store.start()?;
     let answer = apply_inside(alloc, schema, store, statement);
     store.close(answer)
+}
+
+/// Does a statement on rows. Where it is refused, or finds no memory, everything is as it was.
+pub fn apply(
+    alloc: Global,
+    schema: &Schema,
+    store: &mut TableLog,
+    statement: &RowStmt,
+) -> Result<KeyList, Unwritten>
+    requires { IsWellFormed schema.now statement.now }
+    ensures { DidOrLeft (apply schema.now store.old.tables statement.now)
+        store.old result store.new }
+{
+    make_indexes(alloc, schema, store, statement.table())?;
+    apply_in_scope(alloc, schema, store, statement)
 }

@@ -1,5 +1,5 @@
 -- A place that was emptied holds no row, and no place is given up.
-use Rattle.std.proofs.Common.{◌≡◌, true, List, Option, None, is_some, ap, sym, subst, ◌∙◌}
+use Rattle.std.proofs.Common.{◌≡◌, true, List, Option, is_some, ap, sym, subst, ◌∙◌}
 use Rattle.std.specs.BTreeMap.{is_at}
 use Rattle.std.specs.Map.{set_value}
 use Rattle.base_core.specs.declared.value.Value.{Value}

@@ -1,8 +1,7 @@
 -- The rows of one table with one more, in the place of the table's.
-use Rattle.std.proofs.Common.{◌≡◌, List, Option, sym, ap, subst, ◌∙◌, is_some}
+use Rattle.std.proofs.Common.{sym, ap, subst, ◌∙◌}
 use Rattle.std.specs.BTreeMap.{is_at}
-use Rattle.base_core.specs.declared.value.Value.{Value}
-use Rattle.schema_core.specs.Tables.{Rows, row_under, rows_in, table_cmp, with_row}
+use Rattle.schema_core.specs.Tables.{row_under, table_cmp, with_row}
 use Rattle.table_rows.specs.Rows.{Held, IsPlaced, tables_present}
 use Rattle.table_rows.proofs.Laws.{if_ok, on_err, on_ok}
 use Rattle.table_rows.proofs.Seen.{keeps_all_set, placed_set, seen_at, seen_changed, seen_sorted, set_same, sorted_there}

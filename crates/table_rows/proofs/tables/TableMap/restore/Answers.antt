@@ -1,5 +1,5 @@
 -- The rows of one table with what stood under a key before, in the place of the table's.
-use Rattle.std.proofs.Common.{◌≡◌, sym, ap, subst, ◌∙◌}
+use Rattle.std.proofs.Common.{sym, ap, subst, ◌∙◌}
 use Rattle.std.specs.BTreeMap.{is_at}
 use Rattle.schema_core.specs.Tables.{table_cmp}
 use Rattle.table_rows.specs.Rows.{Held, IsPlaced, with_former_row, tables_present}

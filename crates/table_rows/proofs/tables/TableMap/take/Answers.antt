@@ -1,7 +1,7 @@
 -- The rows of one table without one, in the place of the table's.
-use Rattle.std.proofs.Common.{◌≡◌, sym, ap, subst, ◌∙◌, is_some}
+use Rattle.std.proofs.Common.{sym, ap, subst, ◌∙◌}
 use Rattle.std.specs.BTreeMap.{is_at}
-use Rattle.schema_core.specs.Tables.{row_under, rows_in, table_cmp, without_row}
+use Rattle.schema_core.specs.Tables.{row_under, table_cmp, without_row}
 use Rattle.table_rows.specs.Rows.{Held, IsPlaced, tables_present}
 use Rattle.table_rows.proofs.Laws.{if_some_then}
 use Rattle.table_rows.proofs.Seen.{keeps_all_set, placed_set, seen_at, seen_changed, seen_sorted, sorted_there}

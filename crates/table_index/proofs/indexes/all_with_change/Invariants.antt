@@ -1,0 +1,12 @@
+use Rattle.std.proofs.Common.{◌≡◌, None, Some, length}
+use Rattle.std.specs.List.{AllByRecursion}
+use Rattle.std.specs.Option.{option_copied}
+use Rattle.table_index.specs.Indexed.{Found, IsChanged, IsComplete}
+use Rattle.table_index.proofs.indexes.all_with_change.Given as goal
+
+abbrev pub invariant-loop-index : goal.invariant-loop-index
+invariant-loop-index l = (rows after : Found) → AllByRecursion (IsComplete rows) l.fn.indexes.items → rows l.key ≡ option_copied l.before → IsChanged rows l.key (Some l.row) after
+    → AllByRecursion (IsComplete rows) l.left.items × AllByRecursion (IsComplete after) l.done.items
+
+abbrev pub decreases-loop-index : goal.decreases-loop-index
+decreases-loop-index l = length l.left.items
