@@ -20,6 +20,7 @@ ghost use Rattle.keeper_core.specs.Calls.{query_refusal, write_refusal};
 ghost use Rattle.keeper_core.specs.Keeping.{RefusesBulk, RefusesRow, RefusesSelect};
 ghost use Rattle.statement_log.specs.Logged.{start_of};
 ghost use Rattle.table_store.specs.Written.{given_up};
+ghost use Rattle.keeper_mem.specs.Marks.{ArePlaces, IsLog};
 ghost use Rattle.keeper_mem.specs.Kept.{Does, one_call_more, depth_by, call_ended, call_failed, is_failing, is_listed, is_taken, new_keeper, sent_by, taken_by, untaken_by};
 
 use base_core::{KeyList, Refusal, RowList, TableId};
@@ -30,7 +31,7 @@ use schema_core::{RowStmt, Schema};
 use statement_log::StatementLog;
 use std::alloc::{AllocError, Global};
 use std::marker::Model;
-use table_log::TableLog;
+use table_log::{LogEntry, TableLog};
 
 /// Whether a keeper was given its target, and took it.
 #[derive(Drop)]
@@ -91,6 +92,21 @@ impl MemKeeper {
         ensures { result.now ≡ self.now.sent }
     {
         self.log.statements()
+    }
+
+    /// What was replaced since the transaction started, the oldest first: a table, a key, and the row that stood there before, or
+    /// none. Undone from its end back to a scope's place, it leads to the tables at the scope's start.
+    pub fn log(&self) -> &[LogEntry]
+        ensures { IsLog self.now.store result.now }
+    {
+        self.store.log().0
+    }
+
+    /// The first place of each scope in the log, the transaction's first.
+    pub fn log_places(&self) -> &[u64]
+        ensures { ArePlaces self.now.store result.now }
+    {
+        self.store.log().1
     }
 
     /// Whether it was given a target, and took it.

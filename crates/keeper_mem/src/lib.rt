@@ -5,3 +5,4 @@ mod acting;
 mod keeper;
 
 pub use keeper::{Attachment, MemKeeper};
+pub use table_log::LogEntry;
