@@ -1,16 +1,12 @@
 -- Blocks of lines: what their lines declare, and what becomes of a mapping at their end.
-use Rattle.std.specs.Prelude.{ℕ, Bool, true, false, ◌&&◌, List, [], ◌∷◌, ◌++◌, ◌==◌, Result, Ok, Err}
-use Rattle.std.specs.List.{count_by, list_any}
+use Rattle.std.specs.Prelude.{ℕ, Bool, true, false, [], ◌∷◌, ◌++◌, Result, Ok, Err}
 use Rattle.base_core.specs.declared.refusal.Refusal.{Refusal}
 use Rattle.base_core.specs.declared.refusal.Refusal.TheVariants.{Memory, ArgumentError, NotBuilt}
-use Rattle.schema_core.specs.declared.table.ColumnKind.{ColumnKind}
-use Rattle.schema_core.specs.declared.table.ColumnKind.TheVariants.{Integer}
-use Rattle.schema_core.specs.declared.table.ColumnSpec.{ColumnSpec}
 use Rattle.schema_core.specs.declared.table.TableSpec.{TableSpec}
 use Rattle.class_types.specs.declared.declared.ClassSpec.{ClassSpec}
 use Rattle.class_types.specs.Rules.{Rules}
 use Rattle.class_mapping.specs.Mapped.{Mapped}
-use Rattle.class_mapping.specs.Plain.{is_empty, is_plain_root}
+use Rattle.class_mapping.specs.Plain.{is_plain_root}
 use Rattle.class_mapping.specs.Declaring.{declare_class, declare_table}
 use Rattle.script_types.specs.declared.command.Command.{Command}
 use Rattle.script_types.specs.declared.command.Command.TheVariants as line
@@ -58,17 +54,9 @@ abbrev pub with_line : Declared → Command → Declared
 with_line (Table spec) added = Table (with_table_line spec added)
 with_line (Class spec) added = Class (with_class_line spec added)
 
-abbrev pub is_integer : ColumnKind → Bool
-is_integer Integer = true
-is_integer other = false
-
--- one column is flagged as the key, and one that is an integer
-abbrev pub has_one_integer_key : List ColumnSpec → Bool
-has_one_integer_key columns = (count_by (λ column. column.key) columns == 1) && list_any (λ column. column.key && is_integer column.kind) columns
-
--- the block's form is built: a table of columns alone with one integer key, or a root class without lines
+-- the block's form is built: a table, or a root class without lines
 abbrev pub is_built_block : Declared → Bool
-is_built_block (Table spec) = is_empty spec.uniques && is_empty spec.foreigns && has_one_integer_key spec.columns
+is_built_block (Table spec) = true
 is_built_block (Class spec) = is_plain_root spec
 
 -- an answer without the number that was given

@@ -1,18 +1,17 @@
 //! Blocks of lines that declare a table or a class.
 
-ghost use Rattle.std.specs.Prelude.{◌≡◌, ◌&&◌, ◌==◌, ◌<◌, ◌↔◌, true, IfErr, OnErr, OnOk, IsTrue};
-ghost use Rattle.std.specs.List.{count_by, list_any};
+ghost use Rattle.std.specs.Prelude.{◌≡◌, ◌<◌, ◌↔◌, true, IfErr, OnErr, OnOk, IsTrue};
 ghost use Rattle.base_core.specs.Answers.{Takes};
 ghost use Rattle.class_types.specs.Shown.{rules_of};
 ghost use Rattle.class_mapping.specs.Plain.{is_plain_root};
 ghost use Rattle.class_mapping.specs.PlainClass.{ArePlain};
 ghost use Rattle.class_mapping.specs.Declaring.{declare_class as classes_then, declare_table as tables_then};
-ghost use Rattle.shell_parts.specs.Blocks.{IsOfDeclaring, block_of, declare, declared_of, forms_of, has_one_integer_key, is_built_block, is_integer, with_class_line, with_line, with_table_line, without_number};
+ghost use Rattle.shell_parts.specs.Blocks.{IsOfDeclaring, block_of, declare, declared_of, forms_of, is_built_block, with_class_line, with_line, with_table_line, without_number};
 
 use base_core::{ListOf, Refusal};
 use class_mapping::{Mapping, is_plain_root};
 use class_types::{ClassSpec, Hooks};
-use schema_core::{ColumnKind, ColumnSpec, TableSpec};
+use schema_core::TableSpec;
 use script_types::{Command, Inside};
 use std::alloc::Global;
 use std::mem::drop;
@@ -150,16 +149,12 @@ impl Block {
         self.declared.take(line)
     }
 
-    /// Whether the block's form is built: a table of columns alone with one integer key, or a root class without lines.
+    /// Whether the block's form is built: a table, or a root class without lines.
     pub fn is_built(&self) -> bool
         ensures { result ≡ is_built_block self.now.declared }
     {
         match &self.declared {
-            Declared::Table(spec) => {
-                spec.uniques.is_empty()
-                    && spec.foreigns.is_empty()
-                    && has_one_integer_key(spec.columns.as_slice())
-            }
+            Declared::Table(_) => true,
             Declared::Class(spec) => is_plain_root(spec),
         }
     }
@@ -257,36 +252,4 @@ fn declare_class(spec: ClassSpec, hooks: &Hooks, mapping: &mut Mapping) -> Resul
         Ok(_) => Ok(()),
         Err(refusal) => Err(refusal),
     }
-}
-
-fn is_integer(kind: ColumnKind) -> bool
-    ensures { result ≡ is_integer kind }
-{
-    match kind {
-        ColumnKind::Integer => true,
-        _ => false,
-    }
-}
-
-/// How many columns are flagged as the key.
-fn count_keys(columns: &[ColumnSpec]) -> usize
-    ensures { result ≡ count_by (λ column. column.key) columns.now }
-{
-    columns.iter().filter(|column| column.key).count()
-}
-
-/// Whether a column that is flagged as the key is an integer.
-fn some_integer_key(columns: &[ColumnSpec]) -> bool
-    ensures { result ≡ list_any (λ column. column.key && is_integer column.kind) columns.now }
-{
-    columns
-        .iter()
-        .any(|column| column.key && is_integer(column.kind))
-}
-
-/// Whether one column is flagged as the key, and one that is an integer.
-fn has_one_integer_key(columns: &[ColumnSpec]) -> bool
-    ensures { result ≡ has_one_integer_key columns.now }
-{
-    count_keys(columns) == 1 && some_integer_key(columns)
 }

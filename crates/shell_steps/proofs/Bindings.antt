@@ -1,27 +1,25 @@
 -- What a shell's names stand for, as objects are made and names bound.
-use Rattle.std.proofs.Common.{◌≡◌, ℕ, Bool, true, false, cond, List, [], ◌∷◌, Option, None, Some, Result, Ok, Err, IfOk, ◌⊎◌, inl, inr, ⊎_elim, if◌then◌else◌, refl, sym, subst}
+use Rattle.std.proofs.Common.{◌≡◌, ℕ, ◌≤◌, Bool, true, false, cond, List, [], ◌∷◌, Option, None, Some, ◌⊎◌, inl, inr, ⊎_elim, if◌then◌else◌, refl, sym, subst, arith}
 use Rattle.std.specs.Map.{lookup}
 use Rattle.indexmap.specs.IndexMap.{insert_entry}
 use Rattle.base_core.specs.declared.ids.ClassId.{ClassId}
 use Rattle.base_core.specs.declared.ids.ObjId.{ObjId}
-use Rattle.base_core.specs.declared.refusal.Refusal.{Refusal}
 use Rattle.schema_core.specs.Catalog.{same_name}
-use Rattle.object_arena.specs.Graph.{Graph, empty_graph}
-use Rattle.programs.specs.Moment.{Moment}
+use Rattle.object_arena.specs.Graph.{Graph}
 use Rattle.class_mapping.specs.Mapped.{Mapped}
-use Rattle.session_core.specs.SessionState.{IsKept as KeepsSession, IsOfClass, ObjectsStay, SessionState, Stay}
-use Rattle.session_core.proofs.SessionLemmas.{stay_changed, stay_same}
+use Rattle.session_scopes.specs.SessionState.{AreThereStill, IsMadeOf, SameObjects, SessionState}
+use Rattle.session_scopes.proofs.SessionLemmas.{there_changed}
 use Rattle.shell_parts.specs.declared.names.Bound.{Bound}
-use Rattle.shell_parts.specs.declared.names.Bound.TheVariants.{Object}
+use Rattle.shell_parts.specs.declared.names.Bound.TheVariants.{Nothing, Object, Objects, Saved}
 use Rattle.shell_parts.specs.Bindings.{bind, bound_to}
+use Rattle.command_resolve.specs.declared.answer.Answer.{Answer}
+use Rattle.command_resolve.specs.declared.answer.Answer.TheVariants as answer
+use Rattle.command_resolve.specs.Standing.{AreOfDeclared, IsAnswer, IsOfDeclared, IsThere}
+use Rattle.command_resolve.specs.Terms.{Bindings}
 use Rattle.shell_steps.specs.declared.stage.Stage.{Stage}
 use Rattle.shell_steps.specs.declared.stage.Stage.TheVariants.{Declaring, Configured}
-use Rattle.shell_steps.specs.Naming.{StandsFor}
-use Rattle.shell_steps.specs.ShellState.{AreBound, HasObject, IsKept, IsPlainStage, graph_of, new_mapping}
-
--- no name is bound
-pub none_bound : (mapping : Mapped) (names : List (List ℕ × Bound)) → names ≡ [] → mapping ≡ new_mapping → AreBound (Declaring mapping) names
-none_bound mapping names none is = rw none (rw is (record { plain = refl; made = λ name object class bound. absurd cc }))
+use Rattle.shell_steps.specs.ShellState.{AreBound, IsAnswerAt, new_mapping}
+use Rattle.shell_steps.specs.Step.{names_with}
 
 -- ---- a binding more
 
@@ -51,70 +49,69 @@ bound_then : {K B : Type 0} (same : K → K → Bool) (test : K → Bool) (entri
 bound_then same test [] name bound last is = inl (alone (test name) bound last is)
 bound_then same test (entry ∷ entries) name bound last is = placed same test entries entry name bound last (bound_then same test entries name bound last) (same name entry.0) is
 
-same_object : (one two : ObjId) (first second : ClassId) → Object one first ≡ Object two second → (one ≡ two) × (first ≡ second)
-same_object one two first second is = (cc, cc)
+-- what holds of the thing that is bound, and of all that was bound before, holds of all then
+all_then : (P : Bound → Type 0) (names : Bindings) (name : List ℕ) (thing : Bound) → P thing → ((other : List ℕ) (last : Bound) → bound_to names other ≡ Some last → P last)
+    → (other : List ℕ) (last : Bound) → bound_to (bind names name thing) other ≡ Some last → P last
+all_then P names name thing now before other last is =
+    ⊎_elim
+    (λ (here : last ≡ thing). subst P (sym here) now)
+    (λ (there : bound_to names other ≡ Some last). before other last there)
+    (bound_then same_name (same_name other) names name thing last is)
 
--- a name is bound to an object that has been made
-bound_one : (stage : Stage) (names : List (List ℕ × Bound)) (name : List ℕ) (object : ObjId) (class : ClassId) → IsOfClass (graph_of stage) object class → AreBound stage names → AreBound stage (bind names name (Object object class))
-bound_one stage names name object class made bound = record {
-  plain = bound.plain;
-  made = λ other found kind is.
-      ⊎_elim
-      (λ (now : Object found kind ≡ Object object class).
-      let same = same_object found object kind class now in
-      subst (λ (k : ClassId). IsOfClass (graph_of stage) found k) (sym same.1) (subst (λ (o : ObjId). IsOfClass (graph_of stage) o class) (sym same.0) made))
-      (λ (before : bound_to names other ≡ Some (Object found kind)). bound.made other found kind before)
-      (bound_then same_name (same_name other) names name (Object object class) (Object found kind) is);
-}
+bound_in : (session : SessionState) (names : Bindings) (answer : Answer) → IsAnswer session.mapping session.graph session.drawn.drawn answer → AreBound (Configured session) names → AreBound (Configured session) (names_with answer names)
+bound_in session names (answer.Bind name thing) is bound = (
+  all_then (IsThere session.graph session.drawn.drawn) names name thing is.0 bound.0,
+  all_then (IsOfDeclared session.mapping) names name thing is.1 bound.1,
+)
+bound_in session names other is bound = bound
 
-pub bound_more : {stage : Stage} {names later : List (List ℕ × Bound)} (name : List ℕ) {object : ObjId} {class : ClassId} → later ≡ bind names name (Object object class) → IsOfClass (graph_of stage) object class → AreBound stage names → AreBound stage later
-bound_more {stage = stage} {names = names} name {object = object} {class = class} is made bound = subst (AreBound stage) (sym is) (bound_one stage names name object class made bound)
+bound_at : (stage : Stage) (names : Bindings) (answer : Answer) → IsAnswerAt stage answer → AreBound stage names → AreBound stage (names_with answer names)
+bound_at (Declaring mapping) names answer is bound = absurd is
+bound_at (Configured session) names answer is bound = bound_in session names answer is bound
 
-pub bound_before : {stage : Stage} {names later : List (List ℕ × Bound)} → later ≡ names → AreBound stage names → AreBound stage later
-bound_before {stage = stage} is bound = subst (AreBound stage) (sym is) bound
+-- what an answer binds was bound
+pub bound_more : (stage : Stage) (names later : Bindings) (answer : Answer) → later ≡ names_with answer names → IsAnswerAt stage answer → AreBound stage names → AreBound stage later
+bound_more stage names later answer is there bound = subst (AreBound stage) (sym is) (bound_at stage names answer there bound)
+
+pub bound_before : (stage : Stage) (names later : Bindings) → later ≡ names → AreBound stage names → AreBound stage later
+bound_before stage names later is bound = subst (AreBound stage) (sym is) bound
+
+-- ---- no name is bound
+
+pub none_bound_in : (session : SessionState) (names : Bindings) → names ≡ [] → AreBound (Configured session) names
+none_bound_in session names none = rw none ((λ name thing is. absurd cc), (λ name thing is. absurd cc))
+
+pub none_bound : (mapping : Mapped) (names : Bindings) → names ≡ [] → mapping ≡ new_mapping → AreBound (Declaring mapping) names
+none_bound mapping names none is = rw is (refl, none)
 
 -- ---- objects that stay
 
-stays_of : {old new : Graph} {object : ObjId} {class : ClassId} → ObjectsStay old new → IsOfClass old object class → IsOfClass new object class
-stays_of {new = new} {object = object} (Stay f) there =
-    subst (λ (k : ClassId). IsOfClass new object k) there.1 (f object there.0)
+made_stays : (old new : Graph) (object : ObjId) (class : ClassId) → AreThereStill old new → IsMadeOf old object class → IsMadeOf new object class
+made_stays old new object class stay made = subst (λ (k : ClassId). IsMadeOf new object k) made.1 (stay object made.0)
 
-pub bound_stays : (old new : Stage) {names : List (List ℕ × Bound)} → IsPlainStage new → ObjectsStay (graph_of old) (graph_of new) → AreBound old names → AreBound new names
-bound_stays old new plain stay bound = record { plain = plain; made = λ name object class is. stays_of stay (bound.made name object class is) }
+thing_stays : (old new : Graph) (before now : ℕ) (thing : Bound) → AreThereStill old new → before ≤ now → IsThere old before thing → IsThere new now thing
+thing_stays old new before now Nothing stay more there = tt
+thing_stays old new before now (Object object class) stay more there = made_stays old new object class stay there
+thing_stays old new before now (Objects members) stay more there = λ k d less. made_stays old new _ _ stay (there k d less)
+thing_stays old new before now (Saved number) stay more there = (there.0, omega (arith, more, there.1))
 
-kept_at : (stage : Stage) → IsKept stage stage
-kept_at (Declaring mapping) = λ plain. plain
-kept_at (Configured session) = (refl, refl, stay_same session.graph session.graph refl)
+-- the session kept its objects
+pub bound_stays : (names : Bindings) (old new : SessionState) → new.mapping ≡ old.mapping → AreThereStill old.graph new.graph → old.drawn.drawn ≤ new.drawn.drawn → AreBound (Configured old) names → AreBound (Configured new) names
+bound_stays names old new same stay more bound = (
+  λ name thing is. thing_stays old.graph new.graph old.drawn.drawn new.drawn.drawn thing stay more (bound.0 name thing is),
+  subst (λ (mapped : Mapped). AreOfDeclared mapped names) (sym same) bound.1,
+)
 
--- the stage is what it was
-pub kept_same : {old new : Stage} → new ≡ old → IsKept old new
-kept_same {old = old} is = subst (IsKept old) (sym is) (kept_at old)
+-- the session has the same objects
+pub bound_same : (names : Bindings) (old new : SessionState) → SameObjects old new → AreBound (Configured old) names → AreBound (Configured new) names
+bound_same names old new same bound =
+    bound_stays names old new same.mapping (λ object there. there_changed old.graph new.graph object _ same.classes (there, refl)) same.drawn bound
 
--- the stage turned
-pub bound_kept : {old new : Stage} {names : List (List ℕ × Bound)} → IsKept old new → AreBound old names → AreBound new names
-bound_kept {old = Declaring a} {new = Declaring b} kept bound = record { plain = kept bound.plain; made = bound.made }
-bound_kept {old = Declaring a} {new = Configured b} kept bound = bound_stays (Declaring a) (Configured b) tt (stay_same empty_graph b.graph kept.2) bound
-bound_kept {old = Configured a} {new = Declaring b} kept bound = absurd kept
-bound_kept {old = Configured a} {new = Configured b} kept bound = bound_stays (Configured a) (Configured b) tt kept.2 bound
+-- the same, where the session is that of the stage
+pub bound_in_session : {stage : Stage} {old : SessionState} (names : Bindings) (new : SessionState) → stage ≡ Configured old → SameObjects old new → AreBound stage names → AreBound (Configured new) names
+bound_in_session {old = old} names new is same bound = bound_same names old new same (subst (λ (s : Stage). AreBound s names) is bound)
 
--- the session in the stage kept its objects
-pub bound_in_session : {A W : Type 0} {r : Result A Refusal} {moment : Moment W} {stage : Stage} {old new : SessionState} {names : List (List ℕ × Bound)} → stage ≡ Configured old → KeepsSession r old new moment → AreBound stage names → AreBound (Configured new) names
-bound_in_session {old = old} {new = new} {names = names} is kept bound =
-    bound_stays (Configured old) (Configured new) tt (stay_changed old.graph new.graph kept.same.classes) (subst (λ (s : Stage). AreBound s names) is bound)
+pub bound_after : {stage : Stage} {old : SessionState} (names : Bindings) (new : SessionState) → stage ≡ Configured old → new.mapping ≡ old.mapping → AreThereStill old.graph new.graph → old.drawn.drawn ≤ new.drawn.drawn → AreBound stage names → AreBound (Configured new) names
+bound_after {old = old} names new is same stay more bound = bound_stays names old new same stay more (subst (λ (s : Stage). AreBound s names) is bound)
 
--- an object of the session was made
-pub bound_made : {stage : Stage} {old new : SessionState} {names : List (List ℕ × Bound)} → stage ≡ Configured old → ObjectsStay old.graph new.graph → AreBound stage names → AreBound (Configured new) names
-bound_made {old = old} {new = new} {names = names} is stay bound = bound_stays (Configured old) (Configured new) tt stay (subst (λ (s : Stage). AreBound s names) is bound)
-
--- ---- the object that a name stands for
-
-found_at : {stage : Stage} {names : List (List ℕ × Bound)} (name : List ℕ) (bound : Option Bound) (found : ObjId) → AreBound stage names → bound ≡ bound_to names name → StandsFor bound found → HasObject stage found
-found_at {stage = stage} name (Some (Object object class)) found are is stands = subst (λ (o : ObjId). HasObject stage o) (sym stands) (are.made name object class (sym is)).0
-found_at name None found are is stands = absurd stands
-found_at name (Some other) found are is stands = absurd stands
-
-pub object_found : {stage : Stage} {names : List (List ℕ × Bound)} (name : List ℕ) (bound : Option Bound) (r : Result ObjId Refusal) → AreBound stage names → bound ≡ bound_to names name → IfOk r (StandsFor bound) → IfOk r (HasObject stage)
-object_found name bound (Ok found) are is stands = found_at name bound found are is stands
-object_found name bound (Err e) are is stands = tt
-
-pub ruleset bindings = (none_bound, bound_more, bound_before, bound_kept, bound_in_session, bound_made, kept_same, stay_same)
+pub ruleset bindings = (none_bound, bound_more, bound_before, bound_in_session, bound_after)

@@ -1,5 +1,5 @@
 pub mod Bindings
-pub mod Declaring
-pub mod Named
-pub mod Shells
-pub mod Tables
+pub mod Commands
+pub mod Lines
+pub mod Replying
+pub mod Stages

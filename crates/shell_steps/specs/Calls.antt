@@ -1,12 +1,11 @@
 -- What a call of the shell did, and what it kept: the contract of every step of a line.
-use Rattle.std.specs.Prelude.{◌≡◌, true, Result}
+use Rattle.std.specs.Prelude.{◌≡◌, Result}
 use Rattle.base_core.specs.declared.refusal.Refusal.{Refusal}
 use Rattle.programs.specs.Alone.{Turns, alone}
 use Rattle.programs.specs.Beside.{moment_beside}
 use Rattle.programs.specs.Moment.{Moment, Runs}
 use Rattle.programs.specs.Programs.{Run}
 use Rattle.programs.specs.Store.{Store}
-use Rattle.session_core.specs.SessionState.{SessionState, StaysInStep}
 use Rattle.shell_steps.specs.declared.stage.Stage.{Stage}
 use Rattle.shell_steps.specs.ShellState.{IsKept, ShellState, StaysReady}
 use Rattle.shell_steps.specs.Step.{World}
@@ -21,23 +20,7 @@ pub record IsShellCallAlone {A : Type 0} (m : ShellState → Run ShellState A) (
   pub step : Runs alone (λ x. x) m old result new
   pub stage : new.stage ≡ old.stage
 
--- a call of the shell alone that may turn its stage
-pub record IsTurn {A : Type 0} (m : ShellState → Run ShellState A) (old : ShellState) (result : Result A Refusal) (new : ShellState) : Type 0 where
-  pub step : Runs alone (λ x. x) m old result new
-  pub kept : IsKept old.stage new.stage
-
 -- the stage became what is told, or was refused and left
 pub record IsStageTurn {X : Type 0} (told : Stage → Result Stage Refusal) (old : Stage) (result : Result X Refusal) (new : Stage) : Type 0 where
   pub step : Turns (told old) old result new
   pub kept : IsKept old new
-
--- a call of the keeper by a session that stays as it is, with which the keeper is in step
-pub record IsTablesCall {A K : Type 0} (moment : K → Moment Store) (m : SessionState → Store → Run Store A) (session : SessionState) (old : K) (result : Result A Refusal) (new : K) : Type 0 where
-  pub step : Runs moment (λ x. x) (m session) old result new
-  pub in_step : StaysInStep result session (moment new)
-
--- a call of the keeper outside transactions, where it stays
-pub record IsOutsideCall {A K : Type 0} (moment : K → Moment Store) (m : Store → Run Store A) (old : K) (result : Result A Refusal) (new : K) : Type 0 where
-  pub step : Runs moment (λ x. x) m old result new
-  pub attached : (moment new).attached ≡ true
-  pub depth : (moment new).depth ≡ 0

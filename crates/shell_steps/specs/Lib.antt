@@ -1,4 +1,3 @@
 pub mod Calls
-pub mod Naming
 pub mod ShellState
 pub mod Step

@@ -1,9 +1,7 @@
 //! One line of a script done over a keeper: declarations, the session's commands, and what the line answers.
 #![tactic(auto)]
 
-mod commands;
-mod lines;
-mod naming;
+mod session;
 mod shell;
 mod stage;
 

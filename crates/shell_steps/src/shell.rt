@@ -1,18 +1,26 @@
 //! The state of a run between two lines, and what a line answers.
 
-ghost use Rattle.std.specs.Prelude.{◌≡◌, true, IfErr, OnOk};
+ghost use Rattle.std.specs.Prelude.{◌≡◌, true, IfErr, IfOk, OnErr, OnOk};
 ghost use Rattle.programs.specs.Programs.{ends_early};
 ghost use Rattle.programs.specs.Moment.{Runs};
 ghost use Rattle.programs.specs.Beside.{moment_answering};
-ghost use Rattle.shell_steps.specs.Calls.{IsShellCallAlone};
-ghost use Rattle.shell_steps.specs.ShellState.{IsReady, mapping_of, new_shell};
+ghost use Rattle.sayable_lines.specs.Sayable.{IsSayable};
+ghost use Rattle.shell_lines.specs.Desk.{CanBeDone, said_line};
+ghost use Rattle.shell_steps.specs.Calls.{IsShellCall, IsShellCallAlone};
+ghost use Rattle.shell_steps.specs.ShellState.{IsAnswerAt, IsReady, new_shell};
 ghost use Rattle.shell_steps.specs.Step as step;
 
+use crate::session::perform_line;
 use crate::stage::Stage;
-use base_core::Refusal;
+use base_core::{Refusal, RequestKind};
 use class_mapping::Mapping;
+use command_resolve::Answer;
 use keeper_core::{Keeper, calls};
-use shell_parts::{Block, Names, Reply};
+use script_types::Command;
+use session_calls::close;
+use shell_lines::{Desk, Said};
+use shell_parts::{Block, Names};
+use shell_replies::{Reply, reply_of};
 use std::alloc::Global;
 use std::marker::Model;
 use std::mem::drop;
@@ -20,25 +28,25 @@ use std::mem::drop;
 /// A run between two lines.
 #[derive(Drop)]
 pub struct Shell {
-    pub(crate) alloc: Global,
+    alloc: Global,
     /// What is declared, or the session.
-    pub(crate) stage: Stage,
+    stage: Stage,
     /// The names that are bound.
-    pub(crate) names: Names,
-    /// The block that is open.
-    pub(crate) block: Option<Block>,
-    /// The number of the line that is done, from 1.
-    pub(crate) line: u32,
-    /// Some command was refused.
-    pub(crate) refused: bool,
+    names: Names,
+    /// Where the script stands.
+    desk: Desk,
 }
 
 impl Model for Shell {
+    ghost use Rattle.std.specs.Coded.{codes};
+    ghost use Rattle.expr_types.specs.contracts.expr.Expr as e;
     ghost use Rattle.shell_steps.specs.ShellState.{AreBound, ShellState};
 
     ghost Value = { ShellState };
 
-    ghost view = { λ s. record { stage = s.stage; names = s.names; block = s.block; line = s.line; refused = s.refused } };
+    ghost coded = { Prim.hlevel (codes, e.the_row.coded) };
+
+    ghost view = { λ s. record { stage = s.stage; names = s.names; desk = s.desk } };
 
     ghost invariant = { λ s. AreBound s.stage s.names };
 }
@@ -53,41 +61,22 @@ impl Shell {
             alloc,
             stage: Stage::Declaring(Mapping::new(alloc)),
             names: Names::new(alloc),
-            block: None,
-            line: 0,
-            refused: false,
+            desk: Desk::new(),
         }
-    }
-
-    /// The mapping that is declared, or that of the session.
-    pub(crate) fn mapping(&self) -> &Mapping
-        ensures { result.now ≡ mapping_of self.now.stage }
-    {
-        match &self.stage {
-            Stage::Declaring(mapping) => mapping,
-            Stage::Configured(session) => session.mapping(),
-        }
-    }
-
-    /// The number of the line that is done.
-    fn number(&self) -> u32
-        ensures { result ≡ self.now.line }
-    {
-        self.line
     }
 
     /// Whether some command was refused.
     pub fn has_refused(&self) -> bool
-        ensures { result ≡ self.now.refused }
+        ensures { result ≡ self.now.desk.refused }
     {
-        self.refused
+        self.desk.has_refused()
     }
 
     /// Does a line, and answers its reply: what the line wrote, or why it is refused.
     ///
     /// # Errors
     /// `Memory` and `KeeperFault` end the run.
-    #[tactic(auto, using(crate::proofs::Shells::answers))]
+    #[tactic(auto, using(crate::proofs::Replying::answers))]
     pub fn answer<K: Keeper>(&mut self, keeper: &mut K, line: &[u8]) -> Result<Reply, Refusal>
         requires { IsReady self.old.stage (K.moment keeper.old) }
         ensures step { Runs (moment_answering K.moment)
@@ -108,15 +97,125 @@ impl Shell {
         }
     }
 
+    /// The number of the line that is done.
+    fn number(&self) -> u32
+        ensures { result ≡ self.now.desk.line }
+    {
+        self.desk.line()
+    }
+
+    /// Reads a line, and does what it comes to.
+    ///
+    /// # Errors
+    /// Why the line, or the block that it ends, is refused. `Memory` and `KeeperFault` end the run.
+    #[tactic(auto, using(crate::proofs::Lines::stepping), unfolding(crate::specs::Step::line_step))]
+    fn step<K: Keeper>(&mut self, keeper: &mut K, line: &[u8]) -> Result<Reply, Refusal>
+        requires { IsReady self.old.stage (K.moment keeper.old) }
+        ensures { IsShellCall K.moment (step.line_step line.now)
+            (self.old, keeper.old) result (self.new, keeper.new) }
+    {
+        let said = self.say(line)?;
+        self.act(keeper, said)
+    }
+
+    /// What a line comes to.
+    fn say(&mut self, line: &[u8]) -> Result<Said, Refusal>
+        ensures call { IsShellCallAlone (step.at_desk (said_line line.now)) self.old result self.new }
+        ensures done { IfOk result CanBeDone }
+    {
+        self.desk.say(self.alloc, line)
+    }
+
+    /// Does what a line comes to.
+    #[tactic(auto, using(crate::proofs::Lines::acting))]
+    fn act<K: Keeper>(&mut self, keeper: &mut K, said: Said) -> Result<Reply, Refusal>
+        requires ready { IsReady self.old.stage (K.moment keeper.old) }
+        requires done { CanBeDone said }
+        ensures { IsShellCall K.moment (step.do_said said)
+            (self.old, keeper.old) result (self.new, keeper.new) }
+    {
+        match said {
+            Said::Nothing => Ok(Reply::new(self.alloc)),
+            Said::Configure => self.configure(keeper),
+            Said::Declare(block) => self.declare(keeper, block),
+            Said::Do(command) => self.command(keeper, &command),
+        }
+    }
+
+    /// Checks all declarations, and opens the session.
+    #[tactic(auto, using(crate::proofs::Stages::turning, crate::proofs::Bindings::bindings), unfolding(crate::specs::Step::turn))]
+    fn configure<K: Keeper>(&mut self, keeper: &K) -> Result<Reply, Refusal>
+        requires ready { IsReady self.old.stage (K.moment keeper.now) }
+        ensures { IsShellCall K.moment (step.turn step.opened_stage)
+            (self.old, keeper.now) result (self.new, keeper.now) }
+    {
+        self.stage.configure(self.alloc)?;
+        Ok(Reply::new(self.alloc))
+    }
+
+    /// Declares what a block says, whose form is built.
+    #[tactic(auto, using(crate::proofs::Stages::turning, crate::proofs::Bindings::bindings), unfolding(crate::specs::Step::turn))]
+    fn declare<K: Keeper>(&mut self, keeper: &K, block: Block) -> Result<Reply, Refusal>
+        requires ready { IsReady self.old.stage (K.moment keeper.now) }
+        requires built { CanBeDone (Said.Declare block) }
+        ensures { IsShellCall K.moment (step.turn (step.declared_stage block))
+            (self.old, keeper.now) result (self.new, keeper.now) }
+    {
+        self.stage.declare(self.alloc, block)?;
+        Ok(Reply::new(self.alloc))
+    }
+
+    /// Does a command of the session, and tells its answer.
+    #[tactic(auto, using(crate::proofs::Commands::telling), unfolding(crate::specs::Step::do_command))]
+    fn command<K: Keeper>(&mut self, keeper: &mut K, command: &Command) -> Result<Reply, Refusal>
+        requires ready { IsReady self.old.stage (K.moment keeper.old) }
+        requires sayable { IsSayable command.now }
+        ensures { IsShellCall K.moment (step.do_command command.now)
+            (self.old, keeper.old) result (self.new, keeper.new) }
+    {
+        let answer = self.perform(keeper, command)?;
+        self.tell_answer(answer)
+    }
+
+    /// Does a command of the session.
+    ///
+    /// # Errors
+    /// `NotConfigured`; then those of the line's names and values, and of what it asks for.
+    #[tactic(auto, using(crate::proofs::Commands::performing, crate::proofs::Bindings::bindings), unfolding(crate::specs::Step::perform))]
+    fn perform<K: Keeper>(&mut self, keeper: &mut K, command: &Command) -> Result<Answer, Refusal>
+        requires ready { IsReady self.old.stage (K.moment keeper.old) }
+        requires sayable { IsSayable command.now }
+        ensures call { IsShellCall K.moment (step.perform command.now)
+            (self.old, keeper.old) result (self.new, keeper.new) }
+        ensures answer { IfOk result (IsAnswerAt self.new.stage) }
+    {
+        let Stage::Configured(session) = &mut self.stage else {
+            return Err(Refusal::InvalidRequestError(RequestKind::NotConfigured));
+        };
+        perform_line(self.alloc, &self.names, session, keeper, command)
+    }
+
+    /// The reply that tells of an answer; what is to be bound is bound. The only refusal is `Memory`.
+    #[tactic(auto, using(crate::proofs::Commands::answered, crate::proofs::Bindings::bindings), unfolding(crate::specs::Step::tell_answer))]
+    fn tell_answer(&mut self, answer: Answer) -> Result<Reply, Refusal>
+        requires { IsAnswerAt self.old.stage answer }
+        ensures call { IsShellCallAlone (step.tell_answer answer) self.old result self.new }
+        ensures cause { IfErr result (λ e. e ≡ Refusal.Memory) }
+    {
+        let reply = reply_of(self.alloc, self.stage.mapping(), &answer)?;
+        bind(&mut self.names, answer)?;
+        Ok(reply)
+    }
+
     /// The reply that says why the line of this number is refused. The only refusal is `Memory`.
-    #[tactic(auto, using(crate::proofs::Shells::telling))]
+    #[tactic(auto, using(crate::proofs::Replying::telling))]
     fn tell(&mut self, number: u32, refusal: Refusal) -> Result<Reply, Refusal>
         ensures call { IsShellCallAlone (step.tell number refusal) self.old result self.new }
         ensures cause { IfErr result (λ e. e ≡ Refusal.Memory) }
     {
-        self.refused = true;
+        self.desk.refuse();
         let mut reply = Reply::new(self.alloc);
-        let put = reply.put_error(number, &refusal, self.mapping());
+        let put = self.stage.put_error(&mut reply, number, &refusal);
         drop(refusal);
         put?;
         Ok(reply)
@@ -134,12 +233,12 @@ impl Shell {
     }
 
     /// The reply at the script's end.
-    #[tactic(auto, using(crate::proofs::Shells::telling))]
+    #[tactic(auto, using(crate::proofs::Replying::telling))]
     fn tell_end(&mut self) -> Result<Reply, Refusal>
         ensures call { IsShellCallAlone step.end_of_script self.old result self.new }
         ensures cause { IfErr result (λ e. e ≡ Refusal.Memory) }
     {
-        let Some(block) = &self.block else {
+        let Some(block) = self.desk.block() else {
             return Ok(Reply::new(self.alloc));
         };
         let first = block.first();
@@ -150,7 +249,7 @@ impl Shell {
     ///
     /// # Errors
     /// `Memory` and `KeeperFault`.
-    #[tactic(auto, using(crate::proofs::Shells::closes, crate::proofs::Bindings::bindings))]
+    #[tactic(auto, using(crate::proofs::Replying::closes, crate::proofs::Bindings::bindings))]
     pub fn close<K: Keeper>(&mut self, keeper: &mut K) -> Result<(), Refusal>
         requires { IsReady self.old.stage (K.moment keeper.old) }
         ensures step { Runs (moment_answering K.moment)
@@ -161,6 +260,21 @@ impl Shell {
         let Stage::Configured(session) = &mut self.stage else {
             return Ok(());
         };
-        session.close(keeper)
+        close(session, keeper)
+    }
+}
+
+/// What an answer binds is bound. The only refusal is `Memory`, and it leaves the names as they were.
+fn bind(names: &mut Names, answer: Answer) -> Result<(), Refusal>
+    ensures ok { OnOk result (names.new ≡ step.names_with answer names.old) }
+    ensures err { OnErr result (names.new ≡ names.old) }
+    ensures cause { IfErr result (λ e. e ≡ Refusal.Memory) }
+{
+    match answer {
+        Answer::Bind(name, thing) => names.bind(&name, thing),
+        other => {
+            drop(other);
+            Ok(())
+        }
     }
 }

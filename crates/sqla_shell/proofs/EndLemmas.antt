@@ -143,7 +143,7 @@ stopped_at run before mid now own written p back = record {
   log = undone_log before p.prefix mid now written back.0 p.log back.1 back.2;
 }
 
-whole_by : (run : Run (Beside ShellState) Ending) (before : List ℕ) (now : Log) (b : Bool) → IsWhole run Finished before now → run.after.own.refused ≡ b → Ends run before (done_status b) now
+whole_by : (run : Run (Beside ShellState) Ending) (before : List ℕ) (now : Log) (b : Bool) → IsWhole run Finished before now → run.after.own.desk.refused ≡ b → Ends run before (done_status b) now
 whole_by run before now true whole is = (whole, is)
 whole_by run before now false whole is = (whole, is)
 
@@ -156,10 +156,10 @@ unfolding some_of
 same_told mid now is = ap (some_of mid) is
 
 ended : (run : Run (Beside ShellState) Ending) (before : List ℕ) (done : Result Ending Stop) (end : Status) (mid now : Told Store) (own : ShellState) (written : List ℕ)
-    → Outcome (λ e. e) run (first_log before) (as_refusal stop_refusal done) (mid_told own mid written) → Concludes done own.refused (Some mid) end (Some now) → Ends run before end (log_with now.log written)
+    → Outcome (λ e. e) run (first_log before) (as_refusal stop_refusal done) (mid_told own mid written) → Concludes done own.desk.refused (Some mid) end (Some now) → Ends run before end (log_with now.log written)
 ended run before (Ok Finished) end mid now own written p c =
     subst (λ s. Ends run before s (log_with now.log written)) (sym c.0)
-    (whole_by run before (log_with now.log written) own.refused (record { answer = p.answer; log = ap (λ t. log_with t.log written) (same_told mid now c.1) ∙ p.log }) (sym (ap (λ w. w.own.refused) p.world)))
+    (whole_by run before (log_with now.log written) own.desk.refused (record { answer = p.answer; log = ap (λ t. log_with t.log written) (same_told mid now c.1) ∙ p.log }) (sym (ap (λ w. w.own.desk.refused) p.world)))
 ended run before (Ok TooLong) end mid now own written p c =
     subst (λ s. Ends run before s (log_with now.log written)) (sym c.0) (record {
       undone = c.1.0;
@@ -179,13 +179,13 @@ goes_on (Err stop) refused mid end c = c.1
 
 is_done_by : (bytes : List ℕ) (before after : Option (List ℕ)) (first mid last : Option (Told Store)) (own : ShellState) (done : Result Ending Stop) (end : Status)
     → AsTold (λ e. e) (script bytes) (told_writing new_shell first before) (as_refusal stop_refusal done) (told_writing own mid after)
-    → Concludes done own.refused mid end last → IsSettledTold last → IsDoneOf (Some bytes) before first end after last
+    → Concludes done own.desk.refused mid end last → IsSettledTold last → IsDoneOf (Some bytes) before first end after last
 is_done_by bytes None after first mid last own done end p c settled = tt
 is_done_by bytes (Some b) after None mid last own done end p c settled = tt
 is_done_by bytes (Some b) None (Some t) None last own done end p c settled = absurd p
 is_done_by bytes (Some b) None (Some t) (Some m) last own done end p c settled = absurd p
 is_done_by bytes (Some b) (Some a) (Some t) None last own done end p c settled = absurd p
-is_done_by bytes (Some b) (Some a) (Some t) (Some m) None own done end p c settled = absurd (goes_on done own.refused m end c)
+is_done_by bytes (Some b) (Some a) (Some t) (Some m) None own done end p c settled = absurd (goes_on done own.desk.refused m end c)
 is_done_by bytes (Some b) (Some a) (Some t) (Some m) (Some n) own done end p c settled = λ is. (
   ended (reference bytes) b done end m n own a
       (subst (λ first. Outcome (λ e. e) (script bytes (record { own = new_shell; store = first.world })) (log_with first.log b) (as_refusal stop_refusal done) (mid_told own m a)) is p) c,
@@ -195,7 +195,7 @@ is_done_by bytes (Some b) (Some a) (Some t) (Some m) (Some n) own done end p c s
 -- a script was done over a keeper that had nothing, and concluded
 pub is_done : {K O : Type 0} (moment : K → Moment Store) (written : O → Option (List ℕ)) (left : Option (List ℕ)) (shell own : ShellState) (first mid last : K) (sink after : O) (done : Result Ending Stop) (end : Status)
     → shell ≡ new_shell → DoesScript left (moment_writing moment written) (shell, first, sink) (as_refusal stop_refusal done) (own, mid, after)
-    → Concludes done own.refused (moment mid).told end (moment last).told → IsCoherent (moment last) → (moment last).depth ≡ 0
+    → Concludes done own.desk.refused (moment mid).told end (moment last).told → IsCoherent (moment last) → (moment last).depth ≡ 0
     → IsDoneOf left (written sink) (moment first).told end (written after) (moment last).told
 unfolding moment_writing
 is_done moment written None shell own first mid last sink after done end is p c coherent depth = tt

@@ -105,8 +105,8 @@ pub record IsCutShort (run : Run (Beside ShellState) Ending) (before : List ℕ)
 
 -- what the outside has seen at the end of a run with this status
 abbrev pub Ends : Run (Beside ShellState) Ending → List ℕ → Status → Log → Type 0
-Ends run before status.Done now = IsWhole run Finished before now × (run.after.own.refused ≡ false)
-Ends run before status.Refused now = IsWhole run Finished before now × (run.after.own.refused ≡ true)
+Ends run before status.Done now = IsWhole run Finished before now × (run.after.own.desk.refused ≡ false)
+Ends run before status.Refused now = IsWhole run Finished before now × (run.after.own.desk.refused ≡ true)
 Ends run before status.Usage now = ⊥
 Ends run before status.ReadFault now = IsStopped run before now
 Ends run before status.WriteFault now = IsStopped run before now

@@ -202,7 +202,7 @@ fn run_script<S: Source, O: Sink, K: Keeper>(
 fn conclude<K: Keeper>(shell: &Shell, keeper: &mut K, done: Result<Ending, Stop>) -> Status
     requires attached { (K.moment keeper.old).attached ≡ true }
     requires outside { done ≡ Ok Ending.Finished → (K.moment keeper.old).depth ≡ 0 }
-    ensures concluded { Concludes done shell.now.refused (K.moment keeper.old).told result
+    ensures concluded { Concludes done shell.now.desk.refused (K.moment keeper.old).told result
         (K.moment keeper.new).told }
     ensures rests { Rests (K.moment keeper.old) (K.moment keeper.new) }
     ensures counted { IfOk done (λ ending. ending ≡ Ending.Finished
@@ -246,7 +246,7 @@ fn status_of(stop: Stop) -> Status
 
 /// The status of a run that came to its script's end.
 fn end_status(shell: &Shell) -> Status
-    ensures { result ≡ done_status shell.now.refused }
+    ensures { result ≡ done_status shell.now.desk.refused }
 {
     if shell.has_refused() {
         Status::Refused

@@ -8,16 +8,16 @@ returns-clause-reference g c = is_done g.K.Keeper.moment g.O.Sink.written (g.S.S
     c.new-shell.ensures c.do_script-done.ensures.reference c.conclude.ensures.concluded (g.met.K.Keeper.coherent c.conclude.new.keeper) c.conclude.ensures.rests.depth
 
 pub returns-clause-through : goal.returns-clause-through
-returns-clause-through g c = read_through c.do_script-done.result c.do_script-done.new.shell.refused (g.K.Keeper.moment c.do_script-done.new.keeper).told (g.K.Keeper.moment c.conclude.new.keeper).told c.conclude.result
+returns-clause-through g c = read_through c.do_script-done.result c.do_script-done.new.shell.desk.refused (g.K.Keeper.moment c.do_script-done.new.keeper).told (g.K.Keeper.moment c.conclude.new.keeper).told c.conclude.result
     (g.S.Source.left c.args.source.now) (g.S.Source.left c.do_script-done.new.source) c.conclude.ensures.concluded c.do_script-done.ensures.through
 
 pub returns-clause-usage : goal.returns-clause-usage
-returns-clause-usage g c = concludes_script c.do_script-done.result c.do_script-done.new.shell.refused (g.K.Keeper.moment c.do_script-done.new.keeper).told (g.K.Keeper.moment c.conclude.new.keeper).told c.conclude.result c.conclude.ensures.concluded
+returns-clause-usage g c = concludes_script c.do_script-done.result c.do_script-done.new.shell.desk.refused (g.K.Keeper.moment c.do_script-done.new.keeper).told (g.K.Keeper.moment c.conclude.new.keeper).told c.conclude.result c.conclude.ensures.concluded
 
 pub returns-clause-keeper : goal.returns-clause-keeper
 returns-clause-keeper g c = keeper_then c.do_script-done.ensures.keeps.keeper c.conclude.ensures.rests.keeper
 
 pub returns-clause-faults : goal.returns-clause-faults
-returns-clause-faults g c = concludes_faults c.do_script-done.result c.do_script-done.new.shell.refused (g.K.Keeper.moment c.do_script-done.new.keeper).told (g.K.Keeper.moment c.conclude.new.keeper).told c.conclude.result
+returns-clause-faults g c = concludes_faults c.do_script-done.result c.do_script-done.new.shell.desk.refused (g.K.Keeper.moment c.do_script-done.new.keeper).told (g.K.Keeper.moment c.conclude.new.keeper).told c.conclude.result
     (g.S.Source.faults c.args.source.now) (g.O.Sink.faults c.args.sink.now) (g.K.Keeper.moment c.args.keeper.now).faults (g.S.Source.faults c.do_script-done.new.source) (g.O.Sink.faults c.do_script-done.new.sink)
     (g.K.Keeper.moment c.do_script-done.new.keeper).faults (g.K.Keeper.moment c.conclude.new.keeper).faults c.conclude.ensures.concluded c.do_script-done.ensures.keeps.faults c.conclude.ensures.rests.faults c.conclude.ensures.counted

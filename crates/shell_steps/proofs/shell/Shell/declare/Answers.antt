@@ -1,5 +1,11 @@
-use Rattle.shell_steps.proofs.Bindings.{bound_kept}
+use Rattle.shell_steps.specs.Step.{declared_stage}
+use Rattle.shell_steps.proofs.Stages.{turns, turns_not}
 use Rattle.shell_steps.proofs.shell.Shell.declare.Goals as goal
 
-pub invariant_of-self : goal.invariant_of-self
-invariant_of-self c = bound_kept c.declare.ensures.kept c.self.invariant
+pub returns-in_err-declare : goal.returns-in_err-declare
+returns-in_err-declare g c =
+    turns_not g.K.Keeper.moment (declared_stage c.args.block) (record { stage = c.self.inside.stage; names = c.self.inside.names; desk = c.self.inside.desk }) c.args.self.now c.declare.new.self c.args.keeper.now c.in_err-declare.field-0.0 c.from_residual.result c.from_residual.ensures.1 c.self.view_is c.in_err-declare.ensures c.requires.ready
+
+pub returns : goal.returns
+returns g c =
+    turns g.K.Keeper.moment (declared_stage c.args.block) (record { stage = c.self.inside.stage; names = c.self.inside.names; desk = c.self.inside.desk }) c.args.self.now c.declare.new.self c.args.keeper.now _ c.self.view_is c.in_ok-declare.ensures c.new.ensures c.requires.ready

@@ -1,5 +1,0 @@
-pub mod SessionState
-pub mod Making
-pub mod Flush
-pub mod Steps
-pub mod Asking

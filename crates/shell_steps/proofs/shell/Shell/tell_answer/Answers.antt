@@ -1,0 +1,23 @@
+use Rattle.std.proofs.Common.{refl, ap, sym, subst}
+use Rattle.shell_steps.specs.ShellState.{IsAnswerAt, ShellState}
+use Rattle.shell_steps.proofs.Bindings.{bound_more}
+use Rattle.shell_steps.proofs.Commands.{tells_lost, tells_view}
+use Rattle.shell_steps.proofs.shell.Shell.tell_answer.Goals as goal
+
+pub returns-in_err-reply-clause-call : goal.returns-in_err-reply-clause-call
+returns-in_err-reply-clause-call c =
+    tells_lost c.args.answer c.args.self.now c.args.self.now c.in_err-reply.field-0.0 c.from_residual.result c.from_residual.ensures.1 c.in_err-reply.ensures.cause refl
+
+pub returns-in_err-bind-clause-call : goal.returns-in_err-bind-clause-call
+returns-in_err-bind-clause-call c =
+    tells_lost c.args.answer c.args.self.now _ c.in_err-bind.field-0.0 c.from_residual-in_err-bind.result c.from_residual-in_err-bind.ensures.1 c.in_err-bind.ensures.cause
+    (ap (λ (s : ShellState). s.stage) c.self.view_is)
+
+pub invariant_of-self-2 : goal.invariant_of-self-2
+invariant_of-self-2 c =
+    bound_more c.self.inside.stage c.self.inside.names c.bind.new.names c.args.answer c.in_ok-bind.ensures.ok
+    (subst (λ (s : ShellState). IsAnswerAt s.stage c.args.answer) (sym c.self.view_is) c.requires) c.self.invariant
+
+pub returns-clause-call : goal.returns-clause-call
+returns-clause-call c =
+    tells_view c.args.answer (record { stage = c.self.inside.stage; names = c.self.inside.names; desk = c.self.inside.desk }) c.args.self.now c.bind.new.names c.in_ok-reply.reply c.mapping.result.now c.self.view_is c.in_ok-bind.ensures.ok c.mapping.ensures c.in_ok-reply.ensures.text
