@@ -1,12 +1,12 @@
 -- The ends of links: all of them are objects of the graph.
-use Rattle.std.proofs.Common.{◌≡◌, ℕ, ◌+◌, ◌<◌, ◌≤◌, Bool, true, false, ◌&&◌, ◌||◌, List, [], ◌∷◌, ◌++◌, length, map, get_or, drop, min, zero, suc, Option, None, Some, refl, sym, ap, ◌∙◌, subst, ⊎_elim, ◌⊎◌, inl, inr, arith, append_assoc}
-use Rattle.std.specs.Prelude.{nat_lt, nat_le, not, ◌==◌, slice_get}
-use Rattle.std.specs.List.{All, list_all, list_any}
+use Rattle.std.proofs.Common.{◌≡◌, ℕ, ◌+◌, ◌<◌, ◌≤◌, Bool, true, false, ◌&&◌, ◌||◌, List, [], ◌∷◌, ◌++◌, length, get_or, drop, min, suc, Option, None, Some, refl, sym, ap, ◌∙◌, ⊎_elim, ◌⊎◌, inl, inr, arith, append_assoc}
+use Rattle.std.specs.Prelude.{nat_lt, nat_le, not, slice_get}
+use Rattle.std.specs.List.{list_all}
 use Rattle.std.specs.Cmp.Lexicographic.{pointwise}
 use Rattle.std.proofs.Math.Seq.{drop-cons}
-use Rattle.std.proofs.lemmas.Bool.{and_from, and_parts, cases_Bool, cases_lt, lt-ltb, ltb-true, eqb-true}
+use Rattle.std.proofs.lemmas.Bool.{and_from, and_parts, cases_lt}
 use Rattle.std.proofs.lemmas.Bool.Decides.{nat_tests}
-use Rattle.std.proofs.lemmas.List.{append-nil, drop_all, get_or_default, length-map}
+use Rattle.std.proofs.lemmas.List.{append-nil, drop_all, length-map}
 use Rattle.std.proofs.lemmas.List.Folds.{list_all-append}
 use Rattle.std.proofs.lemmas.Option.{slice_get_within}
 use Rattle.base_core.specs.declared.ids.ClassId.{ClassId}
@@ -17,10 +17,10 @@ use Rattle.object_arena.specs.declared.object.Link.{Link}
 use Rattle.object_arena.specs.declared.object.Link.TheVariants.{Unset, Unloaded, One, Many}
 use Rattle.object_arena.specs.declared.object.Object.{Object}
 use Rattle.object_arena.specs.Graph.{Graph, IsObject, object_at, place_of}
-use Rattle.object_arena.specs.Fit.{IsFit, held_fit, is_empty, is_of_root, is_root, link_fits, links_fit}
+use Rattle.object_arena.specs.Fit.{IsFit, held_fit, is_empty, is_of_root, is_root, link_fits}
 use Rattle.object_arena.proofs.FitLemmas.{fit_links}
 use Rattle.cascades.specs.declared.closures.Flag.{Flag}
-use Rattle.cascades.specs.Closures.{end_of, ends_along, ends_of, ends_with, has_flag, is_among, linked_objects}
+use Rattle.cascades.specs.Closures.{ends_along, ends_of, ends_with, has_flag, linked_objects}
 
 -- ---- a loop over relationships and links
 

@@ -1,6 +1,6 @@
 -- The closures of an object: to which objects a call goes on along relationships that have its flag.
-use Rattle.std.specs.Prelude.{◌≡◌, ℕ, ◌<◌, ◌≤◌, Bool, true, false, List, [], ◌∷◌, ◌++◌, length, ◌==◌, Option, None, Some, if◌then◌else◌}
-use Rattle.std.specs.List.{All, list_all, list_any}
+use Rattle.std.specs.Prelude.{◌≡◌, Bool, true, false, not, ◌&&◌, ◌||◌, List, [], ◌∷◌, ◌++◌, length, map, ◌==◌, Option, None, Some}
+use Rattle.std.specs.List.{All, filter, list_all, list_any, range_with_len}
 use Rattle.base_core.specs.declared.ids.ObjId.{ObjId}
 use Rattle.base_core.specs.Ascending.{IsAscending}
 use Rattle.class_types.specs.declared.declared.Cascade.{Cascade}
@@ -9,6 +9,7 @@ use Rattle.class_mapping.specs.Mapped.{Mapped, relations_of}
 use Rattle.object_arena.specs.declared.object.Link.{Link}
 use Rattle.object_arena.specs.declared.object.Link.TheVariants.{Unset, Unloaded, One, Many}
 use Rattle.object_arena.specs.Graph.{Graph, IsObject, object_at}
+use Rattle.object_arena.specs.Identity.{id_of_place}
 use Rattle.cascades.specs.declared.closures.Flag.{Flag}
 use Rattle.cascades.specs.declared.closures.Flag.TheVariants.{SaveUpdate, RefreshExpire, Expunge, Delete}
 
@@ -58,3 +59,24 @@ pub record IsClosure (flag : Flag) (mapped : Mapped) (graph : Graph) (object : O
   pub closed : IsClosed flag mapped graph (is_among closure)
   pub least : (inside : ObjId → Bool) → inside object ≡ true → IsClosed flag mapped graph inside → list_all inside closure ≡ true
   pub objects : All (IsObject graph) closure
+
+-- ---- the closure as a list
+
+-- every list of some of the objects, in their order
+abbrev pub sublists : List ObjId → List (List ObjId)
+sublists [] = [] ∷ []
+sublists (object ∷ objects) = map (λ some. object ∷ some) (sublists objects) ++ sublists objects
+
+-- with each of its objects the list has all to which that one is linked
+abbrev pub is_closed : Flag → Mapped → Graph → List ObjId → Bool
+is_closed flag mapped graph objects = list_all (λ object. list_all (is_among objects) (linked_objects flag mapped graph object)) objects
+
+-- the list, if it is closed and has the one object, has the other
+abbrev pub has_beside : Flag → Mapped → Graph → ObjId → ObjId → List ObjId → Bool
+has_beside flag mapped graph object other objects = not (is_among objects object && is_closed flag mapped graph objects) || is_among objects other
+
+-- the objects that all closed sets with the object have, ascending by number: the least such set
+unfoldable pub closure_of : Flag → Mapped → Graph → ObjId → List ObjId
+closure_of flag mapped graph object =
+    let all : List ObjId = map id_of_place (range_with_len 0 (length graph.objects)) in
+    filter (λ other. list_all (has_beside flag mapped graph object other) (sublists all)) all

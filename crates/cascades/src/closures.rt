@@ -33,6 +33,8 @@ pub fn save_closure(
     requires fit { IsFit mapping.now arena.now }
     requires object { IsObject arena.now object }
     ensures closure { IfOk result (spec.IsClosure SaveUpdate mapping.now arena.now object) }
+    ensures is { IfOk result (λ set. set
+        ≡ spec.closure_of SaveUpdate mapping.now arena.now object) }
     ensures cause { IfErr result (λ e. e ≡ Memory) }
 {
     closure(alloc, arena, mapping, Flag::SaveUpdate, object)

@@ -1,2 +1,3 @@
 mod Behind
 mod Made
+mod Named

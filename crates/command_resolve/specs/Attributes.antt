@@ -1,16 +1,21 @@
--- What the names of a class's attributes stand for, and whether values are of their kinds.
-use Rattle.std.specs.Prelude.{ℕ, Bool, List, [], ◌∷◌, ◌++◌, Option, None, Some, Ok, Err, if◌then◌else◌}
-use Rattle.std.specs.List.{list_any}
+-- What the names of a class's attributes and relationships stand for, and whether values are of their kinds.
+use Rattle.std.specs.Prelude.{◌≡◌, ◌<◌, ℕ, Bool, true, false, not, List, [], ◌∷◌, ◌++◌, length, slice_index_or, Option, None, Some, Ok, Err, if◌then◌else◌}
+use Rattle.std.specs.Option.{option_map}
+use Rattle.std.specs.List.{list_any, position}
 use Rattle.base_core.specs.declared.ids.AttrNo.{AttrNo}
 use Rattle.base_core.specs.declared.ids.ClassId.{ClassId}
+use Rattle.base_core.specs.declared.ids.RelNo.{RelNo}
 use Rattle.base_core.specs.declared.value.Value.{Value}
 use Rattle.base_core.specs.declared.refusal.Refusal.{Refusal}
 use Rattle.schema_core.specs.Catalog.{same_name}
 use Rattle.schema_core.specs.Tables.{kind_of_value}
 use Rattle.schema_core.specs.Refusals.{kind_fault}
 use Rattle.class_types.specs.declared.mapped.Relation.{Relation}
-use Rattle.class_mapping.specs.Mapped.{Mapped, attribute_of, attributes_of, find_class, relations_of, find_attribute}
+use Rattle.class_mapping.specs.Mapped.{IsAttribute, Mapped, attribute_of, attributes_of, find_class, relations_of, find_attribute}
+use Rattle.object_arena.specs.Fit.{no_relation}
 use Rattle.sql_semantics.specs.Checked.{Checked, ◌>>=◌}
+use Rattle.command_resolve.specs.declared.members.Member.{Member}
+use Rattle.command_resolve.specs.declared.members.Member.TheVariants.{Attribute, One, Many}
 use Rattle.command_resolve.specs.Terms.{found_or_unknown, unknown, wrong_kind}
 
 -- ---- names
@@ -19,17 +24,65 @@ use Rattle.command_resolve.specs.Terms.{found_or_unknown, unknown, wrong_kind}
 abbrev pub class_named : Mapped → List ℕ → Checked ClassId
 class_named mapped name = found_or_unknown name (find_class mapped name)
 
--- a relationship has the name
-abbrev pub has_relation : List Relation → List ℕ → Bool
-has_relation relations name = list_any (λ relation. same_name relation.name name) relations
+-- the relationship of a name
+abbrev pub find_relation : List Relation → List ℕ → Option RelNo
+find_relation relations name = option_map (λ place. record { 0 = place }) (position (λ relation. same_name relation.name name) relations)
 
-abbrev pub attribute_or_refusal : List Relation → List ℕ → Option AttrNo → Checked AttrNo
-attribute_or_refusal relations name (Some attr) = Ok attr
-attribute_or_refusal relations name None = if has_relation relations name then wrong_kind else unknown name
+abbrev pub link_at : List Relation → RelNo → Member
+link_at relations relation = if (slice_index_or relations relation.0 no_relation).many then Many relation else One relation
+
+abbrev pub link_or_unknown : List Relation → List ℕ → Option RelNo → Checked Member
+link_or_unknown relations name (Some relation) = Ok (link_at relations relation)
+link_or_unknown relations name None = unknown name
+
+abbrev pub member_or : List Relation → List ℕ → Option AttrNo → Checked Member
+member_or relations name (Some attr) = Ok (Attribute attr)
+member_or relations name None = link_or_unknown relations name (find_relation relations name)
+
+-- the attribute or the relationship of a class that a name stands for
+abbrev pub member_named : Mapped → ClassId → List ℕ → Checked Member
+member_named mapped class name = member_or (relations_of mapped class) name (find_attribute (attributes_of mapped class) name)
+
+-- where an attribute is wanted, a relationship is of the wrong kind
+abbrev pub as_attribute : Member → Checked AttrNo
+as_attribute (Attribute attr) = Ok attr
+as_attribute member = wrong_kind
 
 -- the attribute of a class that a name stands for; the name of a relationship stands for none, and is known
 abbrev pub attribute_named : Mapped → ClassId → List ℕ → Checked AttrNo
-attribute_named mapped class name = attribute_or_refusal (relations_of mapped class) name (find_attribute (attributes_of mapped class) name)
+attribute_named mapped class name = member_named mapped class name >>= as_attribute
+
+abbrev pub link_unless : Bool → RelNo → Checked RelNo
+link_unless is_wrong relation = if is_wrong then wrong_kind else Ok relation
+
+-- where a collection or a link to one object is wanted, an attribute is of the wrong kind, and so is a relationship of the other form
+abbrev pub as_link : Bool → Member → Checked RelNo
+as_link many (Attribute attr) = wrong_kind
+as_link many (One relation) = link_unless many relation
+as_link many (Many relation) = link_unless (not many) relation
+
+-- the collection of a class that a name stands for, or the link to one object
+abbrev pub link_named : Mapped → Bool → ClassId → List ℕ → Checked RelNo
+link_named mapped many class name = member_named mapped class name >>= as_link many
+
+abbrev pub IsLink : List Relation → RelNo → Bool → Type 0
+IsLink relations relation many = (relation.0 < length relations) × ((slice_index_or relations relation.0 no_relation).many ≡ many)
+
+-- of these relationships
+abbrev pub IsAmong : List Relation → Member → Type 0
+IsAmong relations (Attribute attr) = ⊥
+IsAmong relations (One relation) = IsLink relations relation false
+IsAmong relations (Many relation) = IsLink relations relation true
+
+-- the class has a relationship of this number, which is a collection or not
+abbrev pub IsRelation : Mapped → ClassId → RelNo → Bool → Type 0
+IsRelation mapped class relation many = IsLink (relations_of mapped class) relation many
+
+-- the class has the member
+abbrev pub IsMember : Mapped → ClassId → Member → Type 0
+IsMember mapped class (Attribute attr) = IsAttribute mapped class attr
+IsMember mapped class (One relation) = IsRelation mapped class relation false
+IsMember mapped class (Many relation) = IsRelation mapped class relation true
 
 -- ---- kinds
 

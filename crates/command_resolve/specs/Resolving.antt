@@ -1,9 +1,12 @@
 -- What a line asks for, with numbers in the place of its names, or the first refusal that needs no session.
-use Rattle.std.specs.Prelude.{ℕ, List, Ok, Err}
+use Rattle.std.specs.Prelude.{ℕ, Bool, true, false, List, None, Some, Ok, Err, if◌then◌else◌, is_none}
 use Rattle.base_core.specs.declared.refusal.Refusal.TheVariants.{NotBuilt}
 use Rattle.base_core.specs.declared.ids.ObjId.{ObjId}
+use Rattle.base_core.specs.declared.ids.RelNo.{RelNo}
 use Rattle.base_core.specs.declared.value.Value.{Value}
+use Rattle.schema_core.specs.Tables.{kind_of_value}
 use Rattle.class_mapping.specs.Mapped.{Mapped}
+use Rattle.relations.specs.declared.calls.LinkCall.TheVariants.{Set, Append, Remove}
 use Rattle.sql_semantics.specs.Checked.{Checked, ◌>>=◌}
 use Rattle.script_types.specs.declared.command.Command.{Command}
 use Rattle.script_types.specs.declared.command.Command.TheVariants as line
@@ -14,21 +17,38 @@ use Rattle.script_resolve.specs.Bulks.{resolved_bulk}
 use Rattle.script_resolve.specs.Selects.{resolved_select}
 use Rattle.command_resolve.specs.declared.resolved.Resolved.{Resolved}
 use Rattle.command_resolve.specs.declared.resolved.Resolved.TheVariants as resolved
-use Rattle.command_resolve.specs.Attributes.{Giving, attribute_named, cells_of, class_named, unless_fault, value_fault}
-use Rattle.command_resolve.specs.Terms.{Bindings, Named, handle_if_named, object_of, shown_of}
+use Rattle.command_resolve.specs.declared.members.Member.{Member}
+use Rattle.command_resolve.specs.declared.members.Member.TheVariants.{Attribute, One, Many}
+use Rattle.command_resolve.specs.Attributes.{Giving, cells_of, class_named, link_named, member_named, unless_fault, value_fault}
+use Rattle.command_resolve.specs.Terms.{Bindings, Named, handle_if_named, object_of, shown_of, wrong_kind}
 
 abbrev pub resolved_new : Mapped → List ℕ → List ℕ → List Giving → Checked Resolved
 resolved_new mapped name class given = class_named mapped class >>= λ class. (cells_of mapped class given >>= λ cells. Ok (resolved.New name class cells))
 
+-- a link to one object takes `null`, and then leads to none
+abbrev pub set_none : ObjId → RelNo → Value → Checked Resolved
+set_none object relation value = if is_none (kind_of_value value) then Ok (resolved.ChangeLink object relation (Set None)) else wrong_kind
+
+-- an attribute takes a value of its kind, or NULL
+abbrev pub set_by : Mapped → Named → Value → Member → Checked Resolved
+set_by mapped named value (Attribute attr) = unless_fault (value_fault mapped named.1 attr value) (resolved.SetCell named.0 attr value)
+set_by mapped named value (One relation) = set_none named.0 relation value
+set_by mapped named value (Many relation) = wrong_kind
+
 abbrev pub resolved_set_at : Mapped → List ℕ → Value → Named → Checked Resolved
-resolved_set_at mapped member value named =
-    attribute_named mapped named.1 member >>= λ attr. unless_fault (value_fault mapped named.1 attr value) (resolved.SetCell named.0 attr value)
+resolved_set_at mapped member value named = member_named mapped named.1 member >>= set_by mapped named value
 
 abbrev pub resolved_set : Mapped → Bindings → Term → List ℕ → Value → Checked Resolved
 resolved_set mapped names term member value = object_of names term >>= resolved_set_at mapped member value
 
+-- a member of an object that is shown
+abbrev pub show_by : ObjId → Member → Resolved
+show_by object (Attribute attr) = resolved.ShowCell object attr
+show_by object (One relation) = resolved.ShowLink object relation
+show_by object (Many relation) = resolved.ShowLink object relation
+
 abbrev pub resolved_show_at : Mapped → List ℕ → Named → Checked Resolved
-resolved_show_at mapped member named = attribute_named mapped named.1 member >>= λ attr. Ok (resolved.ShowCell named.0 attr)
+resolved_show_at mapped member named = member_named mapped named.1 member >>= λ found. Ok (show_by named.0 found)
 
 abbrev pub resolved_show : Mapped → Bindings → Term → List ℕ → Checked Resolved
 resolved_show mapped names term member = object_of names term >>= resolved_show_at mapped member
@@ -42,6 +62,25 @@ resolved_thing names term = shown_of names term >>= λ thing. Ok (resolved.Show 
 
 abbrev pub resolved_same : Bindings → Term → Term → Checked Resolved
 resolved_same names term other = id_of_term names term >>= λ first. (id_of_term names other >>= λ second. Ok (resolved.Same first second))
+
+-- an object, a relationship of it, and the object that is to come into this link or to leave it
+abbrev pub Ends : Type 0
+Ends = ObjId × RelNo × ObjId
+
+-- the ends of a collection, or of a link to one object
+abbrev pub ends_of : Mapped → Bindings → Bool → Term → List ℕ → Term → Checked Ends
+ends_of mapped names many term member other =
+    object_of names term >>= λ owner. (link_named mapped many owner.1 member >>= λ relation. (id_of_term names other >>= λ end. Ok (owner.0, relation, end)))
+
+-- the link of an object is to lead to another
+abbrev pub resolved_set_one : Mapped → Bindings → Term → List ℕ → Term → Checked Resolved
+resolved_set_one mapped names term member other = ends_of mapped names false term member other >>= λ ends. Ok (resolved.ChangeLink ends.0 ends.1 (Set (Some ends.2)))
+
+abbrev pub resolved_append : Mapped → Bindings → Term → List ℕ → Term → Checked Resolved
+resolved_append mapped names term member other = ends_of mapped names true term member other >>= λ ends. Ok (resolved.ChangeLink ends.0 ends.1 (Append ends.2))
+
+abbrev pub resolved_remove : Mapped → Bindings → Term → List ℕ → Term → Checked Resolved
+resolved_remove mapped names term member other = ends_of mapped names true term member other >>= λ ends. Ok (resolved.ChangeLink ends.0 ends.1 (Remove ends.2))
 
 -- the select of a line
 abbrev pub resolved_rows : Mapped → SynSelect → Checked Resolved
@@ -59,6 +98,9 @@ resolve mapped names line.Dump = Ok resolved.Dump
 resolve mapped names (line.New name class given) = resolved_new mapped name class given
 resolve mapped names (line.BeginNested name) = Ok (resolved.BeginNested name)
 resolve mapped names (line.SetValue term member value) = resolved_set mapped names term member value
+resolve mapped names (line.SetTerm term member other) = resolved_set_one mapped names term member other
+resolve mapped names (line.Append term member other) = resolved_append mapped names term member other
+resolve mapped names (line.Remove term member other) = resolved_remove mapped names term member other
 resolve mapped names (line.Add term) = id_of_term names term >>= λ object. Ok (resolved.Add object)
 resolve mapped names (line.Delete term) = id_of_term names term >>= λ object. Ok (resolved.Delete object)
 resolve mapped names (line.Show term) = resolved_thing names term

@@ -1,16 +1,19 @@
 -- What is kept of names, of resolved lines and of answers: their numbers stand for what is there.
-use Rattle.std.specs.Prelude.{◌≡◌, ℕ, ◌<◌, ◌≤◌, IsTrue, List, Option, None, Some}
+use Rattle.std.specs.Prelude.{◌≡◌, ℕ, ◌<◌, ◌≤◌, Bool, IsTrue, List, length, Option, None, Some}
 use Rattle.std.specs.List.{All}
 use Rattle.base_core.specs.declared.ids.AttrNo.{AttrNo}
 use Rattle.base_core.specs.declared.ids.ObjId.{ObjId}
+use Rattle.base_core.specs.declared.ids.RelNo.{RelNo}
 use Rattle.base_core.specs.declared.refusal.Refusal.{Refusal}
 use Rattle.base_core.specs.declared.refusal.Refusal.TheVariants.{NotBuilt}
 use Rattle.base_core.specs.declared.value.Value.{Value}
 use Rattle.schema_core.specs.Catalog.{IsTable}
 use Rattle.sql_semantics.specs.Plain.{IsPlainSelect}
 use Rattle.sql_semantics.specs.PlainStatement.{IsFittingBulk}
-use Rattle.class_mapping.specs.Mapped.{IsAttribute, IsClass, Mapped}
+use Rattle.class_mapping.specs.Mapped.{IsAttribute, IsClass, Mapped, relations_of}
 use Rattle.object_arena.specs.Graph.{Graph, IsObject, object_at}
+use Rattle.relations.specs.Calls.{end_of, is_of_collection}
+use Rattle.relations.specs.Keys.{IsEnd}
 use Rattle.session_scopes.specs.SessionState.{IsMadeOf}
 use Rattle.script_resolve.specs.Bulks.{gives_once}
 use Rattle.script_resolve.specs.Refusals.{CanRefuse}
@@ -21,7 +24,7 @@ use Rattle.command_resolve.specs.declared.answer.Answer.{Answer}
 use Rattle.command_resolve.specs.declared.answer.Answer.TheVariants as answer
 use Rattle.command_resolve.specs.declared.resolved.Resolved.{Resolved}
 use Rattle.command_resolve.specs.declared.resolved.Resolved.TheVariants as resolved
-use Rattle.command_resolve.specs.Attributes.{cells_fault, value_fault}
+use Rattle.command_resolve.specs.Attributes.{IsRelation, cells_fault, value_fault}
 use Rattle.command_resolve.specs.Terms.{Bindings}
 
 -- ---- names
@@ -61,6 +64,14 @@ HasAttribute mapped graph object attr = IsObject graph object × IsAttribute map
 abbrev pub HasValue : Mapped → Graph → ObjId → AttrNo → Value → Type 0
 HasValue mapped graph object attr value = HasAttribute mapped graph object attr × (value_fault mapped (object_at graph object).class attr value ≡ None)
 
+-- an object whose class has the relationship, which is a collection or not
+abbrev pub HasLink : Mapped → Graph → ObjId → RelNo → Bool → Type 0
+HasLink mapped graph object relation many = IsObject graph object × IsRelation mapped (object_at graph object).class relation many
+
+-- an object whose class has a relationship of this number
+abbrev pub HasRelation : Mapped → Graph → ObjId → RelNo → Type 0
+HasRelation mapped graph object relation = IsObject graph object × (relation.0 < length (relations_of mapped (object_at graph object).class))
+
 abbrev pub IsDrawnIfNamed : ℕ → Option ℕ → Type 0
 IsDrawnIfNamed drawn None = Unit {0}
 IsDrawnIfNamed drawn (Some number) = IsDrawn drawn number
@@ -70,10 +81,12 @@ IsDrawnIfNamed drawn (Some number) = IsDrawn drawn number
 abbrev pub IsResolved : Mapped → Graph → ℕ → Resolved → Type 0
 IsResolved mapped graph drawn (resolved.New name class cells) = IsClass mapped class × All (λ cell. IsAttribute mapped class cell.0) cells × (cells_fault mapped class cells ≡ None)
 IsResolved mapped graph drawn (resolved.SetCell object attr value) = HasValue mapped graph object attr value
+IsResolved mapped graph drawn (resolved.ChangeLink owner relation call) = HasLink mapped graph owner relation (is_of_collection call) × IsEnd graph (end_of call)
 IsResolved mapped graph drawn (resolved.Add object) = IsObject graph object
 IsResolved mapped graph drawn (resolved.Delete object) = IsObject graph object
 IsResolved mapped graph drawn (resolved.Show thing) = IsThere graph drawn thing × IsOfDeclared mapped thing
 IsResolved mapped graph drawn (resolved.ShowCell object attr) = HasAttribute mapped graph object attr
+IsResolved mapped graph drawn (resolved.ShowLink object relation) = HasRelation mapped graph object relation
 IsResolved mapped graph drawn (resolved.State object) = IsObject graph object
 IsResolved mapped graph drawn (resolved.Same object other) = IsObject graph object × IsObject graph other
 IsResolved mapped graph drawn (resolved.Commit number) = IsDrawnIfNamed drawn number

@@ -7,7 +7,8 @@ ghost use Rattle.class_mapping.specs.Mapped.{IsAttribute, IsClass};
 ghost use Rattle.script_resolve.specs.Refusals.{CanRefuse};
 ghost use Rattle.command_resolve.specs.Attributes as spec;
 
-use crate::attributes::{attribute_named, value_fault};
+use crate::attributes::value_fault;
+use crate::members::attribute_named;
 use crate::terms::wrong_kind;
 use base_core::{AttrNo, ClassId, Copied, ListOf, Name, Refusal, Value};
 use class_mapping::Mapping;

@@ -1,15 +1,18 @@
-//! What a line asks for: the numbers of objects, classes and attributes in the place of its names, or the first name that stands
+//! What a line asks for: the numbers of objects, classes, attributes and relationships in the place of its names, or the first name that stands
 //! for nothing; and what a line answers.
 #![tactic(auto)]
 
 mod answer;
 mod attributes;
 mod cells;
+mod links;
+mod members;
 mod resolved;
 mod resolving;
 mod statements;
 mod terms;
 
 pub use answer::Answer;
+pub use members::Member;
 pub use resolved::Resolved;
 pub use resolving::resolve;

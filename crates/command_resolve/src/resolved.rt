@@ -1,7 +1,8 @@
 //! Lines of the script with numbers in the place of their names.
 
-use base_core::{AttrNo, ClassId, ListOf, Name, ObjId, Value};
+use base_core::{AttrNo, ClassId, ListOf, Name, ObjId, RelNo, Value};
 use expr_types::{Bulk, Select};
+use relations::LinkCall;
 use shell_parts::Bound;
 use sqlite_items::Boxed;
 
@@ -26,11 +27,18 @@ pub enum Resolved {
         /// NULL or of the attribute's kind.
         value: Value,
     },
+    /// A relationship of an object is to change.
+    ChangeLink {
+        owner: ObjId,
+        relation: RelNo,
+        call: LinkCall,
+    },
     Add(ObjId),
     Delete(ObjId),
     /// No savepoint is shown.
     Show(Bound),
     ShowCell(ObjId, AttrNo),
+    ShowLink(ObjId, RelNo),
     State(ObjId),
     /// The line `is`.
     Same(ObjId, ObjId),

@@ -1,21 +1,29 @@
 //! What a line asks for.
 
-ghost use Rattle.std.specs.Prelude.{◌≡◌, ℕ, true, IfErr, IfOk};
+ghost use Rattle.std.specs.Prelude.{◌≡◌, ℕ, true, false, IfErr, IfOk};
 ghost use Rattle.base_core.specs.Answers.{Gives};
-ghost use Rattle.class_mapping.specs.Mapped.{Mapped};
+ghost use Rattle.base_core.specs.declared.ids.ClassId.{ClassId};
+ghost use Rattle.class_mapping.specs.Mapped.{IsAttribute, IsClass, Mapped};
 ghost use Rattle.object_arena.specs.Graph.{Graph, IsObject};
+ghost use Rattle.session_scopes.specs.SessionState.{IsMadeOf};
 ghost use Rattle.sayable_lines.specs.Sayable.{IsSayable};
 ghost use Rattle.script_resolve.specs.Refusals.{CanRefuse};
+ghost use Rattle.command_resolve.specs.declared.members.Member.TheVariants as member;
+ghost use Rattle.command_resolve.specs.Attributes.{IsMember, IsRelation};
 ghost use Rattle.command_resolve.specs.Resolving as spec;
 ghost use Rattle.command_resolve.specs.Standing.{AreOfDeclared, AreThere, IsOfResolving, IsResolved};
 
-use crate::attributes::{attribute_named, class_named, value_fault};
+use crate::attributes::value_fault;
 use crate::cells::cells_of;
+use crate::links::{resolved_append, resolved_remove, resolved_set_one};
+use crate::members::{Member, class_named, member_named};
 use crate::resolved::Resolved;
 use crate::statements::{resolved_rows, resolved_statement};
-use crate::terms::{handle_if_named, object_of, shown_of};
-use base_core::{Copied, Name, ObjId, Refusal, Value};
+use crate::terms::{handle_if_named, object_of, shown_of, wrong_kind};
+use base_core::{AttrNo, ClassId, Copied, Name, ObjId, Refusal, RelNo, Value};
 use class_mapping::Mapping;
+use relations::LinkCall;
+use schema_core::kind_of_value;
 use script_types::{Command, Term};
 use shell_parts::Names;
 use std::alloc::Global;
@@ -44,7 +52,7 @@ fn resolved_new(
     })
 }
 
-/// A value for an attribute of an object.
+/// A value, or none, for an attribute or a link of an object.
 fn resolved_set(
     mapping: &Mapping,
     names: &Names,
@@ -61,7 +69,30 @@ fn resolved_set(
         → IfOk result (IsResolved mapping.now graph drawn) }
 {
     let (object, class) = object_of(names, term)?;
-    let attr = attribute_named(mapping, class, member)?;
+    match member_named(mapping, class, member)? {
+        Member::Attribute(attr) => set_cell(mapping, object, class, attr, value),
+        Member::One(relation) => set_none(object, relation, value),
+        Member::Many(_) => Err(wrong_kind()),
+    }
+}
+
+/// A value for an attribute of an object.
+fn set_cell(
+    mapping: &Mapping,
+    object: ObjId,
+    class: ClassId,
+    attr: AttrNo,
+    value: &Value,
+) -> Result<Resolved, Refusal>
+    requires configured { mapping.now.configured ≡ true }
+    requires class { IsClass mapping.now class }
+    requires attr { IsAttribute mapping.now class attr }
+    ensures line { Gives (λ line. line) result
+        (spec.set_by mapping.now (object, class) value.now (member.Attribute attr)) }
+    ensures cause { IfErr result CanRefuse }
+    ensures stands { (graph : Graph) → (drawn : ℕ) → IsMadeOf graph object class
+        → IfOk result (IsResolved mapping.now graph drawn) }
+{
     match value_fault(mapping, class, attr, value) {
         Some(fault) => Err(fault),
         None => Ok(Resolved::SetCell {
@@ -72,7 +103,25 @@ fn resolved_set(
     }
 }
 
-/// An attribute of an object that is shown.
+/// A link to one object that is to lead to none.
+fn set_none(object: ObjId, relation: RelNo, value: &Value) -> Result<Resolved, Refusal>
+    ensures line { Gives (λ line. line) result (spec.set_none object relation value.now) }
+    ensures cause { IfErr result CanRefuse }
+    ensures stands { (mapped : Mapped) (graph : Graph) (drawn : ℕ) (class : ClassId)
+        → IsMadeOf graph object class → IsRelation mapped class relation false
+        → IfOk result (IsResolved mapped graph drawn) }
+{
+    if kind_of_value(value).is_some() {
+        return Err(wrong_kind());
+    }
+    Ok(Resolved::ChangeLink {
+        owner: object,
+        relation,
+        call: LinkCall::Set(None),
+    })
+}
+
+/// An attribute or a link of an object that is shown.
 fn resolved_show(
     mapping: &Mapping,
     names: &Names,
@@ -88,12 +137,26 @@ fn resolved_show(
         → IfOk result (IsResolved mapping.now graph drawn) }
 {
     let (object, class) = object_of(names, term)?;
-    let attr = attribute_named(mapping, class, member)?;
-    Ok(Resolved::ShowCell(object, attr))
+    let member = member_named(mapping, class, member)?;
+    Ok(show_by(object, member))
+}
+
+/// A member of an object that is shown.
+fn show_by(object: ObjId, member: Member) -> Resolved
+    ensures line { result ≡ spec.show_by object member }
+    ensures stands { (mapped : Mapped) (graph : Graph) (drawn : ℕ) (class : ClassId)
+        → IsMadeOf graph object class → IsMember mapped class member
+        → IsResolved mapped graph drawn result }
+{
+    match member {
+        Member::Attribute(attr) => Resolved::ShowCell(object, attr),
+        Member::One(relation) => Resolved::ShowLink(object, relation),
+        Member::Many(relation) => Resolved::ShowLink(object, relation),
+    }
 }
 
 /// An object that has been made.
-fn id_of_term(names: &Names, term: &Term) -> Result<ObjId, Refusal>
+pub(crate) fn id_of_term(names: &Names, term: &Term) -> Result<ObjId, Refusal>
     ensures object { Gives (λ object. object) result (spec.id_of_term names.now term.now) }
     ensures cause { IfErr result CanRefuse }
     ensures made { (graph : Graph) → (drawn : ℕ) → AreThere graph drawn names.now
@@ -130,8 +193,8 @@ fn resolved_same(names: &Names, term: &Term, other: &Term) -> Result<Resolved, R
 /// What a line asks for. Its names are read in the order of the line, and kinds of values behind all of them.
 ///
 /// # Errors
-/// `Unknown` of the first name that is not bound, or that no class or attribute has; `WrongKind` of the first that stands for
-/// something else than its place wants, or that is given twice; then `TypeMismatch` of the first value of another kind than its
+/// `Unknown` of the first name that is not bound, or that no class, attribute or relationship has; `WrongKind` of the first that
+/// stands for something else than its place wants, or that is given twice; then `TypeMismatch` of the first value of another kind than its
 /// attribute. Of a select or a bulk statement the first fault that `resolve_select` or `resolve_bulk` answers. `NotBuilt` of a form
 /// that is not built. `Memory`.
 pub fn resolve(
@@ -162,6 +225,21 @@ pub fn resolve(
             member,
             value,
         } => resolved_set(mapping, names, term, member, value),
+        Command::SetTerm {
+            term,
+            member,
+            other,
+        } => resolved_set_one(mapping, names, term, member, other),
+        Command::Append {
+            term,
+            member,
+            other,
+        } => resolved_append(mapping, names, term, member, other),
+        Command::Remove {
+            term,
+            member,
+            other,
+        } => resolved_remove(mapping, names, term, member, other),
         Command::Add(term) => Ok(Resolved::Add(id_of_term(names, term)?)),
         Command::Delete(term) => Ok(Resolved::Delete(id_of_term(names, term)?)),
         Command::Show(term) => resolved_thing(alloc, names, term),

@@ -1,17 +1,21 @@
 -- What is answered to lines that only compile.
 use Rattle.std.specs.Prelude.{ℕ, List, [], ◌∷◌, ◌++◌, Option, None, Some, Ok, Err, codes}
 use Rattle.base_core.specs.declared.ids.TableId.{TableId}
-use Rattle.base_core.specs.declared.refusal.Refusal.TheVariants.{InvalidRequestError}
+use Rattle.base_core.specs.declared.refusal.Refusal.{Refusal}
+use Rattle.base_core.specs.declared.refusal.Refusal.TheVariants.{CompileError, InvalidRequestError, NotBuilt}
 use Rattle.base_core.specs.declared.refusal.RequestKind.TheVariants.{Unknown}
 use Rattle.schema_core.specs.Catalog.{Catalog, find_table}
 use Rattle.schema_core.specs.DependencyOrder.{dependency_order}
 use Rattle.expr_types.specs.declared.select.Statement.{Statement}
 use Rattle.expr_types.specs.declared.select.Statement.TheVariants as statements
 use Rattle.sql_semantics.specs.Checked.{Checked, ◌>>=◌}
+use Rattle.script_types.specs.declared.command.Command.{Command}
+use Rattle.script_types.specs.declared.command.Command.TheVariants as line
 use Rattle.script_types.specs.declared.command.Dialect.{Dialect}
 use Rattle.script_types.specs.declared.select.SynBulk.{SynBulk}
 use Rattle.script_types.specs.declared.select.SynSelect.{SynSelect}
 use Rattle.script_resolve.specs.Bulks.{resolved_bulk}
+use Rattle.script_resolve.specs.Refusals.{CanRefuse}
 use Rattle.script_resolve.specs.Selects.{resolved_select}
 use Rattle.sql_statements.specs.Texts.{text_of}
 use Rattle.sql_tables.specs.Ddl.{ddl}
@@ -63,3 +67,18 @@ each_compiled quoting schema (table ∷ tables) = table_compiled quoting schema 
 -- all tables have texts, or the first fault is answered of the tables in the order in which they are made
 abbrev pub tables_compiled : Dialect → Catalog → Checked (Unit {0})
 tables_compiled dialect schema = each_compiled (quoting_of dialect) schema (dependency_order schema)
+
+-- ---- lines
+
+-- what is answered to a line that compiles; what objects compile to is yet to come
+abbrev pub compiled_line : Catalog → Command → Checked (List ℕ)
+compiled_line schema (line.CompileRows dialect s) = compiled_rows dialect schema s
+compiled_line schema (line.CompileBulk dialect b) = compiled_bulk dialect schema b
+compiled_line schema (line.CompileTable dialect name) = compiled_table dialect schema name
+compiled_line schema other = Err NotBuilt
+
+-- what such a line may be refused for: its names and kinds, a column without a type, a form that is not built, or memory that ran out
+abbrev pub IsOfCompiling : Refusal → Type 0
+IsOfCompiling (CompileError table column) = Unit {0}
+IsOfCompiling NotBuilt = Unit {0}
+IsOfCompiling e = CanRefuse e

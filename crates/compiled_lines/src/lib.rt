@@ -2,8 +2,9 @@
 //! tables have texts.
 #![tactic(auto)]
 
+mod line;
 mod statements;
 mod tables;
 
-pub use statements::{compile_bulk, compile_rows};
-pub use tables::{compile_table, compile_tables};
+pub use line::compile_line;
+pub use tables::compile_tables;

@@ -6,6 +6,7 @@ ghost use Rattle.script_resolve.specs.Sayable.{is_sayable_select};
 ghost use Rattle.sql_statements.specs.Texts.{HasCuts};
 ghost use Rattle.statement_lines.specs.StatementLines.{statement_text};
 ghost use Rattle.compiled_lines.specs.CompiledLines as spec;
+ghost use Rattle.compiled_lines.specs.CompiledLines.{IsOfCompiling};
 
 use base_core::Refusal;
 use expr_types::Statement;
@@ -28,15 +29,18 @@ fn select_of(
     requires { IsTrue (is_sayable_select select.now) }
     ensures told { Gives (λ it. it) result (spec.select_said schema.now select.now) }
     ensures cuts { IfOk result HasCuts }
+    ensures cause { IfErr result IsOfCompiling }
 {
     let select = resolve_select(alloc, schema, select)?;
     Ok(Boxed::new(alloc, Statement::Select(select))?)
 }
 
 /// The bulk statement as a line says it.
+#[tactic(auto, using(crate::proofs::Compiling::selecting))]
 fn bulk_of(alloc: Global, schema: &Schema, bulk: &SynBulk) -> Result<Boxed<Statement>, Refusal>
     ensures told { Gives (λ it. it) result (spec.bulk_said schema.now bulk.now) }
     ensures cuts { IfOk result HasCuts }
+    ensures cause { IfErr result IsOfCompiling }
 {
     let bulk = resolve_bulk(alloc, schema, bulk)?;
     Ok(Boxed::new(alloc, Statement::Bulk(bulk))?)
@@ -52,7 +56,7 @@ fn lines_of(alloc: Global, quoting: Quoting, compiled: &Compiled) -> Result<Stri
     Ok(format!(in alloc; "{shown}\n")?)
 }
 
-/// The lines of a statement.
+/// The lines of a statement. The only refusal is `Memory`.
 fn lines_of_statement(
     alloc: Global,
     quoting: Quoting,
@@ -60,26 +64,31 @@ fn lines_of_statement(
     statement: &Statement,
 ) -> Result<String, Refusal>
     requires { HasCuts statement.now }
-    ensures { Gives string_bytes result
+    ensures lines { Gives string_bytes result
         (Ok (spec.lines_of quoting schema.now statement.now)) }
+    ensures cause { IfErr result (λ e. e ≡ Refusal.Memory) }
 {
-    let compiled = compiled(alloc, quoting, schema, statement)?;
-    lines_of(alloc, quoting, &compiled)
+    match compiled(alloc, quoting, schema, statement) {
+        Ok(compiled) => lines_of(alloc, quoting, &compiled),
+        Err(_) => Err(Refusal::Memory),
+    }
 }
 
 /// What is answered to `compile DIALECT rows SELECT`: the text of the select, and its values in a line of their own.
 ///
 /// # Errors
 /// Those of `resolve_select`.
-pub fn compile_rows(
+#[tactic(auto, using(crate::proofs::Compiling::ending))]
+pub(crate) fn compile_rows(
     alloc: Global,
     dialect: Dialect,
     schema: &Schema,
     select: &SynSelect,
 ) -> Result<String, Refusal>
     requires { IsTrue (is_sayable_select select.now) }
-    ensures { Gives string_bytes result
+    ensures text { Gives string_bytes result
         (spec.compiled_rows dialect schema.now select.now) }
+    ensures cause { IfErr result IsOfCompiling }
 {
     let statement = select_of(alloc, schema, select)?;
     lines_of_statement(alloc, quoting_of(dialect), schema, statement.get())
@@ -90,14 +99,16 @@ pub fn compile_rows(
 ///
 /// # Errors
 /// Those of `resolve_bulk`.
-pub fn compile_bulk(
+#[tactic(auto, using(crate::proofs::Compiling::ending))]
+pub(crate) fn compile_bulk(
     alloc: Global,
     dialect: Dialect,
     schema: &Schema,
     bulk: &SynBulk,
 ) -> Result<String, Refusal>
-    ensures { Gives string_bytes result
+    ensures text { Gives string_bytes result
         (spec.compiled_bulk dialect schema.now bulk.now) }
+    ensures cause { IfErr result IsOfCompiling }
 {
     let statement = bulk_of(alloc, schema, bulk)?;
     lines_of_statement(alloc, quoting_of(dialect), schema, statement.get())

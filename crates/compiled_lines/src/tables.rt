@@ -3,8 +3,9 @@
 ghost use Rattle.std.specs.Prelude.{◌≡◌, ◌++◌, [], true, IfErr, IfOk, codes, string_bytes};
 ghost use Rattle.base_core.specs.Answers.{Gives};
 ghost use Rattle.schema_core.specs.Catalog.{IsTable};
-ghost use Rattle.sql_tables.specs.Ddl.{ddl as text_of};
+ghost use Rattle.sql_tables.specs.Ddl.{ddl as ddl_of};
 ghost use Rattle.compiled_lines.specs.CompiledLines as spec;
+ghost use Rattle.compiled_lines.specs.CompiledLines.{IsOfCompiling};
 
 use base_core::{Copied, Name, Refusal, RequestKind, TableId, Text};
 use schema_core::Schema;
@@ -23,7 +24,23 @@ fn line_of(alloc: Global, text: &Text) -> Result<String, Refusal>
     Ok(format!(in alloc; "{shown}\n")?)
 }
 
+/// The text that makes a table, with all its foreign keys.
+#[tactic(auto, using(crate::proofs::Declared::refused))]
+fn text_of_table(
+    alloc: Global,
+    quoting: Quoting,
+    schema: &Schema,
+    table: TableId,
+) -> Result<Text, Refusal>
+    requires { IsTable schema.now table }
+    ensures text { Gives (λ text. text) result (ddl_of quoting schema.now table []) }
+    ensures cause { IfErr result IsOfCompiling }
+{
+    ddl(alloc, quoting, schema, table, &[])
+}
+
 /// The line that makes a table, with all its foreign keys.
+#[tactic(auto, using(crate::proofs::Compiling::ending))]
 fn line_of_table(
     alloc: Global,
     quoting: Quoting,
@@ -31,9 +48,10 @@ fn line_of_table(
     table: TableId,
 ) -> Result<String, Refusal>
     requires { IsTable schema.now table }
-    ensures { Gives string_bytes result (spec.line_of_table quoting schema.now table) }
+    ensures line { Gives string_bytes result (spec.line_of_table quoting schema.now table) }
+    ensures cause { IfErr result IsOfCompiling }
 {
-    let text = ddl(alloc, quoting, schema, table, &[])?;
+    let text = text_of_table(alloc, quoting, schema, table)?;
     line_of(alloc, &text)
 }
 
@@ -42,14 +60,15 @@ fn line_of_table(
 /// # Errors
 /// `Unknown` of a name that no table has; in MySQL `CompileError` with the first varchar that has no length.
 #[tactic(auto, using(crate::proofs::Declared::found))]
-pub fn compile_table(
+pub(crate) fn compile_table(
     alloc: Global,
     dialect: Dialect,
     schema: &Schema,
     name: &Name,
 ) -> Result<String, Refusal>
-    ensures { Gives string_bytes result
+    ensures text { Gives string_bytes result
         (spec.compiled_table dialect schema.now name.now) }
+    ensures cause { IfErr result IsOfCompiling }
 {
     match schema.find(name) {
         Some(table) => line_of_table(alloc, quoting_of(dialect), schema, table),
@@ -68,10 +87,11 @@ fn compile_one(
     schema: &Schema,
     table: TableId,
 ) -> Result<(), Refusal>
-    ensures { Gives (λ u. u) result (spec.table_compiled quoting schema.now table) }
+    ensures told { Gives (λ u. u) result (spec.table_compiled quoting schema.now table) }
+    ensures cause { IfErr result IsOfCompiling }
 {
     if table.0 < schema.count() {
-        let _text = ddl(alloc, quoting, schema, table, &[])?;
+        let _text = text_of_table(alloc, quoting, schema, table)?;
     }
     Ok(())
 }
@@ -83,7 +103,8 @@ fn compile_each(
     schema: &Schema,
     tables: &[TableId],
 ) -> Result<(), Refusal>
-    ensures { Gives (λ u. u) result (spec.each_compiled quoting schema.now tables.now) }
+    ensures told { Gives (λ u. u) result (spec.each_compiled quoting schema.now tables.now) }
+    ensures cause { IfErr result IsOfCompiling }
 {
     for table in tables {
         compile_one(alloc, quoting, schema, *table)?;
@@ -97,7 +118,8 @@ fn compile_each(
 /// In MySQL `CompileError` with the first varchar that has no length, of the tables in the order in which they are made.
 pub fn compile_tables(alloc: Global, dialect: Dialect, schema: &Schema) -> Result<(), Refusal>
     requires { schema.now.resolved ≡ true }
-    ensures { Gives (λ u. u) result (spec.tables_compiled dialect schema.now) }
+    ensures told { Gives (λ u. u) result (spec.tables_compiled dialect schema.now) }
+    ensures cause { IfErr result IsOfCompiling }
 {
     let order = schema.tables_in_order(alloc)?;
     compile_each(alloc, quoting_of(dialect), schema, order.as_slice())

@@ -1,4 +1,4 @@
--- The echo of a line: what is written of the statements that were sent for it.
+-- What an echo writes of statements that were sent.
 use Rattle.std.specs.Prelude.{ℕ, List, [], ◌++◌, ◌&&◌, Result, Ok, Err, nat_lt, length, codes, if◌then◌else◌}
 use Rattle.std.specs.Fmt.{decimal}
 use Rattle.std.specs.List.{flat_map}
@@ -13,12 +13,11 @@ use Rattle.programs.specs.declared.sent.Sent.{Sent}
 use Rattle.programs.specs.declared.sent.Sent.TheVariants as sent
 use Rattle.keeper_core.specs.declared.notes.Note.{Note}
 use Rattle.keeper_core.specs.declared.notes.Note.TheVariants as note
-use Rattle.script_types.specs.declared.command.Dialect.{Dialect}
 use Rattle.sql_text.specs.declared.names.Quoting.{Quoting}
 use Rattle.sql_text.specs.declared.writer.Compiled.{Compiled}
 use Rattle.sql_statements.specs.Texts.{text_of}
 use Rattle.sql_tables.specs.Ddl.{alter, ddl, drop_text}
-use Rattle.statement_lines.specs.StatementLines.{quoting_of, statement_text}
+use Rattle.statement_lines.specs.StatementLines.{statement_text}
 use Rattle.echo_lines.specs.Later.{later_foreigns}
 
 -- ---- single statements
@@ -80,12 +79,6 @@ sent_lines quoting schema (sent.Write statement) = statement_lines quoting schem
 sent_lines quoting schema (sent.Bulk statement) = statement_lines quoting schema (statements.Bulk statement)
 sent_lines quoting schema (sent.Query select) = select_lines quoting schema select
 
--- the lines of a note, where it is one of a statement
-abbrev pub note_lines : Quoting → Catalog → Note → List ℕ
-note_lines quoting schema (note.Sent it) = sent_lines quoting schema it
-note_lines quoting schema (note.Warn warning) = []
-note_lines quoting schema (note.Filled object) = []
-
 abbrev pub sent_alters : Quoting → Catalog → Sent → List ℕ
 sent_alters quoting schema (sent.Create table) = alter_lines quoting schema table
 sent_alters quoting schema other = []
@@ -94,7 +87,3 @@ sent_alters quoting schema other = []
 abbrev pub note_alters : Quoting → Catalog → Note → List ℕ
 note_alters quoting schema (note.Sent it) = sent_alters quoting schema it
 note_alters quoting schema other = []
-
--- what is written of what a command noted: its statements in their order, and behind them the foreign keys of the tables that were made
-abbrev pub echo : Dialect → Catalog → List Note → List ℕ
-echo dialect schema notes = flat_map (note_lines (quoting_of dialect) schema) notes ++ flat_map (note_alters (quoting_of dialect) schema) notes

@@ -1,7 +1,7 @@
-//! The echo of a line: each statement that was sent for it, in a dialect, in the order in which they were sent.
+//! What an echo writes of statements that were sent, in a dialect, and of the foreign keys that are added once all tables are made.
 #![tactic(auto)]
 
 mod later;
 mod lines;
 
-pub use lines::{echo, put_sent};
+pub use lines::{put_later_foreigns, put_sent};

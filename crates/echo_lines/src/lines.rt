@@ -1,8 +1,7 @@
 //! The lines that are written of statements.
 
-ghost use Rattle.std.specs.Prelude.{◌≡◌, ◌<◌, ◌++◌, Ok, length, true, IfErr, OnOk, string_bytes};
+ghost use Rattle.std.specs.Prelude.{◌≡◌, ◌<◌, ◌++◌, length, true, IfErr, OnOk, string_bytes};
 ghost use Rattle.std.specs.List.{All, flat_map};
-ghost use Rattle.base_core.specs.Answers.{Gives};
 ghost use Rattle.base_core.specs.declared.refusal.Refusal.TheVariants.{Memory};
 ghost use Rattle.schema_core.specs.Catalog.{IsTable, spec_of};
 ghost use Rattle.sql_semantics.specs.Plain.{is_limit};
@@ -15,12 +14,11 @@ use base_core::{Copied, Refusal, TableId};
 use expr_types::{Bulk, CopiedIn, Select, Statement};
 use keeper_core::{Note, Sent};
 use schema_core::{RowStmt, Schema};
-use script_types::Dialect;
 use sql_statements::compiled;
 use sql_tables::{alter, ddl, drop_text};
 use sql_text::{Compiled, Quoting};
 use sqlite_items::Boxed;
-use statement_lines::{StatementText, quoting_of};
+use statement_lines::StatementText;
 use std::alloc::Global;
 
 // ---- single lines
@@ -279,44 +277,6 @@ pub fn put_sent(
     }
 }
 
-/// Writes the lines of a note, where it is one of a statement.
-fn put_note(
-    text: &mut String,
-    alloc: Global,
-    quoting: Quoting,
-    schema: &Schema,
-    note: &Note,
-) -> Result<(), Refusal>
-    requires { schema.now.resolved ≡ true }
-    ensures ok { OnOk result (string_bytes text.new
-        ≡ string_bytes text.old ++ spec.note_lines quoting schema.now note.now) }
-    ensures cause { IfErr result (λ e. e ≡ Memory) }
-{
-    match note {
-        Note::Sent(sent) => put_sent(text, alloc, quoting, schema, sent),
-        Note::Warn(_) | Note::Filled(_) => Ok(()),
-    }
-}
-
-/// Writes the lines of each note.
-fn put_notes(
-    text: &mut String,
-    alloc: Global,
-    quoting: Quoting,
-    schema: &Schema,
-    notes: &[Note],
-) -> Result<(), Refusal>
-    requires { schema.now.resolved ≡ true }
-    ensures ok { OnOk result (string_bytes text.new
-        ≡ string_bytes text.old ++ flat_map (spec.note_lines quoting schema.now) notes.now) }
-    ensures cause { IfErr result (λ e. e ≡ Memory) }
-{
-    for note in notes {
-        put_note(text, alloc, quoting, schema, note)?;
-    }
-    Ok(())
-}
-
 /// Writes the lines that add foreign keys, where a note is one of a table that was made.
 fn put_note_alters(
     text: &mut String,
@@ -336,8 +296,12 @@ fn put_note_alters(
     }
 }
 
-/// Writes the lines that add foreign keys, of each table that was made.
-fn put_notes_alters(
+/// Writes the lines that add foreign keys once all tables are made, behind a text: of the tables that were made, by what a command
+/// noted, the foreign keys whose targets come later follow as ALTER TABLE, but for SQLite, which has them with the table.
+///
+/// # Errors
+/// `Memory`.
+pub fn put_later_foreigns(
     text: &mut String,
     alloc: Global,
     quoting: Quoting,
@@ -353,26 +317,4 @@ fn put_notes_alters(
         put_note_alters(text, alloc, quoting, schema, note)?;
     }
     Ok(())
-}
-
-/// The echo of a line in a dialect, by what its command noted: the statements in the order in which they were sent, each text
-/// behind `sql> `, and the values of its marks in a line of their own. Where tables were made, the foreign keys whose targets
-/// come later follow as ALTER TABLE, but for SQLite, which has them with the table.
-///
-/// # Errors
-/// `Memory`.
-pub fn echo(
-    alloc: Global,
-    dialect: Dialect,
-    schema: &Schema,
-    notes: &[Note],
-) -> Result<String, Refusal>
-    requires { schema.now.resolved ≡ true }
-    ensures { Gives string_bytes result (Ok (spec.echo dialect schema.now notes.now)) }
-{
-    let quoting = quoting_of(dialect);
-    let mut text = String::new(alloc);
-    put_notes(&mut text, alloc, quoting, schema, notes)?;
-    put_notes_alters(&mut text, alloc, quoting, schema, notes)?;
-    Ok(text)
 }

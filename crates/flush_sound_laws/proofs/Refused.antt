@@ -25,8 +25,8 @@ use Rattle.session_scopes.specs.SessionState.{SessionState, with_notes, with_war
 use Rattle.session_calls.specs.Parts.{World, roll_back_scope}
 use Rattle.session_flush.specs.Flush.{flush, give_up, prepare, prepared_of, session_flushed, write_objects, write_prepared, write_rows, write_warned}
 use Rattle.session_flush_laws.proofs.Kept.{IsKeptByWrites, plan_keeps}
-use Rattle.session_laws.specs.Sound.{AreSoundScopes, IsSound}
-use Rattle.session_laws.proofs.Rolling.{HasSoundScopes, answered_back, scope_rolled_back}
+use Rattle.session_sound.specs.Sound.{AreSoundScopes, IsSound}
+use Rattle.session_sound.proofs.Rolling.{HasSoundScopes, answered_back, scope_rolled_back}
 use Rattle.flush_sound_laws.specs.Laws.{RefusedFlushIsSound}
 
 -- ---- objects and scopes are as they were

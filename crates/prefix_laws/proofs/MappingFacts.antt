@@ -79,7 +79,8 @@ module _ (mapped : Mapped) (lined : length mapped.classes.lines ≡ length mappe
   abbrev own : ClassId → Option TableId
   own class = own_table mapped.schema.tables mapped.classes class.0
 
-  one_class : (one other : ℕ) (table : TableId) → own_table tables mapped.classes one ≡ Some table → own_table tables mapped.classes other ≡ Some table → one ≡ other
+  -- a table is that of one class
+  pub one_class : (one other : ℕ) (table : TableId) → own_table tables mapped.classes one ≡ Some table → own_table tables mapped.classes other ≡ Some table → one ≡ other
   one_class one other table e f = by (slice_get specs one) (slice_get specs other) refl refl e f
     where
       by : (a b : Option ClassSpec) → slice_get specs one ≡ a → slice_get specs other ≡ b → table_in tables a ≡ Some table → table_in tables b ≡ Some table → one ≡ other

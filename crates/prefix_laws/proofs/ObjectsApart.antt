@@ -50,7 +50,8 @@ distinct_once (object ∷ objects) h =
       distinct_once objects rest,
     )
 
-above : (least first count : ℕ) → least ≤ first → AllByRecursion (λ (object : ObjId). least < object.0) (map id_of_place (range_with_len first count))
+-- numbers from one on are above those before it
+pub above : (least first count : ℕ) → least ≤ first → AllByRecursion (λ (object : ObjId). least < object.0) (map id_of_place (range_with_len first count))
 above least first zero h = tt
 above least first (suc count) h = (omega (arith, h), above least (first + 1) count (omega (arith, h)))
 
@@ -105,15 +106,15 @@ pub none_from : {A : Type 0} (p : A → Bool) (xs : List A) → ((x : A) → Has
 none_from p [] each = refl
 none_from p (x ∷ xs) each = or_none (p x) (list_any p xs) (each x (inl refl)) (none_from p xs (λ y has. each y (inr has)))
 
-among_of : (tables : List TableId) (table : TableId) → Has tables table → is_among tables table ≡ true
+pub among_of : (tables : List TableId) (table : TableId) → Has tables table → is_among tables table ≡ true
 among_of tables table has = any_has (λ (other : TableId). other.0 == table.0) tables table has (eq-eqb table.0 table.0 refl)
 
 module _ (mapped : Mapped) (graph : Graph) (prepared : Prepared) (tables : HasTablesOnce mapped) (keyed : AreKeyed mapped graph prepared) where
   -- a row of an object: of a table of its class, under its key
-  abbrev IsRowOf : ObjId → Place → Type 0
+  abbrev pub IsRowOf : ObjId → Place → Type 0
   IsRowOf object place = (table : TableId) × HasRow mapped graph table object × (place ≡ (table, key_held graph object))
 
-  one_object : (one other : ObjId) (p q : Place) → IsRowOf one p → IsRowOf other q → p ≡ q → one.0 ≡ other.0
+  pub one_object : (one other : ObjId) (p q : Place) → IsRowOf one p → IsRowOf other q → p ≡ q → one.0 ≡ other.0
   one_object one other p q a b same =
       let both : (a.0, key_held graph one) ≡ (b.0, key_held graph other) = sym a.2 ∙ same ∙ b.2 in
       let table : b.0 ≡ a.0 = sym (ap (λ (place : Place). place.0) both) in
@@ -128,7 +129,7 @@ module _ (mapped : Mapped) (graph : Graph) (prepared : Prepared) (tables : HasTa
     among_of (tables_of mapped (object_at graph object).class) table inside,
   )
 
-  gone_place : (object : ObjId) (row : GoneRow) → Has prepared.deleted object → Has (rows.rows_gone mapped graph object) row → IsRowOf object (place_of_gone mapped.schema row)
+  pub gone_place : (object : ObjId) (row : GoneRow) → Has prepared.deleted object → Has (rows.rows_gone mapped graph object) row → IsRowOf object (place_of_gone mapped.schema row)
   gone_place object row has inside =
       let made = from_map (rows.gone_row mapped graph object) (tables_of mapped (object_at graph object).class) row inside in
       let stands = deleted_row object made.0 has made.1 in (
@@ -169,7 +170,7 @@ module _ (mapped : Mapped) (graph : Graph) (prepared : Prepared) (tables : HasTa
 
   -- ---- changed rows
 
-  kept_place : (object : ObjId) (row : ChangedRow) → Has (filter (keeps_rows graph prepared) (object_ids graph)) object → Has (rows.rows_changed mapped graph prepared (rows.new_names mapped graph prepared) object) row
+  pub kept_place : (object : ObjId) (row : ChangedRow) → Has (filter (keeps_rows graph prepared) (object_ids graph)) object → Has (rows.rows_changed mapped graph prepared (rows.new_names mapped graph prepared) object) row
       → IsRowOf object (place_of_changed row)
   kept_place object row has inside =
       let kept = from_filter (keeps_rows graph prepared) (object_ids graph) object has in

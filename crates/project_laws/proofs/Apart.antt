@@ -89,11 +89,11 @@ module _ (mapped : Mapped) (graph : Graph) (changes : RowChanges) (apart : AreRo
   abbrev schema : Catalog
   schema = mapped.schema
 
-  abbrev found : List (Option ℕ)
+  abbrev pub found : List (Option ℕ)
   found = partners mapped.schema changes
 
   -- the place of the deleted row of a number
-  abbrev gone_place : ℕ → Place
+  abbrev pub gone_place : ℕ → Place
   gone_place number = place_of_gone mapped.schema (gone_at changes.gone number)
 
   -- ---- partners
@@ -107,7 +107,8 @@ module _ (mapped : Mapped) (graph : Graph) (changes : RowChanges) (apart : AreRo
       none_or (is_taken schema changes at place) (gone_under schema changes at) number
       (none_or (has_null (known_key schema changes place)) (gone_unless_taken schema changes at place) number (partner_is place number e))
 
-  gone_is : (place number : ℕ) → slice_index_or found place None ≡ Some number → (number < length changes.gone) × (gone_place number ≡ place_of_new schema changes place)
+  -- it is the deleted row under the new row's key
+  pub gone_is : (place number : ℕ) → slice_index_or found place None ≡ Some number → (number < length changes.gone) × (gone_place number ≡ place_of_new schema changes place)
   gone_is place number e =
       let at = position-Some (λ row. same_place (place_of_gone schema row) (place_of_new schema changes place)) changes.gone number no_gone (under_is place number e) in
       (at.0, same_is (gone_place number) (place_of_new schema changes place) at.1)
@@ -131,10 +132,10 @@ module _ (mapped : Mapped) (graph : Graph) (changes : RowChanges) (apart : AreRo
 
   -- ---- the rows in place of switched ones
 
-  abbrev switched_place : ℕ × NewRow → Option Place
+  abbrev pub switched_place : ℕ × NewRow → Option Place
   switched_place placed = option_map place_of_changed (switch_of mapped graph changes found placed)
 
-  switched_is : (placed : ℕ × NewRow) (p : Place) → Has (enumerate_from 0 changes.fresh) placed → switched_place placed ≡ Some p → (number : ℕ) × (slice_index_or found placed.0 None ≡ Some number) × (gone_place number ≡ p) × (number < length changes.gone)
+  pub switched_is : (placed : ℕ × NewRow) (p : Place) → Has (enumerate_from 0 changes.fresh) placed → switched_place placed ≡ Some p → (number : ℕ) × (slice_index_or found placed.0 None ≡ Some number) × (gone_place number ≡ p) × (number < length changes.gone)
   switched_is placed p has e =
       let row = none_given place_of_changed (switch_of mapped graph changes found placed) p e in
       let number = none_given (λ number. row_switched mapped graph changes found placed (gone_at changes.gone number)) (slice_index_or found placed.0 None) row.0 row.1 in

@@ -1,3 +1,4 @@
 pub mod EndLemmas
 pub mod SideLemmas
 pub mod ChangeLemmas
+pub mod CallLemmas

@@ -4,3 +4,4 @@ pub mod Keys
 pub mod Mirror
 pub mod Places
 pub mod Fits
+pub mod Calls

@@ -146,7 +146,7 @@ pub fn remove(
 }
 
 /// Why an owner's link takes no part in a change, or leads to no such object.
-fn end_fault(
+pub(crate) fn end_fault(
     arena: &Arena,
     mapping: &Mapping,
     owner: ObjId,
@@ -194,7 +194,7 @@ fn is_of(arena: &Arena, mapping: &Mapping, class: ClassId, object: ObjId) -> boo
 }
 
 /// Whether the owner's collection has the member.
-fn has_member(arena: &Arena, owner: ObjId, place: RelNo, member: ObjId) -> bool
+pub(crate) fn has_member(arena: &Arena, owner: ObjId, place: RelNo, member: ObjId) -> bool
     requires { IsObject arena.now owner }
     ensures { result ≡ spec.has_member arena.now owner place member }
 {
@@ -265,7 +265,7 @@ fn set_from(
 }
 
 /// What the setting of a link makes of both sides.
-fn set_change(
+pub(crate) fn set_change(
     alloc: Global,
     arena: &Arena,
     mapping: &Mapping,
@@ -472,7 +472,7 @@ fn append_to(
 }
 
 /// Of many-to-many, each joins the collection of the other.
-fn join_change(
+pub(crate) fn join_change(
     alloc: Global,
     arena: &Arena,
     owner: ObjId,
@@ -498,7 +498,7 @@ fn join_change(
 }
 
 /// What the removal of a member makes of both sides.
-fn remove_change(
+pub(crate) fn remove_change(
     alloc: Global,
     arena: &Arena,
     owner: ObjId,

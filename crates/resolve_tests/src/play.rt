@@ -5,13 +5,14 @@ ghost use Rattle.sayable_lines.specs.Sayable.{IsSayable};
 
 use crate::shown::show_refusal;
 use base_core::Refusal;
-use compiled_lines::{compile_bulk, compile_rows, compile_table, compile_tables};
-use echo_lines::echo;
+use compiled_lines::{compile_line, compile_tables};
+use echo_lines::{put_later_foreigns, put_sent};
 use keeper_core::{Note, Notes, Sent};
 use sayable_lines::read_line;
 use schema_core::{Schema, TableSpec};
 use script_types::{Command, Dialect, Inside};
 use shell_parts::Declared;
+use statement_lines::quoting_of;
 use std::alloc::{AllocError, Global};
 
 /// A script so far.
@@ -47,30 +48,23 @@ fn made(alloc: Global, schema: &Schema, dialect: Dialect) -> Result<String, Refu
     requires { schema.now.resolved ≡ true }
 {
     compile_tables(alloc, dialect, schema)?;
+    let quoting = quoting_of(dialect);
     let mut notes = Notes::new(alloc);
+    let mut text = String::new(alloc);
     for table in &schema.tables_in_order(alloc)? {
-        notes.push(Note::Sent(Sent::Create(*table)))?;
+        let sent = Sent::Create(*table);
+        put_sent(&mut text, alloc, quoting, schema, &sent)?;
+        notes.push(Note::Sent(sent))?;
     }
-    echo(alloc, dialect, schema, notes.as_slice())
-}
-
-/// What is answered to a line that compiles.
-fn compiled(alloc: Global, schema: &Schema, line: &Command) -> Result<String, Refusal>
-    requires { IsSayable line.now }
-{
-    match line {
-        Command::CompileRows(dialect, select) => compile_rows(alloc, *dialect, schema, select),
-        Command::CompileBulk(dialect, bulk) => compile_bulk(alloc, *dialect, schema, bulk),
-        Command::CompileTable(dialect, name) => compile_table(alloc, *dialect, schema, name),
-        _ => Err(Refusal::NotBuilt),
-    }
+    put_later_foreigns(&mut text, alloc, quoting, schema, notes.as_slice())?;
+    Ok(text)
 }
 
 /// The answer to a line other than those of blocks.
 fn answer(alloc: Global, schema: &Schema, line: &Command, said: &mut String) -> Result<(), Refusal>
     requires { IsSayable line.now }
 {
-    said.push_str(compiled(alloc, schema, line)?.as_str())?;
+    said.push_str(compile_line(alloc, schema, line)?.as_str())?;
     Ok(())
 }
 

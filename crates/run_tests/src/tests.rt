@@ -1,4 +1,5 @@
 use byte_streams::{MemSink, MemSource};
+use class_types::Hooks;
 use keeper_mem::MemKeeper;
 use sqla_shell::{Status, run};
 use std::alloc::Global;
@@ -72,7 +73,7 @@ const CASES: &[Case] = &[
         shows: "what is no form of the language is told at its place, and a form that is not built by its name",
         prelude: true,
         script: "add .\nu = new User == = 1\nrefresh u\nadd x[0]\nflush now\n",
-        output: "error 9: ScriptError(9, 5)\nerror 10: ScriptError(10, 14)\nerror 11: NotBuilt\nerror 12: NotBuilt\nerror 13: ScriptError(13, 7)\n",
+        output: "error 9: ScriptError(9, 5)\nerror 10: ScriptError(10, 14)\nerror 11: NotBuilt\nerror 12: InvalidRequestError(Unknown x)\nerror 13: ScriptError(13, 7)\n",
         status: Status::Refused,
     },
     Case {
@@ -86,7 +87,7 @@ const CASES: &[Case] = &[
         shows: "a block of another form is refused at its end, and after a fault in a block only its end counts",
         prelude: false,
         script: "class C table t\n  many x C back y\nend\nclass A extends B identity 1\nend\ntable t\n  x y\n end x\n\"end\"\n\tend \ntable\n",
-        output: "error 3: NotBuilt\nerror 5: NotBuilt\nerror 7: ScriptError(7, 5)\nerror 11: ScriptError(11, 6)\n",
+        output: "error 3: ArgumentError(BadClass)\nerror 5: ArgumentError(BadClass)\nerror 7: ScriptError(7, 5)\nerror 11: ScriptError(11, 6)\n",
         status: Status::Refused,
     },
     Case {
@@ -219,7 +220,7 @@ const CASES: &[Case] = &[
         shows: "names of other things, and values of other kinds",
         prelude: true,
         script: "s = begin_nested\nu = new User name='u'\nadd s\ncommit u\nshow s\nset u.x = 1\nset u.name = 1\nset v.name = 1\nshow u.x\nstate s\nadd u[0]\nis u s\ncommit x\n",
-        output: "error 11: InvalidRequestError(WrongKind)\nerror 12: InvalidRequestError(WrongKind)\nerror 13: InvalidRequestError(WrongKind)\nerror 14: InvalidRequestError(Unknown x)\nerror 15: TypeMismatch(text, integer)\nerror 16: InvalidRequestError(Unknown v)\nerror 17: InvalidRequestError(Unknown x)\nerror 18: InvalidRequestError(WrongKind)\nerror 19: NotBuilt\nerror 20: InvalidRequestError(WrongKind)\nerror 21: InvalidRequestError(Unknown x)\n",
+        output: "error 11: InvalidRequestError(WrongKind)\nerror 12: InvalidRequestError(WrongKind)\nerror 13: InvalidRequestError(WrongKind)\nerror 14: InvalidRequestError(Unknown x)\nerror 15: TypeMismatch(text, integer)\nerror 16: InvalidRequestError(Unknown v)\nerror 17: InvalidRequestError(Unknown x)\nerror 18: InvalidRequestError(WrongKind)\nerror 19: InvalidRequestError(WrongKind)\nerror 20: InvalidRequestError(WrongKind)\nerror 21: InvalidRequestError(Unknown x)\n",
         status: Status::Refused,
     },
     Case {
@@ -328,7 +329,8 @@ fn outcome(
     let mut source = MemSource::new(alloc, script.as_bytes(), failing.0)?;
     let mut sink = MemSink::new(alloc, failing.1)?;
     let mut keeper = MemKeeper::new(alloc, failing.2)?;
-    let status = run(alloc, words, &mut source, &mut sink, &mut keeper);
+    let hooks = Hooks::new(alloc);
+    let status = run(alloc, words, &mut source, &mut sink, &mut keeper, &hooks);
     Ok((status, sink))
 }
 

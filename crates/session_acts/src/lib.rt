@@ -4,6 +4,7 @@
 mod nesting;
 mod statements;
 mod transaction;
+mod whole;
 
 pub use nesting::{begin_nested, commit_handle};
 pub use statements::{bulk, rows};

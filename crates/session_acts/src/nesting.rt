@@ -1,13 +1,18 @@
 //! Savepoints begin and end.
 
-ghost use Rattle.std.specs.Prelude.{◌<◌, ◌≤◌, IfOk};
+ghost use Rattle.std.specs.Prelude.{◌<◌, ◌≤◌, None, IfErr, IfOk};
+ghost use Rattle.object_arena.specs.Graph.{either_fault};
 ghost use Rattle.session_scopes.specs.SessionState.{IsInStep};
 ghost use Rattle.session_calls.specs.Calling.{IsSessionCall};
+ghost use Rattle.session_calls.specs.Refusals.{entered};
+ghost use Rattle.session_calls.specs.Steps.{pending_fault};
+ghost use Rattle.session_savepoints.specs.Steps.{handle_fault, limit_fault};
+ghost use Rattle.session_acts.specs.Refusals.{IsRefusedFlushing};
 ghost use Rattle.session_acts.specs.Steps as steps;
 
+use crate::whole::flush_whole;
 use base_core::Refusal;
 use keeper_core::Keeper;
-use session_flush::flush;
 use session_savepoints::{begin_savepoint, check_handle, enter_nested, release_handle};
 use session_scopes::Session;
 
@@ -21,9 +26,12 @@ pub fn begin_nested<K: Keeper>(session: &mut Session, keeper: &mut K) -> Result<
     ensures call { IsSessionCall K.moment (λ handle. handle) steps.begin_nested
         (session.old, keeper.old) result (session.new, keeper.new) }
     ensures drawn { IfOk result (λ handle. (0 < handle) × (handle ≤ session.new.drawn.drawn)) }
+    ensures refused { IfErr result (λ e. IsRefusedFlushing
+        (pending_fault session.old) (limit_fault (entered session.old))
+        session.old (K.moment keeper.old) e session.new (K.moment keeper.new)) }
 {
     enter_nested(session, keeper)?;
-    flush(session, keeper)?;
+    flush_whole(session, keeper)?;
     begin_savepoint(session, keeper)
 }
 
@@ -38,11 +46,14 @@ pub fn commit_handle<K: Keeper>(
     handle: u32,
 ) -> Result<(), Refusal>
     requires in_step { IsInStep session.old (K.moment keeper.old) }
-    ensures { IsSessionCall K.moment (λ u. u) (steps.commit_handle handle)
+    ensures call { IsSessionCall K.moment (λ u. u) (steps.commit_handle handle)
         (session.old, keeper.old) result (session.new, keeper.new) }
+    ensures refused { IfErr result (λ e. IsRefusedFlushing
+        (either_fault (pending_fault session.old) (handle_fault handle session.old)) None
+        session.old (K.moment keeper.old) e session.new (K.moment keeper.new)) }
 {
     check_handle(session, keeper, handle)?;
     let _count = session.savepoints();
-    flush(session, keeper)?;
+    flush_whole(session, keeper)?;
     release_handle(session, keeper, handle)
 }

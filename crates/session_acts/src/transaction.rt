@@ -1,14 +1,18 @@
 //! The flush, and the end of the transaction.
 
-ghost use Rattle.std.specs.Prelude.{◌≡◌, ◌<◌, [], false, length, OnOk};
+ghost use Rattle.std.specs.Prelude.{◌≡◌, ◌<◌, [], None, false, length, IfErr, OnOk};
 ghost use Rattle.session_scopes.specs.SessionState.{IsInStep};
 ghost use Rattle.session_calls.specs.Calling.{IsSessionCall};
+ghost use Rattle.session_calls.specs.Refusals.{entered};
+ghost use Rattle.session_calls.specs.Steps.{pending_fault};
+ghost use Rattle.session_flush.specs.Outcome.{IsFlushed};
+ghost use Rattle.session_acts.specs.Refusals.{IsRefusedFlushing};
 ghost use Rattle.session_acts.specs.Steps as steps;
 
+use crate::whole::flush_whole;
 use base_core::Refusal;
 use keeper_core::Keeper;
 use session_calls::enter;
-use session_flush::flush;
 use session_savepoints::commit_whole;
 use session_scopes::Session;
 
@@ -23,9 +27,12 @@ pub fn flush_now<K: Keeper>(session: &mut Session, keeper: &mut K) -> Result<(),
         (session.old, keeper.old) result (session.new, keeper.new) }
     ensures inside { OnOk result (0 < length session.new.frames.scopes) }
     ensures well { OnOk result (session.new.failed ≡ false) }
+    ensures flushed { OnOk result (IsFlushed (entered session.old) session.new) }
+    ensures refused { IfErr result (λ e. IsRefusedFlushing (pending_fault session.old) None
+        session.old (K.moment keeper.old) e session.new (K.moment keeper.new)) }
 {
     enter(session, keeper)?;
-    flush(session, keeper)
+    flush_whole(session, keeper)
 }
 
 /// Writes what is to be written, ends all savepoints and commits the transaction. Every persistent object is expired then.
@@ -37,6 +44,8 @@ pub fn commit<K: Keeper>(session: &mut Session, keeper: &mut K) -> Result<(), Re
     ensures call { IsSessionCall K.moment (λ u. u) steps.commit
         (session.old, keeper.old) result (session.new, keeper.new) }
     ensures outside { OnOk result (session.new.frames.scopes ≡ []) }
+    ensures refused { IfErr result (λ e. IsRefusedFlushing (pending_fault session.old) None
+        session.old (K.moment keeper.old) e session.new (K.moment keeper.new)) }
 {
     flush_now(session, keeper)?;
     commit_whole(session, keeper)

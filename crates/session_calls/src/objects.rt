@@ -1,11 +1,12 @@
 //! The calls on single objects.
 
-ghost use Rattle.std.specs.Prelude.{◌≡◌, None, IfSome};
+ghost use Rattle.std.specs.Prelude.{◌≡◌, None, IfErr, IfSome};
 ghost use Rattle.class_mapping.specs.Mapped.{IsAttribute};
 ghost use Rattle.object_arena.specs.Graph.{IsObject, object_at, value_fault};
 ghost use Rattle.programs.specs.Alone.{IsOwn};
 ghost use Rattle.session_scopes.specs.SessionState.{IsInStep};
 ghost use Rattle.session_calls.specs.Calling.{IsSessionCall};
+ghost use Rattle.session_calls.specs.Refusals.{IsRefused, kept_fault, mark_fault, read_fault, set_fault};
 ghost use Rattle.session_calls.specs.Steps as steps;
 
 use crate::scopes::enter;
@@ -31,8 +32,11 @@ pub fn set_cell<K: Keeper>(
     requires object { IsObject session.old.graph object }
     requires attr { IsAttribute session.old.mapping
         (object_at session.old.graph object).class attr }
-    ensures { IsSessionCall K.moment (λ u. u) (steps.set_cell object attr value)
+    ensures call { IsSessionCall K.moment (λ u. u) (steps.set_cell object attr value)
         (session.old, keeper.old) result (session.new, keeper.new) }
+    ensures refused { IfErr result (λ e. IsRefused
+        (set_fault object attr value session.old)
+        (kept_fault object attr session.old) session.old e session.new) }
 {
     match value_fault(session, object, attr, &value) {
         Some(fault) => Err(fault),
@@ -54,9 +58,11 @@ fn set_fitting<K: Keeper>(
         (object_at session.old.graph object).class attr }
     requires fits { value_fault session.old.mapping
         (object_at session.old.graph object) attr value ≡ None }
-    ensures { IsSessionCall K.moment (λ u. u)
+    ensures call { IsSessionCall K.moment (λ u. u)
         (steps.set_fitting object attr value)
         (session.old, keeper.old) result (session.new, keeper.new) }
+    ensures refused { IfErr result (λ e. IsRefused (steps.pending_fault session.old)
+        (kept_fault object attr session.old) session.old e session.new) }
 {
     enter(session, keeper)?;
     session.put_value(object, attr, value)
@@ -95,8 +101,10 @@ pub fn read_cell<K: Keeper>(
     requires object { IsObject session.old.graph object }
     requires attr { IsAttribute session.old.mapping
         (object_at session.old.graph object).class attr }
-    ensures { IsSessionCall K.moment (λ value. value) (steps.read_cell object attr)
+    ensures call { IsSessionCall K.moment (λ value. value) (steps.read_cell object attr)
         (session.old, keeper.old) result (session.new, keeper.new) }
+    ensures refused { IfErr result (λ e. IsRefused (steps.pending_fault session.old)
+        (read_fault object attr session.old) session.old e session.new) }
 {
     enter(session, keeper)?;
     session.read(object, attr)
@@ -114,8 +122,10 @@ pub fn delete<K: Keeper>(
 ) -> Result<(), Refusal>
     requires in_step { IsInStep session.old (K.moment keeper.old) }
     requires object { IsObject session.old.graph object }
-    ensures { IsSessionCall K.moment (λ u. u) (steps.delete object)
+    ensures call { IsSessionCall K.moment (λ u. u) (steps.delete object)
         (session.old, keeper.old) result (session.new, keeper.new) }
+    ensures refused { IfErr result (λ e. IsRefused (steps.pending_fault session.old)
+        (mark_fault object session.old) session.old e session.new) }
 {
     enter(session, keeper)?;
     session.mark_deletion(object)

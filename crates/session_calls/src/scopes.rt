@@ -1,9 +1,14 @@
 //! The calls that begin the transaction, roll scopes back, and close the session.
 
-ghost use Rattle.std.specs.Prelude.{◌≡◌, ◌<◌, ◌≤◌, ◌-◌, ◌==◌, ◌&&◌, [], Some, true, false, length, IfErr, OnOk};
+ghost use Rattle.std.specs.Prelude.{◌≡◌, ◌<◌, ◌≤◌, ◌-◌, ◌==◌, ◌&&◌, [], None, Some, is_none, true, false, length, IfErr, OnOk};
+ghost use Rattle.base_core.specs.declared.refusal.Refusal.TheVariants.{ResourceClosedError};
 ghost use Rattle.programs.specs.Programs.{ends_early};
-ghost use Rattle.session_scopes.specs.SessionState.{IsInStep};
+ghost use Rattle.session_scopes.specs.Handles.{place_of_handle};
+ghost use Rattle.session_scopes.specs.Scoping.{session_begun};
+ghost use Rattle.session_scopes.specs.SessionState.{AreAlikeButNotes, IsInStep};
 ghost use Rattle.session_calls.specs.Calling.{IsSessionCall};
+ghost use Rattle.session_calls.specs.Parts.{fault_if};
+ghost use Rattle.session_calls.specs.Refusals.{IsRefused, entered};
 ghost use Rattle.session_calls.specs.Steps as steps;
 
 use crate::store::{begin_store, roll_back, roll_back_transaction};
@@ -14,13 +19,16 @@ use session_scopes::Session;
 /// A transaction begins where none is in progress.
 ///
 /// # Errors
-/// `PendingRollbackError` while a failed flush waits for its rollback.
+/// `PendingRollbackError` while a failed flush waits for its rollback: it leaves the session as it was.
 pub fn enter<K: Keeper>(session: &mut Session, keeper: &mut K) -> Result<(), Refusal>
     requires in_step { IsInStep session.old (K.moment keeper.old) }
     ensures call { IsSessionCall K.moment (λ u. u) steps.enter
         (session.old, keeper.old) result (session.new, keeper.new) }
     ensures inside { OnOk result (0 < length session.new.frames.scopes) }
     ensures well { OnOk result (session.new.failed ≡ false) }
+    ensures entered { OnOk result (AreAlikeButNotes (entered session.old) session.new) }
+    ensures refused { IfErr result (λ e. IsRefused
+        (steps.pending_fault session.old) None session.old e session.new) }
 {
     if session.is_failed() {
         return Err(Refusal::PendingRollbackError);
@@ -40,6 +48,8 @@ fn begin_transaction<K: Keeper>(session: &mut Session, keeper: &mut K) -> Result
         (session.old, keeper.old) result (session.new, keeper.new) }
     ensures inside { OnOk result (0 < length session.new.frames.scopes) }
     ensures well { OnOk result (session.new.failed ≡ false) }
+    ensures begun { OnOk result (AreAlikeButNotes (session_begun session.old) session.new) }
+    ensures stops { IfErr result (λ e. ends_early e ≡ true) }
 {
     begin_store(session, keeper)?;
     session.begin()
@@ -97,8 +107,11 @@ pub fn rollback_handle<K: Keeper>(
     handle: u32,
 ) -> Result<(), Refusal>
     requires in_step { IsInStep session.old (K.moment keeper.old) }
-    ensures { IsSessionCall K.moment (λ u. u) (steps.rollback_handle handle)
+    ensures call { IsSessionCall K.moment (λ u. u) (steps.rollback_handle handle)
         (session.old, keeper.old) result (session.new, keeper.new) }
+    ensures refused { IfErr result (λ e. IsRefused
+        (fault_if (is_none (place_of_handle session.old.drawn handle)) ResourceClosedError)
+        None session.old e session.new) }
 {
     match session.place_of_handle(handle) {
         None => Err(Refusal::ResourceClosedError),
@@ -114,9 +127,10 @@ fn roll_back_place<K: Keeper>(
 ) -> Result<(), Refusal>
     requires in_step { IsInStep session.old (K.moment keeper.old) }
     requires place { place < length session.old.drawn.handles }
-    ensures { IsSessionCall K.moment (λ u. u)
+    ensures call { IsSessionCall K.moment (λ u. u)
         (steps.roll_back_place session.old.failed (length session.old.drawn.handles) (Some place))
         (session.old, keeper.old) result (session.new, keeper.new) }
+    ensures stops { IfErr result (λ e. ends_early e ≡ true) }
 {
     let count = session.savepoints();
     if is_gone(session, place) {

@@ -29,6 +29,7 @@ pub fn scan_tables<K: Keeper>(session: &Session, keeper: &mut K) -> Result<Fille
         (session.now, keeper.old) result (session.now, keeper.new) }
     ensures declared { IfOk result
         (All (λ table. IsTable session.now.mapping.schema table.0)) }
+    ensures stops { IfErr result (λ e. ends_early e ≡ true) }
 {
     let depth = session.open_scopes();
     scan_each(session.alloc(), keeper, session.mapping().schema(), depth)

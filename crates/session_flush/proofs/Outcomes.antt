@@ -1,5 +1,5 @@
 -- What is left of a session, and why a flush was refused, from one part of it to the next.
-use Rattle.std.proofs.Common.{◌≡◌, ◌⊎◌, inl, inr, ℕ, Bool, true, false, List, length, Result, Ok, Err, IsErrAnd, IfErr, OnOk, MatchBool, refl, sym, ap, ◌∙◌, subst}
+use Rattle.std.proofs.Common.{◌≡◌, ◌⊎◌, inl, inr, ℕ, Bool, true, false, List, length, Result, Ok, Err, OnOk, MatchBool, refl, sym, ap, ◌∙◌, subst}
 use Rattle.base_core.specs.Answers.{is_memory}
 use Rattle.base_core.specs.Counts.{Rose}
 use Rattle.base_core.specs.declared.refusal.Refusal.{Refusal}
@@ -12,22 +12,14 @@ use Rattle.object_rows.specs.declared.prepared.Prepared.{Prepared}
 use Rattle.row_project.specs.Switch.{project}
 use Rattle.flush_plan.specs.Planning.{plan}
 use Rattle.programs.specs.Store.{Store}
-use Rattle.programs.specs.Programs.{Run, ends_early}
-use Rattle.programs.specs.Moment.{IsCalm, Moment, counters, parts}
-use Rattle.programs.specs.Beside.{moment_beside}
+use Rattle.programs.specs.Programs.{ends_early}
+use Rattle.programs.specs.Moment.{IsCalm, Moment, counters}
 use Rattle.session_scopes.specs.Scoping.{session_failed}
 use Rattle.session_scopes.specs.SessionState.{AreAlikeButNotes, SessionState}
-use Rattle.session_calls.specs.Calling.{IsSessionCall}
-use Rattle.session_calls.specs.Parts.{World}
 use Rattle.session_calls.proofs.Joining.{memory_early}
 use Rattle.plan_run.specs.Run.{IsCause, WasGivenStale, WasRefused, WasUnfit}
 use Rattle.session_flush.specs.Flush.{prepared_of, session_flushed}
 use Rattle.session_flush.specs.Outcome.{IsCauseUnder, IsGivenUp, IsUntouched, IsWriteCause, IsWritten, changes_of}
-
--- what holds of a refusal holds of it as the answer of the call around
-pub passed_on : {X : Type 0} (P : Refusal → Type 0) {e : Refusal} (r : Result X Refusal) → IsErrAnd r (λ d. d ≡ e) → P e → IfErr r P
-passed_on P (Ok x) is p = absurd is
-passed_on P (Err d) is p = subst P (sym is) p
 
 -- ---- what ended early says nothing
 
@@ -130,8 +122,3 @@ module _ (schema : Catalog) (rows : RowChanges) where
   -- nothing was refused since
   pub calm_cause : (e : Refusal) (old mid new : Moment Store) → IsCalm (counters mid) (counters new) → IsWriteCause schema rows old e mid → IsWriteCause schema rows old e new
   calm_cause e old mid new calm p = calm_under (plan schema rows) e old mid new calm p
-
--- a call that answered had nothing refused
-pub call_calm : {A X K : Type 0} {moment : K → Moment Store} {v : X → A} {m : World → Run World A} {old new : SessionState × K} {x : X} → IsSessionCall moment v m old (Ok x) new → IsCalm (counters (moment old.1)) (counters (moment new.1))
-unfolding moment_beside
-call_calm p = (parts p.step).keeps.calm

@@ -1,6 +1,6 @@
 //! What a flush writes, and what success makes of the objects.
 
-ghost use Rattle.std.specs.Prelude.{◌≡◌, ◌<◌, length, IfErr, OnOk};
+ghost use Rattle.std.specs.Prelude.{◌≡◌, ◌<◌, [], length, IfErr, OnOk};
 ghost use Rattle.flush_order.specs.Ready.{AreInRange};
 ghost use Rattle.graph_flushed.specs.Flushed.{graph_flushed};
 ghost use Rattle.session_scopes.specs.SessionState.{IsInStep};
@@ -11,8 +11,10 @@ ghost use Rattle.session_flush.specs.Outcome.{IsFlushCause, IsFlushed, IsUntouch
 use crate::preparing::{planned_changes, prepared_changes, prepared_objects};
 use base_core::{Key, ListOf, Refusal};
 use class_mapping::Mapping;
+use fitting_flushes::flushes_fit;
 use graph_flushed::settle;
 use keeper_core::Keeper;
+use mapping_laws::has_hierarchies;
 use object_arena::Arena;
 use object_rows::Prepared;
 use plan_run::send_plan;
@@ -31,7 +33,7 @@ struct Settling<'a> {
 }
 
 impl<'a> ObjectStep for Settling<'a> {
-    ghost is_ready = { λ settling mapped graph. Unit {0} };
+    ghost is_ready = { λ settling mapped graph. settling.prepared.now.cleared ≡ [] };
 
     ghost after = { λ settling mapped graph. graph_flushed mapped
         settling.prepared.now settling.rows.now settling.keys.now graph };
@@ -48,6 +50,10 @@ impl<'a> ObjectStep for Settling<'a> {
             rows,
             keys,
         } = self;
+        // It is configured, and what was written fits it.
+        let _hierarchies = has_hierarchies(mapping);
+        let _related = mapping.is_configured();
+        flushes_fit();
         settle(alloc, arena, frames, mapping, prepared, rows, keys)
     }
 }
@@ -66,6 +72,7 @@ fn write_rows<K: Keeper>(
     requires in_step { IsInStep session.old (K.moment keeper.old) }
     requires inside { 0 < length session.old.frames.scopes }
     requires range { AreInRange session.old.mapping.schema rows.now }
+    requires cleared { prepared.now.cleared ≡ [] }
     ensures call { IsSessionCall K.moment (λ u. u)
         (spec.write_rows prepared.now rows.now)
         (session.old, keeper.old) result (session.new, keeper.new) }
@@ -96,6 +103,7 @@ fn write_warned<K: Keeper>(
     requires in_step { IsInStep session.old (K.moment keeper.old) }
     requires inside { 0 < length session.old.frames.scopes }
     requires range { AreInRange session.old.mapping.schema rows.now }
+    requires cleared { prepared.now.cleared ≡ [] }
     ensures call { IsSessionCall K.moment (λ u. u)
         (spec.write_warned prepared.now rows.now)
         (session.old, keeper.old) result (session.new, keeper.new) }

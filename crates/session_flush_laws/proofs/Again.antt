@@ -44,11 +44,11 @@ kept_among test (y ∷ xs) (suc i) x less at passes = by (test y) (kept_among te
     by true rest = or_right (y.0 == x.0) (is_among (filter test xs) x) rest
     by false rest = rest
 
-here_at : (graph : Graph) (place : ℕ) → object_at graph (id_of_place place) ≡ get_or graph.objects place no_object
+pub here_at : (graph : Graph) (place : ℕ) → object_at graph (id_of_place place) ≡ get_or graph.objects place no_object
 here_at graph place = let same : place + 1 - 1 ≡ place = omega arith in ap (λ (n : ℕ). get_or graph.objects n no_object) same
 
 -- an object that is to be deleted is among those that are
-prepared_among : (graph : Graph) (place : ℕ) → place < length graph.objects → is_to_delete graph (id_of_place place) ≡ true → is_among (prepared_of graph).deleted (id_of_place place) ≡ true
+pub prepared_among : (graph : Graph) (place : ℕ) → place < length graph.objects → is_to_delete graph (id_of_place place) ≡ true → is_among (prepared_of graph).deleted (id_of_place place) ≡ true
 unfolding object_ids
 prepared_among graph place inside is =
     kept_among (is_to_delete graph) (map id_of_place (range_with_len 0 (length graph.objects))) place (id_of_place place) (omega (arith, inside, length-map-range_with_len id_of_place 0 (length graph.objects)))

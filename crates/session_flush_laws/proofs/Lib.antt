@@ -1,5 +1,5 @@
 mod Accepting
-mod Again
+pub mod Again
 pub mod Answered
 pub mod Flushing
 pub mod Kept

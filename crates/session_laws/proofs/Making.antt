@@ -26,10 +26,10 @@ use Rattle.schema_core.specs.Tables.{Tables}
 use Rattle.session_scopes.specs.Making.{first_given_fault, made_unless, object_made, object_with, unwritten_cell, with_given}
 use Rattle.session_scopes.specs.SessionState.{SessionState}
 use Rattle.session_objects.proofs.TakingLemmas.{identity_left, state_left}
-use Rattle.session_laws.specs.Sound.{AreSoundScopes, EachObject, IsAsAtStart, IsAtRest, IsFresh, IsMarkedRight, IsSound, KeepsSound, RestIf, as_object}
-use Rattle.session_laws.proofs.Nesting.{not_held}
-use Rattle.session_laws.proofs.Objects.{stands_kept}
-use Rattle.session_laws.proofs.Programs.{own_sound}
+use Rattle.session_sound.specs.Sound.{AreSoundScopes, EachObject, IsAsAtStart, IsAtRest, IsFresh, IsMarkedRight, IsSound, KeepsSound, RestIf, as_object}
+use Rattle.session_sound.proofs.Everyone.{not_held}
+use Rattle.session_sound.proofs.Objects.{stands_kept}
+use Rattle.session_sound.proofs.Programs.{own_sound}
 
 -- ---- a new object
 

@@ -21,12 +21,12 @@ use Rattle.session_scopes.specs.Scoping.{session_committed, session_nested, sess
 use Rattle.session_scopes.specs.SessionState.{SessionState, with_notes}
 use Rattle.session_calls.specs.Parts.{World}
 use Rattle.session_savepoints.specs.Steps.{begin_savepoint, commit_transaction, release_many, release_one}
-use Rattle.session_laws.specs.Sound.{AreSoundScopes, EachObject, IsAtRest, IsFresh, IsMarkedRight, IsSettled, IsSound, RestIf}
-use Rattle.session_laws.proofs.Beginning.{scope_begun}
-use Rattle.session_laws.proofs.Changes.{IsLater, scopes_kept}
-use Rattle.session_laws.proofs.Everyone.{KeepsHolders, each_changed, each_graph, identified_as}
-use Rattle.session_laws.proofs.Programs.{then_sound}
-use Rattle.session_laws.proofs.Touches.{not_true, other_answer}
+use Rattle.session_sound.specs.Sound.{AreSoundScopes, EachObject, IsAtRest, IsFresh, IsMarkedRight, IsSettled, IsSound, RestIf}
+use Rattle.session_sound.proofs.Beginning.{scope_begun}
+use Rattle.session_sound.proofs.Changes.{IsLater, scopes_kept}
+use Rattle.session_sound.proofs.Everyone.{KeepsHolders, each_changed, each_graph, expired_cells, identified_as, not_held}
+use Rattle.session_sound.proofs.Programs.{then_sound}
+use Rattle.session_sound.proofs.Touches.{not_true, other_answer}
 
 -- ---- a savepoint begins
 
@@ -143,14 +143,6 @@ identified_in Detached o at is = is
 
 committed_holders : KeepsHolders object_committed
 committed_holders = record { persists = λ o persists. persists_in o.state o persists; identity = λ o persists. identity_in o.state o; identified = λ o is. identified_in o.state o refl is }
-
-pub expired_cells : (cells : List Cell) (i : ℕ) → get_or (map (λ cell. expired_cell) cells) i expired_cell ≡ expired_cell
-expired_cells [] i = refl
-expired_cells (cell ∷ cells) zero = refl
-expired_cells (cell ∷ cells) (suc i) = expired_cells cells i
-
-pub not_held : {A : Type 0} (o : Object) (state : State) → is_persistent state ≡ false → o.state ≡ state → is_persistent o.state ≡ true → A
-not_held o state free at persists = absurd (let h : false ≡ true = sym free ∙ sym (ap is_persistent at) ∙ persists in cc)
 
 rest_in : (state : State) (o : Object) → o.state ≡ state → IsSettled o → IsAtRest (object_committed_in state o)
 rest_in Transient o at s = record { settled = s.settled; unmarked = s.unmarked; expired = λ persists. not_held o Transient refl at persists }

@@ -34,10 +34,9 @@ use Rattle.session_scopes.specs.SessionState.{SessionState, with_notes}
 use Rattle.session_calls.specs.Parts.{World}
 use Rattle.session_statements.specs.Rewriting.{expired_if, graph_reread, is_reread, reread_of, session_reread}
 use Rattle.session_statements.specs.Steps.{bulk, rows, send_bulk}
-use Rattle.session_laws.specs.Sound.{IsFitting, IsFresh, IsMarkedRight, IsSendable, IsSound, KeepsSound, in_row, row_for}
-use Rattle.session_laws.proofs.Changes.{changed_sound}
-use Rattle.session_laws.proofs.Everyone.{KeepsHolders, each_graph, each_changed}
-use Rattle.session_laws.proofs.Nesting.{expired_cells}
+use Rattle.session_sound.specs.Sound.{IsFitting, IsFresh, IsMarkedRight, IsSendable, IsSound, KeepsSound, in_row, row_for}
+use Rattle.session_sound.proofs.Changes.{changed_sound}
+use Rattle.session_sound.proofs.Everyone.{KeepsHolders, each_changed, each_graph, expired_cells}
 use Rattle.session_laws.proofs.Writing.{bulk_beside}
 
 -- ---- an object that is to be read again

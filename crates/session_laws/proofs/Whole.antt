@@ -14,10 +14,10 @@ use Rattle.session_scopes.specs.SessionState.{SessionState, depth_in}
 use Rattle.session_calls.specs.Parts.{World, checked}
 use Rattle.session_calls.specs.Steps.{enter, pending_fault}
 use Rattle.session_savepoints.specs.Steps.{check_handle, commit_transaction, commit_whole, enter_nested, handle_fault, limit_fault, release_handle, release_many, release_one, release_place}
-use Rattle.session_statements.specs.Steps.{enter_bulk, key_write_fault}
-use Rattle.session_laws.specs.Sound.{EachObject, IsCommittable, IsSettled, IsSound, IsWell, KeepsSound}
+use Rattle.session_statements.specs.Steps.{enter_bulk, update_fault}
+use Rattle.session_sound.specs.Sound.{EachObject, IsCommittable, IsSettled, IsSound, IsWell, KeepsSound}
 use Rattle.session_laws.proofs.Nesting.{commit_sound, releases_sound}
-use Rattle.session_laws.proofs.Programs.{checked_same, checked_then, entered_then, then_sound}
+use Rattle.session_sound.proofs.Programs.{checked_same, checked_then, entered_then, then_sound}
 
 -- ---- what is asked
 
@@ -33,7 +33,7 @@ nested_asked = enter_asking limit_fault
 
 pub bulk_asked : (statement : Bulk) → KeepsSound (enter_bulk statement)
 unfolding enter_bulk
-bulk_asked statement = enter_asking (key_write_fault statement)
+bulk_asked statement = enter_asking (update_fault statement)
 
 pub handle_asked : (handle : ℕ) → KeepsSound (check_handle handle)
 unfolding check_handle

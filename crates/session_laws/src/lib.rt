@@ -5,7 +5,6 @@
 mod sound;
 
 pub use sound::{
-    a_new_session_is_sound, calls_on_objects_keep_sound, closing_keeps_sound,
-    committing_keeps_sound, entering_keeps_sound, making_keeps_sound, rolling_back_keeps_sound,
-    savepoints_keep_sound, statements_keep_sound,
+    coming_in_keeps_sound, committing_keeps_sound, making_keeps_sound, savepoints_keep_sound,
+    statements_keep_sound,
 };

@@ -1,36 +1,17 @@
-//! Sessions that are sound: what their objects hold is what the store has.
+//! Calls that keep a session sound.
 
-ghost use Rattle.std.specs.Prelude.{◌<◌, ℕ, List, [], length};
+ghost use Rattle.std.specs.Prelude.{◌<◌, ℕ, List, length};
 ghost use Rattle.base_core.specs.declared.ids.AttrNo.{AttrNo};
 ghost use Rattle.base_core.specs.declared.ids.ClassId.{ClassId};
 ghost use Rattle.base_core.specs.declared.value.Value.{Value};
-ghost use Rattle.class_mapping.specs.Mapped.{Mapped};
 ghost use Rattle.expr_types.specs.declared.select.Bulk.{Bulk};
 ghost use Rattle.expr_types.specs.declared.select.Select.{Select};
 ghost use Rattle.programs.specs.Beside.{on_own};
 ghost use Rattle.session_scopes.specs.Making.{object_made};
-ghost use Rattle.session_scopes.specs.SessionState.{new_session};
-ghost use Rattle.session_calls.specs.Parts.{go_back};
-ghost use Rattle.session_calls.specs.Steps as steps;
-ghost use Rattle.session_objects.specs.Steps as objects;
 ghost use Rattle.session_savepoints.specs.Steps as savepoints;
+ghost use Rattle.session_sound.specs.Sound.{IsCommittable, IsSendable, IsWell, IsWritten, KeepsSound, KeepsSoundWhere};
+ghost use Rattle.session_laws.specs.Laws.{ComingInKeepsSound};
 ghost use Rattle.session_statements.specs.Steps as statements;
-ghost use Rattle.session_laws.specs.Sound.{IsCommittable, IsHandled, IsInProgress, IsSendable, IsSound, IsWell, IsWritten, KeepsSound, KeepsSoundOf, KeepsSoundWhere};
-
-#[tactic(auto, using(crate::proofs::Beginning::new_sound))]
-/// A new session is sound beside a store without tables.
-pub fn a_new_session_is_sound()
-    ensures { (mapping : Mapped) → IsSound (record {
-      own = new_session mapping;
-      store = record { tables = []; scopes = [] };
-    }) }
-{}
-
-/// The beginning of a transaction keeps a session sound, and so does its refusal: where no transaction is in progress nothing is
-/// pending or to be deleted, and what is known of objects is what the tables have.
-pub fn entering_keeps_sound()
-    ensures { KeepsSound steps.enter }
-{}
 
 /// The making of an object with values keeps a session sound, and so does its refusal; the object was touched in no scope, and stands
 /// as one that was not there yet.
@@ -39,19 +20,9 @@ pub fn making_keeps_sound()
         → KeepsSound (on_own (object_made class given)) }
 {}
 
-/// What is done to one object keeps a session sound, whether it is refused or not: a value in a cell, a read of a cell, a delete
-/// mark, and the coming in of an object.
-pub fn calls_on_objects_keep_sound()
-    ensures set { (attr : AttrNo) (value : Value)
-        → KeepsSoundOf (λ object. steps.set_cell object attr value) }
-    ensures read { (attr : AttrNo) → KeepsSoundOf (λ object. steps.read_cell object attr) }
-    ensures delete { KeepsSoundOf steps.delete }
-    ensures add { KeepsSoundOf objects.add }
-{}
-
-/// The close of a session leaves it sound.
-pub fn closing_keeps_sound()
-    ensures { KeepsSound steps.close }
+/// The coming in of an object, with those that hang on it, keeps a session sound, and so does its refusal.
+pub fn coming_in_keeps_sound()
+    ensures { ComingInKeepsSound }
 {}
 
 /// What is asked before the flush of a savepoint keeps a session sound. Behind it, where nothing is to be written, the beginning of a
@@ -70,14 +41,6 @@ pub fn savepoints_keep_sound()
 pub fn committing_keeps_sound()
     ensures transaction { KeepsSoundWhere IsWritten savepoints.commit_transaction }
     ensures whole { KeepsSoundWhere IsCommittable savepoints.commit_whole }
-{}
-
-/// Rollbacks leave a session sound: of the scope at a depth, of the transaction, and of a savepoint by its handle, also where a
-/// failed flush awaits its rollback.
-pub fn rolling_back_keeps_sound()
-    ensures scope { (depth : ℕ) → KeepsSoundWhere (IsInProgress depth) (go_back depth) }
-    ensures rollback { KeepsSound steps.rollback }
-    ensures handle { (handle : ℕ) → KeepsSoundWhere IsHandled (steps.rollback_handle handle) }
 {}
 
 /// A bulk statement, accepted or refused, keeps a session of plain classes sound: each object with rows in the table that it writes

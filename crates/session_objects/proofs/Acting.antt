@@ -1,26 +1,27 @@
 -- The calls that bring objects into a session, put together of their parts.
-use Rattle.std.proofs.Common.{◌≡◌, ℕ, length, None, Some, Result, Ok, Err, IfErr, OnOk, sym, ap, ◌∙◌}
+use Rattle.std.proofs.Common.{◌≡◌, ℕ, length, None, Some, Option, List, Result, Ok, Err, IfErr, OnOk, sym, ap, ◌∙◌}
 use Rattle.base_core.specs.Counts.{one_more}
 use Rattle.base_core.specs.declared.ids.ObjId.{ObjId}
 use Rattle.base_core.specs.declared.refusal.Refusal.{Refusal}
 use Rattle.base_core.specs.declared.refusal.Refusal.TheVariants.{Memory}
 use Rattle.object_arena.specs.declared.object.Object.{Object}
 use Rattle.object_arena.specs.declared.object.State.{State}
-use Rattle.object_arena.specs.Graph.{Graph, IsObject, object_at, with_object}
-use Rattle.object_arena.proofs.TurnLemmas.{at_with, with_twice}
+use Rattle.object_arena.specs.Graph.{object_at, with_object}
 use Rattle.programs.specs.Alone.{IsOwn}
 use Rattle.programs.specs.Store.{Store}
+use Rattle.programs.specs.Programs.{Run}
 use Rattle.programs.specs.Moment.{Moment}
 use Rattle.programs.specs.Beside.{changes}
+use Rattle.programs.proofs.Lifting.{lost}
 use Rattle.session_parts.specs.Depths.{HasDepth}
-use Rattle.session_parts.specs.Ends.{object_unmarked}
 use Rattle.session_scopes.specs.SessionState.{IsInStep, SameObjects, SessionState, with_graph}
 use Rattle.session_calls.specs.Calling.{IsSessionCall}
+use Rattle.session_calls.specs.Parts.{World}
 use Rattle.session_calls.specs.Steps.{enter}
-use Rattle.session_calls.proofs.Joining.{change_call, err_call, fails, passes, then_call}
-use Rattle.session_objects.specs.Conflicts.{add_fault}
+use Rattle.session_calls.proofs.Joining.{change_call, err_call, fails, memory_early, passes, stays_early, then_call}
+use Rattle.session_objects.specs.Conflicts.{add_fault, add_fault_among}
 use Rattle.session_objects.specs.Steps.{add, add_inside}
-use Rattle.session_objects.specs.Taking.{added_then, object_in, object_taken, session_added, unmarked}
+use Rattle.session_objects.specs.Taking.{added_then, coming_objects, session_added, session_joined, object_taken, session_taken, session_unmarked, taken_under}
 
 -- ---- the calls
 
@@ -34,37 +35,46 @@ pub adds_not : {Y K : Type 0} (moment : K → Moment Store) (object : ObjId) {v 
 unfolding add
 adds_not moment object p = err_call (λ u. add_inside object) p
 
--- something is against it
-pub refuses : {K : Type 0} (moment : K → Moment Store) (object : ObjId) {own : SessionState} {keeper : K} {e : Refusal} → Some e ≡ add_fault object own → IsOwn e → IsInStep own (moment keeper)
-    → IsSessionCall moment (λ (u : Unit {0}). u) (add_inside object) (own, keeper) (Err e) (own, keeper)
-refuses moment object fault is_own in_step = err_call (λ u. changes (session_added object)) (fails moment (add_fault object) {v = λ (u : Unit {0}). u} (sym fault) is_own in_step)
+-- memory ran out, and the objects are the same still
+pub runs_out : {A X K : Type 0} (moment : K → Moment Store) {v : X → A} {m : World → Run World A} {own now : SessionState} {keeper : K} {e : Refusal} → e ≡ Memory → SameObjects own now → IsSessionCall moment v m (own, keeper) (Err e) (now, keeper)
+runs_out {X = X} moment {now = now} {keeper = keeper} {e = e} cause same = record {
+  step = lost moment cause;
+  kept = record { same = same; in_step = stays_early X e (length now.frames.scopes) (moment keeper) (memory_early e cause) };
+}
 
-in_step_at : (r : Result (Unit {0}) Refusal) (own now : SessionState) (moment : Moment Store) → IsInStep own moment → length now.frames.scopes ≡ length own.frames.scopes → OnOk r (HasDepth (length now.frames.scopes) moment)
+fault_here : (object : ObjId) (objects : List ObjId) (own : SessionState) (fault : Option Refusal) → objects ≡ coming_objects own.mapping own.graph object → fault ≡ add_fault_among object objects own → add_fault object own ≡ fault
+fault_here object objects own fault is told = sym (told ∙ ap (λ (os : List ObjId). add_fault_among object os own) is)
+
+-- something is against it
+pub refuses : {K : Type 0} (moment : K → Moment Store) (object : ObjId) (objects : List ObjId) {own : SessionState} {keeper : K} {e : Refusal} → objects ≡ coming_objects own.mapping own.graph object → Some e ≡ add_fault_among object objects own → IsOwn e → IsInStep own (moment keeper)
+    → IsSessionCall moment (λ (u : Unit {0}). u) (add_inside object) (own, keeper) (Err e) (own, keeper)
+refuses moment object objects {own = own} {e = e} is fault is_own in_step =
+    err_call (λ u. changes (session_added object)) (fails moment (add_fault object) {v = λ (u : Unit {0}). u} (fault_here object objects own (Some e) is fault) is_own in_step)
+
+pub in_step_at : (r : Result (Unit {0}) Refusal) (own now : SessionState) (moment : Moment Store) → IsInStep own moment → length now.frames.scopes ≡ length own.frames.scopes → OnOk r (HasDepth (length now.frames.scopes) moment)
 in_step_at (Ok u) own now moment in_step long = (in_step.0, in_step.1 ∙ sym long)
 in_step_at (Err e) own now moment in_step long = tt
 
+added_as : (r : Result (Unit {0}) Refusal) (object : ObjId) (objects : List ObjId) (own now : SessionState) → objects ≡ coming_objects own.mapping own.graph object → OnOk r (now ≡ session_unmarked object (session_joined objects own)) → OnOk r (now ≡ session_added object own)
+added_as (Ok u) object objects own now is put = put ∙ ap (λ (os : List ObjId). session_unmarked object (session_joined os own)) is
+added_as (Err e) object objects own now is put = tt
+
 -- nothing is
-pub comes_in : {K : Type 0} (moment : K → Moment Store) (object : ObjId) {own now : SessionState} {keeper : K} {r : Result (Unit {0}) Refusal} → None ≡ add_fault object own → IsInStep own (moment keeper)
-    → OnOk r (now ≡ session_added object own) → IfErr r (λ e. e ≡ Memory) → SameObjects own now → length now.frames.scopes ≡ length own.frames.scopes → IsSessionCall moment (λ u. u) (add_inside object) (own, keeper) r (now, keeper)
-comes_in moment object {own = own} {now = now} {keeper = keeper} {r = r} none in_step is cause same long =
-    then_call (λ u. changes (session_added object)) (passes moment (add_fault object) (sym none) in_step)
-    (change_call moment (session_added object) {own = own} is cause same (in_step_at r own now (moment keeper) in_step long))
+pub comes_in : {K : Type 0} (moment : K → Moment Store) (object : ObjId) (objects : List ObjId) {own now : SessionState} {keeper : K} {r : Result (Unit {0}) Refusal} → objects ≡ coming_objects own.mapping own.graph object → None ≡ add_fault_among object objects own → IsInStep own (moment keeper)
+    → OnOk r (now ≡ session_unmarked object (session_joined objects own)) → IfErr r (λ e. e ≡ Memory) → SameObjects own now → length now.frames.scopes ≡ length own.frames.scopes → IsSessionCall moment (λ u. u) (add_inside object) (own, keeper) r (now, keeper)
+comes_in moment object objects {own = own} {now = now} {keeper = keeper} {r = r} is none in_step put cause same long =
+    then_call (λ u. changes (session_added object)) (passes moment (add_fault object) (fault_here object objects own None is none) in_step)
+    (change_call moment (session_added object) {own = own} (added_as r object objects own now is put) cause same (in_step_at r own now (moment keeper) in_step long))
 
--- ---- the session then
-
-taken_graph : (graph : Graph) (object : ObjId) (taken : Object) → IsObject graph object → unmarked (with_object graph object taken) object ≡ with_object graph object (object_unmarked taken)
-taken_graph graph object taken made =
-    with_twice graph object taken (object_unmarked (object_at (with_object graph object taken) object))
-    ∙ ap (λ (o : Object). with_object graph object (object_unmarked o)) (at_with graph object taken made)
+-- ---- one object
 
 -- only a transient object has a number given
-pub in_without : (o : Object) (state : State) (n m : ℕ) → o.state ≡ state → object_taken state n o ≡ object_taken state m o → object_in n o ≡ object_in m o
-in_without o state n m is same = ap (λ (s : State). object_unmarked (object_taken s n o)) is ∙ ap object_unmarked same ∙ sym (ap (λ (s : State). object_unmarked (object_taken s m o)) is)
+pub taken_without : (o : Object) (state : State) (n m : ℕ) → o.state ≡ state → object_taken state n o ≡ object_taken state m o → taken_under n o ≡ taken_under m o
+taken_without o state n m is same = ap (λ (s : State). object_taken s n o) is ∙ same ∙ sym (ap (λ (s : State). object_taken s m o) is)
 
--- an object that comes in alone
-pub added_is : (own : SessionState) (object : ObjId) (number : ℕ) → IsObject own.graph object → object_in number (object_at own.graph object) ≡ object_in (one_more own.added) (object_at own.graph object)
-    → with_graph (with_object own.graph object (object_in number (object_at own.graph object))) (record own { added = added_then (object_at own.graph object).state own.added }) ≡ session_added object own
-added_is own object number made is =
-    ap (λ (g : Graph). with_graph g (record own { added = added_then (object_at own.graph object).state own.added }))
-    (ap (with_object own.graph object) is
-    ∙ sym (taken_graph own.graph object (object_taken (object_at own.graph object).state (one_more own.added) (object_at own.graph object)) made))
+pub taken_is : (own drawn : SessionState) (object : ObjId) (number : ℕ) → drawn ≡ record own { added = added_then (object_at own.graph object).state own.added }
+    → taken_under number (object_at own.graph object) ≡ taken_under (one_more own.added) (object_at own.graph object)
+    → with_graph (with_object drawn.graph object (taken_under number (object_at drawn.graph object))) drawn ≡ session_taken object own
+taken_is own drawn object number is same =
+    ap (λ (s : SessionState). with_graph (with_object s.graph object (taken_under number (object_at s.graph object))) s) is
+    ∙ ap (λ (o : Object). with_graph (with_object own.graph object o) (record own { added = added_then (object_at own.graph object).state own.added })) same

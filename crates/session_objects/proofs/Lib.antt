@@ -1,3 +1,4 @@
 pub mod TakingLemmas
-pub mod ConflictLemmas
+pub mod JoiningLemmas
+pub mod ListLemmas
 pub mod Acting

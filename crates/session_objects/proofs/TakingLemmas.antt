@@ -23,12 +23,12 @@ use Rattle.object_arena.specs.declared.object.State.{State}
 use Rattle.object_arena.specs.declared.object.State.TheVariants.{Transient, Pending, Persistent, Detached}
 use Rattle.object_arena.specs.Fit.{ObjectFits, cell_fits, is_of_kind, value_fits}
 use Rattle.object_arena.specs.Graph.{Graph, IsObject, cell_put, either_fault, expired_object, object_at, put_back_object, with_marks, with_object, with_state}
-use Rattle.object_arena.proofs.TurnLemmas.{written_twice}
+use Rattle.object_arena.proofs.TurnLemmas.{with_same, written_twice}
 use Rattle.session_parts.specs.Ends.{object_unmarked}
 use Rattle.session_scopes.specs.Making.{first_given_fault, object_with, unwritten_cell, with_given}
 use Rattle.touching.specs.Same.{same_object}
 use Rattle.touching.proofs.Differing.{differs_as}
-use Rattle.session_objects.specs.Taking.{changed_values, is_value_changed, object_in, object_taken, returned_object, with_changed}
+use Rattle.session_objects.specs.Taking.{changed_values, is_value_changed, object_taken, returned_object, taken_under, with_changed}
 
 -- ---- what values leave of an object
 
@@ -39,11 +39,6 @@ state_left o (one ∷ others) = state_left (cell_put o one.0 (unwritten_cell one
 pub identity_left : (o : Object) (given : List (AttrNo × Value)) → (object_with o given).identity ≡ o.identity
 identity_left o [] = refl
 identity_left o (one ∷ others) = identity_left (cell_put o one.0 (unwritten_cell one.1)) others
-
--- a delete mark may be taken away before the values are put in
-unmarked_before : (o : Object) (given : List (AttrNo × Value)) → object_unmarked (object_with o given) ≡ object_with (object_unmarked o) given
-unmarked_before o [] = refl
-unmarked_before o (one ∷ others) = unmarked_before (cell_put o one.0 (unwritten_cell one.1)) others
 
 -- ---- whether the object comes to differ
 
@@ -60,53 +55,59 @@ differs_in_state : (o new : Object) (state later : State) → o.state ≡ state 
 differs_in_state o new state later old now apart = differs_as o new false (λ h. absurd cc) (λ same. absurd (apart (sym old ∙ ap (λ (x : Object). x.state) same ∙ now)))
 
 -- by its mark
-differs_in_mark : (o : Object) → o.marked ≡ not (same_object o (object_unmarked o))
-differs_in_mark o =
+pub marked_differs : (o : Object) → o.marked ≡ not (same_object o (object_unmarked o))
+marked_differs o =
     twice_not o.marked
     ∙ differs_as o (object_unmarked o) (not o.marked) (without_mark o o.marked refl) (λ same. ap (λ (x : Object). not x.marked) same)
 
-pub transient_differs : (o : Object) (number : ℕ) → o.state ≡ Transient → true ≡ not (same_object o (object_in number o))
+pub transient_differs : (o : Object) (number : ℕ) → o.state ≡ Transient → true ≡ not (same_object o (taken_under number o))
 transient_differs o number is =
-    differs_in_state o (object_in number o) Transient Pending is (ap (λ (s : State). (object_unmarked (object_taken s number o)).state) is) (λ same. absurd cc)
+    differs_in_state o (taken_under number o) Transient Pending is (ap (λ (s : State). (object_taken s number o).state) is) (λ same. absurd cc)
 
-pub detached_differs : (o : Object) (number : ℕ) → o.state ≡ Detached → true ≡ not (same_object o (object_in number o))
+pub detached_differs : (o : Object) (number : ℕ) → o.state ≡ Detached → true ≡ not (same_object o (taken_under number o))
 detached_differs o number is =
-    differs_in_state o (object_in number o) Detached Persistent is
-    (ap (λ (s : State). (object_unmarked (object_taken s number o)).state) is ∙ state_left (expired_object (record o { state = Persistent })) (changed_values 0 o.cells)) (λ same. absurd cc)
+    differs_in_state o (taken_under number o) Detached Persistent is
+    (ap (λ (s : State). (object_taken s number o).state) is ∙ state_left (expired_object (record o { state = Persistent; marked = false })) (changed_values 0 o.cells)) (λ same. absurd cc)
 
-pub stays_differs : (o : Object) (number : ℕ) (state : State) → o.state ≡ state → object_taken state number o ≡ o → o.marked ≡ not (same_object o (object_in number o))
-stays_differs o number state is stays =
-    differs_in_mark o ∙ ap (λ (x : Object). not (same_object o x)) (sym (ap object_unmarked (ap (λ (s : State). object_taken s number o) is ∙ stays)))
+pub stays_alike : (o : Object) (number : ℕ) (state : State) → o.state ≡ state → object_taken state number o ≡ o → false ≡ not (same_object o (taken_under number o))
+stays_alike o number state is stays =
+    differs_as o o true (λ h. refl) (λ same. refl)
+    ∙ ap (λ (x : Object). not (same_object o x)) (sym (ap (λ (s : State). object_taken s number o) is ∙ stays))
 
 -- ---- an object that was transient
 
-pub pending_is : (graph mid new : Graph) (object : ObjId) (number : ℕ) (is_orphan : Bool) → IsObject graph object → (object_at graph object).state ≡ Transient → is_orphan ≡ (object_at graph object).orphan → mid ≡ with_marks graph object number false is_orphan
-    → new ≡ with_state mid object Pending → new ≡ with_object graph object (object_in number (object_at graph object))
-pending_is graph mid new object number is_orphan made is same first second =
+pub pending_is : (graph mid new : Graph) (object : ObjId) (number : ℕ) (is_marked is_orphan : Bool) → IsObject graph object → (object_at graph object).state ≡ Transient → is_marked ≡ (object_at graph object).marked → is_orphan ≡ (object_at graph object).orphan
+    → mid ≡ with_marks graph object number is_marked is_orphan → new ≡ with_state mid object Pending → new ≡ with_object graph object (taken_under number (object_at graph object))
+pending_is graph mid new object number is_marked is_orphan made is marks same first second =
     let o : Object = object_at graph object in
-    written_twice (λ (x : Object). record x { state = Pending; identity = None }) graph mid new object (record o { added = number; marked = false; orphan = is_orphan }) made first second
-    ∙ ap (λ (b : Bool). with_object graph object (record o { state = Pending; identity = None; added = number; marked = false; orphan = b })) same
-    ∙ sym (ap (λ (s : State). with_object graph object (object_unmarked (object_taken s number o))) is)
+    written_twice (λ (x : Object). record x { state = Pending; identity = None }) graph mid new object (record o { added = number; marked = is_marked; orphan = is_orphan }) made first second
+    ∙ ap (λ (b : Bool). with_object graph object (record o { state = Pending; identity = None; added = number; marked = is_marked; orphan = b })) same
+    ∙ ap (λ (b : Bool). with_object graph object (record o { state = Pending; identity = None; added = number; marked = b })) marks
+    ∙ sym (ap (λ (s : State). with_object graph object (object_taken s number o)) is)
 
 -- ---- an object that comes back
 
 -- it stands again, is expired, and gets the values that were changed
 pub returned_is : (graph mid late new : Graph) (object : ObjId) (values : List (AttrNo × Value)) → IsObject graph object → values ≡ changed_values 0 (object_at graph object).cells
     → mid ≡ with_object graph object (put_back_object (object_at graph object) Persistent (object_at graph object).identity) → late ≡ with_object mid object (expired_object (object_at mid object)) → new ≡ with_given late object values
-    → new ≡ with_object graph object (object_unmarked (returned_object (object_at graph object)))
+    → new ≡ with_object graph object (returned_object (object_at graph object))
 returned_is graph mid late new object values made is first second third =
     let o : Object = object_at graph object in
     let stood : Object = record o { state = Persistent; marked = false } in
     let two : late ≡ with_object graph object (expired_object stood) = written_twice expired_object graph mid late object stood made first second in
     written_twice (λ (x : Object). object_with x values) graph late new object (expired_object stood) made two third
     ∙ ap (λ (given : List (AttrNo × Value)). with_object graph object (object_with (expired_object stood) given)) is
-    ∙ ap (with_object graph object) (sym (unmarked_before (expired_object (record o { state = Persistent })) (changed_values 0 o.cells)))
 
 -- by its state
-pub taken_as : (graph new : Graph) (object : ObjId) (number : ℕ) (state : State) (taken : Object) → (object_at graph object).state ≡ state → object_unmarked (object_taken state number (object_at graph object)) ≡ taken → new ≡ with_object graph object taken
-    → new ≡ with_object graph object (object_in number (object_at graph object))
+pub taken_as : (graph new : Graph) (object : ObjId) (number : ℕ) (state : State) (taken : Object) → (object_at graph object).state ≡ state → object_taken state number (object_at graph object) ≡ taken → new ≡ with_object graph object taken
+    → new ≡ with_object graph object (taken_under number (object_at graph object))
 taken_as graph new object number state taken is same put =
-    put ∙ sym (ap (with_object graph object) (ap (λ (s : State). object_unmarked (object_taken s number (object_at graph object))) is ∙ same))
+    put ∙ sym (ap (with_object graph object) (ap (λ (s : State). object_taken s number (object_at graph object)) is ∙ same))
+
+-- an object that stays as it is
+pub taken_still : (graph : Graph) (object : ObjId) (number : ℕ) (state : State) → (object_at graph object).state ≡ state → object_taken state number (object_at graph object) ≡ object_at graph object
+    → graph ≡ with_object graph object (taken_under number (object_at graph object))
+taken_still graph object number state is same = taken_as graph graph object number state (object_at graph object) is same (sym (with_same graph object))
 
 -- ---- the values that were changed
 

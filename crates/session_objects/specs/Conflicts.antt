@@ -12,7 +12,7 @@ use Rattle.object_arena.specs.Graph.{Graph, either_fault, object_at, root_at}
 use Rattle.object_arena.specs.Identity.{find_identity, has_key}
 use Rattle.session_scopes.specs.SessionState.{SessionState}
 use Rattle.session_calls.specs.Parts.{fault_if}
-use Rattle.session_objects.specs.Taking.{closure_of}
+use Rattle.session_objects.specs.Taking.{coming_objects}
 
 -- another object has the root and the key
 abbrev pub has_same_identity : Graph → ObjId → List Value → ObjId → Bool
@@ -34,15 +34,22 @@ abbrev pub conflicts_in : State → Graph → List ObjId → ObjId → Bool
 conflicts_in Detached graph objects object = conflicts_under graph objects object (object_at graph object).identity
 conflicts_in state graph objects object = false
 
+-- some of the objects is
+abbrev pub has_conflict : Graph → List ObjId → Bool
+has_conflict graph objects = list_any (λ object. conflicts_in (object_at graph object).state graph objects object) objects
+
 abbrev pub conflict_fault : Graph → List ObjId → Option Refusal
-conflict_fault graph objects = fault_if (list_any (λ object. conflicts_in (object_at graph object).state graph objects object) objects) (InvalidRequestError requests.IdentityConflict)
+conflict_fault graph objects = fault_if (has_conflict graph objects) (InvalidRequestError requests.IdentityConflict)
 
 abbrev pub is_deleted : State → Bool
 is_deleted Deleted = true
 is_deleted state = false
 
 -- the object is deleted, or one of those that come in with it has an identity that is another one's
+abbrev pub add_fault_among : ObjId → List ObjId → SessionState → Option Refusal
+add_fault_among object objects session =
+    either_fault (fault_if (is_deleted (object_at session.graph object).state) (InvalidRequestError requests.Deleted)) (conflict_fault session.graph objects)
+
+-- why an object does not come in with those that hang on it
 abbrev pub add_fault : ObjId → SessionState → Option Refusal
-add_fault object session =
-    either_fault (fault_if (is_deleted (object_at session.graph object).state) (InvalidRequestError requests.Deleted))
-    (conflict_fault session.graph (closure_of session.mapping session.graph object))
+add_fault object session = add_fault_among object (coming_objects session.mapping session.graph object) session

@@ -1,30 +1,31 @@
 //! An object comes into the session.
 
 ghost use Rattle.std.specs.Prelude.{◌≡◌, None, OnOk, IfErr, length};
-ghost use Rattle.base_core.specs.Counts.{one_more};
 ghost use Rattle.base_core.specs.declared.refusal.Refusal.TheVariants.{Memory};
-ghost use Rattle.object_arena.specs.Graph.{IsObject, object_at};
+ghost use Rattle.object_arena.specs.Graph.{IsObject};
 ghost use Rattle.session_scopes.specs.SessionState.{IsInStep, SameObjects};
 ghost use Rattle.session_calls.specs.Calling.{IsSessionCall};
-ghost use Rattle.session_objects.specs.Conflicts.{add_fault};
 ghost use Rattle.session_objects.specs.Steps as steps;
-ghost use Rattle.session_objects.specs.Taking.{added_then, object_in, session_added};
+ghost use Rattle.session_objects.specs.Taking as spec;
 
+use crate::coming::coming_objects;
 use crate::conflicts::add_fault;
-use crate::taking::TakeIn;
+use crate::joining::take_all;
+use crate::taking::Unmark;
 use base_core::{ObjId, Refusal};
 use keeper_core::Keeper;
-use object_arena::State;
 use session_calls::enter;
 use session_scopes::Session;
 
-/// A transient object becomes pending: the next flush writes it. A detached one becomes persistent again: what was changed in it is
-/// written by the next flush, and the rest is read when it is asked for. A delete mark is taken away. The object is touched in the
-/// innermost scope where its record comes to differ.
+/// An object comes in with all that hang on it by loaded links and kept adds along relationships with save-update. Transient ones
+/// become pending: the next flush writes them, the object itself before the others, which go by number. Detached ones become
+/// persistent again: what was changed in them is written by the next flush, and the rest is read when it is asked for. A delete mark
+/// of the object is taken away. Each is touched in the innermost scope where its record comes to differ.
 ///
 /// # Errors
 /// `PendingRollbackError` while a failed flush waits for its rollback; then, in the transaction, `InvalidRequestError(Deleted)` for
-/// a deleted object, and `InvalidRequestError(IdentityConflict)` for a detached one whose identity a persistent object has.
+/// a deleted object, and `InvalidRequestError(IdentityConflict)` where one of those that come in is detached and a persistent object,
+/// or another of them, has its identity.
 pub fn add<K: Keeper>(session: &mut Session, keeper: &mut K, object: ObjId) -> Result<(), Refusal>
     requires in_step { IsInStep session.old (K.moment keeper.old) }
     requires object { IsObject session.old.graph object }
@@ -42,41 +43,24 @@ fn add_inside<K: Keeper>(session: &mut Session, keeper: &K, object: ObjId) -> Re
     ensures { IsSessionCall K.moment (λ u. u) (steps.add_inside object)
         (session.old, keeper.now) result (session.new, keeper.now) }
 {
-    match add_fault(session, object) {
+    let objects = coming_objects(session, object)?;
+    let coming = objects.as_slice();
+    match add_fault(session, object, coming) {
         Some(fault) => Err(fault),
-        None => take_in(session, object),
+        None => take_in(session, object, coming),
     }
 }
 
-/// The object comes in, where nothing is against it. The only refusal is `Memory`.
-fn take_in(session: &mut Session, object: ObjId) -> Result<(), Refusal>
+/// The objects come in, where nothing is against it, and the one object has no delete mark then. The only refusal is `Memory`.
+fn take_in(session: &mut Session, object: ObjId, objects: &[ObjId]) -> Result<(), Refusal>
     requires object { IsObject session.old.graph object }
-    requires none { add_fault object session.old ≡ None }
-    ensures ok { OnOk result (session.new ≡ session_added object session.old) }
+    requires free { spec.MayJoin session.old objects.now }
+    ensures ok { OnOk result (session.new
+        ≡ spec.session_unmarked object (spec.session_joined objects.now session.old)) }
     ensures cause { IfErr result (λ e. e ≡ Memory) }
     ensures same { SameObjects session.old session.new }
     ensures scopes { length session.new.frames.scopes ≡ length session.old.frames.scopes }
 {
-    let number = draw_number(session, object);
-    let alloc = session.alloc();
-    session.step(TakeIn {
-        alloc,
-        object,
-        number,
-    })
-}
-
-/// The add number under which an object comes in: the next one for a transient object; any other needs none.
-fn draw_number(session: &mut Session, object: ObjId) -> u64
-    requires { IsObject session.old.graph object }
-    ensures drawn { session.new ≡ record session.old {
-      added = added_then (object_at session.old.graph object).state session.old.added;
-    } }
-    ensures number { object_in result (object_at session.old.graph object)
-        ≡ object_in (one_more session.old.added) (object_at session.old.graph object) }
-{
-    match session.object(object).state {
-        State::Transient => session.next_added(),
-        State::Pending | State::Persistent | State::Deleted | State::Detached => 0,
-    }
+    take_all(session, objects)?;
+    session.step(Unmark { object })
 }

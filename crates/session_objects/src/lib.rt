@@ -2,7 +2,12 @@
 #![tactic(auto)]
 
 mod adding;
+mod coming;
 mod conflicts;
+mod joining;
 mod taking;
 
 pub use adding::add;
+pub use coming::coming_objects;
+pub use conflicts::conflict_fault;
+pub use joining::take_all;

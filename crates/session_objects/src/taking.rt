@@ -21,7 +21,7 @@ use session_scopes::{Given, ObjectStep, put_given};
 use std::alloc::Global;
 use touching::touch_if;
 
-/// An object comes in, under an add number where it is transient, and its delete mark is taken away.
+/// An object comes in, under an add number where it is transient.
 #[derive(Drop)]
 pub(crate) struct TakeIn {
     pub(crate) alloc: Global,
@@ -31,11 +31,11 @@ pub(crate) struct TakeIn {
 
 impl ObjectStep for TakeIn {
     ghost use Rattle.object_arena.specs.Graph.{IsObject, object_at, with_object};
-    ghost use Rattle.session_objects.specs.Taking.{MayReturn, object_in};
+    ghost use Rattle.session_objects.specs.Taking.{MayReturn, taken_under};
 
     ghost is_ready = { λ step mapped graph. IsObject graph step.object × MayReturn graph step.object };
 
-    ghost after = { λ step mapped graph. with_object graph step.object (object_in step.number (object_at graph step.object)) };
+    ghost after = { λ step mapped graph. with_object graph step.object (taken_under step.number (object_at graph step.object)) };
 
     fn take(
         self,
@@ -52,8 +52,60 @@ impl ObjectStep for TakeIn {
     }
 }
 
-/// An object comes in, and its delete mark is taken away; it is touched in the innermost scope where its record comes to differ. The
-/// only refusal is `Memory`.
+/// An object's delete mark is taken away.
+#[derive(Drop)]
+pub(crate) struct Unmark {
+    pub(crate) object: ObjId,
+}
+
+impl ObjectStep for Unmark {
+    ghost use Rattle.object_arena.specs.Graph.{IsObject};
+    ghost use Rattle.session_objects.specs.Taking.{unmarked};
+
+    ghost is_ready = { λ step mapped graph. IsObject graph step.object };
+
+    ghost after = { λ step mapped graph. unmarked graph step.object };
+
+    fn take(
+        self,
+        mapping: &Mapping,
+        arena: &mut Arena,
+        frames: &mut Frames,
+    ) -> Result<(), Refusal> {
+        take_mark(mapping, arena, frames, self.object)
+    }
+}
+
+/// A delete mark is taken away; the object is touched in the innermost scope where it had one. The only refusal is `Memory`.
+fn take_mark(
+    mapping: &Mapping,
+    arena: &mut Arena,
+    frames: &mut Frames,
+    object: ObjId,
+) -> Result<(), Refusal>
+    requires fit { IsFit mapping.now arena.old }
+    requires object { IsObject arena.old object }
+    ensures ok { OnOk result (arena.new ≡ spec.unmarked arena.old object) }
+    ensures touched { OnOk result (frames.new
+        ≡ frames_touched_between arena.old arena.new frames.old) }
+    ensures cause { IfErr result (λ e. e ≡ Memory) }
+    ensures fits { IsFit mapping.now arena.new }
+    ensures classes { classes_of arena.new ≡ classes_of arena.old }
+    ensures scopes { frames.new.scopes ≡ frames.old.scopes }
+{
+    let is_marked = is_marked(arena.object(object));
+    touch_if(frames, arena, object, is_marked)?;
+    unmark(arena, object)
+}
+
+/// Whether an object has a delete mark, without which it would differ.
+fn is_marked(object: &Object) -> bool
+    ensures { result ≡ not (same_object object.now (object_unmarked object.now)) }
+{
+    object.marked
+}
+
+/// An object comes in; it is touched in the innermost scope where its record comes to differ. The only refusal is `Memory`.
 fn take_in(
     alloc: Global,
     mapping: &Mapping,
@@ -67,7 +119,7 @@ fn take_in(
     requires object { IsObject arena.old object }
     requires free { spec.MayReturn arena.old object }
     ensures ok { OnOk result (arena.new ≡ with_object arena.old object
-        (spec.object_in number (object_at arena.old object))) }
+        (spec.taken_under number (object_at arena.old object))) }
     ensures touched { OnOk result (frames.new
         ≡ frames_touched_between arena.old arena.new frames.old) }
     ensures cause { IfErr result (λ e. e ≡ Memory) }
@@ -82,18 +134,18 @@ fn take_in(
 
 /// Whether an object that comes in comes to differ.
 fn comes_to_differ(object: &Object) -> bool
-    ensures { (number : ℕ) → result ≡ not (same_object object.now (spec.object_in number object.now)) }
+    ensures { (number : ℕ) → result ≡ not (same_object object.now (spec.taken_under number object.now)) }
 {
     match object.state {
         State::Transient => true,
         State::Detached => true,
-        State::Pending => object.marked,
-        State::Persistent => object.marked,
-        State::Deleted => object.marked,
+        State::Pending => false,
+        State::Persistent => false,
+        State::Deleted => false,
     }
 }
 
-/// An object comes in, and its delete mark is taken away. The only refusal is `Memory`.
+/// An object comes in. The only refusal is `Memory`.
 fn put_in(
     alloc: Global,
     mapping: &Mapping,
@@ -106,7 +158,7 @@ fn put_in(
     requires object { IsObject arena.old object }
     requires free { spec.MayReturn arena.old object }
     ensures ok { OnOk result (arena.new ≡ with_object arena.old object
-        (spec.object_in number (object_at arena.old object))) }
+        (spec.taken_under number (object_at arena.old object))) }
     ensures cause { IfErr result (λ e. e ≡ Memory) }
     ensures fits { IsFit mapping.now arena.new }
     ensures classes { classes_of arena.new ≡ classes_of arena.old }
@@ -114,23 +166,26 @@ fn put_in(
     match arena.object(object).state {
         State::Transient => put_pending(arena, object, number),
         State::Detached => put_returned(alloc, mapping, arena, object),
-        State::Pending => unmark(arena, object),
-        State::Persistent => unmark(arena, object),
-        State::Deleted => unmark(arena, object),
+        State::Pending => Ok(()),
+        State::Persistent => Ok(()),
+        State::Deleted => Ok(()),
     }
 }
 
-/// A transient object becomes pending under an add number, without a delete mark. The only refusal is `Memory`.
+/// A transient object becomes pending under an add number. The only refusal is `Memory`.
 fn put_pending(arena: &mut Arena, object: ObjId, number: u64) -> Result<(), Refusal>
     requires object { IsObject arena.old object }
     requires transient { (object_at arena.old object).state ≡ Transient }
     ensures ok { OnOk result (arena.new ≡ with_object arena.old object
-        (spec.object_in number (object_at arena.old object))) }
+        (spec.taken_under number (object_at arena.old object))) }
     ensures cause { IfErr result (λ e. e ≡ Memory) }
     ensures keeps { Keeps arena.old arena.new }
 {
-    let is_orphan = arena.object(object).orphan;
-    arena.put_marks(object, number, false, is_orphan)?;
+    let (is_marked, is_orphan) = {
+        let record = arena.object(object);
+        (record.marked, record.orphan)
+    };
+    arena.put_marks(object, number, is_marked, is_orphan)?;
     arena.put_state(object, State::Pending)
 }
 
@@ -148,7 +203,7 @@ fn put_returned(
     requires detached { (object_at arena.old object).state ≡ Detached }
     requires free { IsFree arena.old object (object_at arena.old object).identity }
     ensures ok { OnOk result (arena.new ≡ with_object arena.old object
-        (object_unmarked (spec.returned_object (object_at arena.old object)))) }
+        (spec.returned_object (object_at arena.old object))) }
     ensures cause { IfErr result (λ e. e ≡ Memory) }
     ensures fits { IsFit mapping.now arena.new }
     ensures classes { classes_of arena.new ≡ classes_of arena.old }

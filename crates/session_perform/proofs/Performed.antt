@@ -1,19 +1,19 @@
 -- Lines that were performed, put together of calls of the session and of what is told of them.
-use Rattle.std.proofs.Common.{◌≡◌, ℕ, List, length, Result, Ok, Err, IsErrAnd, refl, sym, ap, ◌∙◌, subst, arith}
-use Rattle.base_core.specs.declared.ids.AttrNo.{AttrNo}
+use Rattle.std.proofs.Common.{◌≡◌, ℕ, List, length, Result, Ok, Err, IfErr, IfOk, IsErrAnd, refl, sym, ap, ◌∙◌, subst, arith}
 use Rattle.base_core.specs.declared.ids.ClassId.{ClassId}
 use Rattle.base_core.specs.declared.ids.ObjId.{ObjId}
 use Rattle.base_core.specs.declared.refusal.Refusal.{Refusal}
-use Rattle.base_core.specs.declared.value.Value.{Value}
+use Rattle.base_core.specs.declared.refusal.Refusal.TheVariants.{Memory}
+use Rattle.class_types.specs.Rules.{Rules}
 use Rattle.class_mapping.specs.Mapped.{IsClass, Mapped}
 use Rattle.programs.specs.Alone.{IsQuiet}
 use Rattle.programs.specs.Store.{Store}
-use Rattle.programs.specs.Programs.{Run, give}
+use Rattle.programs.specs.Programs.{Run, ◌>>=◌, give}
 use Rattle.programs.specs.Moment.{Moment}
+use Rattle.programs.specs.Beside.{on_own}
 use Rattle.programs.proofs.Lifting.{chosen, quietly}
-use Rattle.programs.proofs.Sequence.{done, then_err, then_ok}
+use Rattle.programs.proofs.Sequence.{done, no_memory, then_err, then_ok}
 use Rattle.session_parts.proofs.ObjectLemmas.{class_still, made_still}
-use Rattle.session_scopes.specs.Making.{object_made}
 use Rattle.session_scopes.specs.SessionState.{AreThereStill, IsInStep, IsMadeOf, SameObjects, SessionState}
 use Rattle.session_calls.specs.Calling.{IsSessionCall}
 use Rattle.session_calls.specs.Parts.{World}
@@ -104,14 +104,14 @@ stands moment shown {own = own} {keeper = keeper} is there in_step =
 
 -- ---- an object is made
 
-module _ {K : Type 0} (moment : K → Moment Store) (name : List ℕ) (class : ClassId) (cells : List (AttrNo × Value)) where
+module _ {K : Type 0} (moment : K → Moment Store) (name : List ℕ) (class : ClassId) (make : SessionState → Run SessionState ObjId) where
   made_step : (own now : SessionState) (keeper : K) → now ≡ record own { graph = now.graph } → IsInStep own (moment keeper) → IsInStep now (moment keeper)
   made_step own now keeper rest in_step = (in_step.0, in_step.1 ∙ sym (ap (λ (s : SessionState). length s.frames.scopes) rest))
 
-  pub makes : {own now : SessionState} {keeper : K} {object : ObjId} → IsQuiet (λ (o : ObjId). o) (object_made class cells own) (Ok object) now → now ≡ record own { graph = now.graph } → IsMadeOf now.graph object class → AreThereStill own.graph now.graph
-      → IsClass own.mapping class → IsInStep own (moment keeper) → IsPerformed moment (spec.make name class cells) (own, keeper) (Ok (answer.Bind name (Object object class))) (now, keeper)
+  pub makes : {own now : SessionState} {keeper : K} {object : ObjId} → IsQuiet (λ (o : ObjId). o) (make own) (Ok object) now → now ≡ record own { graph = now.graph } → IsMadeOf now.graph object class → AreThereStill own.graph now.graph
+      → IsClass own.mapping class → IsInStep own (moment keeper) → IsPerformed moment (telling (λ o. answer.Bind name (Object o class)) (on_own make)) (own, keeper) (Ok (answer.Bind name (Object object class))) (now, keeper)
   makes {own = own} {now = now} {keeper = keeper} {object = object} quiet rest made stay declared in_step = record {
-    step = then_ok (λ o. give (answer.Bind name (Object o class))) (quietly moment {v = λ (o : ObjId). o} (object_made class cells) {own = own} {now = now} {keeper = keeper} {r = Ok object} quiet) (done {v = λ (a : Answer). a} refl);
+    step = then_ok (λ o. give (answer.Bind name (Object o class))) (quietly moment {v = λ (o : ObjId). o} make {own = own} {now = now} {keeper = keeper} {r = Ok object} quiet) (done {v = λ (a : Answer). a} refl);
     mapping = ap (λ (s : SessionState). s.mapping) rest;
     stay = stay;
     drawn = omega (arith, ap (λ (s : SessionState). s.drawn.drawn) rest);
@@ -119,10 +119,10 @@ module _ {K : Type 0} (moment : K → Moment Store) (name : List ℕ) (class : C
     answer = (made, subst (λ (m : Mapped). IsClass m class) (sym (ap (λ (s : SessionState). s.mapping) rest)) declared);
   }
 
-  pub makes_not : {own now : SessionState} {keeper : K} {e : Refusal} → IsQuiet (λ (o : ObjId). o) (object_made class cells own) (Err e) now → now ≡ record own { graph = now.graph } → AreThereStill own.graph now.graph → IsInStep own (moment keeper)
-      → IsPerformed moment (spec.make name class cells) (own, keeper) (Err e) (now, keeper)
+  pub makes_not : {own now : SessionState} {keeper : K} {e : Refusal} → IsQuiet (λ (o : ObjId). o) (make own) (Err e) now → now ≡ record own { graph = now.graph } → AreThereStill own.graph now.graph → IsInStep own (moment keeper)
+      → IsPerformed moment (telling (λ o. answer.Bind name (Object o class)) (on_own make)) (own, keeper) (Err e) (now, keeper)
   makes_not {own = own} {now = now} {keeper = keeper} {e = e} quiet rest stay in_step = record {
-    step = then_err (λ o. give (answer.Bind name (Object o class))) (quietly moment {v = λ (o : ObjId). o} (object_made class cells) {own = own} {now = now} {keeper = keeper} {r = Err e} quiet);
+    step = then_err (λ o. give (answer.Bind name (Object o class))) (quietly moment {v = λ (o : ObjId). o} make {own = own} {now = now} {keeper = keeper} {r = Err e} quiet);
     mapping = ap (λ (s : SessionState). s.mapping) rest;
     stay = stay;
     drawn = omega (arith, ap (λ (s : SessionState). s.drawn.drawn) rest);
@@ -130,7 +130,53 @@ module _ {K : Type 0} (moment : K → Moment Store) (name : List ℕ) (class : C
     answer = tt;
   }
 
+-- ---- what is told of a call and of the session after it
+
+told_then : {X K : Type 0} (moment : K → Moment Store) {m : World → Run World X} (tell : X → SessionState → Answer) {own now : SessionState} {before after : K} {x : X} {a : Answer}
+    → a ≡ tell x now → IsAnswer now.mapping now.graph now.drawn.drawn (tell x now) → IsSessionCall moment (λ (x : X). x) m (own, before) (Ok x) (now, after)
+    → IsPerformed moment (m >>= λ x. as_it_is (tell x)) (own, before) (Ok a) (now, after)
+told_then moment {m = m} tell {own = own} {now = now} {before = before} {after = after} {x = x} is there p =
+    subst (λ (b : Answer). IsPerformed moment (m >>= λ x. as_it_is (tell x)) (own, before) (Ok b) (now, after)) (sym is) (record {
+      step = then_ok (λ x. as_it_is (tell x)) p.step (chosen moment (λ session. give (tell x session)) {own = now} {now = now} {old = after} {new = after} (done {v = λ (a : Answer). a} refl));
+      mapping = p.kept.same.mapping;
+      stay = there_same own now p.kept.same;
+      drawn = p.kept.same.drawn;
+      in_step = p.kept.in_step;
+      answer = there;
+    })
+
+-- it was refused
+pub untold_then : {X K : Type 0} (moment : K → Moment Store) {m : World → Run World X} (tell : X → SessionState → Answer) {own now : SessionState} {before after : K} {e : Refusal}
+    → IsSessionCall moment (λ (x : X). x) m (own, before) (Err e) (now, after) → IsPerformed moment (m >>= λ x. as_it_is (tell x)) (own, before) (Err e) (now, after)
+untold_then moment tell {own = own} {now = now} {before = before} {after = after} p = record {
+  step = then_err (λ x. as_it_is (tell x)) p.step;
+  mapping = p.kept.same.mapping;
+  stay = there_same own now p.kept.same;
+  drawn = p.kept.same.drawn;
+  in_step = p.kept.in_step;
+  answer = tt;
+}
+
+-- there was no memory for what is told
+full_then : {X K : Type 0} (moment : K → Moment Store) {m : World → Run World X} (next : X → World → Run World Answer) {own now : SessionState} {before after : K} {x : X} {e : Refusal}
+    → e ≡ Memory → IsSessionCall moment (λ (x : X). x) m (own, before) (Ok x) (now, after) → IsPerformed moment (m >>= next) (own, before) (Err e) (now, after)
+full_then moment {m = m} next {own = own} {now = now} {before = before} {after = after} is p =
+    subst (λ (d : Refusal). IsPerformed moment (m >>= next) (own, before) (Err d) (now, after)) (sym is) (record {
+      step = then_ok next p.step no_memory;
+      mapping = p.kept.same.mapping;
+      stay = there_same own now p.kept.same;
+      drawn = p.kept.same.drawn;
+      in_step = λ own_refusal. p.kept.in_step;
+      answer = tt;
+    })
+
+pub tells_then : {X K : Type 0} (moment : K → Moment Store) {m : World → Run World X} (tell : X → SessionState → Answer) {own now : SessionState} {before after : K} {x : X} (r : Result Answer Refusal)
+    → IfOk r (λ a. a ≡ tell x now) → IfOk r (λ a. IsAnswer now.mapping now.graph now.drawn.drawn (tell x now)) → IfErr r (λ e. e ≡ Memory) → IsSessionCall moment (λ (x : X). x) m (own, before) (Ok x) (now, after)
+    → IsPerformed moment (m >>= λ x. as_it_is (tell x)) (own, before) r (now, after)
+tells_then moment tell (Ok a) is there cause p = told_then moment tell is there p
+tells_then moment tell (Err e) is there cause p = full_then moment (λ x. as_it_is (tell x)) cause p
+
 -- ---- a case of a line
 
-pub at_case : {K : Type 0} (moment : K → Moment Store) {line other : Resolved} {old new : SessionState × K} {r : Result Answer Refusal} → line ≡ other → IsPerformed moment (program_of_resolved other) old r new → IsPerformed moment (program_of_resolved line) old r new
-at_case moment {old = old} {new = new} {r = r} is p = subst (λ (l : Resolved). IsPerformed moment (program_of_resolved l) old r new) (sym is) p
+pub at_case : {K : Type 0} (moment : K → Moment Store) (rules : Rules) {line other : Resolved} {old new : SessionState × K} {r : Result Answer Refusal} → line ≡ other → IsPerformed moment (program_of_resolved rules other) old r new → IsPerformed moment (program_of_resolved rules line) old r new
+at_case moment rules {old = old} {new = new} {r = r} is p = subst (λ (l : Resolved). IsPerformed moment (program_of_resolved rules l) old r new) (sym is) p

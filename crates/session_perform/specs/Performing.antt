@@ -1,26 +1,32 @@
 -- What a resolved line does to a session and its store: one program for each case, which answers what its reply tells.
-use Rattle.std.specs.Prelude.{◌≡◌, ℕ, ◌≤◌, ◌==◌, List, length, Option, None, Some, Result, Ok, Err, IfOk}
+use Rattle.std.specs.Prelude.{◌≡◌, ℕ, ◌≤◌, ◌==◌, List, length, map, Option, None, Some, Result, Ok, Err, IfOk}
 use Rattle.base_core.specs.declared.ids.AttrNo.{AttrNo}
 use Rattle.base_core.specs.declared.ids.ClassId.{ClassId}
 use Rattle.base_core.specs.declared.ids.ObjId.{ObjId}
+use Rattle.base_core.specs.declared.ids.RelNo.{RelNo}
 use Rattle.base_core.specs.declared.refusal.Refusal.{Refusal}
 use Rattle.base_core.specs.declared.value.Value.{Value}
-use Rattle.object_arena.specs.Graph.{object_at}
+use Rattle.class_types.specs.Rules.{Rules}
+use Rattle.object_arena.specs.Graph.{Graph, object_at}
 use Rattle.programs.specs.Store.{Store}
 use Rattle.programs.specs.Programs.{Run, ◌>>=◌, give}
 use Rattle.programs.specs.Moment.{Moment, Runs}
 use Rattle.programs.specs.Beside.{by_own, moment_beside, on_own}
 use Rattle.session_parts.specs.Depths.{StaysAt}
-use Rattle.session_scopes.specs.Making.{object_made}
 use Rattle.session_scopes.specs.SessionState.{AreThereStill, SessionState}
 use Rattle.session_calls.specs.Parts.{World}
 use Rattle.session_calls.specs.Steps as calls
 use Rattle.session_tables.specs.Steps.{change_all}
 use Rattle.session_tables.specs.declared.tables.TableChange.TheVariants.{Create, Drop}
 use Rattle.session_objects.specs.Steps.{add}
+use Rattle.session_values.specs.Steps as values
+use Rattle.session_links.specs.Steps as links
+use Rattle.session_links.specs.declared.reading.Related.{Related}
+use Rattle.session_links.specs.declared.reading.Related.TheVariants.{One, Many}
 use Rattle.session_acts.specs.Steps as acts
 use Rattle.session_dump.specs.Dump.{scan_tables}
-use Rattle.shell_parts.specs.declared.names.Bound.TheVariants.{Object, Saved}
+use Rattle.shell_parts.specs.declared.names.Bound.{Bound}
+use Rattle.shell_parts.specs.declared.names.Bound.TheVariants.{Nothing, Object, Objects, Saved}
 use Rattle.command_resolve.specs.declared.answer.Answer.{Answer}
 use Rattle.command_resolve.specs.declared.answer.Answer.TheVariants as answer
 use Rattle.command_resolve.specs.declared.resolved.Resolved.{Resolved}
@@ -42,9 +48,9 @@ nothing_told (Err e) = Err e
 abbrev pub quietly : (World → Run World (Unit {0})) → World → Run World Answer
 quietly m = telling (λ u. answer.Nothing) m
 
--- an object is made, for which the name is to stand
-abbrev pub make : List ℕ → ClassId → List (AttrNo × Value) → World → Run World Answer
-make name class cells = telling (λ object. answer.Bind name (Object object class)) (on_own (object_made class cells))
+-- an object is made of values that its validators take, and the name is to stand for it
+abbrev pub make : Rules → List ℕ → ClassId → List (AttrNo × Value) → World → Run World Answer
+make rules name class cells = telling (λ object. answer.Bind name (Object object class)) (on_own (values.valid_made rules class cells))
 
 -- what is to be written is written, and a savepoint begins, for which the name is to stand
 abbrev pub begin_nested : List ℕ → World → Run World Answer
@@ -67,30 +73,46 @@ as_it_is tell = by_own (λ session. give (tell session))
 abbrev pub state_of : ObjId → SessionState → Answer
 state_of object session = answer.State (object_at session.graph object).state
 
+-- an object, with its class
+abbrev pub with_class : Graph → ObjId → ObjId × ClassId
+with_class graph object = (object, (object_at graph object).class)
+
+-- what is shown of a link: the object to which it leads, or none, or the members of a collection
+abbrev pub link_shown : Graph → Related → Bound
+link_shown graph (One None) = Nothing
+link_shown graph (One (Some end)) = Object end (object_at graph end).class
+link_shown graph (Many members) = Objects (map (with_class graph) members)
+
+-- what a link holds
+abbrev pub read_link : ObjId → RelNo → World → Run World Answer
+read_link object relation = links.read_related object relation >>= λ related. as_it_is (λ session. answer.Thing (link_shown session.graph related))
+
 -- whether two objects are one
 abbrev pub same : ObjId → ObjId → Answer
 same object other = answer.Same (object.0 == other.0)
 
--- what a resolved line does
-abbrev pub program_of_resolved : Resolved → World → Run World Answer
-program_of_resolved resolved.CreateAll = quietly (change_all Create)
-program_of_resolved resolved.DropAll = quietly (change_all Drop)
-program_of_resolved resolved.Dump = telling answer.Tables scan_tables
-program_of_resolved (resolved.New name class cells) = make name class cells
-program_of_resolved (resolved.BeginNested name) = begin_nested name
-program_of_resolved (resolved.SetCell object attr value) = quietly (calls.set_cell object attr value)
-program_of_resolved (resolved.Add object) = quietly (add object)
-program_of_resolved (resolved.Delete object) = quietly (calls.delete object)
-program_of_resolved (resolved.Show thing) = give (answer.Thing thing)
-program_of_resolved (resolved.ShowCell object attr) = telling answer.Value (calls.read_cell object attr)
-program_of_resolved (resolved.State object) = as_it_is (state_of object)
-program_of_resolved (resolved.Same object other) = give (same object other)
-program_of_resolved resolved.Flush = quietly acts.flush_now
-program_of_resolved (resolved.Commit handle) = quietly (commit handle)
-program_of_resolved (resolved.Rollback handle) = quietly (roll_back handle)
-program_of_resolved resolved.Close = quietly calls.close
-program_of_resolved (resolved.Rows select) = telling answer.Rows (acts.rows select)
-program_of_resolved (resolved.Bulk statement) = telling answer.Count (acts.bulk statement)
+-- what a resolved line does, where these are the rules of the validators
+abbrev pub program_of_resolved : Rules → Resolved → World → Run World Answer
+program_of_resolved rules resolved.CreateAll = quietly (change_all Create)
+program_of_resolved rules resolved.DropAll = quietly (change_all Drop)
+program_of_resolved rules resolved.Dump = telling answer.Tables scan_tables
+program_of_resolved rules (resolved.New name class cells) = make rules name class cells
+program_of_resolved rules (resolved.BeginNested name) = begin_nested name
+program_of_resolved rules (resolved.SetCell object attr value) = quietly (values.set_valid rules object attr value)
+program_of_resolved rules (resolved.ChangeLink owner relation call) = quietly (links.change_link owner relation call)
+program_of_resolved rules (resolved.Add object) = quietly (add object)
+program_of_resolved rules (resolved.Delete object) = quietly (calls.delete object)
+program_of_resolved rules (resolved.Show thing) = give (answer.Thing thing)
+program_of_resolved rules (resolved.ShowCell object attr) = telling answer.Value (calls.read_cell object attr)
+program_of_resolved rules (resolved.ShowLink object relation) = read_link object relation
+program_of_resolved rules (resolved.State object) = as_it_is (state_of object)
+program_of_resolved rules (resolved.Same object other) = give (same object other)
+program_of_resolved rules resolved.Flush = quietly acts.flush_now
+program_of_resolved rules (resolved.Commit handle) = quietly (commit handle)
+program_of_resolved rules (resolved.Rollback handle) = quietly (roll_back handle)
+program_of_resolved rules resolved.Close = quietly calls.close
+program_of_resolved rules (resolved.Rows select) = telling answer.Rows (acts.rows select)
+program_of_resolved rules (resolved.Bulk statement) = telling answer.Count (acts.bulk statement)
 
 -- ---- what a line is asked, and what it keeps
 

@@ -2,6 +2,7 @@
 #![tactic(auto)]
 
 mod acting;
+mod links;
 mod objects;
 mod performing;
 

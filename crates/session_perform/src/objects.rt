@@ -2,6 +2,7 @@
 
 ghost use Rattle.std.specs.Prelude.{◌≡◌, None};
 ghost use Rattle.std.specs.List.{All};
+ghost use Rattle.class_types.specs.Shown.{rules_of};
 ghost use Rattle.class_mapping.specs.Mapped.{IsAttribute, IsClass};
 ghost use Rattle.object_arena.specs.Graph.{IsObject, object_at};
 ghost use Rattle.command_resolve.specs.declared.answer.Answer.TheVariants as answer;
@@ -10,18 +11,21 @@ ghost use Rattle.session_calls.specs.Steps as calls;
 ghost use Rattle.session_perform.specs.Performing as spec;
 
 use base_core::{AttrNo, ClassId, Name, ObjId, Refusal, Value};
+use class_types::Hooks;
 use command_resolve::Answer;
 use keeper_core::Keeper;
 use session_scopes::Session;
+use session_values::make_valid;
 use shell_parts::Bound;
 
 /// Makes a transient object of a class with these values, for which the name is to stand.
 ///
 /// # Errors
-/// `TypeMismatch` and `LimitReached(Objects)`, which leave the session as it was. `Memory`.
+/// As those of `session_values::make_valid`.
 pub(crate) fn make<K: Keeper>(
     session: &mut Session,
     keeper: &K,
+    hooks: &Hooks,
     name: Name,
     class: ClassId,
     cells: &[(AttrNo, Value)],
@@ -29,10 +33,10 @@ pub(crate) fn make<K: Keeper>(
     requires in_step { IsInStep session.old (K.moment keeper.now) }
     requires class { IsClass session.old.mapping class }
     requires attributes { All (λ one. IsAttribute session.old.mapping class one.0) cells.now }
-    ensures { spec.IsPerformed K.moment (spec.make name class cells.now)
+    ensures { spec.IsPerformed K.moment (spec.make (rules_of hooks.now) name class cells.now)
         (session.old, keeper.now) result (session.new, keeper.now) }
 {
-    let object = session.make(class, cells)?;
+    let object = make_valid(session, hooks, class, cells)?;
     Ok(Answer::Bind(name, Bound::Object(object, class)))
 }
 

@@ -1,20 +1,26 @@
 //! What each case of a resolved line does.
 
+ghost use Rattle.class_types.specs.Shown.{rules_of};
 ghost use Rattle.session_scopes.specs.SessionState.{IsInStep};
 ghost use Rattle.session_perform.specs.Performing.{IsPerformed, IsReady, program_of_resolved};
 
 use crate::acting::{begin_nested, bulk, commit, nothing_told, roll_back, rows, tables};
+use crate::links::read_link;
 use crate::objects::{make, read_cell, same, state};
 use base_core::Refusal;
+use class_types::Hooks;
 use command_resolve::{Answer, Resolved};
 use keeper_core::Keeper;
 use session_acts::flush_now;
-use session_calls::{close, delete, set_cell};
+use session_calls::{close, delete};
+use session_links::change_link;
 use session_objects::add;
 use session_scopes::Session;
 use session_tables::{create_all, drop_all};
+use session_values::set_valid;
 
-/// Does what a resolved line asks for, and answers what its reply tells. All that the line names is to be there.
+/// Does what a resolved line asks for, and answers what its reply tells. All that the line names is to be there. Values of new objects
+/// and of cells are asked of these validators.
 ///
 /// # Errors
 /// What needs no statement is told first; then a transaction begins, where the line begins one, and what is to be written is written,
@@ -23,11 +29,12 @@ use session_tables::{create_all, drop_all};
 pub fn perform<K: Keeper>(
     session: &mut Session,
     keeper: &mut K,
+    hooks: &Hooks,
     resolved: Resolved,
 ) -> Result<Answer, Refusal>
     requires in_step { IsInStep session.old (K.moment keeper.old) }
     requires ready { IsReady session.old resolved }
-    ensures { IsPerformed K.moment (program_of_resolved resolved)
+    ensures { IsPerformed K.moment (program_of_resolved (rules_of hooks.now) resolved)
         (session.old, keeper.old) result (session.new, keeper.new) }
 {
     match resolved {
@@ -37,6 +44,7 @@ pub fn perform<K: Keeper>(
         Resolved::New { name, class, cells } => make(
             session,
             keeper,
+            hooks,
             name,
             class,
             cells.as_slice(),
@@ -46,11 +54,17 @@ pub fn perform<K: Keeper>(
             object,
             attr,
             value,
-        } => nothing_told(set_cell(session, keeper, object, attr, value)),
+        } => nothing_told(set_valid(session, keeper, hooks, object, attr, value)),
+        Resolved::ChangeLink {
+            owner,
+            relation,
+            call,
+        } => nothing_told(change_link(session, keeper, owner, relation, call)),
         Resolved::Add(object) => nothing_told(add(session, keeper, object)),
         Resolved::Delete(object) => nothing_told(delete(session, keeper, object)),
         Resolved::Show(thing) => Ok(Answer::Thing(thing)),
         Resolved::ShowCell(object, attr) => read_cell(session, keeper, object, attr),
+        Resolved::ShowLink(object, relation) => read_link(session, keeper, object, relation),
         Resolved::State(object) => Ok(state(session, object)),
         Resolved::Same(object, other) => Ok(same(object, other)),
         Resolved::Flush => nothing_told(flush_now(session, keeper)),

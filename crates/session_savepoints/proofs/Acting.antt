@@ -128,13 +128,17 @@ unfolding enter_nested
 enters_nested moment {mid = mid} room p =
     then_call (λ u. checked limit_fault) p (passes moment limit_fault (ap (λ (b : Bool). fault_if (not b) (LimitReached Savepoints)) (more_fit (length mid.frames.scopes) room)) p.kept.in_step)
 
+-- the session is told it
+pub limit_told : (session : SessionState) → scope_limit ≤ length session.frames.scopes → limit_fault session ≡ Some (LimitReached Savepoints)
+limit_told session full = ap (λ (b : Bool). fault_if (not b) (LimitReached Savepoints)) (no_more_fit (length session.frames.scopes) full)
+
 -- there are as many as there may be
 pub is_full : {K : Type 0} (moment : K → Moment Store) {own mid : SessionState} {old new : K} → scope_limit ≤ length mid.frames.scopes
     → IsSessionCall moment (λ (u : Unit {0}). u) enter (own, old) (Ok tt) (mid, new) → IsSessionCall moment (λ (u : Unit {0}). u) enter_nested (own, old) (Err (LimitReached Savepoints)) (mid, new)
 unfolding enter_nested
 is_full moment {mid = mid} full p =
     then_call (λ u. checked limit_fault) p
-    (fails moment limit_fault {v = λ (u : Unit {0}). u} (ap (λ (b : Bool). fault_if (not b) (LimitReached Savepoints)) (no_more_fit (length mid.frames.scopes) full)) (refl, refl) p.kept.in_step)
+    (fails moment limit_fault {v = λ (u : Unit {0}). u} (limit_told mid full) (refl, refl) p.kept.in_step)
 
 pub enters_not : {Y K : Type 0} (moment : K → Moment Store) {v : Y → Unit {0}} {own now : SessionState} {old new : K} {e : Refusal} → IsSessionCall moment (λ (u : Unit {0}). u) enter (own, old) (Err e) (now, new) → IsSessionCall moment v enter_nested (own, old) (Err e) (now, new)
 unfolding enter_nested

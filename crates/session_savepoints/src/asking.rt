@@ -1,10 +1,13 @@
 //! What is asked of a session before a savepoint begins or ends.
 
-ghost use Rattle.std.specs.Prelude.{◌≡◌, ◌<◌, OnOk, false, is_some, length, true};
+ghost use Rattle.std.specs.Prelude.{◌≡◌, ◌<◌, None, IfErr, OnOk, false, is_some, length, true};
+ghost use Rattle.object_arena.specs.Graph.{either_fault};
 ghost use Rattle.savepoints.specs.Scopes.{scope_limit};
 ghost use Rattle.session_scopes.specs.Handles.{place_of_handle};
-ghost use Rattle.session_scopes.specs.SessionState.{IsInStep};
+ghost use Rattle.session_scopes.specs.SessionState.{AreAlikeButNotes, IsInStep};
 ghost use Rattle.session_calls.specs.Calling.{IsSessionCall};
+ghost use Rattle.session_calls.specs.Refusals.{IsRefused, entered};
+ghost use Rattle.session_calls.specs.Steps.{pending_fault};
 ghost use Rattle.session_savepoints.specs.Steps as steps;
 
 use base_core::{LimitKind, Refusal};
@@ -19,7 +22,7 @@ const SCOPE_LIMIT: u32 = 65;
 ///
 /// # Errors
 /// `PendingRollbackError` while a failed flush waits for its rollback; then, in the transaction, `LimitReached(Savepoints)` where
-/// 64 savepoints are in progress.
+/// 64 savepoints are in progress. The first leaves the session as it was, the second in the transaction.
 pub fn enter_nested<K: Keeper>(session: &mut Session, keeper: &mut K) -> Result<(), Refusal>
     requires in_step { IsInStep session.old (K.moment keeper.old) }
     ensures call { IsSessionCall K.moment (λ u. u) steps.enter_nested
@@ -27,6 +30,9 @@ pub fn enter_nested<K: Keeper>(session: &mut Session, keeper: &mut K) -> Result<
     ensures inside { OnOk result (0 < length session.new.frames.scopes) }
     ensures room { OnOk result (length session.new.frames.scopes < scope_limit) }
     ensures well { OnOk result (session.new.failed ≡ false) }
+    ensures entered { OnOk result (AreAlikeButNotes (entered session.old) session.new) }
+    ensures refused { IfErr result (λ e. IsRefused (pending_fault session.old)
+        (steps.limit_fault (entered session.old)) session.old e session.new) }
 {
     enter(session, keeper)?;
     if session.open_scopes() >= SCOPE_LIMIT {
@@ -46,6 +52,9 @@ pub fn check_handle<K: Keeper>(session: &Session, keeper: &K, handle: u32) -> Re
         (session.now, keeper.now) result (session.now, keeper.now) }
     ensures well { OnOk result (session.now.failed ≡ false) }
     ensures open { OnOk result (is_some (place_of_handle session.now.drawn handle) ≡ true) }
+    ensures refused { IfErr result (λ e. IsRefused
+        (either_fault (pending_fault session.now) (steps.handle_fault handle session.now))
+        None session.now e session.now) }
 {
     if session.is_failed() {
         return Err(Refusal::PendingRollbackError);

@@ -50,7 +50,6 @@ pub session_with : (mapped : Mapped) (old new : Graph) (scopes left : List Scope
     → IsSession mapped old scopes failed drawn → IsSession mapped new left later now
 session_with mapped old new scopes left failed later drawn now fit same keys handled session = record {
   configured = session.configured;
-  plain = session.plain;
   fit = fit;
   keys = all_kept mapped old new left same keys;
   handled = handled;
@@ -78,7 +77,6 @@ session_deeper mapped graph old new failed drawn now is keys well handles sessio
     let open_now : depth_in failed new.scopes ≡ length new.scopes = open_only failed new.scopes well in
     record {
       configured = session.configured;
-      plain = session.plain;
       fit = session.fit;
       keys = keys;
       handled = omega (arith, open_now, long, handles);
@@ -104,7 +102,6 @@ scopes_stay graph put old new (Err e) step = ap put step.0
 pub session_made : (mapped : Mapped) (old new : Graph) (class : ClassId) (scopes : List Scope) (failed : Bool) (drawn : Drawn) → IsFit mapped new → new ≡ with_fresh old mapped class → IsSession mapped old scopes failed drawn → IsSession mapped new scopes failed drawn
 session_made mapped old new class scopes failed drawn fit is session = record {
   configured = session.configured;
-  plain = session.plain;
   fit = fit;
   keys = all_made mapped old new class scopes is session.keys;
   handled = session.handled;

@@ -1,5 +1,5 @@
 -- What a session does to one object in the transaction, or why it does not.
-use Rattle.std.specs.Prelude.{Bool, true, not, ◌&&◌, Option, None, Some, is_some, Result, Ok, Err, if◌then◌else◌}
+use Rattle.std.specs.Prelude.{Bool, true, not, ◌&&◌, ◌||◌, length, nat_lt, Option, None, Some, is_some, Result, Ok, Err, if◌then◌else◌}
 use Rattle.std.specs.List.{list_all}
 use Rattle.base_core.specs.declared.ids.AttrNo.{AttrNo}
 use Rattle.base_core.specs.declared.ids.ObjId.{ObjId}
@@ -33,11 +33,15 @@ value_put object attr value session = changed_unless (key_fault session.mapping 
 abbrev pub is_known : Cell → Bool
 is_known cell = is_some cell.value && is_some cell.base
 
--- of an object to be deleted each cell must be known: one that is not is to be read first, which is not built
+abbrev pub has_links : Object → Bool
+has_links object = nat_lt 0 (length object.links)
+
+-- Of an object to be deleted each cell must be known, and it must have no links: cells that are not known are to be read first, and
+-- of links it is to be decided what goes with the object, which is not built.
 abbrev pub delete_fault : Object → Option Refusal
 delete_fault object =
     if not (is_persistent object.state) then Some (InvalidRequestError NotPersistent)
-    else if not (list_all is_known object.cells) then Some NotBuilt
+    else if not (list_all is_known object.cells) || has_links object then Some NotBuilt
     else None
 
 -- the next flush deletes a persistent object

@@ -6,7 +6,6 @@ use Rattle.base_core.specs.declared.ids.ObjId.{ObjId}
 use Rattle.base_core.specs.declared.refusal.Refusal.{Refusal}
 use Rattle.base_core.specs.declared.refusal.Warning.{Warning}
 use Rattle.class_mapping.specs.Mapped.{Mapped}
-use Rattle.class_mapping.specs.PlainClass.{ArePlain}
 use Rattle.object_arena.specs.Every.{classes_of}
 use Rattle.object_arena.specs.Graph.{Graph, IsObject, empty_graph, object_at}
 use Rattle.object_arena.specs.Fit.{IsFit}
@@ -72,11 +71,10 @@ with_notes events session = record session { notes = session.notes ++ flat_map n
 
 -- ---- what is kept
 
--- What every session keeps: its mapping is configured, and each class in it a plain root; its objects fit it, and had keys of
--- their classes at each scope's start. Each savepoint in progress has a handle, one that failed too.
+-- What every session keeps: its mapping is configured; its objects fit it, and had keys of their classes at each scope's start. Each
+-- savepoint in progress has a handle, one that failed too.
 pub record IsSession (mapped : Mapped) (graph : Graph) (scopes : List Scope) (failed : Bool) (drawn : Drawn) : Type 0 where
   pub configured : mapped.configured ≡ true
-  pub plain : ArePlain mapped
   pub fit : IsFit mapped graph
   pub keys : All (HasKeys mapped graph) scopes
   pub handled : length drawn.handles ≡ depth_in failed scopes - 1

@@ -5,7 +5,6 @@ ghost use Rattle.base_core.specs.Counts.{one_more};
 ghost use Rattle.base_core.specs.declared.refusal.Refusal.TheVariants.{Memory};
 ghost use Rattle.keeper_core.specs.declared.notes.Note.TheVariants as note;
 ghost use Rattle.class_mapping.specs.Mapped.{IsAttribute, IsClass, attributes_of, is_key_attribute};
-ghost use Rattle.class_mapping.specs.PlainClass.{ArePlain};
 ghost use Rattle.object_arena.specs.Fit.{IsFit};
 ghost use Rattle.object_arena.specs.Graph.{IsCell, IsObject, is_persistent, object_at, value_fault};
 ghost use Rattle.std.specs.List.{All, list_all};
@@ -29,7 +28,7 @@ use std::alloc::Global;
 use std::marker::Model;
 use touching::{touch_for_mark, touch_for_value};
 
-/// A session over a configured mapping of plain roots: its objects, the scopes in progress with the handles of the savepoints,
+/// A session over a configured mapping: its objects, the scopes in progress with the handles of the savepoints,
 /// whether a flush failed that was not rolled back yet, and what the command did so far.
 #[derive(Drop)]
 pub struct Session {
@@ -59,10 +58,9 @@ impl Model for Session {
 }
 
 impl Session {
-    /// No objects and no transaction. Each class is to be a plain root.
+    /// No objects and no transaction.
     pub fn new(alloc: Global, mapping: Mapping) -> Session
         requires configured { mapping.configured ≡ true }
-        requires plain { ArePlain mapping }
         ensures { result ≡ new_session mapping }
     {
         Session {
@@ -77,7 +75,7 @@ impl Session {
         }
     }
 
-    /// The allocator with which the session was made.
+    /// The allocator with which the session was made. Nothing is claimed of it: every allocator serves alike.
     pub fn alloc(&self) -> Global {
         self.alloc
     }
@@ -86,7 +84,6 @@ impl Session {
     pub fn mapping(&self) -> &Mapping
         ensures mapping { result.now ≡ self.now.mapping }
         ensures configured { self.now.mapping.configured ≡ true }
-        ensures plain { ArePlain self.now.mapping }
     {
         &self.mapping
     }
@@ -404,12 +401,12 @@ impl Session {
         is_of_kept_key(&self.mapping, self.object(object), attr)
     }
 
-    /// The next flush deletes a persistent object each of whose cells is known. It is touched in the innermost scope where its
-    /// record comes to differ.
+    /// The next flush deletes a persistent object each of whose cells is known and that has no links. It is touched in the
+    /// innermost scope where its record comes to differ.
     ///
     /// # Errors
-    /// `InvalidRequestError(NotPersistent)`, and `NotBuilt` where a cell is expired or its row's value is not known. They change
-    /// nothing. `Memory`, after which the object may have been touched.
+    /// `InvalidRequestError(NotPersistent)`, and `NotBuilt` where a cell is expired or its row's value is not known, or where its
+    /// class has relationships. They change nothing. `Memory`, after which the object may have been touched.
     #[tactic(auto, unfolding(crate::specs::Changes::deletion_marked))]
     pub fn mark_deletion(&mut self, object: ObjId) -> Result<(), Refusal>
         requires object { IsObject self.old.graph object }
@@ -501,6 +498,13 @@ fn is_persistent(state: State) -> bool
     matches!(state, State::Persistent)
 }
 
+/// Whether an object's class has relationships.
+fn has_links(object: &Object) -> bool
+    ensures { result ≡ changes.has_links object.now }
+{
+    0 < object.links.len()
+}
+
 /// Why an object is not deleted.
 fn delete_fault(object: &Object) -> Option<Refusal>
     ensures { result ≡ changes.delete_fault object.now }
@@ -508,7 +512,7 @@ fn delete_fault(object: &Object) -> Option<Refusal>
     if !is_persistent(object.state) {
         return Some(Refusal::InvalidRequestError(RequestKind::NotPersistent));
     }
-    if !are_known(object.cells.as_slice()) {
+    if !are_known(object.cells.as_slice()) || has_links(object) {
         return Some(Refusal::NotBuilt);
     }
     None

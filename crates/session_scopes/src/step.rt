@@ -3,7 +3,6 @@
 ghost use Rattle.std.specs.Prelude.{◌≡◌, true, IfErr, OnOk};
 ghost use Rattle.base_core.specs.declared.refusal.Refusal.TheVariants.{Memory};
 ghost use Rattle.class_mapping.specs.Mapped.{Mapped};
-ghost use Rattle.class_mapping.specs.PlainClass.{ArePlain};
 ghost use Rattle.object_arena.specs.Graph.{Graph};
 ghost use Rattle.object_arena.specs.Every.{classes_of};
 ghost use Rattle.object_arena.specs.Fit.{IsFit};
@@ -26,7 +25,6 @@ pub trait ObjectStep {
     /// Changes the objects, each in its class, and touches those that come to differ, as they were. The only refusal is `Memory`.
     fn take(self, mapping: &Mapping, arena: &mut Arena, frames: &mut Frames) -> Result<(), Refusal>
         requires configured { mapping.now.configured ≡ true }
-        requires plain { ArePlain mapping.now }
         requires fit { IsFit mapping.now arena.old }
         requires ready { is_ready self mapping.now arena.old }
         ensures objects { OnOk result (arena.new ≡ after self mapping.now arena.old) }

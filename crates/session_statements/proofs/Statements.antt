@@ -1,8 +1,8 @@
 -- Statements that a session sends by themselves, put together of their parts.
-use Rattle.std.proofs.Common.{◌≡◌, ℕ, Bool, true, false, List, [], ◌∷◌, length, Result, Ok, Err, refl, sym, ap, ◌∙◌, subst}
-use Rattle.base_core.specs.declared.refusal.RequestKind.TheVariants.{KeyChange}
+use Rattle.std.proofs.Common.{◌≡◌, ℕ, Bool, true, false, List, [], ◌∷◌, length, None, Some, Result, Ok, Err, IfErr, MatchBool, refl, sym, ap, ◌∙◌, subst}
+use Rattle.base_core.specs.Counts.{Rose}
 use Rattle.base_core.specs.declared.refusal.Refusal.{Refusal}
-use Rattle.base_core.specs.declared.refusal.Refusal.TheVariants.{InvalidRequestError, Memory}
+use Rattle.base_core.specs.declared.refusal.Refusal.TheVariants.{Memory}
 use Rattle.base_core.specs.declared.value.Value.{Value}
 use Rattle.schema_core.specs.Catalog.{Catalog}
 use Rattle.schema_core.specs.Tables.{Tables}
@@ -11,44 +11,45 @@ use Rattle.expr_types.specs.declared.select.Select.{Select}
 use Rattle.sql_semantics.specs.Applied as bulks
 use Rattle.sql_semantics.specs.Applied.{table_of}
 use Rattle.keeper_core.specs.Calls as call
-use Rattle.keeper_core.specs.Keeping.{IsBulk, IsQuery}
+use Rattle.keeper_core.specs.Keeping.{IsBulk, IsQuery, IsStatement, IsUndone, RefusesBulk, RefusesSelect}
+use Rattle.programs.specs.declared.sent.Sent.{Sent}
 use Rattle.programs.specs.declared.sent.Sent.TheVariants as sent
+use Rattle.programs.specs.Alone.{IsOwn}
 use Rattle.programs.specs.Store.{Store}
-use Rattle.programs.specs.Programs.{Run, ◌>>=◌, Sends, give}
+use Rattle.programs.specs.Programs.{Run, ◌>>=◌, Sends, ends_early, give}
 use Rattle.programs.specs.Moment.{Moment}
 use Rattle.programs.specs.Beside.{changes, on_store}
 use Rattle.programs.proofs.Lifting.{lost, spoiled}
 use Rattle.programs.proofs.Sequence.{then_ok}
-use Rattle.session_scopes.specs.SessionState.{IsInStep, SameObjects, SessionState, with_note, with_notes}
+use Rattle.session_scopes.specs.SessionState.{AreAlikeButNotes, IsInStep, SameObjects, SessionState, with_note, with_notes}
 use Rattle.session_calls.specs.Calling.{IsSessionCall}
-use Rattle.session_calls.specs.Parts.{World, checked, fault_if}
+use Rattle.session_calls.specs.Parts.{World, checked}
 use Rattle.session_calls.specs.Steps.{enter}
 use Rattle.session_calls.proofs.Joining.{change_call, chosen_call, err_call, fails, memory_early, passes, same_itself, same_more, stays_early, still_call, then_call}
-use Rattle.session_calls.proofs.Noting.{IsAlwaysSent, stated_call}
+use Rattle.session_calls.proofs.Noting.{IsAlwaysSent, alike_noted, stated_call}
+use Rattle.session_statements.specs.Refusals.{IsRefusedByKeeper}
 use Rattle.session_statements.specs.Rewriting.{session_reread}
-use Rattle.session_statements.specs.Steps.{bulk, enter_bulk, key_write_fault, rows, send_bulk, writes_key}
+use Rattle.session_statements.specs.Steps.{bulk, enter_bulk, rows, send_bulk, update_fault}
 
 -- ---- what is asked first
 
--- the statement writes no key
-pub enters_bulk : {K : Type 0} (moment : K → Moment Store) (statement : Bulk) {own mid : SessionState} {old new : K} → writes_key mid.mapping.schema statement ≡ false
+-- the statement may be sent
+pub enters_bulk : {K : Type 0} (moment : K → Moment Store) (statement : Bulk) {own mid : SessionState} {old new : K} → update_fault statement mid ≡ None
     → IsSessionCall moment (λ (u : Unit {0}). u) enter (own, old) (Ok tt) (mid, new) → IsSessionCall moment (λ (u : Unit {0}). u) (enter_bulk statement) (own, old) (Ok tt) (mid, new)
 unfolding enter_bulk
-enters_bulk moment statement spares p =
-    then_call (λ u. checked (key_write_fault statement)) p (passes moment (key_write_fault statement) (ap (λ (b : Bool). fault_if b (InvalidRequestError KeyChange)) spares) p.kept.in_step)
+enters_bulk moment statement none p = then_call (λ u. checked (update_fault statement)) p (passes moment (update_fault statement) none p.kept.in_step)
 
--- it does
-pub key_written : {K : Type 0} (moment : K → Moment Store) (statement : Bulk) {own mid : SessionState} {old new : K} → writes_key mid.mapping.schema statement ≡ true
-    → IsSessionCall moment (λ (u : Unit {0}). u) enter (own, old) (Ok tt) (mid, new) → IsSessionCall moment (λ (u : Unit {0}). u) (enter_bulk statement) (own, old) (Err (InvalidRequestError KeyChange)) (mid, new)
+-- it may not
+pub not_taken : {K : Type 0} (moment : K → Moment Store) (statement : Bulk) {own mid : SessionState} {old new : K} {e : Refusal} → update_fault statement mid ≡ Some e → IsOwn e
+    → IsSessionCall moment (λ (u : Unit {0}). u) enter (own, old) (Ok tt) (mid, new) → IsSessionCall moment (λ (u : Unit {0}). u) (enter_bulk statement) (own, old) (Err e) (mid, new)
 unfolding enter_bulk
-key_written moment statement writes p =
-    then_call (λ u. checked (key_write_fault statement)) p
-    (fails moment (key_write_fault statement) {v = λ (u : Unit {0}). u} (ap (λ (b : Bool). fault_if b (InvalidRequestError KeyChange)) writes) (refl, refl) p.kept.in_step)
+not_taken moment statement fault own p =
+    then_call (λ u. checked (update_fault statement)) p (fails moment (update_fault statement) {v = λ (u : Unit {0}). u} fault own p.kept.in_step)
 
 pub enters_bulk_not : {Y K : Type 0} (moment : K → Moment Store) (statement : Bulk) {v : Y → Unit {0}} {own now : SessionState} {old new : K} {e : Refusal} → IsSessionCall moment (λ (u : Unit {0}). u) enter (own, old) (Err e) (now, new)
     → IsSessionCall moment v (enter_bulk statement) (own, old) (Err e) (now, new)
 unfolding enter_bulk
-enters_bulk_not moment statement p = err_call (λ u. checked (key_write_fault statement)) p
+enters_bulk_not moment statement p = err_call (λ u. checked (update_fault statement)) p
 
 -- ---- the statements are sent, refused or not
 
@@ -120,3 +121,35 @@ pub bulk_refused : {Y K : Type 0} (moment : K → Moment Store) (statement : Bul
     → IsSessionCall moment v (bulk statement) (own, old) (Err e) (now, new)
 unfolding bulk
 bulk_refused moment statement p = err_call (λ (x : ℕ). changes (session_reread (table_of statement)) >>= λ u. give x) p
+
+-- ---- why a statement was refused
+
+-- the keeper refused it, and all but the notes is as it was
+kept_refusal : {A K : Type 0} (moment : K → Moment Store) {m : Store → Run Store A} (statement : Sent) {MayRefuse : Refusal → Type 0} (own now : SessionState) {old new : K} (r : Result A Refusal) → IsStatement moment m statement MayRefuse old r new → AreAlikeButNotes own now
+    → IfErr r (λ e. IsRefusedByKeeper statement MayRefuse own (moment old) e now (moment new))
+kept_refusal moment statement own now (Ok x) p alike = tt
+kept_refusal moment statement {MayRefuse = MayRefuse} own now {old = old} {new = new} (Err e) p alike = by (ends_early e) p.left
+  where
+    Last : Type 0
+    Last = (moment new).last ≡ Some (record { statement = statement; refusal = e })
+
+    by : (b : Bool) → MatchBool b (IsUndone (moment old) (moment new)) (Rose (moment old).refusals (moment new).refusals × Last)
+        → MatchBool b (Unit {0}) (MayRefuse e × Rose (moment old).refusals (moment new).refusals × Last × AreAlikeButNotes own now)
+    by true left = tt
+    by false left = (p.refuses, left.0, left.1, alike)
+
+pub query_refused : {K : Type 0} (moment : K → Moment Store) (schema : Catalog) (select : Select) (own now : SessionState) {old new : K} {r : Result (List (List Value)) Refusal} → schema ≡ own.mapping.schema → now ≡ with_note (sent.Query select) own
+    → IsQuery moment schema select old r new → IfErr r (λ e. IsRefusedByKeeper (sent.Query select) (RefusesSelect own.mapping.schema select) own (moment old) e now (moment new))
+query_refused moment schema select own now {old = old} {new = new} {r = r} is noted p =
+    subst (λ (s : Catalog). IfErr r (λ e. IsRefusedByKeeper (sent.Query select) (RefusesSelect s select) own (moment old) e now (moment new))) is
+    (kept_refusal moment (sent.Query select) own now r p (alike_noted own now (sent.Query select) noted))
+
+pub sent_refused : {K : Type 0} (moment : K → Moment Store) (schema : Catalog) (statement : Bulk) (own now : SessionState) {old new : K} {r : Result ℕ Refusal} → schema ≡ own.mapping.schema → now ≡ with_note (sent.Bulk statement) own
+    → IsBulk moment schema statement old r new → IfErr r (λ e. IsRefusedByKeeper (sent.Bulk statement) (RefusesBulk own.mapping.schema statement) own (moment old) e now (moment new))
+sent_refused moment schema statement own now {old = old} {new = new} {r = r} is noted p =
+    subst (λ (s : Catalog). IfErr r (λ e. IsRefusedByKeeper (sent.Bulk statement) (RefusesBulk s statement) own (moment old) e now (moment new))) is
+    (kept_refusal moment (sent.Bulk statement) own now r p (alike_noted own now (sent.Bulk statement) noted))
+
+-- memory ran out then
+pub lost_then : {W : Type 0} (statement : Sent) (MayRefuse : Refusal → Type 0) (own now : SessionState) (was late : Moment W) (e : Refusal) → e ≡ Memory → IsRefusedByKeeper statement MayRefuse own was e now late
+lost_then statement MayRefuse own now was late e is = subst (λ (d : Refusal). IsRefusedByKeeper statement MayRefuse own was d now late) (sym is) tt

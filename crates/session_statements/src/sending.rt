@@ -5,9 +5,10 @@ ghost use Rattle.base_core.specs.declared.refusal.Refusal.TheVariants.{Memory};
 ghost use Rattle.programs.specs.declared.sent.Sent.TheVariants as sent;
 ghost use Rattle.sql_semantics.specs.Plain.{IsPlainBulk, IsPlainSelect};
 ghost use Rattle.sql_semantics.specs.Shapes.{AreGiven, AreOfItems, AreWide};
-ghost use Rattle.keeper_core.specs.Keeping.{HoldsLegalRows, HoldsRows};
+ghost use Rattle.keeper_core.specs.Keeping.{HoldsLegalRows, HoldsRows, RefusesBulk, RefusesSelect};
 ghost use Rattle.session_scopes.specs.SessionState.{AreAlikeButNotes, IsInStep, with_note};
 ghost use Rattle.session_calls.specs.Calling.{IsSessionCall};
+ghost use Rattle.session_statements.specs.Refusals.{IsRefusedByKeeper};
 ghost use Rattle.session_statements.specs.Steps as steps;
 
 use crate::rereading::Reread;
@@ -32,6 +33,9 @@ pub fn rows<K: Keeper>(
     ensures call { IsSessionCall K.moment (λ rows. rows) (steps.rows select.now)
         (session.old, keeper.old) result (session.new, keeper.new) }
     ensures alike { AreAlikeButNotes session.old session.new }
+    ensures refused { IfErr result (λ e. IsRefusedByKeeper
+        (sent.Query select.now) (RefusesSelect session.old.mapping.schema select.now)
+        session.old (K.moment keeper.old) e session.new (K.moment keeper.new)) }
     ensures wide { IfOk result (λ rows. AreWide select.now rows) }
     ensures kinds { HoldsRows session.old.mapping.schema (K.moment keeper.old).told
         → IfOk result (λ rows. AreOfItems session.old.mapping.schema select.now rows) }
@@ -61,6 +65,9 @@ pub fn bulk<K: Keeper>(
     ensures call { IsSessionCall K.moment (λ count. count) (steps.bulk statement.now)
         (session.old, keeper.old) result (session.new, keeper.new) }
     ensures scopes { length session.new.frames.scopes ≡ length session.old.frames.scopes }
+    ensures refused { IfErr result (λ e. IsRefusedByKeeper
+        (sent.Bulk statement.now) (RefusesBulk session.old.mapping.schema statement.now)
+        session.old (K.moment keeper.old) e session.new (K.moment keeper.new)) }
 {
     let count = send_bulk(session, keeper, statement)?;
     session.step(Reread {
@@ -81,6 +88,9 @@ fn send_bulk<K: Keeper>(
     ensures call { IsSessionCall K.moment (λ count. count) (steps.send_bulk statement.now)
         (session.old, keeper.old) result (session.new, keeper.new) }
     ensures alike { AreAlikeButNotes session.old session.new }
+    ensures refused { IfErr result (λ e. IsRefusedByKeeper
+        (sent.Bulk statement.now) (RefusesBulk session.old.mapping.schema statement.now)
+        session.old (K.moment keeper.old) e session.new (K.moment keeper.new)) }
 {
     match note_bulk(session, statement) {
         Ok(()) => calls::bulk(

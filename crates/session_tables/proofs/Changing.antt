@@ -158,7 +158,7 @@ some_open n less = grind (arith, nat_tests)
 closed_depth : (session : SessionState) (depth : ℕ) → depth ≡ depth_of session → depth ≤ 0 → transaction_fault session ≡ None
 closed_depth session depth is less = ap (λ (n : ℕ). fault_if (nat_lt 0 n) (InvalidRequestError InTransaction)) (sym is) ∙ ap (λ (b : Bool). fault_if b (InvalidRequestError InTransaction)) (none_open depth less)
 
-open_depth : (session : SessionState) (depth : ℕ) → depth ≡ depth_of session → 0 < depth → transaction_fault session ≡ Some (InvalidRequestError InTransaction)
+pub open_depth : (session : SessionState) (depth : ℕ) → depth ≡ depth_of session → 0 < depth → transaction_fault session ≡ Some (InvalidRequestError InTransaction)
 open_depth session depth is less = ap (λ (n : ℕ). fault_if (nat_lt 0 n) (InvalidRequestError InTransaction)) (sym is) ∙ ap (λ (b : Bool). fault_if b (InvalidRequestError InTransaction)) (some_open depth less)
 
 -- in a transaction

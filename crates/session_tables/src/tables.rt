@@ -1,12 +1,13 @@
 //! All tables are made, or dropped, outside transactions.
 
-ghost use Rattle.std.specs.Prelude.{◌≡◌, [], IfErr, IfOk, true};
+ghost use Rattle.std.specs.Prelude.{◌≡◌, [], None, IfErr, IfOk, true};
 ghost use Rattle.std.specs.List.{All};
 ghost use Rattle.keeper_core.specs.Keeping.{IsCall};
-ghost use Rattle.programs.specs.Programs.{each};
+ghost use Rattle.programs.specs.Programs.{each, ends_early};
 ghost use Rattle.schema_core.specs.Catalog.{IsTable};
 ghost use Rattle.session_scopes.specs.SessionState.{AreAlikeButNotes, IsInStep};
 ghost use Rattle.session_calls.specs.Calling.{IsSessionCall};
+ghost use Rattle.session_calls.specs.Refusals.{IsRefused};
 ghost use Rattle.session_tables.specs.Steps as steps;
 ghost use Rattle.session_tables.specs.declared.tables.TableChange.TheVariants.{Create, Drop};
 
@@ -28,11 +29,14 @@ pub enum TableChange {
 /// Makes the tables that are not there, in the order of their dependencies. Each is committed at once.
 ///
 /// # Errors
-/// `InvalidRequestError(InTransaction)` in a transaction, a failed one included.
+/// `InvalidRequestError(InTransaction)` in a transaction, a failed one included. No refusal changes the session.
 pub fn create_all<K: Keeper>(session: &mut Session, keeper: &mut K) -> Result<(), Refusal>
     requires in_step { IsInStep session.old (K.moment keeper.old) }
-    ensures { IsSessionCall K.moment (λ u. u) (steps.change_all Create)
+    ensures call { IsSessionCall K.moment (λ u. u) (steps.change_all Create)
         (session.old, keeper.old) result (session.new, keeper.new) }
+    ensures alike { AreAlikeButNotes session.old session.new }
+    ensures refused { IfErr result (λ e. IsRefused
+        (steps.transaction_fault session.old) None session.old e session.new) }
 {
     change_all(session, keeper, TableChange::Create)
 }
@@ -40,11 +44,14 @@ pub fn create_all<K: Keeper>(session: &mut Session, keeper: &mut K) -> Result<()
 /// Drops the tables that are there, in the opposite order. Each is committed at once.
 ///
 /// # Errors
-/// `InvalidRequestError(InTransaction)` in a transaction, a failed one included.
+/// `InvalidRequestError(InTransaction)` in a transaction, a failed one included. No refusal changes the session.
 pub fn drop_all<K: Keeper>(session: &mut Session, keeper: &mut K) -> Result<(), Refusal>
     requires in_step { IsInStep session.old (K.moment keeper.old) }
-    ensures { IsSessionCall K.moment (λ u. u) (steps.change_all Drop)
+    ensures call { IsSessionCall K.moment (λ u. u) (steps.change_all Drop)
         (session.old, keeper.old) result (session.new, keeper.new) }
+    ensures alike { AreAlikeButNotes session.old session.new }
+    ensures refused { IfErr result (λ e. IsRefused
+        (steps.transaction_fault session.old) None session.old e session.new) }
 {
     change_all(session, keeper, TableChange::Drop)
 }
@@ -56,8 +63,11 @@ fn change_all<K: Keeper>(
     change: TableChange,
 ) -> Result<(), Refusal>
     requires in_step { IsInStep session.old (K.moment keeper.old) }
-    ensures { IsSessionCall K.moment (λ u. u) (steps.change_all change)
+    ensures call { IsSessionCall K.moment (λ u. u) (steps.change_all change)
         (session.old, keeper.old) result (session.new, keeper.new) }
+    ensures alike { AreAlikeButNotes session.old session.new }
+    ensures refused { IfErr result (λ e. IsRefused
+        (steps.transaction_fault session.old) None session.old e session.new) }
 {
     if session.depth() > 0 {
         return Err(Refusal::InvalidRequestError(RequestKind::InTransaction));
@@ -96,8 +106,10 @@ fn change_each<K: Keeper>(
     requires in_step { IsInStep session.old (K.moment keeper.old) }
     requires outside { session.old.frames.scopes ≡ [] }
     requires declared { All (IsTable session.old.mapping.schema) order.now }
-    ensures { IsSessionCall K.moment (λ u. u) (each (steps.change_one change) tt order.now)
+    ensures call { IsSessionCall K.moment (λ u. u) (each (steps.change_one change) tt order.now)
         (session.old, keeper.old) result (session.new, keeper.new) }
+    ensures alike { AreAlikeButNotes session.old session.new }
+    ensures stops { IfErr result (λ e. ends_early e ≡ true) }
 {
     for table in order {
         change_one(session, keeper, change, *table)?;
@@ -118,6 +130,7 @@ fn change_one<K: Keeper>(
     ensures call { IsSessionCall K.moment (λ u. u) (steps.change_one change table tt)
         (session.old, keeper.old) result (session.new, keeper.new) }
     ensures alike { AreAlikeButNotes session.old session.new }
+    ensures stops { IfErr result (λ e. ends_early e ≡ true) }
 {
     let has_changed = store_changes(session, keeper, change, table)?;
     if has_changed {

@@ -9,11 +9,11 @@ use Rattle.script_types.specs.declared.command.Command.{Command}
 use Rattle.script_types.specs.declared.command.Command.TheVariants.{TableHead, ClassHead}
 use Rattle.script_read.specs.Line.{line as said_by}
 use Rattle.shell_parts.specs.declared.block.Block.{Block}
-use Rattle.shell_parts.specs.Blocks.{block_of, is_built_block}
+use Rattle.shell_parts.specs.Blocks.{block_of}
 use Rattle.shell_lines.specs.declared.desk.Said.{Said}
-use Rattle.shell_lines.specs.declared.desk.Said.TheVariants.{Nothing, Configure}
-use Rattle.shell_lines.specs.Lines.{is_built, is_end}
-use Rattle.shell_lines.specs.Desk.{DeskState, IsOfReading, declared_if, done_if, ends_block, is_configure, is_head, is_skip, is_skipped, next_line, opened, place_of, said_at, said_inside, said_line, said_now, said_outside, said_read, skip_block, unless_end, with_block, with_line_taken, with_skipping}
+use Rattle.shell_lines.specs.declared.desk.Said.TheVariants.{Nothing, Configure, Declare}
+use Rattle.shell_lines.specs.Lines.{is_end}
+use Rattle.shell_lines.specs.Desk.{DeskState, IsOfReading, done_of, ends_block, is_configure, is_head, is_skip, is_skipped, next_line, opened, place_of, said_at, said_inside, said_line, said_now, said_outside, said_read, skip_block, unless_end, with_block, with_line_taken, with_skipping}
 
 -- the line came to this
 abbrev pub Says : Run DeskState Said → Result Said Refusal → DeskState → Type 0
@@ -93,16 +93,15 @@ pub ruleset placing = (at_outside, at_inside)
 -- ---- a line of a block
 
 -- it ends the block
-pub ends : (command : Command) (block : Block) (own : DeskState) (r : Result Said Refusal) → ends_block command ≡ true → own.block ≡ None → r ≡ declared_if (is_built_block block.declared) block → IfErr r IsOwn → Says (said_inside command block own) r own
-ends command block own r end none is cause =
-    says_told (said_inside command block own) (declared_if (is_built_block block.declared) block) r (with_block None own) own
-    (ap (λ (b : Bool). if b then quiet (declared_if (is_built_block block.declared) block) (with_block None own) else quiet (Ok Nothing) (with_block (Some (with_line_taken command block)) own)) end)
-    is (ap (λ (b : Option Block). with_block b own) (sym none)) cause
+pub ends : (command : Command) (block : Block) (own : DeskState) → ends_block command ≡ true → own.block ≡ None → Says (said_inside command block own) (Ok (Declare block)) own
+ends command block own end none =
+    ap (λ (b : Bool). if b then quiet (Ok (Declare block)) (with_block None own) else quiet (Ok Nothing) (with_block (Some (with_line_taken command block)) own)) end
+    ∙ ap (λ (b : Option Block). quiet (Ok (Declare block)) (with_block b own)) (sym none)
 
 -- the block goes on
 pub goes_on : (command : Command) (block : Block) (own now : DeskState) (taken : Block) → ends_block command ≡ false → taken ≡ with_line_taken command block → now ≡ with_block (Some taken) own → Says (said_inside command block own) (Ok Nothing) now
 goes_on command block own now taken end is next =
-    ap (λ (b : Bool). if b then quiet (declared_if (is_built_block block.declared) block) (with_block None own) else quiet (Ok Nothing) (with_block (Some (with_line_taken command block)) own)) end
+    ap (λ (b : Bool). if b then quiet (Ok (Declare block)) (with_block None own) else quiet (Ok Nothing) (with_block (Some (with_line_taken command block)) own)) end
     ∙ ap (λ (b : Block). quiet (Ok Nothing) (with_block (Some b) own)) (sym is) ∙ ap (λ (s : DeskState). quiet (Ok Nothing) s) (sym next)
 
 -- memory ran out
@@ -118,7 +117,7 @@ outside_by skip head configure command desk =
     if skip then quiet (Ok Nothing) desk
     else if head then opened (block_of command desk.line) desk
     else if configure then quiet (Ok Configure) desk
-    else quiet (done_if (is_built command) command) desk
+    else quiet (done_of command) desk
 
 pub says_skip : (command : Command) (own : DeskState) → is_skip command ≡ true → Says (said_outside command own) (Ok Nothing) own
 says_skip command own skip = ap (λ (b : Bool). outside_by b (is_head command) (is_configure command) command own) skip
@@ -133,9 +132,9 @@ says_configure command own skip head configure =
     ap (λ (b : Bool). outside_by b (is_head command) (is_configure command) command own) skip ∙ ap (λ (b : Bool). outside_by false b (is_configure command) command own) head
     ∙ ap (λ (b : Bool). outside_by false false b command own) configure
 
-pub says_done : (command : Command) (own : DeskState) (r : Result Said Refusal) → is_skip command ≡ false → is_head command ≡ false → is_configure command ≡ false → r ≡ done_if (is_built command) command → IfErr r IsOwn → Says (said_outside command own) r own
+pub says_done : (command : Command) (own : DeskState) (r : Result Said Refusal) → is_skip command ≡ false → is_head command ≡ false → is_configure command ≡ false → r ≡ done_of command → IfErr r IsOwn → Says (said_outside command own) r own
 says_done command own r skip head configure is cause =
-    says_told (said_outside command own) (done_if (is_built command) command) r own own
+    says_told (said_outside command own) (done_of command) r own own
     (ap (λ (b : Bool). outside_by b (is_head command) (is_configure command) command own) skip ∙ ap (λ (b : Bool). outside_by false b (is_configure command) command own) head
     ∙ ap (λ (b : Bool). outside_by false false b command own) configure) is refl cause
 

@@ -1,5 +1,5 @@
 -- What a line of a script comes to before the session is asked: which line it is, the block that is open, and what is to be done.
-use Rattle.std.specs.Prelude.{ℕ, ◌+◌, ◌-◌, ◌^◌, min, Bool, true, false, IsTrue, List, Option, None, Some, Result, Ok, Err, if◌then◌else◌}
+use Rattle.std.specs.Prelude.{ℕ, ◌+◌, ◌-◌, ◌^◌, min, Bool, true, false, List, Option, None, Some, Result, Ok, Err, if◌then◌else◌}
 use Rattle.base_core.specs.declared.refusal.Refusal.{Refusal}
 use Rattle.base_core.specs.declared.refusal.Refusal.TheVariants.{Memory, NotBuilt, ScriptError}
 use Rattle.script_types.specs.declared.command.Command.{Command}
@@ -10,10 +10,10 @@ use Rattle.script_read.specs.Line.{line as said_by}
 use Rattle.programs.specs.Programs.{Run, quiet}
 use Rattle.sayable_lines.specs.Sayable.{IsSayable}
 use Rattle.shell_parts.specs.declared.block.Block.{Block}
-use Rattle.shell_parts.specs.Blocks.{block_of, forms_of, is_built_block, with_line}
+use Rattle.shell_parts.specs.Blocks.{block_of, forms_of, with_line}
 use Rattle.shell_lines.specs.declared.desk.Said.{Said}
-use Rattle.shell_lines.specs.declared.desk.Said.TheVariants.{Nothing, Configure, Declare, Do}
-use Rattle.shell_lines.specs.Lines.{is_built, is_end}
+use Rattle.shell_lines.specs.declared.desk.Said.TheVariants.{Nothing, Configure, Declare, Compile, Do}
+use Rattle.shell_lines.specs.Lines.{is_built, is_compiled, is_end}
 
 -- the block that is open, the number of the last line, and whether some command was refused
 pub record DeskState : Type 0 where
@@ -41,9 +41,14 @@ abbrev pub opened : Result Block Refusal → DeskState → Run DeskState Said
 opened (Ok block) desk = quiet (Ok Nothing) (with_block (Some block) desk)
 opened (Err e) desk = quiet (Err e) desk
 
-abbrev pub done_if : Bool → Command → Result Said Refusal
-done_if true command = Ok (Do command)
-done_if false command = Err NotBuilt
+abbrev pub done_if : Bool → Bool → Command → Result Said Refusal
+done_if true built command = Ok (Compile command)
+done_if false true command = Ok (Do command)
+done_if false false command = Err NotBuilt
+
+-- a line that only compiles is to be compiled; of the others those whose form is built are to be done
+abbrev pub done_of : Command → Result Said Refusal
+done_of command = done_if (is_compiled command) (is_built command) command
 
 -- a blank line or a comment
 abbrev pub is_skip : Command → Bool
@@ -66,16 +71,12 @@ said_outside command desk =
     if is_skip command then quiet (Ok Nothing) desk
     else if is_head command then opened (block_of command desk.line) desk
     else if is_configure command then quiet (Ok Configure) desk
-    else quiet (done_if (is_built command) command) desk
+    else quiet (done_of command) desk
 
 -- ---- a line of a block
 
 abbrev pub with_line_taken : Command → Block → Block
 with_line_taken command block = record block { declared = with_line block.declared command }
-
-abbrev pub declared_if : Bool → Block → Result Said Refusal
-declared_if true block = Ok (Declare block)
-declared_if false block = Err NotBuilt
 
 -- the line ends the block
 abbrev pub ends_block : Command → Bool
@@ -85,7 +86,7 @@ ends_block command = false
 -- the block ends, or goes on with the line
 abbrev pub said_inside : Command → Block → DeskState → Run DeskState Said
 said_inside command block desk =
-    if ends_block command then quiet (declared_if (is_built_block block.declared) block) (with_block None desk)
+    if ends_block command then quiet (Ok (Declare block)) (with_block None desk)
     else quiet (Ok Nothing) (with_block (Some (with_line_taken command block)) desk)
 
 -- ---- a line in its place
@@ -138,9 +139,8 @@ IsOfReading e = ⊥
 
 -- ---- what is to be done
 
--- the block's form is built; the line's select or bulk statement, where it has one, is one that lines can say
+-- the line's select or bulk statement, where it has one, is one that lines can say
 abbrev pub CanBeDone : Said → Type 0
-CanBeDone Nothing = Unit {0}
-CanBeDone Configure = Unit {0}
-CanBeDone (Declare block) = IsTrue (is_built_block block.declared)
+CanBeDone (Compile command) = IsSayable command
 CanBeDone (Do command) = IsSayable command
+CanBeDone said = Unit {0}

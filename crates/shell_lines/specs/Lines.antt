@@ -1,30 +1,28 @@
 -- Which lines are built, and the end of a block whose lines are skipped.
-use Rattle.std.specs.Prelude.{ℕ, Bool, true, false, ◌&&◌, if◌then◌else◌, List, [], ◌∷◌, take, drop, codes, is_none}
+use Rattle.std.specs.Prelude.{ℕ, Bool, true, false, ◌&&◌, if◌then◌else◌, List, [], ◌∷◌, take, drop, codes}
 use Rattle.std.specs.List.{list_all}
 use Rattle.std.specs.Str.{bytes_eq}
 use Rattle.script_lex.specs.Lex.{is_blank}
 use Rattle.script_types.specs.declared.command.Command.{Command}
 use Rattle.script_types.specs.declared.command.Command.TheVariants as line
-use Rattle.script_types.specs.declared.command.Term.{Term}
 
--- the term is a name alone
-abbrev pub is_name : Term → Bool
-is_name term = is_none term.index
-
--- The form of a line that a session does is built; terms with an index are not.
+-- The form of a line that a session does is built.
 abbrev pub is_built : Command → Bool
 is_built line.CreateAll = true
 is_built line.DropAll = true
 is_built line.Dump = true
 is_built (line.New name class cells) = true
 is_built (line.BeginNested name) = true
-is_built (line.SetValue term member value) = is_name term
-is_built (line.Add term) = is_name term
-is_built (line.Delete term) = is_name term
-is_built (line.Show term) = is_name term
-is_built (line.ShowMember term member) = is_name term
-is_built (line.State term) = is_name term
-is_built (line.Same term other) = is_name term && is_name other
+is_built (line.SetValue term member value) = true
+is_built (line.SetTerm term member other) = true
+is_built (line.Append term member other) = true
+is_built (line.Remove term member other) = true
+is_built (line.Add term) = true
+is_built (line.Delete term) = true
+is_built (line.Show term) = true
+is_built (line.ShowMember term member) = true
+is_built (line.State term) = true
+is_built (line.Same term other) = true
 is_built line.Flush = true
 is_built (line.Commit name) = true
 is_built (line.Rollback name) = true
@@ -32,6 +30,13 @@ is_built line.Close = true
 is_built (line.Rows select) = true
 is_built (line.Bulk statement) = true
 is_built other = false
+
+-- the line only compiles; what objects compile to is yet to come
+abbrev pub is_compiled : Command → Bool
+is_compiled (line.CompileRows dialect select) = true
+is_compiled (line.CompileBulk dialect statement) = true
+is_compiled (line.CompileTable dialect name) = true
+is_compiled other = false
 
 -- the word `end`, and then blanks alone
 abbrev pub is_end_text : List ℕ → Bool

@@ -5,12 +5,11 @@ ghost use Rattle.base_core.specs.Answers.{Gives};
 ghost use Rattle.programs.specs.Alone.{IsOwn, IsQuiet};
 ghost use Rattle.sayable_lines.specs.Sayable.{IsSayable};
 ghost use Rattle.script_read.specs.Line.{line as said_by};
-ghost use Rattle.shell_parts.specs.Blocks.{block_of, is_built_block};
+ghost use Rattle.shell_parts.specs.Blocks.{block_of};
 ghost use Rattle.shell_lines.specs.Desk as desk;
 ghost use Rattle.shell_lines.specs.Desk.{CanBeDone, IsOfReading};
-ghost use Rattle.shell_lines.specs.Lines.{is_built as is_built_line};
 
-use crate::lines::{is_built, is_end};
+use crate::lines::{is_built, is_compiled, is_end};
 use base_core::Refusal;
 use sayable_lines::read_line;
 use script_types::{Command, Inside};
@@ -28,6 +27,8 @@ pub enum Said {
     Configure,
     /// A block has ended, and what it says is to be declared.
     Declare(Block),
+    /// A line is to be compiled.
+    Compile(Command),
     /// A line is to be done by the session.
     Do(Command),
 }
@@ -93,7 +94,7 @@ impl Desk {
     ///
     /// # Errors
     /// `ScriptError` with the line's number and the column at which no line of the forms goes on; in a block the lines behind it are
-    /// skipped. `NotBuilt` for a line outside blocks, or at the end of a block, whose form is not built. `Memory`.
+    /// skipped. `NotBuilt` for a line outside blocks whose form is not built. `Memory`.
     #[tactic(auto, using(crate::proofs::Saying::saying))]
     pub fn say(&mut self, alloc: Global, line: &[u8]) -> Result<Said, Refusal>
         ensures said { IsQuiet (λ said. said)
@@ -185,7 +186,7 @@ impl Desk {
     {
         if ends_block(&command) {
             drop(command);
-            return declared(block);
+            return Ok(Said::Declare(block));
         }
         self.block = Some(with_line(command, block)?);
         Ok(Said::Nothing)
@@ -242,26 +243,16 @@ fn read(alloc: Global, line: &[u8], number: u32, inside: Inside) -> Result<Comma
     }
 }
 
-/// What the end of a block comes to.
-fn declared(block: Block) -> Result<Said, Refusal>
-    ensures said { result ≡ desk.declared_if (is_built_block block.declared) block }
-    ensures done { IfOk result CanBeDone }
-    ensures own { IfErr result IsOwn }
-{
-    if block.is_built() {
-        return Ok(Said::Declare(block));
-    }
-    drop(block);
-    Err(Refusal::NotBuilt)
-}
-
 /// What every other line outside blocks comes to.
 fn done_if_built(command: Command) -> Result<Said, Refusal>
     requires sayable { IsSayable command }
-    ensures said { result ≡ desk.done_if (is_built_line command) command }
+    ensures said { result ≡ desk.done_of command }
     ensures done { IfOk result CanBeDone }
     ensures own { IfErr result IsOwn }
 {
+    if is_compiled(&command) {
+        return Ok(Said::Compile(command));
+    }
     if is_built(&command) {
         return Ok(Said::Do(command));
     }

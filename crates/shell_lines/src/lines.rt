@@ -3,42 +3,48 @@
 ghost use Rattle.std.specs.Prelude.{◌≡◌};
 ghost use Rattle.std.specs.List.{list_all};
 ghost use Rattle.script_lex.specs.Lex.{is_blank as blank};
-ghost use Rattle.shell_lines.specs.Lines.{is_built as is_built_line, is_end as is_end_line, is_end_text, is_name as is_name_alone};
+ghost use Rattle.shell_lines.specs.Lines.{is_built as is_built_line, is_compiled as is_compiled_line, is_end as is_end_line, is_end_text};
 
-use script_types::{Command, Term};
+use script_types::Command;
 
-/// Whether a term is a name alone.
-fn is_name(term: &Term) -> bool
-    ensures { result ≡ is_name_alone term.now }
-{
-    term.index.is_none()
-}
-
-/// Whether the form of a line that a session does is built; terms with an index are not.
+/// Whether the form of a line that a session does is built.
 pub(crate) fn is_built(line: &Command) -> bool
     ensures { result ≡ is_built_line line.now }
 {
-    match line {
+    matches!(
+        line,
         Command::CreateAll
-        | Command::DropAll
-        | Command::Dump
-        | Command::New { .. }
-        | Command::BeginNested(_)
-        | Command::Flush
-        | Command::Commit(_)
-        | Command::Rollback(_)
-        | Command::Close
-        | Command::Rows(_)
-        | Command::Bulk(_) => true,
-        Command::SetValue { term, .. }
-        | Command::Add(term)
-        | Command::Delete(term)
-        | Command::Show(term)
-        | Command::ShowMember(term, _)
-        | Command::State(term) => is_name(term),
-        Command::Same(term, other) => is_name(term) && is_name(other),
-        _ => false,
-    }
+            | Command::DropAll
+            | Command::Dump
+            | Command::New { .. }
+            | Command::BeginNested(_)
+            | Command::SetValue { .. }
+            | Command::SetTerm { .. }
+            | Command::Append { .. }
+            | Command::Remove { .. }
+            | Command::Add(_)
+            | Command::Delete(_)
+            | Command::Show(_)
+            | Command::ShowMember(_, _)
+            | Command::State(_)
+            | Command::Same(_, _)
+            | Command::Flush
+            | Command::Commit(_)
+            | Command::Rollback(_)
+            | Command::Close
+            | Command::Rows(_)
+            | Command::Bulk(_)
+    )
+}
+
+/// Whether a line only compiles; what objects compile to is yet to come.
+pub(crate) fn is_compiled(line: &Command) -> bool
+    ensures { result ≡ is_compiled_line line.now }
+{
+    matches!(
+        line,
+        Command::CompileRows(_, _) | Command::CompileBulk(_, _) | Command::CompileTable(_, _)
+    )
 }
 
 /// A blank.

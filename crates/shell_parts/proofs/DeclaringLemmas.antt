@@ -1,5 +1,5 @@
 -- What a declaration is refused with.
-use Rattle.std.proofs.Common.{◌≡◌, true, Option, None, Some, Result, IfErr, subst, sym}
+use Rattle.std.proofs.Common.{Option, None, Some, Result, IfErr, subst, sym}
 use Rattle.base_core.specs.Answers.{Refuses}
 use Rattle.base_core.specs.declared.refusal.ArgumentKind.{ArgumentKind}
 use Rattle.base_core.specs.declared.refusal.Refusal.{Refusal}
@@ -10,10 +10,7 @@ use Rattle.class_types.specs.declared.declared.ClassSpec.{ClassSpec}
 use Rattle.class_types.specs.Rules.{Rules}
 use Rattle.class_layouts.specs.Faults.{class_fault}
 use Rattle.class_mapping.specs.Mapped.{Mapped}
-use Rattle.class_mapping.specs.Plain.{is_plain_root}
-use Rattle.class_mapping.specs.PlainClass.{ArePlain}
-use Rattle.class_mapping.specs.Declaring.{class_unless, declare_class, declare_table, over_tables, with_class, with_table}
-use Rattle.class_mapping.proofs.PlainLemmas.{all_plain}
+use Rattle.class_mapping.specs.Declaring.{class_unless, declare_class, declare_table, over_tables}
 use Rattle.shell_parts.specs.Blocks.{IsOfDeclaring}
 
 -- a refusal that is what is told is of the told kind, or `Memory`
@@ -38,16 +35,3 @@ class_told mapped spec (Some fault) = tt
 pub class_refused : (rules : Rules) (mapped : Mapped) (spec : ClassSpec) (e : Refusal) → Refuses e (declare_class rules mapped spec) → IsOfDeclaring e
 unfolding declare_class
 class_refused rules mapped spec e r = of_told (declare_class rules mapped spec) (class_told mapped spec (class_fault rules mapped.schema.tables mapped.classes spec)) e r
-
--- ---- classes stay plain roots
-
-pub table_plain : (old new : Mapped) (spec : TableSpec) → new ≡ with_table old spec → ArePlain old → ArePlain new
-table_plain old new spec is plain = subst ArePlain (sym is) plain
-
-pub class_plain : (old new : Mapped) (spec : ClassSpec) → new ≡ with_class old spec → is_plain_root spec ≡ true → ArePlain old → ArePlain new
-class_plain old new spec is one plain = subst ArePlain (sym is) (all_plain old.classes.specs spec plain one)
-
-pub plain_same : (old new : Mapped) → new ≡ old → ArePlain old → ArePlain new
-plain_same old new is plain = subst ArePlain (sym is) plain
-
-pub ruleset staying = (table_plain, class_plain, plain_same)

@@ -1,12 +1,11 @@
 -- Blocks of lines: what their lines declare, and what becomes of a mapping at their end.
-use Rattle.std.specs.Prelude.{ℕ, Bool, true, false, [], ◌∷◌, ◌++◌, Result, Ok, Err}
+use Rattle.std.specs.Prelude.{ℕ, false, [], ◌∷◌, ◌++◌, Result, Ok, Err}
 use Rattle.base_core.specs.declared.refusal.Refusal.{Refusal}
 use Rattle.base_core.specs.declared.refusal.Refusal.TheVariants.{Memory, ArgumentError, NotBuilt}
 use Rattle.schema_core.specs.declared.table.TableSpec.{TableSpec}
 use Rattle.class_types.specs.declared.declared.ClassSpec.{ClassSpec}
 use Rattle.class_types.specs.Rules.{Rules}
 use Rattle.class_mapping.specs.Mapped.{Mapped}
-use Rattle.class_mapping.specs.Plain.{is_plain_root}
 use Rattle.class_mapping.specs.Declaring.{declare_class, declare_table}
 use Rattle.script_types.specs.declared.command.Command.{Command}
 use Rattle.script_types.specs.declared.command.Command.TheVariants as line
@@ -53,11 +52,6 @@ with_class_line spec other = spec
 abbrev pub with_line : Declared → Command → Declared
 with_line (Table spec) added = Table (with_table_line spec added)
 with_line (Class spec) added = Class (with_class_line spec added)
-
--- the block's form is built: a table, or a root class without lines
-abbrev pub is_built_block : Declared → Bool
-is_built_block (Table spec) = true
-is_built_block (Class spec) = is_plain_root spec
 
 -- an answer without the number that was given
 abbrev pub without_number : {A : Type 0} → Result (A × Mapped) Refusal → Result (Unit {0} × Mapped) Refusal

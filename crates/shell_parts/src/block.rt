@@ -3,13 +3,11 @@
 ghost use Rattle.std.specs.Prelude.{◌≡◌, ◌<◌, ◌↔◌, true, IfErr, OnErr, OnOk, IsTrue};
 ghost use Rattle.base_core.specs.Answers.{Takes};
 ghost use Rattle.class_types.specs.Shown.{rules_of};
-ghost use Rattle.class_mapping.specs.Plain.{is_plain_root};
-ghost use Rattle.class_mapping.specs.PlainClass.{ArePlain};
 ghost use Rattle.class_mapping.specs.Declaring.{declare_class as classes_then, declare_table as tables_then};
-ghost use Rattle.shell_parts.specs.Blocks.{IsOfDeclaring, block_of, declare, declared_of, forms_of, is_built_block, with_class_line, with_line, with_table_line, without_number};
+ghost use Rattle.shell_parts.specs.Blocks.{IsOfDeclaring, block_of, declare, declared_of, forms_of, with_class_line, with_line, with_table_line, without_number};
 
 use base_core::{ListOf, Refusal};
-use class_mapping::{Mapping, is_plain_root};
+use class_mapping::Mapping;
 use class_types::{ClassSpec, Hooks};
 use schema_core::TableSpec;
 use script_types::{Command, Inside};
@@ -149,26 +147,14 @@ impl Block {
         self.declared.take(line)
     }
 
-    /// Whether the block's form is built: a table, or a root class without lines.
-    pub fn is_built(&self) -> bool
-        ensures { result ≡ is_built_block self.now.declared }
-    {
-        match &self.declared {
-            Declared::Table(_) => true,
-            Declared::Class(spec) => is_plain_root(spec),
-        }
-    }
-
     /// Declares what the block says in a mapping, where these validators are known.
     ///
     /// # Errors
     /// The declaration's own refusals. A refused block declares nothing.
     pub fn declare(self, hooks: &Hooks, mapping: &mut Mapping) -> Result<(), Refusal>
-        requires built { is_built_block self.declared ≡ true }
         ensures step { Takes (λ _. tt)
             (declare (rules_of hooks.now) self.declared mapping.old) mapping.old result
             mapping.new }
-        ensures plain { ArePlain mapping.old → ArePlain mapping.new }
         ensures cause { IfErr result IsOfDeclaring }
     {
         match self.declared {
@@ -218,12 +204,10 @@ fn has_room(count: u32) -> bool
     count < u32::MAX
 }
 
-#[tactic(auto, using(crate::proofs::DeclaringLemmas::staying))]
 /// Declares a table in a mapping.
 fn declare_table(spec: TableSpec, mapping: &mut Mapping) -> Result<(), Refusal>
     ensures step { Takes (λ _. tt)
         (without_number (tables_then mapping.old spec)) mapping.old result mapping.new }
-    ensures plain { ArePlain mapping.old → ArePlain mapping.new }
     ensures cause { IfErr result IsOfDeclaring }
 {
     if !has_room(mapping.schema().count()) {
@@ -235,14 +219,11 @@ fn declare_table(spec: TableSpec, mapping: &mut Mapping) -> Result<(), Refusal>
     }
 }
 
-#[tactic(auto, using(crate::proofs::DeclaringLemmas::staying))]
 /// Declares a class in a mapping.
 fn declare_class(spec: ClassSpec, hooks: &Hooks, mapping: &mut Mapping) -> Result<(), Refusal>
-    requires plain { is_plain_root spec ≡ true }
     ensures step { Takes (λ _. tt)
         (without_number (classes_then (rules_of hooks.now) mapping.old spec)) mapping.old result
         mapping.new }
-    ensures plain { ArePlain mapping.old → ArePlain mapping.new }
     ensures cause { IfErr result IsOfDeclaring }
 {
     if !has_room(mapping.count()) {

@@ -2,6 +2,7 @@
 
 ghost use Rattle.std.specs.Prelude.{◌≡◌};
 ghost use Rattle.schema_core.specs.Catalog.{spec_of};
+ghost use Rattle.sql_text.specs.Columns.{column_name};
 ghost use Rattle.shell_replies.specs.Naming as naming;
 
 use base_core::{AttrNo, ClassId, ColumnNo, ObjId, RelNo, TableId};
@@ -43,7 +44,8 @@ impl<'a> Naming for TableNames<'a> {
     }
 }
 
-/// The names of tables and classes in a session, and of the classes of its objects. Every other number gets the empty name.
+/// The names of tables and classes in a session, of their columns, attributes and relationships, and of the classes of its objects.
+/// Every other number gets the empty name.
 #[derive(Clone, Copy)]
 pub struct SessionNames<'a> {
     pub mapping: &'a Mapping,
@@ -57,20 +59,20 @@ impl<'a> Naming for SessionNames<'a> {
         name_of_table(self.mapping, table)
     }
 
-    fn column_name(&self, _table: TableId, _column: ColumnNo) -> &str {
-        ""
+    fn column_name(&self, table: TableId, column: ColumnNo) -> &str {
+        name_of_column(self.mapping, table, column)
     }
 
     fn class_name(&self, class: ClassId) -> &str {
         name_of_class(self.mapping, class)
     }
 
-    fn attribute_name(&self, _class: ClassId, _attribute: AttrNo) -> &str {
-        ""
+    fn attribute_name(&self, class: ClassId, attribute: AttrNo) -> &str {
+        name_of_attribute(self.mapping, class, attribute)
     }
 
-    fn relation_name(&self, _class: ClassId, _relation: RelNo) -> &str {
-        ""
+    fn relation_name(&self, class: ClassId, relation: RelNo) -> &str {
+        name_of_relation(self.mapping, class, relation)
     }
 
     fn class_of(&self, object: ObjId) -> &str {
@@ -101,5 +103,52 @@ pub(crate) fn name_of_class(mapping: &Mapping, class: ClassId) -> &str
         mapping.spec_of(class).name.get()
     } else {
         ""
+    }
+}
+
+/// The name of a column; what is no column of a table has the empty name.
+fn name_of_column(mapping: &Mapping, table: TableId, column: ColumnNo) -> &str
+    ensures { result.now ≡ column_name mapping.now.schema table column }
+{
+    let schema = mapping.schema();
+    if table.0 >= schema.count() {
+        return "";
+    }
+    match schema.spec(table).columns.get(column.0 as usize) {
+        Some(column) => column.name.get(),
+        None => "",
+    }
+}
+
+/// Whether all declarations were checked, and a class of this number is declared.
+fn has_class(mapping: &Mapping, class: ClassId) -> bool
+    ensures { result ≡ naming.has_class mapping.now class }
+{
+    mapping.is_configured() && class.0 < mapping.count()
+}
+
+/// The name of an attribute of a class; what is none of a class has the empty name.
+fn name_of_attribute(mapping: &Mapping, class: ClassId, attribute: AttrNo) -> &str
+    ensures { result.now ≡ naming.attribute_name mapping.now class attribute }
+{
+    if !has_class(mapping, class) {
+        return "";
+    }
+    match mapping.attributes(class).get(attribute.0 as usize) {
+        Some(attribute) => attribute.name.get(),
+        None => "",
+    }
+}
+
+/// The name of a relationship of a class; what is none of a class has the empty name.
+fn name_of_relation(mapping: &Mapping, class: ClassId, relation: RelNo) -> &str
+    ensures { result.now ≡ naming.relation_name mapping.now class relation }
+{
+    if !has_class(mapping, class) {
+        return "";
+    }
+    match mapping.relations(class).get(relation.0 as usize) {
+        Some(relation) => relation.name.get(),
+        None => "",
     }
 }

@@ -1,14 +1,22 @@
 //! What a command answers: the lines that go out once it has ended.
 
-ghost use Rattle.std.specs.Prelude.{◌≡◌, [], ◌++◌, IfErr, OnOk, codes};
+ghost use Rattle.std.specs.Prelude.{◌≡◌, [], ◌++◌, true, IfErr, OnOk, codes, string_bytes};
 ghost use Rattle.std.specs.List.{flat_map};
 ghost use Rattle.printing.specs.Texts.{name_with_number, value_text, with_leading_separators};
+ghost use Rattle.echo_lines.specs.Echo.{note_alters, sent_lines};
+ghost use Rattle.statement_lines.specs.StatementLines.{quoting_of as dialect_quoting};
 ghost use Rattle.shell_replies.specs.Answers.{line_of};
+ghost use Rattle.shell_replies.specs.Notes.{warning_line};
 ghost use Rattle.shell_replies.specs.Replies.{answer_line, columns_text, count_line, error_line, row_line, rows_text, table_line, table_text};
 
-use base_core::{ObjId, Refusal, RowList, RowValues, Value};
-use printing::{Naming, RefusalText, RowText, ValueText};
-use schema_core::{ColumnSpec, TableSpec};
+use crate::naming::SessionNames;
+use base_core::{ObjId, Refusal, RowList, RowValues, Value, Warning};
+use echo_lines::{put_later_foreigns, put_sent};
+use keeper_core::{Note, Sent};
+use printing::{Naming, RefusalText, RowText, ValueText, WarningText};
+use schema_core::{ColumnSpec, Schema, TableSpec};
+use script_types::Dialect;
+use statement_lines::quoting_of;
 use std::alloc::Global;
 use std::marker::Model;
 
@@ -36,6 +44,13 @@ impl Reply {
         }
     }
 
+    /// These bytes.
+    pub fn of_text(text: String) -> Reply
+        ensures { result ≡ string_bytes text }
+    {
+        Reply { text }
+    }
+
     /// The bytes.
     pub fn bytes(&self) -> &[u8]
         ensures { result.now ≡ self.now }
@@ -49,6 +64,62 @@ impl Reply {
         ensures cause { IfErr result (λ e. e ≡ Refusal.Memory) }
     {
         self.text.push_str(text)?;
+        Ok(())
+    }
+
+    /// The other reply goes behind this one. The only refusal is `Memory`.
+    pub fn put_reply(&mut self, other: &Reply) -> Result<(), Refusal>
+        ensures ok { OnOk result (self.new ≡ self.old ++ other.now) }
+        ensures cause { IfErr result (λ e. e ≡ Refusal.Memory) }
+    {
+        self.put(other.text.as_str())
+    }
+
+    /// The lines of a statement that was sent, in a dialect, go behind the reply. The only refusal is `Memory`.
+    pub(crate) fn put_sent(
+        &mut self,
+        alloc: Global,
+        dialect: Dialect,
+        schema: &Schema,
+        sent: &Sent,
+    ) -> Result<(), Refusal>
+        requires { schema.now.resolved ≡ true }
+        ensures ok { OnOk result
+            (self.new ≡ self.old ++ sent_lines (dialect_quoting dialect) schema.now sent.now) }
+        ensures cause { IfErr result (λ e. e ≡ Refusal.Memory) }
+    {
+        put_sent(&mut self.text, alloc, quoting_of(dialect), schema, sent)
+    }
+
+    /// The lines that add foreign keys in a dialect, of the tables that were made, go behind the reply. The only refusal is `Memory`.
+    pub(crate) fn put_later_foreigns(
+        &mut self,
+        alloc: Global,
+        dialect: Dialect,
+        schema: &Schema,
+        notes: &[Note],
+    ) -> Result<(), Refusal>
+        requires { schema.now.resolved ≡ true }
+        ensures ok { OnOk result (self.new ≡ self.old
+            ++ flat_map (note_alters (dialect_quoting dialect) schema.now) notes.now) }
+        ensures cause { IfErr result (λ e. e ≡ Refusal.Memory) }
+    {
+        put_later_foreigns(&mut self.text, alloc, quoting_of(dialect), schema, notes)
+    }
+
+    /// The line of a warning of the line of a number goes behind the reply. The only refusal is `Memory`.
+    pub(crate) fn put_warning(
+        &mut self,
+        line: u32,
+        warning: Warning,
+        names: &SessionNames<'_>,
+    ) -> Result<(), Refusal>
+        ensures ok { OnOk result (self.new ≡ self.old
+            ++ warning_line names.now.mapping.now names.now.arena.now line warning) }
+        ensures cause { IfErr result (λ e. e ≡ Refusal.Memory) }
+    {
+        let warning = WarningText { names, warning };
+        write!(self.text, "warning {line}: {warning}\n")?;
         Ok(())
     }
 

@@ -18,7 +18,7 @@ use Rattle.command_resolve.specs.Standing.{AreOfDeclared, IsAnswer, IsOfDeclared
 use Rattle.command_resolve.specs.Terms.{Bindings}
 use Rattle.shell_steps.specs.declared.stage.Stage.{Stage}
 use Rattle.shell_steps.specs.declared.stage.Stage.TheVariants.{Declaring, Configured}
-use Rattle.shell_steps.specs.ShellState.{AreBound, IsAnswerAt, new_mapping}
+use Rattle.shell_steps.specs.ShellState.{AreBound, IsAnswerAt}
 use Rattle.shell_steps.specs.Step.{names_with}
 
 -- ---- a binding more
@@ -81,8 +81,8 @@ bound_before stage names later is bound = subst (AreBound stage) (sym is) bound
 pub none_bound_in : (session : SessionState) (names : Bindings) → names ≡ [] → AreBound (Configured session) names
 none_bound_in session names none = rw none ((λ name thing is. absurd cc), (λ name thing is. absurd cc))
 
-pub none_bound : (mapping : Mapped) (names : Bindings) → names ≡ [] → mapping ≡ new_mapping → AreBound (Declaring mapping) names
-none_bound mapping names none is = rw is (refl, none)
+pub none_bound : (mapping : Mapped) (names : Bindings) → names ≡ [] → AreBound (Declaring mapping) names
+none_bound mapping names none = none
 
 -- ---- objects that stay
 
@@ -111,7 +111,7 @@ bound_same names old new same bound =
 pub bound_in_session : {stage : Stage} {old : SessionState} (names : Bindings) (new : SessionState) → stage ≡ Configured old → SameObjects old new → AreBound stage names → AreBound (Configured new) names
 bound_in_session {old = old} names new is same bound = bound_same names old new same (subst (λ (s : Stage). AreBound s names) is bound)
 
-pub bound_after : {stage : Stage} {old : SessionState} (names : Bindings) (new : SessionState) → stage ≡ Configured old → new.mapping ≡ old.mapping → AreThereStill old.graph new.graph → old.drawn.drawn ≤ new.drawn.drawn → AreBound stage names → AreBound (Configured new) names
-bound_after {old = old} names new is same stay more bound = bound_stays names old new same stay more (subst (λ (s : Stage). AreBound s names) is bound)
+pub bound_after : {stage : Stage} {old : SessionState} (names : Bindings) (new : SessionState) → stage ≡ Configured old → ((names : Bindings) → AreBound (Configured old) names → AreBound (Configured new) names) → AreBound stage names → AreBound (Configured new) names
+bound_after names new is stay bound = stay names (subst (λ (s : Stage). AreBound s names) is bound)
 
 pub ruleset bindings = (none_bound, bound_more, bound_before, bound_in_session, bound_after)

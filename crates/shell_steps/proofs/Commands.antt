@@ -2,21 +2,25 @@
 use Rattle.std.proofs.Common.{◌≡◌, ℕ, length, Bool, true, false, List, Option, None, Some, Result, Ok, Err, IfErr, IsErrAnd, IfOk, MatchBool, refl, sym, ap, ◌∙◌, subst, arith}
 use Rattle.base_core.specs.Answers.{Gives}
 use Rattle.base_core.specs.declared.refusal.Refusal.{Refusal}
-use Rattle.base_core.specs.declared.refusal.Refusal.TheVariants.{InvalidRequestError, Memory, NotBuilt, TypeMismatch}
+use Rattle.base_core.specs.declared.refusal.Refusal.TheVariants.{CompileError, InvalidRequestError, Memory, NotBuilt, TypeMismatch}
 use Rattle.base_core.specs.declared.refusal.RequestKind.TheVariants.{NotConfigured}
 use Rattle.class_mapping.specs.Mapped.{Mapped}
+use Rattle.class_types.specs.Rules.{Rules}
 use Rattle.object_arena.specs.Graph.{Graph}
 use Rattle.programs.specs.Store.{Store}
-use Rattle.programs.specs.Programs.{Run, ◌>>=◌, ask, ends_early, quiet, refuse}
+use Rattle.programs.specs.Programs.{Run, ask, ends_early, quiet, refuse}
 use Rattle.programs.specs.Moment.{AsTold, IsCutOff, IsRun, Moment, Outcome, Ran, Runs, Told}
-use Rattle.programs.specs.Beside.{Beside, changes, moment_beside, on_own, told_beside}
-use Rattle.programs.specs.Alone.{alone}
-use Rattle.programs.proofs.AloneLemmas.{alone_lost, alone_ok, beside_alone, asked_err, asked_ok, then_own_err, then_own_ok}
-use Rattle.programs.proofs.Lifting.{changed, chosen, same_beside}
+use Rattle.programs.specs.Beside.{Beside, moment_beside, on_own, told_beside}
+use Rattle.programs.specs.Alone.{Tells, alone}
+use Rattle.programs.proofs.AloneLemmas.{alone_lost, alone_ok, asked_tells, beside_alone, tells_err, tells_lost as tells_memory_lost, tells_ok, then_own_err, then_own_ok}
+use Rattle.programs.proofs.Lifting.{chosen, same_beside}
 use Rattle.programs.proofs.Sequence.{refused, then_err, then_ok}
 use Rattle.script_types.specs.declared.command.Command.{Command}
+use Rattle.script_types.specs.declared.command.Dialect.{Dialect}
+use Rattle.sql_semantics.specs.Checked.{Checked, ◌>>=◌}
+use Rattle.compiled_lines.specs.CompiledLines.{IsOfCompiling}
 use Rattle.session_parts.specs.Depths.{StaysAt}
-use Rattle.session_scopes.specs.SessionState.{AreThereStill, IsInStep, SessionState}
+use Rattle.session_scopes.specs.SessionState.{IsInStep, SessionState}
 use Rattle.session_perform.specs.Performing.{IsPerformed, program_of_resolved}
 use Rattle.command_resolve.specs.declared.answer.Answer.{Answer}
 use Rattle.command_resolve.specs.declared.resolved.Resolved.{Resolved}
@@ -27,65 +31,94 @@ use Rattle.shell_replies.specs.Answers.{CanBeTold, answer_text}
 use Rattle.command_resolve.specs.declared.answer.Answer.TheVariants as answer
 use Rattle.shell_steps.specs.declared.stage.Stage.{Stage}
 use Rattle.shell_steps.specs.declared.stage.Stage.TheVariants.{Declaring, Configured}
-use Rattle.shell_steps.specs.Calls.{IsShellCall, IsShellCallAlone}
+use Rattle.shell_steps.specs.Asking.{asked, has_texts}
+use Rattle.shell_steps.specs.Calls.{IsCommandCall, IsShellCall, IsShellCallAlone}
 use Rattle.shell_steps.specs.ShellState.{IsAnswerAt, IsReady, ShellState, StaysReady, mapping_of}
-use Rattle.shell_steps.specs.Step.{World, do_command, in_session, perform, performed, run_at, session_run, names_with, tell_answer, with_answer, with_session, without_notes}
+use Rattle.shell_steps.specs.Step.{World, do_command, in_session, perform, performed, run_at, session_run, names_with, tell_answer, with_answer, with_session}
+use Rattle.shell_steps.proofs.Bindings.{bound_stays}
 
 -- ---- a line is resolved
 
-resolves : (names : Bindings) (command : Command) (own : SessionState) (r : Result Resolved Refusal) → Gives (λ (line : Resolved). line) r (resolve own.mapping names command) → IfErr r IsOfResolving
-    → Runs alone (λ (line : Resolved). line) (ask (λ session. resolve session.mapping names command)) own r own
-resolves names command own (Ok line) p cause = asked_ok (λ session. resolve session.mapping names command) p
-resolves names command own (Err Memory) p cause = alone_lost
-resolves names command own (Err (InvalidRequestError kind)) p cause = asked_err (λ session. resolve session.mapping names command) refl refl p
-resolves names command own (Err (TypeMismatch wanted found)) p cause = asked_err (λ session. resolve session.mapping names command) refl refl p
-resolves names command own (Err NotBuilt) p cause = asked_err (λ session. resolve session.mapping names command) refl refl p
-resolves names command own (Err e) p cause = absurd cause
+-- what may be refused for names, kinds and texts
+tells_asked_is : {A X : Type 0} (v : X → A) (told : Result A Refusal) (r : Result X Refusal) → Gives v r told → IfErr r IsOfCompiling → Tells v told r
+tells_asked_is v told (Ok x) p cause = tells_ok p
+tells_asked_is v told (Err Memory) p cause = tells_memory_lost
+tells_asked_is v told (Err (InvalidRequestError kind)) p cause = tells_err refl refl p
+tells_asked_is v told (Err (TypeMismatch wanted found)) p cause = tells_err refl refl p
+tells_asked_is v told (Err (CompileError table column)) p cause = tells_err refl refl p
+tells_asked_is v told (Err NotBuilt) p cause = tells_err refl refl p
+tells_asked_is v told (Err e) p cause = absurd cause
 
-stays_itself : (session : SessionState) → AreThereStill session.graph session.graph
-stays_itself session = λ object there. (there, refl)
+pub tells_asked : {A X : Type 0} {v : X → A} {told : Result A Refusal} {r : Result X Refusal} → Gives v r told → IfErr r IsOfCompiling → Tells v told r
+tells_asked {v = v} {told = told} {r = r} p cause = tells_asked_is v told r p cause
 
-not_resolved : {K : Type 0} (moment : K → Moment Store) (names : Bindings) (command : Command) (own : SessionState) (keeper : K) (e : Refusal)
-    → Gives (λ (line : Resolved). line) (Err e) (resolve own.mapping names command) → IsOfResolving e → IsInStep own (moment keeper) → IsPerformed moment (performed names command) (own, keeper) (Err e) (own, keeper)
+pub of_resolving : (e : Refusal) → IsOfResolving e → IsOfCompiling e
+of_resolving (InvalidRequestError kind) cause = cause
+of_resolving (TypeMismatch wanted found) cause = tt
+of_resolving Memory cause = tt
+of_resolving NotBuilt cause = tt
+of_resolving e cause = absurd cause
+
+abbrev asked_by : Checked (Unit {0}) → Mapped → Bindings → Command → Checked Resolved
+asked_by told mapped names command = told >>= λ u. resolve mapped names command
+
+-- the texts were found, and then what the line asks for
+pub asks : (dialect : Dialect) (mapped : Mapped) (names : Bindings) (command : Command) (r : Result Resolved Refusal)
+    → has_texts dialect mapped.schema command ≡ Ok tt → Gives (λ (line : Resolved). line) r (resolve mapped names command) → Gives (λ (line : Resolved). line) r (asked dialect mapped names command)
+asks dialect mapped names command r texts p =
+    subst (λ (told : Result Resolved Refusal). Gives (λ (line : Resolved). line) r told) (sym (ap (λ (told : Result (Unit {0}) Refusal). asked_by told mapped names command) texts)) p
+
+asks_err : (dialect : Dialect) (mapped : Mapped) (names : Bindings) (command : Command) (e : Refusal) → Gives {X = Unit {0}} (λ u. u) (Err e) (has_texts dialect mapped.schema command) → Gives {X = Resolved} (λ line. line) (Err e) (asked dialect mapped names command)
+asks_err dialect mapped names command Memory p = tt
+asks_err dialect mapped names command e p = ap (λ (told : Result (Unit {0}) Refusal). asked_by told mapped names command) p
+
+-- a table has no text
+pub asks_not : (dialect : Dialect) (mapped : Mapped) (names : Bindings) (command : Command) (e : Refusal) (r : Result Resolved Refusal) → IsErrAnd r (λ d. d ≡ e)
+    → Gives {X = Unit {0}} (λ u. u) (Err e) (has_texts dialect mapped.schema command) → Gives (λ (line : Resolved). line) r (asked dialect mapped names command)
+asks_not dialect mapped names command e (Ok line) same p = absurd same
+asks_not dialect mapped names command e (Err d) same p = subst (λ (c : Refusal). Gives {X = Resolved} (λ line. line) (Err c) (asked dialect mapped names command)) (sym same) (asks_err dialect mapped names command e p)
+
+pub ruleset asking = (of_resolving, asks, asks_not)
+
+resolves : (dialect : Dialect) (names : Bindings) (command : Command) (own : SessionState) (r : Result Resolved Refusal) → Gives (λ (line : Resolved). line) r (asked dialect own.mapping names command) → IfErr r IsOfCompiling
+    → Runs alone (λ (line : Resolved). line) (ask (λ session. asked dialect session.mapping names command)) own r own
+resolves dialect names command own r p cause = asked_tells (λ session. asked dialect session.mapping names command) (tells_asked p cause)
+
+not_resolved : {K : Type 0} (moment : K → Moment Store) (rules : Rules) (dialect : Dialect) (names : Bindings) (command : Command) (own : SessionState) (keeper : K) (e : Refusal)
+    → Gives (λ (line : Resolved). line) (Err e) (asked dialect own.mapping names command) → IsOfCompiling e → IsInStep own (moment keeper) → IsCommandCall moment (performed rules dialect names command) (own, keeper) (Err e) (own, keeper)
 unfolding performed
-not_resolved moment names command own keeper e p cause in_step = record {
-  step = then_own_err moment (λ resolved. changes without_notes >>= λ u. program_of_resolved resolved) (resolves names command own (Err e) p cause);
-  mapping = refl;
-  stay = stays_itself own;
-  drawn = omega arith;
+not_resolved moment rules dialect names command own keeper e p cause in_step = record {
+  step = then_own_err moment (program_of_resolved rules) (resolves dialect names command own (Err e) p cause);
+  bound = λ names bound. bound;
   in_step = λ early. in_step;
   answer = tt;
 }
 
 -- the line was refused, and nothing has begun
-pub refuses_line : {K : Type 0} (moment : K → Moment Store) (names : Bindings) (command : Command) (mapped : Mapped) (own : SessionState) (keeper : K) (e : Refusal) (r : Result Answer Refusal) → IsErrAnd r (λ d. d ≡ e) → mapped ≡ own.mapping
-    → Gives (λ (line : Resolved). line) (Err e) (resolve mapped names command) → IsOfResolving e → IsInStep own (moment keeper) → IsPerformed moment (performed names command) (own, keeper) r (own, keeper)
-refuses_line moment names command mapped own keeper e (Ok answer) same is p cause in_step = absurd same
-refuses_line moment names command mapped own keeper e (Err d) same is p cause in_step =
-    subst (λ (c : Refusal). IsPerformed moment (performed names command) (own, keeper) (Err c) (own, keeper)) (sym same)
-    (not_resolved moment names command own keeper e (subst (λ (m : Mapped). Gives (λ (line : Resolved). line) (Err e) (resolve m names command)) is p) cause in_step)
+pub refuses_line : {K : Type 0} (moment : K → Moment Store) (rules : Rules) (dialect : Dialect) (names : Bindings) (command : Command) (mapped : Mapped) (own : SessionState) (keeper : K) (e : Refusal) (r : Result Answer Refusal) → IsErrAnd r (λ d. d ≡ e) → mapped ≡ own.mapping
+    → Gives (λ (line : Resolved). line) (Err e) (asked dialect mapped names command) → IsOfCompiling e → IsInStep own (moment keeper) → IsCommandCall moment (performed rules dialect names command) (own, keeper) r (own, keeper)
+refuses_line moment rules dialect names command mapped own keeper e (Ok answer) same is p cause in_step = absurd same
+refuses_line moment rules dialect names command mapped own keeper e (Err d) same is p cause in_step =
+    subst (λ (c : Refusal). IsCommandCall moment (performed rules dialect names command) (own, keeper) (Err c) (own, keeper)) (sym same)
+    (not_resolved moment rules dialect names command own keeper e (subst (λ (m : Mapped). Gives (λ (line : Resolved). line) (Err e) (asked dialect m names command)) is p) cause in_step)
 
-resolved_performed : {K : Type 0} (moment : K → Moment Store) (names : Bindings) (command : Command) (own now : SessionState) (old new : K) (line : Resolved) (r : Result Answer Refusal)
-    → Gives (λ (line : Resolved). line) (Ok line) (resolve own.mapping names command) → IsPerformed moment (program_of_resolved line) (without_notes own, old) r (now, new)
-    → IsPerformed moment (performed names command) (own, old) r (now, new)
+resolved_performed : {K : Type 0} (moment : K → Moment Store) (rules : Rules) (dialect : Dialect) (names : Bindings) (command : Command) (own now : SessionState) (old new : K) (line : Resolved) (r : Result Answer Refusal)
+    → Gives (λ (line : Resolved). line) (Ok line) (asked dialect own.mapping names command) → IsPerformed moment (program_of_resolved rules line) (own, old) r (now, new)
+    → IsCommandCall moment (performed rules dialect names command) (own, old) r (now, new)
 unfolding performed
-resolved_performed moment names command own now old new line r p q = record {
-  step = then_own_ok moment (λ resolved. changes without_notes >>= λ u. program_of_resolved resolved) (resolves names command own (Ok line) p tt)
-      (then_ok (λ u. program_of_resolved line) (changed {X = Unit {0}} moment without_notes {x = tt} refl) q.step);
-  mapping = q.mapping;
-  stay = q.stay;
-  drawn = q.drawn;
+resolved_performed moment rules dialect names command own now old new line r p q = record {
+  step = then_own_ok moment (program_of_resolved rules) (resolves dialect names command own (Ok line) p tt) q.step;
+  bound = λ names bound. bound_stays names own now q.mapping q.stay q.drawn bound;
   in_step = q.in_step;
   answer = q.answer;
 }
 
 -- it was performed
-pub performs_line : {K : Type 0} (moment : K → Moment Store) (names : Bindings) (command : Command) (mapped : Mapped) (own mid now : SessionState) (old new : K) (line : Resolved) (r : Result Answer Refusal) → mapped ≡ own.mapping
-    → Gives (λ (line : Resolved). line) (Ok line) (resolve mapped names command) → mid ≡ without_notes own → IsPerformed moment (program_of_resolved line) (mid, old) r (now, new)
-    → IsPerformed moment (performed names command) (own, old) r (now, new)
-performs_line moment names command mapped own mid now old new line r same p is q =
-    resolved_performed moment names command own now old new line r (subst (λ (m : Mapped). Gives (λ (line : Resolved). line) (Ok line) (resolve m names command)) same p)
-    (subst (λ (s : SessionState). IsPerformed moment (program_of_resolved line) (s, old) r (now, new)) is q)
+pub performs_line : {K : Type 0} (moment : K → Moment Store) (rules : Rules) (dialect : Dialect) (names : Bindings) (command : Command) (mapped : Mapped) (own now : SessionState) (old new : K) (line : Resolved) (r : Result Answer Refusal) → mapped ≡ own.mapping
+    → Gives (λ (line : Resolved). line) (Ok line) (asked dialect mapped names command) → IsPerformed moment (program_of_resolved rules line) (own, old) r (now, new)
+    → IsCommandCall moment (performed rules dialect names command) (own, old) r (now, new)
+performs_line moment rules dialect names command mapped own now old new line r same p q =
+    resolved_performed moment rules dialect names command own now old new line r (subst (λ (m : Mapped). Gives (λ (line : Resolved). line) (Ok line) (asked dialect m names command)) same p) q
 
 -- ---- the session in the shell
 
@@ -136,24 +169,24 @@ ready_in : (r : Result Answer Refusal) (stage : Stage) (now : SessionState) (mom
 ready_in (Ok x) stage now moment is p = subst (λ (s : Stage). IsReady s moment) (sym is) p
 ready_in (Err e) stage now moment is p = λ early. subst (λ (s : Stage). IsReady s moment) (sym is) (p early)
 
-pub performs : {K : Type 0} (moment : K → Moment Store) (command : Command) {own after : ShellState} {session now : SessionState} {old new : K} {r : Result Answer Refusal}
-    → own.stage ≡ Configured session → after ≡ with_session own now → IsPerformed moment (performed own.names command) (session, old) r (now, new) → IsShellCall moment (perform command) (own, old) r (after, new)
+pub performs : {K : Type 0} (moment : K → Moment Store) (rules : Rules) (command : Command) {own after : ShellState} {session now : SessionState} {old new : K} {r : Result Answer Refusal}
+    → own.stage ≡ Configured session → after ≡ with_session own now → IsCommandCall moment (performed rules own.options.dialect own.names command) (session, old) r (now, new) → IsShellCall moment (perform rules command) (own, old) r (after, new)
 unfolding perform
-performs moment command {own = own} {after = after} {now = now} {new = new} {r = r} opened is p = record {
-  step = chosen moment (λ shell. in_session (performed shell.names command)) (session_runs moment (performed own.names command) opened is p.step);
+performs moment rules command {own = own} {after = after} {now = now} {new = new} {r = r} opened is p = record {
+  step = chosen moment (λ shell. in_session (performed rules shell.options.dialect shell.names command)) (session_runs moment (performed rules own.options.dialect own.names command) opened is p.step);
   ready = ready_in r after.stage now (moment new) (ap (λ (s : ShellState). s.stage) is) p.in_step;
 }
 
-pub performs_view : {K : Type 0} (moment : K → Moment Store) (command : Command) (inside own : ShellState) (session now : SessionState) (old new : K) (r : Result Answer Refusal) → inside ≡ own
-    → inside.stage ≡ Configured session → IsPerformed moment (performed inside.names command) (session, old) r (now, new) → IsShellCall moment (perform command) (own, old) r (with_session inside now, new)
-performs_view moment command inside own session now old new r here opened p =
-    subst (λ (s : ShellState). IsShellCall moment (perform command) (s, old) r (with_session inside now, new)) here (performs moment command {own = inside} opened refl p)
+pub performs_view : {K : Type 0} (moment : K → Moment Store) (rules : Rules) (command : Command) (inside own : ShellState) (session now : SessionState) (old new : K) (r : Result Answer Refusal) → inside ≡ own
+    → inside.stage ≡ Configured session → IsCommandCall moment (performed rules inside.options.dialect inside.names command) (session, old) r (now, new) → IsShellCall moment (perform rules command) (own, old) r (with_session inside now, new)
+performs_view moment rules command inside own session now old new r here opened p =
+    subst (λ (s : ShellState). IsShellCall moment (perform rules command) (s, old) r (with_session inside now, new)) here (performs moment rules command {own = inside} opened refl p)
 
-pub performs_not : {K : Type 0} (moment : K → Moment Store) (command : Command) {own : ShellState} {mapping : Mapped} {keeper : K}
-    → own.stage ≡ Declaring mapping → IsReady own.stage (moment keeper) → IsShellCall moment (perform command) (own, keeper) (Err (InvalidRequestError NotConfigured)) (own, keeper)
+pub performs_not : {K : Type 0} (moment : K → Moment Store) (rules : Rules) (command : Command) {own : ShellState} {mapping : Mapped} {keeper : K}
+    → own.stage ≡ Declaring mapping → IsReady own.stage (moment keeper) → IsShellCall moment (perform rules command) (own, keeper) (Err (InvalidRequestError NotConfigured)) (own, keeper)
 unfolding perform
-performs_not moment command {own = own} closed ready = record {
-  step = chosen moment (λ shell. in_session (performed shell.names command)) (session_none moment (performed own.names command) closed);
+performs_not moment rules command {own = own} closed ready = record {
+  step = chosen moment (λ shell. in_session (performed rules shell.options.dialect shell.names command)) (session_none moment (performed rules own.options.dialect own.names command) closed);
   ready = λ early. ready;
 }
 
@@ -161,9 +194,9 @@ answer_in : (r : Result Answer Refusal) (stage : Stage) (now : SessionState) →
 answer_in (Ok answer) stage now is p = subst (λ (s : Stage). IsAnswerAt s answer) (sym is) p
 answer_in (Err e) stage now is p = tt
 
-pub answers_in : {K : Type 0} (moment : K → Moment Store) (names : Bindings) (command : Command) (own after : ShellState) {session now : SessionState} {old new : K} {r : Result Answer Refusal}
-    → after ≡ with_session own now → IsPerformed moment (performed names command) (session, old) r (now, new) → IfOk r (IsAnswerAt after.stage)
-answers_in moment names command own after {now = now} {r = r} is p = answer_in r after.stage now (ap (λ (s : ShellState). s.stage) is) p.answer
+pub answers_in : {K : Type 0} (moment : K → Moment Store) (rules : Rules) (dialect : Dialect) (names : Bindings) (command : Command) (own after : ShellState) {session now : SessionState} {old new : K} {r : Result Answer Refusal}
+    → after ≡ with_session own now → IsCommandCall moment (performed rules dialect names command) (session, old) r (now, new) → IfOk r (IsAnswerAt after.stage)
+answers_in moment rules dialect names command own after {now = now} {r = r} is p = answer_in r after.stage now (ap (λ (s : ShellState). s.stage) is) p.answer
 
 pub ruleset performing = (performs, performs_not, answers_in)
 
@@ -210,18 +243,18 @@ ready_same (Ok x) old new moment is ready = subst (λ (s : Stage). IsReady s mom
 ready_same (Err e) old new moment is ready = λ early. subst (λ (s : Stage). IsReady s moment) (sym is) ready
 
 -- the command was done and its answer told
-pub does_command : {K : Type 0} (moment : K → Moment Store) (command : Command) {own mid now : ShellState} {old new : K} {it : Answer} {r : Result (List ℕ) Refusal}
-    → IsShellCall moment (perform command) (own, old) (Ok it) (mid, new) → IsShellCallAlone (tell_answer it) mid r now → IsShellCall moment (do_command command) (own, old) r (now, new)
+pub does_command : {K : Type 0} (moment : K → Moment Store) (rules : Rules) (command : Command) {own mid now : ShellState} {old new : K} {it : Answer} {r : Result (List ℕ) Refusal}
+    → IsShellCall moment (perform rules command) (own, old) (Ok it) (mid, new) → IsShellCallAlone (tell_answer it) mid r now → IsShellCall moment (do_command rules command) (own, old) r (now, new)
 unfolding do_command
-does_command moment command {mid = mid} {now = now} {new = new} {it = it} {r = r} p q = record {
+does_command moment rules command {mid = mid} {now = now} {new = new} {it = it} {r = r} p q = record {
   step = then_ok (λ answer. on_own (tell_answer answer)) p.step (beside_alone moment q.step);
   ready = ready_same r mid.stage now.stage (moment new) q.stage p.ready;
 }
 
 -- it was refused
-pub refuses_command : {K : Type 0} (moment : K → Moment Store) (command : Command) {own now : ShellState} {old new : K} {e : Refusal}
-    → IsShellCall moment (perform command) (own, old) (Err e) (now, new) → IsShellCall moment (do_command command) (own, old) (Err e) (now, new)
+pub refuses_command : {K : Type 0} (moment : K → Moment Store) (rules : Rules) (command : Command) {own now : ShellState} {old new : K} {e : Refusal}
+    → IsShellCall moment (perform rules command) (own, old) (Err e) (now, new) → IsShellCall moment (do_command rules command) (own, old) (Err e) (now, new)
 unfolding do_command
-refuses_command moment command p = record { step = then_err (λ answer. on_own (tell_answer answer)) p.step; ready = p.ready }
+refuses_command moment rules command p = record { step = then_err (λ answer. on_own (tell_answer answer)) p.step; ready = p.ready }
 
 pub ruleset telling = (does_command, refuses_command)

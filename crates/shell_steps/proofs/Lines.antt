@@ -1,20 +1,32 @@
 -- A line: what it comes to, and that it is done.
-use Rattle.std.proofs.Common.{◌≡◌, ℕ, List, [], Result, Ok, Err, refl, sym, ap, subst}
+use Rattle.std.proofs.Common.{◌≡◌, ℕ, List, [], Result, Ok, Err, IfErr, IsErrAnd, refl, sym, ap, subst}
+use Rattle.base_core.specs.Answers.{Gives}
 use Rattle.base_core.specs.declared.refusal.Refusal.{Refusal}
-use Rattle.base_core.specs.declared.refusal.Refusal.TheVariants.{Memory}
+use Rattle.base_core.specs.declared.refusal.Refusal.TheVariants.{InvalidRequestError, Memory}
+use Rattle.base_core.specs.declared.refusal.RequestKind.TheVariants.{NotConfigured}
+use Rattle.class_mapping.specs.Mapped.{Mapped}
+use Rattle.class_types.specs.Rules.{Rules}
 use Rattle.programs.specs.Store.{Store}
 use Rattle.programs.specs.Programs.{Run}
 use Rattle.programs.specs.Moment.{Moment, Runs}
-use Rattle.programs.specs.Alone.{IsQuiet, alone}
-use Rattle.programs.proofs.AloneLemmas.{alone_err, alone_lost, alone_ok, then_own_err, then_own_ok}
+use Rattle.programs.specs.Alone.{IsQuiet, Tells, alone}
+use Rattle.programs.specs.Beside.{on_own}
+use Rattle.programs.proofs.AloneLemmas.{alone_err, alone_lost, alone_ok, asked_tells, beside_alone, tells_err, then_own_err, then_own_ok}
 use Rattle.programs.proofs.Sequence.{done}
+use Rattle.script_types.specs.declared.command.Command.{Command}
+use Rattle.session_scopes.specs.SessionState.{SessionState}
+use Rattle.compiled_lines.specs.CompiledLines.{IsOfCompiling, compiled_line}
 use Rattle.shell_lines.specs.declared.desk.Said.{Said}
 use Rattle.shell_lines.specs.declared.desk.Said.TheVariants as said
 use Rattle.shell_lines.specs.Desk.{DeskState, said_line}
 use Rattle.shell_steps.specs.declared.stage.Stage.{Stage}
+use Rattle.shell_steps.specs.declared.stage.Stage.TheVariants.{Declaring, Configured}
+use Rattle.shell_steps.specs.Asking.{compiled_at}
 use Rattle.shell_steps.specs.Calls.{IsShellCall, IsShellCallAlone}
 use Rattle.shell_steps.specs.ShellState.{IsReady, ShellState}
-use Rattle.shell_steps.specs.Step.{at_desk, desk_run, do_said, line_step}
+use Rattle.shell_steps.specs.Step.{World, at_desk, compile, desk_run, do_said, line_step}
+use Rattle.shell_steps.proofs.Commands.{tells_asked}
+use Rattle.shell_steps.proofs.Stages.{stays}
 
 -- ---- the place where the script stands
 
@@ -40,32 +52,57 @@ pub ready_then : {K : Type 0} (moment : K → Moment Store) {m : ShellState → 
 ready_then moment {own = own} {mid = mid} keeper p ready = ready_at own.stage mid.stage (moment keeper) p.stage ready
 
 -- the line was read, and done
-pub steps : {K : Type 0} (moment : K → Moment Store) (bytes : List ℕ) {own mid now : ShellState} {old new : K} {said : Said} {r : Result (List ℕ) Refusal}
-    → IsShellCallAlone (at_desk (said_line bytes)) own (Ok said) mid → IsShellCall moment (do_said said) (mid, old) r (now, new) → IsShellCall moment (line_step bytes) (own, old) r (now, new)
+pub steps : {K : Type 0} (moment : K → Moment Store) (rules : Rules) (bytes : List ℕ) {own mid now : ShellState} {old new : K} {said : Said} {r : Result (List ℕ) Refusal}
+    → IsShellCallAlone (at_desk (said_line bytes)) own (Ok said) mid → IsShellCall moment (do_said rules said) (mid, old) r (now, new) → IsShellCall moment (line_step rules bytes) (own, old) r (now, new)
 unfolding line_step
-steps moment bytes p q = record { step = then_own_ok moment do_said p.step q.step; ready = q.ready }
+steps moment rules bytes p q = record { step = then_own_ok moment (do_said rules) p.step q.step; ready = q.ready }
 
 -- it was refused
-pub steps_not : {K : Type 0} (moment : K → Moment Store) (bytes : List ℕ) {own now : ShellState} {keeper : K} {e : Refusal}
-    → IsShellCallAlone (at_desk (said_line bytes)) own (Err e) now → IsReady own.stage (moment keeper) → IsShellCall moment (line_step bytes) (own, keeper) (Err e) (now, keeper)
+pub steps_not : {K : Type 0} (moment : K → Moment Store) (rules : Rules) (bytes : List ℕ) {own now : ShellState} {keeper : K} {e : Refusal}
+    → IsShellCallAlone (at_desk (said_line bytes)) own (Err e) now → IsReady own.stage (moment keeper) → IsShellCall moment (line_step rules bytes) (own, keeper) (Err e) (now, keeper)
 unfolding line_step
-steps_not moment bytes {own = own} {now = now} {keeper = keeper} p ready = record {
-  step = then_own_err moment do_said p.step;
+steps_not moment rules bytes {own = own} {now = now} {keeper = keeper} p ready = record {
+  step = then_own_err moment (do_said rules) p.step;
   ready = λ early. ready_at own.stage now.stage (moment keeper) p.stage ready;
 }
+
+-- a refusal of a call as that of the call around it
+pub call_as : {A K : Type 0} {moment : K → Moment Store} {m : World → Run World A} {old new : ShellState × K} (e : Refusal) (r : Result A Refusal) → IsErrAnd r (λ d. d ≡ e) → IsShellCall moment m old (Err e) new → IsShellCall moment m old r new
+call_as e (Ok x) same p = absurd same
+call_as {moment = moment} {m = m} {old = old} {new = new} e (Err d) same p = subst (λ (c : Refusal). IsShellCall moment m old (Err c) new) (sym same) p
 
 pub ruleset stepping = (steps, steps_not, ready_then)
 
 -- ---- what a line comes to
 
 -- the line comes to this
-pub acts : {K : Type 0} {moment : K → Moment Store} {it other : Said} {old new : ShellState × K} {r : Result (List ℕ) Refusal}
-    → it ≡ other → IsShellCall moment (do_said other) old r new → IsShellCall moment (do_said it) old r new
-acts {moment = moment} {old = old} {new = new} {r = r} is p = subst (λ (s : Said). IsShellCall moment (do_said s) old r new) (sym is) p
+pub acts : {K : Type 0} {moment : K → Moment Store} (rules : Rules) {it other : Said} {old new : ShellState × K} {r : Result (List ℕ) Refusal}
+    → it ≡ other → IsShellCall moment (do_said rules other) old r new → IsShellCall moment (do_said rules it) old r new
+acts {moment = moment} rules {old = old} {new = new} {r = r} is p = subst (λ (s : Said). IsShellCall moment (do_said rules s) old r new) (sym is) p
 
-pub acts_nothing : {K : Type 0} {moment : K → Moment Store} {it : Said} {own : ShellState} {keeper : K} {reply : List ℕ}
-    → it ≡ said.Nothing → reply ≡ [] → IsReady own.stage (moment keeper) → IsShellCall moment (do_said it) (own, keeper) (Ok reply) (own, keeper)
-acts_nothing {moment = moment} {own = own} {keeper = keeper} {reply = reply} is none ready =
-    acts is (record { step = done {v = λ (text : List ℕ). text} (sym none); ready = ready })
+pub acts_nothing : {K : Type 0} {moment : K → Moment Store} (rules : Rules) {it : Said} {own : ShellState} {keeper : K} {reply : List ℕ}
+    → it ≡ said.Nothing → reply ≡ [] → IsReady own.stage (moment keeper) → IsShellCall moment (do_said rules it) (own, keeper) (Ok reply) (own, keeper)
+acts_nothing {moment = moment} rules {own = own} {keeper = keeper} {reply = reply} is none ready =
+    acts rules is (record { step = done {v = λ (text : List ℕ). text} (sym none); ready = ready })
 
 pub ruleset acting = (acts, acts_nothing)
+
+-- ---- a line that compiles
+
+pub compiled_none : {stage : Stage} {mapping : Mapped} (command : Command) → stage ≡ Declaring mapping → Tells {X = List ℕ} (λ reply. reply) (compiled_at stage command) (Err (InvalidRequestError NotConfigured))
+compiled_none command is = subst (λ (s : Stage). Tells {X = List ℕ} (λ reply. reply) (compiled_at s command) (Err (InvalidRequestError NotConfigured))) (sym is) (tells_err refl refl refl)
+
+pub compiled_some : {stage : Stage} {session : SessionState} {r : Result (List ℕ) Refusal} (command : Command)
+    → stage ≡ Configured session → Gives (λ (reply : List ℕ). reply) r (compiled_line session.mapping.schema command) → IfErr r IsOfCompiling → Tells (λ (reply : List ℕ). reply) (compiled_at stage command) r
+compiled_some {r = r} command is p cause = subst (λ (s : Stage). Tells (λ (reply : List ℕ). reply) (compiled_at s command) r) (sym is) (tells_asked p cause)
+
+pub ruleset compiling = (compiled_none, compiled_some)
+
+-- it was compiled, and nothing else was done
+pub compiles : {K : Type 0} (moment : K → Moment Store) (command : Command) (inside own : ShellState) (keeper : K) (r : Result (List ℕ) Refusal)
+    → inside ≡ own → Tells (λ (reply : List ℕ). reply) (compiled_at inside.stage command) r → IsReady own.stage (moment keeper) → IsShellCall moment (on_own (compile command)) (own, keeper) r (own, keeper)
+unfolding compile
+compiles moment command inside own keeper r here p ready = record {
+  step = beside_alone moment (asked_tells (λ shell. compiled_at shell.stage command) (subst (λ (s : ShellState). Tells (λ (reply : List ℕ). reply) (compiled_at s.stage command) r) here p));
+  ready = stays r own.stage (moment keeper) ready;
+}

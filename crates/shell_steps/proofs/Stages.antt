@@ -7,7 +7,6 @@ use Rattle.base_core.specs.declared.refusal.Refusal.TheVariants.{ArgumentError, 
 use Rattle.class_types.specs.Rules.{Rules}
 use Rattle.class_mapping.specs.Mapped.{Mapped, fault_of}
 use Rattle.class_mapping.specs.Declaring.{configured_unless, configure}
-use Rattle.class_mapping.specs.PlainClass.{ArePlain}
 use Rattle.programs.specs.Store.{Store}
 use Rattle.programs.specs.Programs.{give}
 use Rattle.programs.specs.Moment.{Moment, Runs}
@@ -22,8 +21,8 @@ use Rattle.command_resolve.specs.Terms.{Bindings}
 use Rattle.shell_steps.specs.declared.stage.Stage.{Stage}
 use Rattle.shell_steps.specs.declared.stage.Stage.TheVariants.{Declaring, Configured}
 use Rattle.shell_steps.specs.Calls.{IsShellCall, IsStageTurn}
-use Rattle.shell_steps.specs.ShellState.{AreBound, IsKept, IsPlainStage, IsReady, ShellState, StaysReady, no_rules}
-use Rattle.shell_steps.specs.Step.{at_stage, at_stage_of, declared_stage, goes, opened_stage, session_stage, stage_over, turn}
+use Rattle.shell_steps.specs.ShellState.{AreBound, IsKept, IsReady, ShellState, StaysReady}
+use Rattle.shell_steps.specs.Step.{at_stage, at_stage_of, declared_stage, goes, opened_stage, session_stage, stage_over, turn, without_notes}
 use Rattle.shell_steps.proofs.Bindings.{none_bound_in}
 
 -- ---- what is kept
@@ -34,17 +33,17 @@ kept_itself stage = record { bound = λ names bound. bound; ready = λ moment re
 pub kept_same : {old new : Stage} → new ≡ old → IsKept old new
 kept_same {old = old} is = subst (IsKept old) (sym is) (kept_itself old)
 
-kept_over : (mapping now : Mapped) → (ArePlain mapping → ArePlain now) → IsKept (Declaring mapping) (Declaring now)
-kept_over mapping now plain = record { bound = λ names bound. (plain bound.0, bound.1); ready = λ moment ready. ready }
+kept_over : (mapping now : Mapped) → IsKept (Declaring mapping) (Declaring now)
+kept_over mapping now = record { bound = λ names bound. bound; ready = λ moment ready. ready }
 
--- classes stay plain roots
-pub kept_declared : {stage after : Stage} {mapping now : Mapped} → stage ≡ Declaring mapping → after ≡ Declaring now → (ArePlain mapping → ArePlain now) → IsKept stage after
-kept_declared {stage = stage} {after = after} {mapping = mapping} {now = now} is next plain =
-    subst (λ (s : Stage). IsKept s after) (sym is) (subst (λ (s : Stage). IsKept (Declaring mapping) s) (sym next) (kept_over mapping now plain))
+-- declarations go on
+pub kept_declared : {stage after : Stage} {mapping now : Mapped} → stage ≡ Declaring mapping → after ≡ Declaring now → IsKept stage after
+kept_declared {stage = stage} {after = after} {mapping = mapping} {now = now} is next =
+    subst (λ (s : Stage). IsKept s after) (sym is) (subst (λ (s : Stage). IsKept (Declaring mapping) s) (sym next) (kept_over mapping now))
 
 kept_open : (mapping : Mapped) (session : SessionState) (now : Mapped) → session ≡ new_session now → IsKept (Declaring mapping) (Configured session)
 kept_open mapping session now is = record {
-  bound = λ names bound. none_bound_in session names bound.1;
+  bound = λ names bound. none_bound_in session names bound;
   ready = λ moment ready. subst (λ (s : SessionState). IsReady (Configured s) moment) (sym is) ready;
 }
 
@@ -53,31 +52,23 @@ pub kept_opened : {stage after : Stage} {mapping now : Mapped} {session : Sessio
 kept_opened {stage = stage} {after = after} {mapping = mapping} {now = now} {session = session} is next new =
     subst (λ (s : Stage). IsKept s after) (sym is) (subst (λ (s : Stage). IsKept (Declaring mapping) s) (sym next) (kept_open mapping session now new))
 
-plain_in : (stage : Stage) (names : Bindings) → AreBound stage names → IsPlainStage stage
-plain_in (Declaring mapping) names bound = bound.0
-plain_in (Configured session) names bound = tt
-
-pub plain_bound : (stage : Stage) (names : Bindings) → AreBound stage names → IsPlainStage stage
-plain_bound stage names bound = plain_in stage names bound
-
 -- ---- declarations
 
 -- the mapping took the declaration of a block, or refused it
-declares_at : (block : Block) (mapping now : Mapped) (r : Result (Unit {0}) Refusal)
-    → Takes (λ (u : Unit {0}). tt) (declare no_rules block.declared mapping) mapping r now → IfErr r IsOfDeclaring → Turns (stage_over (declare no_rules block.declared mapping)) (Declaring mapping) r (Declaring now)
-declares_at block mapping now (Ok u) p cause = Turned (ap stage_over p)
-declares_at block mapping now (Err Memory) p cause = Turned tt
-declares_at block mapping now (Err (ArgumentError kind)) p cause = Turned (ap stage_over p.1, ap Declaring p.0, (refl, refl))
-declares_at block mapping now (Err e) p cause = absurd cause
+declares_at : (rules : Rules) (block : Block) (mapping now : Mapped) (r : Result (Unit {0}) Refusal)
+    → Takes (λ (u : Unit {0}). tt) (declare rules block.declared mapping) mapping r now → IfErr r IsOfDeclaring → Turns (stage_over (declare rules block.declared mapping)) (Declaring mapping) r (Declaring now)
+declares_at rules block mapping now (Ok u) p cause = Turned (ap stage_over p)
+declares_at rules block mapping now (Err Memory) p cause = Turned tt
+declares_at rules block mapping now (Err (ArgumentError kind)) p cause = Turned (ap stage_over p.1, ap Declaring p.0, (refl, refl))
+declares_at rules block mapping now (Err e) p cause = absurd cause
 
-pub declares : (block : Block) {rules : Rules} {stage after : Stage} {mapping now : Mapped} {r : Result (Unit {0}) Refusal}
-    → rules ≡ no_rules → stage ≡ Declaring mapping → after ≡ Declaring now
-    → Takes (λ (u : Unit {0}). tt) (declare rules block.declared mapping) mapping r now → IfErr r IsOfDeclaring → Turns (declared_stage block stage) stage r after
+pub declares : (rules : Rules) (block : Block) {stage after : Stage} {mapping now : Mapped} {r : Result (Unit {0}) Refusal}
+    → stage ≡ Declaring mapping → after ≡ Declaring now
+    → Takes (λ (u : Unit {0}). tt) (declare rules block.declared mapping) mapping r now → IfErr r IsOfDeclaring → Turns (declared_stage rules block stage) stage r after
 unfolding declared_stage
-declares block {stage = stage} {after = after} {mapping = mapping} {now = now} {r = r} known is next p cause =
-    let taken = subst (λ (known : Rules). Takes (λ (u : Unit {0}). tt) (declare known block.declared mapping) mapping r now) known p in
-    subst (λ (s : Stage). Turns (declared_stage block stage) stage r s) (sym next)
-    (subst (λ (s : Stage). Turns (declared_stage block s) s r (Declaring now)) (sym is) (declares_at block mapping now r taken cause))
+declares rules block {stage = stage} {after = after} {mapping = mapping} {now = now} {r = r} is next p cause =
+    subst (λ (s : Stage). Turns (declared_stage rules block stage) stage r s) (sym next)
+    (subst (λ (s : Stage). Turns (declared_stage rules block s) s r (Declaring now)) (sym is) (declares_at rules block mapping now r p cause))
 
 pub ruleset declaring = (kept_same, kept_declared, declares)
 
@@ -100,7 +91,7 @@ pub not_opened : {stage after : Stage} {mapping now : Mapped} {e : Refusal} → 
 not_opened {stage = stage} {after = after} {mapping = mapping} {now = now} {e = e} is next p =
     subst (λ (s : Stage). IsStageTurn {X = Unit {0}} opened_stage stage (Err e) s) (sym next)
     (subst (λ (s : Stage). IsStageTurn {X = Unit {0}} opened_stage s (Err e) (Declaring now)) (sym is)
-    (record { step = stays_open mapping now e p; kept = kept_over mapping now (λ plain. subst ArePlain (sym p.0) plain) }))
+    (record { step = stays_open mapping now e p; kept = kept_over mapping now }))
 
 opens_at : (mapping now : Mapped) → Takes {X = Unit {0}} (λ u. tt) (configure mapping) mapping (Ok tt) now
     → Turns {X = Unit {0}} (opened_stage (Declaring mapping)) (Declaring mapping) (Ok tt) (Configured (new_session now))
@@ -136,7 +127,7 @@ goes_on : {K : Type 0} (moment : K → Moment Store) (step : Stage → Result St
     → after ≡ at_stage own after.stage → IsStageTurn step own.stage r after.stage → Runs (moment_beside moment) (λ (u : Unit {0}). u) (on_own (goes step)) (own, keeper) r (after, keeper)
 goes_on moment step is p = beside_alone moment (goes_turned step is p.step)
 
-stays : {A : Type 0} (r : Result A Refusal) (stage : Stage) (moment : Moment Store) → IsReady stage moment → StaysReady r stage moment
+pub stays : {A : Type 0} (r : Result A Refusal) (stage : Stage) (moment : Moment Store) → IsReady stage moment → StaysReady r stage moment
 stays (Ok x) stage moment ready = ready
 stays (Err e) stage moment ready = λ own. ready
 
@@ -172,4 +163,19 @@ turns_not moment step inside own stage keeper e (Err d) same here p ready =
     (subst (λ (s : ShellState). IsShellCall moment (turn step) (s, keeper) (Err e) (record inside { stage = stage }, keeper)) here
     (turned_not moment step inside stage keeper e p (subst (λ (s : ShellState). IsReady s.stage (moment keeper)) (sym here) ready)))
 
-pub ruleset turning = (plain_bound)
+-- ---- what was noted is forgotten
+
+pub forgets : {old new : Stage} {session now : SessionState} → old ≡ Configured session → new ≡ Configured now → now ≡ record session { notes = [] } → new ≡ without_notes old
+forgets is next empty = next ∙ ap Configured empty ∙ sym (ap without_notes is)
+
+pub forgets_none : {old new : Stage} {mapping : Mapped} → old ≡ Declaring mapping → new ≡ old → new ≡ without_notes old
+forgets_none is next = next ∙ is ∙ sym (ap without_notes is)
+
+kept_by : (stage : Stage) → IsKept stage (without_notes stage)
+kept_by (Declaring mapping) = kept_itself (Declaring mapping)
+kept_by (Configured session) = record { bound = λ names bound. bound; ready = λ moment ready. ready }
+
+pub kept_without : {old new : Stage} → new ≡ without_notes old → IsKept old new
+kept_without {old = old} is = subst (IsKept old) (sym is) (kept_by old)
+
+pub ruleset forgetting = (forgets, forgets_none, kept_without)

@@ -1,9 +1,7 @@
 -- What is seen of a shell between two lines, and how a keeper stands beside it.
 use Rattle.std.specs.Prelude.{◌≡◌, true, false, [], Result, Ok, Err}
 use Rattle.base_core.specs.declared.refusal.Refusal.{Refusal}
-use Rattle.class_types.specs.Rules.{Rules}
 use Rattle.class_mapping.specs.Mapped.{Mapped}
-use Rattle.class_mapping.specs.PlainClass.{ArePlain}
 use Rattle.programs.specs.Programs.{ends_early}
 use Rattle.programs.specs.Moment.{Moment}
 use Rattle.programs.specs.Store.{Store}
@@ -12,11 +10,13 @@ use Rattle.command_resolve.specs.declared.answer.Answer.{Answer}
 use Rattle.command_resolve.specs.Standing.{AreOfDeclared, AreThere, IsAnswer}
 use Rattle.command_resolve.specs.Terms.{Bindings}
 use Rattle.shell_lines.specs.Desk.{DeskState, new_desk}
+use Rattle.shell_replies.specs.declared.notes.PrintOptions.{PrintOptions}
 use Rattle.shell_steps.specs.declared.stage.Stage.{Stage}
 use Rattle.shell_steps.specs.declared.stage.Stage.TheVariants.{Declaring, Configured}
 
--- a shell: what is declared or the session, the names that are bound, and where the script stands
+-- a shell: how texts are printed, what is declared or the session, the names that are bound, and where the script stands
 pub record ShellState : Type 0 where
+  pub options : PrintOptions
   pub stage : Stage
   pub names : Bindings
   pub desk : DeskState
@@ -25,28 +25,19 @@ pub record ShellState : Type 0 where
 abbrev pub new_mapping : Mapped
 new_mapping = record { schema = record { tables = []; resolved = false }; classes = record { specs = []; lines = [] }; configured = false }
 
--- no validators are known
-abbrev pub no_rules : Rules
-no_rules = record { names = []; asks = [] }
-
 -- a shell before the first line
-abbrev pub new_shell : ShellState
-new_shell = record { stage = Declaring new_mapping; names = []; desk = new_desk }
+abbrev pub new_shell : PrintOptions → ShellState
+new_shell options = record { options = options; stage = Declaring new_mapping; names = []; desk = new_desk }
 
 -- the mapping that is declared, or that of the session
 abbrev pub mapping_of : Stage → Mapped
 mapping_of (Declaring mapping) = mapping
 mapping_of (Configured session) = session.mapping
 
--- each class that is declared is a plain root
-abbrev pub IsPlainStage : Stage → Type 0
-IsPlainStage (Declaring mapping) = ArePlain mapping
-IsPlainStage (Configured session) = Unit {0}
-
--- What every shell keeps. Before there is a session each class is a plain root, and no name is bound. From then on what names
--- stand for is there in the session, and their objects are of declared classes.
+-- What every shell keeps. Before there is a session no name is bound. From then on what names stand for is there in the session, and
+-- their objects are of declared classes.
 abbrev pub AreBound : Stage → Bindings → Type 0
-AreBound (Declaring mapping) names = ArePlain mapping × (names ≡ [])
+AreBound (Declaring mapping) names = names ≡ []
 AreBound (Configured session) names = AreThere session.graph session.drawn.drawn names × AreOfDeclared session.mapping names
 
 -- what is to be bound or shown is there in the session

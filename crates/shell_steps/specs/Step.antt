@@ -1,33 +1,37 @@
 -- What the lines of a script do, each as a program of the store and of the shell beside it. A program answers its reply.
-use Rattle.std.specs.Prelude.{ℕ, List, [], Option, None, Some, Result, Ok, Err}
+use Rattle.std.specs.Prelude.{ℕ, List, [], ◌++◌, Option, None, Some, Result, Ok, Err}
 use Rattle.base_core.specs.declared.refusal.RequestKind.TheVariants.{Configured as IsConfigured, NotConfigured}
 use Rattle.base_core.specs.declared.refusal.Refusal.{Refusal}
 use Rattle.base_core.specs.declared.refusal.Refusal.TheVariants.{InvalidRequestError, ScriptError}
+use Rattle.class_types.specs.Rules.{Rules}
 use Rattle.printing.specs.Texts.{Names}
 use Rattle.class_mapping.specs.Mapped.{Mapped}
 use Rattle.class_mapping.specs.Declaring as declaring
 use Rattle.script_types.specs.declared.command.Command.{Command}
+use Rattle.script_types.specs.declared.command.Dialect.{Dialect}
 use Rattle.shell_parts.specs.declared.block.Block.{Block}
 use Rattle.shell_parts.specs.Bindings.{bind}
 use Rattle.shell_parts.specs.Blocks.{declare}
 use Rattle.programs.specs.Programs.{Run, ◌>>=◌, ask, becomes, change, give, handle_refusal, quiet}
-use Rattle.programs.specs.Beside.{Beside, by_own, changes, on_own}
+use Rattle.programs.specs.Beside.{Beside, by_own, on_own}
 use Rattle.session_scopes.specs.SessionState.{SessionState, new_session}
 use Rattle.session_calls.specs.Steps as session
 use Rattle.session_perform.specs.Performing.{program_of_resolved}
 use Rattle.command_resolve.specs.declared.answer.Answer.{Answer}
 use Rattle.command_resolve.specs.declared.answer.Answer.TheVariants as answer
-use Rattle.command_resolve.specs.Resolving.{resolve}
 use Rattle.command_resolve.specs.Terms.{Bindings}
 use Rattle.shell_lines.specs.declared.desk.Said.{Said}
-use Rattle.shell_lines.specs.declared.desk.Said.TheVariants.{Nothing, Configure, Declare, Do}
+use Rattle.shell_lines.specs.declared.desk.Said.TheVariants.{Nothing, Configure, Declare, Compile, Do}
 use Rattle.shell_lines.specs.Desk.{DeskState, said_line, with_refused}
 use Rattle.shell_replies.specs.Answers.{answer_text}
 use Rattle.shell_replies.specs.Naming.{session_names, table_names}
+use Rattle.shell_replies.specs.Notes.{notes_text}
 use Rattle.shell_replies.specs.Replies.{error_line}
+use Rattle.shell_replies.specs.declared.notes.PrintOptions.{PrintOptions}
 use Rattle.shell_steps.specs.declared.stage.Stage.{Stage}
 use Rattle.shell_steps.specs.declared.stage.Stage.TheVariants.{Declaring, Configured}
-use Rattle.shell_steps.specs.ShellState.{ShellState, mapping_of, no_rules}
+use Rattle.shell_steps.specs.Asking.{asked, compiled_at}
+use Rattle.shell_steps.specs.ShellState.{ShellState, mapping_of}
 
 -- the world of a line: the shell, and the store
 abbrev pub World : Type 0
@@ -84,10 +88,10 @@ abbrev pub stage_over : Result (Unit {0} × Mapped) Refusal → Result Stage Ref
 stage_over (Ok p) = Ok (Declaring p.1)
 stage_over (Err e) = Err e
 
--- what a block says is declared
-unfoldable pub declared_stage : Block → Stage → Result Stage Refusal
-declared_stage block (Declaring mapping) = stage_over (declare no_rules block.declared mapping)
-declared_stage block (Configured session) = Err (InvalidRequestError IsConfigured)
+-- what a block says is declared, where these are the rules of the validators
+unfoldable pub declared_stage : Rules → Block → Stage → Result Stage Refusal
+declared_stage rules block (Declaring mapping) = stage_over (declare rules block.declared mapping)
+declared_stage rules block (Configured session) = Err (InvalidRequestError IsConfigured)
 
 -- the shell goes to another stage, and nothing is told
 unfoldable pub turn : (Stage → Result Stage Refusal) → World → Run World (List ℕ)
@@ -95,17 +99,12 @@ turn step = on_own (goes step) >>= λ u. give []
 
 -- ---- commands
 
--- the session without what an earlier line did
-abbrev pub without_notes : SessionState → SessionState
-without_notes session = record session { notes = [] }
+-- what the line asks for by these names and the session's mapping is performed
+unfoldable pub performed : Rules → Dialect → Bindings → Command → Beside SessionState → Run (Beside SessionState) Answer
+performed rules dialect names command = on_own (ask (λ session. asked dialect session.mapping names command)) >>= program_of_resolved rules
 
--- the line is resolved by these names and the session's mapping, and then performed
-unfoldable pub performed : Bindings → Command → Beside SessionState → Run (Beside SessionState) Answer
-performed names command =
-    on_own (ask (λ session. resolve session.mapping names command)) >>= λ resolved. (changes without_notes >>= λ u. program_of_resolved resolved)
-
-unfoldable pub perform : Command → World → Run World Answer
-perform command = by_own (λ shell. in_session (performed shell.names command))
+unfoldable pub perform : Rules → Command → World → Run World Answer
+perform rules command = by_own (λ shell. in_session (performed rules shell.options.dialect shell.names command))
 
 -- the names, where the answer is to be bound with one more
 abbrev pub names_with : Answer → Bindings → Bindings
@@ -120,21 +119,26 @@ unfoldable pub tell_answer : Answer → ShellState → Run ShellState (List ℕ)
 tell_answer answer shell = quiet (Ok (answer_text (mapping_of shell.stage) answer)) (with_answer answer shell)
 
 -- a command of the session is done, and its reply told
-unfoldable pub do_command : Command → World → Run World (List ℕ)
-do_command command = perform command >>= λ answer. on_own (tell_answer answer)
+unfoldable pub do_command : Rules → Command → World → Run World (List ℕ)
+do_command rules command = perform rules command >>= λ answer. on_own (tell_answer answer)
+
+-- what is answered to a line that compiles
+unfoldable pub compile : Command → ShellState → Run ShellState (List ℕ)
+compile command = ask (λ shell. compiled_at shell.stage command)
 
 -- ---- a line
 
 -- what a line comes to is done
-abbrev pub do_said : Said → World → Run World (List ℕ)
-do_said Nothing = give []
-do_said Configure = turn opened_stage
-do_said (Declare block) = turn (declared_stage block)
-do_said (Do command) = do_command command
+abbrev pub do_said : Rules → Said → World → Run World (List ℕ)
+do_said rules Nothing = give []
+do_said rules Configure = turn opened_stage
+do_said rules (Declare block) = turn (declared_stage rules block)
+do_said rules (Compile command) = on_own (compile command)
+do_said rules (Do command) = do_command rules command
 
 -- a line is read and done
-unfoldable pub line_step : List ℕ → World → Run World (List ℕ)
-line_step bytes = on_own (at_desk (said_line bytes)) >>= do_said
+unfoldable pub line_step : Rules → List ℕ → World → Run World (List ℕ)
+line_step rules bytes = on_own (at_desk (said_line bytes)) >>= do_said rules
 
 -- ---- replies
 
@@ -158,8 +162,30 @@ abbrev pub tell_here : Refusal → ShellState → Run ShellState (List ℕ)
 tell_here e shell = tell shell.desk.line e shell
 
 -- the reply to a line: what it answers, or why it is refused
-unfoldable pub reply_to : List ℕ → World → Run World (List ℕ)
-reply_to bytes = handle_refusal (λ e. on_own (tell_here e)) (line_step bytes)
+unfoldable pub answer_to : Rules → List ℕ → World → Run World (List ℕ)
+answer_to rules bytes = handle_refusal (λ e. on_own (tell_here e)) (line_step rules bytes)
+
+-- what is told of what the session noted in the line of a number
+abbrev pub notes_at : PrintOptions → ℕ → Stage → List ℕ
+notes_at options line (Declaring mapping) = []
+notes_at options line (Configured session) = notes_text options line session.mapping session.graph session.notes
+
+-- what is told of what the line did
+abbrev pub notes_told : ShellState → List ℕ
+notes_told shell = notes_at shell.options shell.desk.line shell.stage
+
+-- the session has noted nothing
+abbrev pub without_notes : Stage → Stage
+without_notes (Declaring mapping) = Declaring mapping
+without_notes (Configured session) = Configured (record session { notes = [] })
+
+-- what the line did is told before its reply, and forgotten
+unfoldable pub tell_notes : List ℕ → ShellState → Run ShellState (List ℕ)
+tell_notes reply shell = quiet (Ok (notes_told shell ++ reply)) (at_stage shell (without_notes shell.stage))
+
+-- A line is done: what is told of what it did, and its reply. Validators have these rules.
+unfoldable pub reply_to : Rules → List ℕ → World → Run World (List ℕ)
+reply_to rules bytes = answer_to rules bytes >>= λ reply. on_own (tell_notes reply)
 
 abbrev pub end_of_script_in : Option Block → ShellState → Run ShellState (List ℕ)
 end_of_script_in None = give []
@@ -177,5 +203,9 @@ close_session_at (Declaring mapping) = give tt
 close_session_at (Configured state) = in_session session.close
 
 -- the session is closed, where there is one
-unfoldable pub close_session : World → Run World (Unit {0})
-close_session = by_own (λ shell. close_session_at shell.stage)
+unfoldable pub close_stage : World → Run World (Unit {0})
+close_stage = by_own (λ shell. close_session_at shell.stage)
+
+-- the session is closed, and what that did is told
+unfoldable pub close_session : World → Run World (List ℕ)
+close_session = close_stage >>= λ u. on_own (tell_notes [])

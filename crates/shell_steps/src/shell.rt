@@ -1,26 +1,29 @@
 //! The state of a run between two lines, and what a line answers.
 
-ghost use Rattle.std.specs.Prelude.{◌≡◌, true, IfErr, IfOk, OnErr, OnOk};
+ghost use Rattle.std.specs.Prelude.{◌≡◌, ◌++◌, true, IfErr, IfOk, OnErr, OnOk};
+ghost use Rattle.class_types.specs.Shown.{rules_of};
+ghost use Rattle.programs.specs.Alone.{alone};
 ghost use Rattle.programs.specs.Programs.{ends_early};
 ghost use Rattle.programs.specs.Moment.{Runs};
-ghost use Rattle.programs.specs.Beside.{moment_answering};
+ghost use Rattle.programs.specs.Beside.{moment_answering, on_own};
 ghost use Rattle.sayable_lines.specs.Sayable.{IsSayable};
 ghost use Rattle.shell_lines.specs.Desk.{CanBeDone, said_line};
 ghost use Rattle.shell_steps.specs.Calls.{IsShellCall, IsShellCallAlone};
-ghost use Rattle.shell_steps.specs.ShellState.{IsAnswerAt, IsReady, new_shell};
+ghost use Rattle.shell_steps.specs.ShellState.{IsAnswerAt, IsKept, IsReady, new_shell};
 ghost use Rattle.shell_steps.specs.Step as step;
 
 use crate::session::perform_line;
 use crate::stage::Stage;
 use base_core::{Refusal, RequestKind};
 use class_mapping::Mapping;
+use class_types::Hooks;
 use command_resolve::Answer;
 use keeper_core::{Keeper, calls};
 use script_types::Command;
 use session_calls::close;
 use shell_lines::{Desk, Said};
 use shell_parts::{Block, Names};
-use shell_replies::{Reply, reply_of};
+use shell_replies::{PrintOptions, Reply, reply_of};
 use std::alloc::Global;
 use std::marker::Model;
 use std::mem::drop;
@@ -29,6 +32,8 @@ use std::mem::drop;
 #[derive(Drop)]
 pub struct Shell {
     alloc: Global,
+    /// How texts are printed.
+    options: PrintOptions,
     /// What is declared, or the session.
     stage: Stage,
     /// The names that are bound.
@@ -46,7 +51,7 @@ impl Model for Shell {
 
     ghost coded = { Prim.hlevel (codes, e.the_row.coded) };
 
-    ghost view = { λ s. record { stage = s.stage; names = s.names; desk = s.desk } };
+    ghost view = { λ s. record { options = s.options; stage = s.stage; names = s.names; desk = s.desk } };
 
     ghost invariant = { λ s. AreBound s.stage s.names };
 }
@@ -54,11 +59,12 @@ impl Model for Shell {
 impl Shell {
     /// Nothing is declared or bound.
     #[tactic(auto, using(crate::proofs::Bindings::bindings))]
-    pub fn new(alloc: Global) -> Shell
-        ensures { result ≡ new_shell }
+    pub fn new(alloc: Global, options: PrintOptions) -> Shell
+        ensures { result ≡ new_shell options }
     {
         Shell {
             alloc,
+            options,
             stage: Stage::Declaring(Mapping::new(alloc)),
             names: Names::new(alloc),
             desk: Desk::new(),
@@ -72,20 +78,45 @@ impl Shell {
         self.desk.has_refused()
     }
 
-    /// Does a line, and answers its reply: what the line wrote, or why it is refused.
+    /// Does a line, and answers its reply: what is told of what the line did, and behind it what the line wrote, or why it is
+    /// refused.
     ///
     /// # Errors
     /// `Memory` and `KeeperFault` end the run.
-    #[tactic(auto, using(crate::proofs::Replying::answers))]
-    pub fn answer<K: Keeper>(&mut self, keeper: &mut K, line: &[u8]) -> Result<Reply, Refusal>
+    #[tactic(auto, using(crate::proofs::Replying::noting))]
+    pub fn answer<K: Keeper>(
+        &mut self,
+        keeper: &mut K,
+        hooks: &Hooks,
+        line: &[u8],
+    ) -> Result<Reply, Refusal>
         requires { IsReady self.old.stage (K.moment keeper.old) }
         ensures step { Runs (moment_answering K.moment)
-            (λ reply. reply) (step.reply_to line.now) (self.old, keeper.old) result
+            (λ reply. reply) (step.reply_to (rules_of hooks.now) line.now) (self.old, keeper.old) result
             (self.new, keeper.new) }
         ensures ready { OnOk result (IsReady self.new.stage (K.moment keeper.new)) }
         ensures stops { IfErr result (λ e. ends_early e ≡ true) }
     {
-        match self.step(keeper, line) {
+        let reply = self.answer_alone(keeper, hooks, line)?;
+        self.tell_notes(reply)
+    }
+
+    /// Does a line, and answers what it wrote, or why it is refused.
+    #[tactic(auto, using(crate::proofs::Replying::answers))]
+    fn answer_alone<K: Keeper>(
+        &mut self,
+        keeper: &mut K,
+        hooks: &Hooks,
+        line: &[u8],
+    ) -> Result<Reply, Refusal>
+        requires { IsReady self.old.stage (K.moment keeper.old) }
+        ensures step { Runs (moment_answering K.moment)
+            (λ reply. reply) (step.answer_to (rules_of hooks.now) line.now) (self.old, keeper.old) result
+            (self.new, keeper.new) }
+        ensures ready { OnOk result (IsReady self.new.stage (K.moment keeper.new)) }
+        ensures stops { IfErr result (λ e. ends_early e ≡ true) }
+    {
+        match self.step(keeper, hooks, line) {
             Ok(reply) => Ok(reply),
             Err(refusal) => {
                 if calls::ends_early(&refusal) {
@@ -95,6 +126,29 @@ impl Shell {
                 self.tell(number, refusal)
             }
         }
+    }
+
+    /// What is told of what the line did goes before its reply, and is forgotten. The only refusal is `Memory`.
+    fn tell_notes(&mut self, reply: Reply) -> Result<Reply, Refusal>
+        ensures step { Runs alone (λ reply. reply) (step.tell_notes reply) self.old result self.new }
+        ensures kept { IsKept self.old.stage self.new.stage }
+        ensures cause { IfErr result (λ e. e ≡ Refusal.Memory) }
+    {
+        let told = self.with_notes(&reply)?;
+        self.stage.forget_notes();
+        Ok(told)
+    }
+
+    /// What is told of what the line did, and behind it a reply. The only refusal is `Memory`.
+    fn with_notes(&self, reply: &Reply) -> Result<Reply, Refusal>
+        ensures told { IfOk result (λ told. told ≡ step.notes_told self.now ++ reply.now) }
+        ensures cause { IfErr result (λ e. e ≡ Refusal.Memory) }
+    {
+        let mut told = Reply::new(self.alloc);
+        self.stage
+            .put_notes(self.alloc, self.options, self.desk.line(), &mut told)?;
+        told.put_reply(reply)?;
+        Ok(told)
     }
 
     /// The number of the line that is done.
@@ -109,13 +163,18 @@ impl Shell {
     /// # Errors
     /// Why the line, or the block that it ends, is refused. `Memory` and `KeeperFault` end the run.
     #[tactic(auto, using(crate::proofs::Lines::stepping), unfolding(crate::specs::Step::line_step))]
-    fn step<K: Keeper>(&mut self, keeper: &mut K, line: &[u8]) -> Result<Reply, Refusal>
+    fn step<K: Keeper>(
+        &mut self,
+        keeper: &mut K,
+        hooks: &Hooks,
+        line: &[u8],
+    ) -> Result<Reply, Refusal>
         requires { IsReady self.old.stage (K.moment keeper.old) }
-        ensures { IsShellCall K.moment (step.line_step line.now)
+        ensures { IsShellCall K.moment (step.line_step (rules_of hooks.now) line.now)
             (self.old, keeper.old) result (self.new, keeper.new) }
     {
         let said = self.say(line)?;
-        self.act(keeper, said)
+        self.act(keeper, hooks, said)
     }
 
     /// What a line comes to.
@@ -128,22 +187,28 @@ impl Shell {
 
     /// Does what a line comes to.
     #[tactic(auto, using(crate::proofs::Lines::acting))]
-    fn act<K: Keeper>(&mut self, keeper: &mut K, said: Said) -> Result<Reply, Refusal>
+    fn act<K: Keeper>(
+        &mut self,
+        keeper: &mut K,
+        hooks: &Hooks,
+        said: Said,
+    ) -> Result<Reply, Refusal>
         requires ready { IsReady self.old.stage (K.moment keeper.old) }
         requires done { CanBeDone said }
-        ensures { IsShellCall K.moment (step.do_said said)
+        ensures { IsShellCall K.moment (step.do_said (rules_of hooks.now) said)
             (self.old, keeper.old) result (self.new, keeper.new) }
     {
         match said {
             Said::Nothing => Ok(Reply::new(self.alloc)),
             Said::Configure => self.configure(keeper),
-            Said::Declare(block) => self.declare(keeper, block),
-            Said::Do(command) => self.command(keeper, &command),
+            Said::Declare(block) => self.declare(keeper, hooks, block),
+            Said::Compile(command) => self.compile(keeper, &command),
+            Said::Do(command) => self.command(keeper, hooks, &command),
         }
     }
 
     /// Checks all declarations, and opens the session.
-    #[tactic(auto, using(crate::proofs::Stages::turning, crate::proofs::Bindings::bindings), unfolding(crate::specs::Step::turn))]
+    #[tactic(auto, using(crate::proofs::Bindings::bindings), unfolding(crate::specs::Step::turn))]
     fn configure<K: Keeper>(&mut self, keeper: &K) -> Result<Reply, Refusal>
         requires ready { IsReady self.old.stage (K.moment keeper.now) }
         ensures { IsShellCall K.moment (step.turn step.opened_stage)
@@ -153,27 +218,47 @@ impl Shell {
         Ok(Reply::new(self.alloc))
     }
 
-    /// Declares what a block says, whose form is built.
-    #[tactic(auto, using(crate::proofs::Stages::turning, crate::proofs::Bindings::bindings), unfolding(crate::specs::Step::turn))]
-    fn declare<K: Keeper>(&mut self, keeper: &K, block: Block) -> Result<Reply, Refusal>
+    /// Declares what a block says.
+    #[tactic(auto, using(crate::proofs::Bindings::bindings), unfolding(crate::specs::Step::turn))]
+    fn declare<K: Keeper>(
+        &mut self,
+        keeper: &K,
+        hooks: &Hooks,
+        block: Block,
+    ) -> Result<Reply, Refusal>
         requires ready { IsReady self.old.stage (K.moment keeper.now) }
-        requires built { CanBeDone (Said.Declare block) }
-        ensures { IsShellCall K.moment (step.turn (step.declared_stage block))
+        ensures { IsShellCall K.moment
+            (step.turn (step.declared_stage (rules_of hooks.now) block))
             (self.old, keeper.now) result (self.new, keeper.now) }
     {
-        self.stage.declare(self.alloc, block)?;
+        self.stage.declare(hooks, block)?;
         Ok(Reply::new(self.alloc))
+    }
+
+    /// Answers a line that compiles.
+    fn compile<K: Keeper>(&self, keeper: &K, command: &Command) -> Result<Reply, Refusal>
+        requires ready { IsReady self.now.stage (K.moment keeper.now) }
+        requires sayable { IsSayable command.now }
+        ensures { IsShellCall K.moment (on_own (step.compile command.now))
+            (self.now, keeper.now) result (self.now, keeper.now) }
+    {
+        self.stage.compile(self.alloc, command)
     }
 
     /// Does a command of the session, and tells its answer.
     #[tactic(auto, using(crate::proofs::Commands::telling), unfolding(crate::specs::Step::do_command))]
-    fn command<K: Keeper>(&mut self, keeper: &mut K, command: &Command) -> Result<Reply, Refusal>
+    fn command<K: Keeper>(
+        &mut self,
+        keeper: &mut K,
+        hooks: &Hooks,
+        command: &Command,
+    ) -> Result<Reply, Refusal>
         requires ready { IsReady self.old.stage (K.moment keeper.old) }
         requires sayable { IsSayable command.now }
-        ensures { IsShellCall K.moment (step.do_command command.now)
+        ensures { IsShellCall K.moment (step.do_command (rules_of hooks.now) command.now)
             (self.old, keeper.old) result (self.new, keeper.new) }
     {
-        let answer = self.perform(keeper, command)?;
+        let answer = self.perform(keeper, hooks, command)?;
         self.tell_answer(answer)
     }
 
@@ -182,17 +267,30 @@ impl Shell {
     /// # Errors
     /// `NotConfigured`; then those of the line's names and values, and of what it asks for.
     #[tactic(auto, using(crate::proofs::Commands::performing, crate::proofs::Bindings::bindings), unfolding(crate::specs::Step::perform))]
-    fn perform<K: Keeper>(&mut self, keeper: &mut K, command: &Command) -> Result<Answer, Refusal>
+    fn perform<K: Keeper>(
+        &mut self,
+        keeper: &mut K,
+        hooks: &Hooks,
+        command: &Command,
+    ) -> Result<Answer, Refusal>
         requires ready { IsReady self.old.stage (K.moment keeper.old) }
         requires sayable { IsSayable command.now }
-        ensures call { IsShellCall K.moment (step.perform command.now)
+        ensures call { IsShellCall K.moment (step.perform (rules_of hooks.now) command.now)
             (self.old, keeper.old) result (self.new, keeper.new) }
         ensures answer { IfOk result (IsAnswerAt self.new.stage) }
     {
         let Stage::Configured(session) = &mut self.stage else {
             return Err(Refusal::InvalidRequestError(RequestKind::NotConfigured));
         };
-        perform_line(self.alloc, &self.names, session, keeper, command)
+        perform_line(
+            self.alloc,
+            hooks,
+            self.options.dialect,
+            &self.names,
+            session,
+            keeper,
+            command,
+        )
     }
 
     /// The reply that tells of an answer; what is to be bound is bound. The only refusal is `Memory`.
@@ -245,15 +343,29 @@ impl Shell {
         self.tell(first, Refusal::ScriptError(first, 1))
     }
 
-    /// Closes the session, where there is one.
+    /// Closes the session, where there is one, and answers what is told of that.
     ///
     /// # Errors
     /// `Memory` and `KeeperFault`.
-    #[tactic(auto, using(crate::proofs::Replying::closes, crate::proofs::Bindings::bindings))]
-    pub fn close<K: Keeper>(&mut self, keeper: &mut K) -> Result<(), Refusal>
+    #[tactic(auto, using(crate::proofs::Replying::noting))]
+    pub fn close<K: Keeper>(&mut self, keeper: &mut K) -> Result<Reply, Refusal>
         requires { IsReady self.old.stage (K.moment keeper.old) }
         ensures step { Runs (moment_answering K.moment)
-            (λ u. u) step.close_session (self.old, keeper.old) result (self.new, keeper.new) }
+            (λ reply. reply) step.close_session (self.old, keeper.old) result
+            (self.new, keeper.new) }
+        ensures stops { IfErr result (λ e. ends_early e ≡ true) }
+        ensures outside { OnOk result ((K.moment keeper.new).depth ≡ 0) }
+    {
+        self.close_stage(keeper)?;
+        self.tell_notes(Reply::new(self.alloc))
+    }
+
+    /// Closes the session, where there is one.
+    #[tactic(auto, using(crate::proofs::Replying::closes, crate::proofs::Bindings::bindings))]
+    fn close_stage<K: Keeper>(&mut self, keeper: &mut K) -> Result<(), Refusal>
+        requires { IsReady self.old.stage (K.moment keeper.old) }
+        ensures step { Runs (moment_answering K.moment)
+            (λ u. u) step.close_stage (self.old, keeper.old) result (self.new, keeper.new) }
         ensures stops { IfErr result (λ e. ends_early e ≡ true) }
         ensures outside { OnOk result ((K.moment keeper.new).depth ≡ 0) }
     {

@@ -3,6 +3,7 @@ use Rattle.std.proofs.Common.{◌≡◌, ◌≤◌, IfOk, ℕ, Bool, true, false
 use Rattle.std.specs.Prelude.{◌⊎◌}
 use Rattle.schema_core.specs.Tables.{Tables}
 use Rattle.base_core.specs.declared.refusal.Refusal.{Refusal}
+use Rattle.class_types.specs.Rules.{Rules}
 use Rattle.programs.specs.declared.sent.Sent.TheVariants.{Rollback}
 use Rattle.keeper_core.specs.declared.keeper.KeeperStop.{KeeperStop}
 use Rattle.keeper_core.specs.declared.keeper.KeeperStop.TheVariants as stops
@@ -15,6 +16,7 @@ use Rattle.programs.specs.Moment.{AsTold, IsCutOff, Moment, Outcome, Runs, Told,
 use Rattle.keeper_core.specs.Keeping.{IsCoherent, IsCoherentTold, IsRollback, depth_left}
 use Rattle.programs.proofs.Counts.{faults_rise}
 use Rattle.programs.proofs.Sequence.{after_append, done, then_err, then_ok}
+use Rattle.shell_replies.specs.declared.notes.PrintOptions.{PrintOptions}
 use Rattle.shell_steps.specs.ShellState.{ShellState, new_shell}
 use Rattle.sqla_shell.specs.declared.ending.Ending.{Ending}
 use Rattle.sqla_shell.specs.declared.ending.Ending.TheVariants.{Finished, TooLong}
@@ -40,26 +42,26 @@ is_true : (b : Bool) → TooLong ≡ ending_of b → b ≡ true
 is_true true is = refl
 is_true false is = cc
 
-pub script_stopped : {S : Type 0} (tell : S → Moment (Beside ShellState)) (old new : S) (left : Option (List ℕ)) (stop : Stop) (r : Result Ending Stop)
-    → IsErrAnd r (λ d. d ≡ stop) → DoesLines left tell old (Err (stop_refusal stop)) new → DoesScript left tell old (as_refusal stop_refusal r) new
+pub script_stopped : {S : Type 0} (rules : Rules) (tell : S → Moment (Beside ShellState)) (old new : S) (left : Option (List ℕ)) (stop : Stop) (r : Result Ending Stop)
+    → IsErrAnd r (λ d. d ≡ stop) → DoesLines rules left tell old (Err (stop_refusal stop)) new → DoesScript rules left tell old (as_refusal stop_refusal r) new
 unfolding script
-script_stopped tell old new left stop (Ok e) is p = absurd is
-script_stopped tell old new None stop (Err d) is p = tt
-script_stopped tell old new (Some bytes) stop (Err d) is p =
-    subst (λ s. Runs {X = Ending} tell (λ e. e) (script bytes) old (Err (stop_refusal s)) new) (sym is) (then_err (λ u. end_unless_too_long (lines_of bytes).too_long) p.0)
+script_stopped rules tell old new left stop (Ok e) is p = absurd is
+script_stopped rules tell old new None stop (Err d) is p = tt
+script_stopped rules tell old new (Some bytes) stop (Err d) is p =
+    subst (λ s. Runs {X = Ending} tell (λ e. e) (script rules bytes) old (Err (stop_refusal s)) new) (sym is) (then_err (λ u. end_unless_too_long (lines_of bytes).too_long) p.0)
 
-pub script_finished : {S : Type 0} (tell : S → Moment (Beside ShellState)) (old mid new : S) (left : Option (List ℕ)) (r : Result Ending Refusal)
-    → DoesLines left tell old (Ok Finished) mid → Runs tell (λ e. e) end_script mid r new → DoesScript left tell old r new
+pub script_finished : {S : Type 0} (rules : Rules) (tell : S → Moment (Beside ShellState)) (old mid new : S) (left : Option (List ℕ)) (r : Result Ending Refusal)
+    → DoesLines rules left tell old (Ok Finished) mid → Runs tell (λ e. e) end_script mid r new → DoesScript rules left tell old r new
 unfolding script
-script_finished tell old mid new None r p ran = tt
-script_finished tell old mid new (Some bytes) r p ran =
+script_finished rules tell old mid new None r p ran = tt
+script_finished rules tell old mid new (Some bytes) r p ran =
     then_ok (λ u. end_unless_too_long (lines_of bytes).too_long) p.0 (subst (λ b. Runs tell (λ e. e) (end_unless_too_long b) mid r new) (sym (is_false (lines_of bytes).too_long p.1)) ran)
 
-pub script_too_long : {S : Type 0} (tell : S → Moment (Beside ShellState)) (old mid : S) (left : Option (List ℕ))
-    → DoesLines left tell old (Ok TooLong) mid → DoesScript left tell old (Ok TooLong) mid
+pub script_too_long : {S : Type 0} (rules : Rules) (tell : S → Moment (Beside ShellState)) (old mid : S) (left : Option (List ℕ))
+    → DoesLines rules left tell old (Ok TooLong) mid → DoesScript rules left tell old (Ok TooLong) mid
 unfolding script
-script_too_long tell old mid None p = tt
-script_too_long tell old mid (Some bytes) p =
+script_too_long rules tell old mid None p = tt
+script_too_long rules tell old mid (Some bytes) p =
     then_ok (λ u. end_unless_too_long (lines_of bytes).too_long) p.0 (subst (λ b. Runs tell (λ e. e) (end_unless_too_long b) mid (Ok TooLong) mid) (sym (is_true (lines_of bytes).too_long p.1)) (done refl))
 
 -- ---- rolling back
@@ -177,31 +179,31 @@ goes_on (Ok Finished) refused mid end c = cc
 goes_on (Ok TooLong) refused mid end c = c.1
 goes_on (Err stop) refused mid end c = c.1
 
-is_done_by : (bytes : List ℕ) (before after : Option (List ℕ)) (first mid last : Option (Told Store)) (own : ShellState) (done : Result Ending Stop) (end : Status)
-    → AsTold (λ e. e) (script bytes) (told_writing new_shell first before) (as_refusal stop_refusal done) (told_writing own mid after)
-    → Concludes done own.desk.refused mid end last → IsSettledTold last → IsDoneOf (Some bytes) before first end after last
-is_done_by bytes None after first mid last own done end p c settled = tt
-is_done_by bytes (Some b) after None mid last own done end p c settled = tt
-is_done_by bytes (Some b) None (Some t) None last own done end p c settled = absurd p
-is_done_by bytes (Some b) None (Some t) (Some m) last own done end p c settled = absurd p
-is_done_by bytes (Some b) (Some a) (Some t) None last own done end p c settled = absurd p
-is_done_by bytes (Some b) (Some a) (Some t) (Some m) None own done end p c settled = absurd (goes_on done own.desk.refused m end c)
-is_done_by bytes (Some b) (Some a) (Some t) (Some m) (Some n) own done end p c settled = λ is. (
-  ended (reference bytes) b done end m n own a
-      (subst (λ first. Outcome (λ e. e) (script bytes (record { own = new_shell; store = first.world })) (log_with first.log b) (as_refusal stop_refusal done) (mid_told own m a)) is p) c,
+is_done_by : (options : PrintOptions) (rules : Rules) (bytes : List ℕ) (before after : Option (List ℕ)) (first mid last : Option (Told Store)) (own : ShellState) (done : Result Ending Stop) (end : Status)
+    → AsTold (λ e. e) (script rules bytes) (told_writing (new_shell options) first before) (as_refusal stop_refusal done) (told_writing own mid after)
+    → Concludes done own.desk.refused mid end last → IsSettledTold last → IsDoneOf options rules (Some bytes) before first end after last
+is_done_by options rules bytes None after first mid last own done end p c settled = tt
+is_done_by options rules bytes (Some b) after None mid last own done end p c settled = tt
+is_done_by options rules bytes (Some b) None (Some t) None last own done end p c settled = absurd p
+is_done_by options rules bytes (Some b) None (Some t) (Some m) last own done end p c settled = absurd p
+is_done_by options rules bytes (Some b) (Some a) (Some t) None last own done end p c settled = absurd p
+is_done_by options rules bytes (Some b) (Some a) (Some t) (Some m) None own done end p c settled = absurd (goes_on done own.desk.refused m end c)
+is_done_by options rules bytes (Some b) (Some a) (Some t) (Some m) (Some n) own done end p c settled = λ is. (
+  ended (reference options rules bytes) b done end m n own a
+      (subst (λ first. Outcome (λ e. e) (script rules bytes (record { own = new_shell options; store = first.world })) (log_with first.log b) (as_refusal stop_refusal done) (mid_told own m a)) is p) c,
   settled,
 )
 
 -- a script was done over a keeper that had nothing, and concluded
-pub is_done : {K O : Type 0} (moment : K → Moment Store) (written : O → Option (List ℕ)) (left : Option (List ℕ)) (shell own : ShellState) (first mid last : K) (sink after : O) (done : Result Ending Stop) (end : Status)
-    → shell ≡ new_shell → DoesScript left (moment_writing moment written) (shell, first, sink) (as_refusal stop_refusal done) (own, mid, after)
+pub is_done : {K O : Type 0} (moment : K → Moment Store) (written : O → Option (List ℕ)) (options : PrintOptions) (rules : Rules) (left : Option (List ℕ)) (shell own : ShellState) (first mid last : K) (sink after : O) (done : Result Ending Stop) (end : Status)
+    → shell ≡ new_shell options → DoesScript rules left (moment_writing moment written) (shell, first, sink) (as_refusal stop_refusal done) (own, mid, after)
     → Concludes done own.desk.refused (moment mid).told end (moment last).told → IsCoherent (moment last) → (moment last).depth ≡ 0
-    → IsDoneOf left (written sink) (moment first).told end (written after) (moment last).told
+    → IsDoneOf options rules left (written sink) (moment first).told end (written after) (moment last).told
 unfolding moment_writing
-is_done moment written None shell own first mid last sink after done end is p c coherent depth = tt
-is_done moment written (Some bytes) shell own first mid last sink after done end is p c coherent depth =
-    is_done_by bytes (written sink) (written after) (moment first).told (moment mid).told (moment last).told own done end
-    (subst (λ s. AsTold (λ e. e) (script bytes) (told_writing s (moment first).told (written sink)) (as_refusal stop_refusal done) (told_writing own (moment mid).told (written after))) is (parts p).told)
+is_done moment written options rules None shell own first mid last sink after done end is p c coherent depth = tt
+is_done moment written options rules (Some bytes) shell own first mid last sink after done end is p c coherent depth =
+    is_done_by options rules bytes (written sink) (written after) (moment first).told (moment mid).told (moment last).told own done end
+    (subst (λ s. AsTold (λ e. e) (script rules bytes) (told_writing s (moment first).told (written sink)) (as_refusal stop_refusal done) (told_writing own (moment mid).told (written after))) is (parts p).told)
     c (settled_told (moment last).tells (moment last).depth (moment last).told coherent depth)
 
 -- ---- what a status shows

@@ -1,17 +1,26 @@
 -- What words make of a run.
-use Rattle.std.proofs.Common.{◌≡◌, ℕ, true, false, List, None, Some, ap, ◌∙◌, option_and_then}
-use Rattle.program_words.specs.Asked.{options_asked}
+use Rattle.std.proofs.Common.{◌≡◌, Option, Some, inr, refl, ap, ◌∙◌, subst}
+use Rattle.class_types.specs.Rules.{Rules}
 use Rattle.program_words.specs.declared.options.Options.{Options}
-use Rattle.sqla_shell.specs.Words.{built_target, is_built, target_if, target_named}
+use Rattle.programs.specs.Moment.{Moment}
+use Rattle.programs.specs.Store.{Store}
+use Rattle.programs.specs.declared.target.Target.TheVariants as targets
+use Rattle.sqla_shell.specs.Outcome.{IsReference}
+use Rattle.sqla_shell.specs.Seen.{Seen}
+use Rattle.sqla_shell.specs.Words.{IsGiven, IsRun, print_options}
+use Rattle.sqla_shell.specs.declared.status.Status.{Status}
 
--- the target of what the words ask for
-pub named : (words : List (List ℕ)) (options : Options) → options_asked words ≡ Some options → is_built options ≡ true → target_named words ≡ Some options.target
-named words options is built = ap (option_and_then built_target) is ∙ ap (λ b. target_if b options.target) built
+one_asked : (told : Option Options) (one other : Options) → told ≡ Some one → told ≡ Some other → one ≡ other
+one_asked told one other is also = cc
 
-pub not_built : (words : List (List ℕ)) (options : Options) → options_asked words ≡ Some options → is_built options ≡ false → target_named words ≡ None
-not_built words options is built = ap (option_and_then built_target) is ∙ ap (λ b. target_if b options.target) built
+-- the run is that of what the words ask for
+pub run_as_asked : (rules : Rules) (told : Option Options) (one : Options) (old : Seen) (end : Status) (new : Seen) → told ≡ Some one → (one.target ≡ targets.Memory → IsReference (print_options one) rules old end new)
+    → (options : Options) → told ≡ Some options → options.target ≡ targets.Memory → IsRun options rules old end new
+run_as_asked rules told one old end new is run options also memory =
+    let same = one_asked told one options is also in
+    inr (subst (λ (o : Options). IsReference (print_options o) rules old end new) same (run (ap (λ (o : Options). o.target) same ∙ memory)))
 
-pub not_named : (words : List (List ℕ)) → options_asked words ≡ None → target_named words ≡ None
-not_named words is = ap (option_and_then built_target) is
-
-pub ruleset naming = (named, not_built, not_named)
+-- the keeper was given the target that they name
+pub given_as_asked : (told : Option Options) (one : Options) (old : Moment Store) (end : Status) (new : Moment Store) → told ≡ Some one → new.target ≡ Some one.target
+    → (options : Options) → told ≡ Some options → IsGiven old options.target end new
+given_as_asked told one old end new is given options also = inr (given ∙ ap (λ (o : Options). Some o.target) (one_asked told one options is also))

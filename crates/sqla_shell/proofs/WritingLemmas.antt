@@ -12,6 +12,7 @@ use Rattle.programs.specs.Programs.{◌>>=◌, Event, Sends, Writes, Log, Run, a
 use Rattle.programs.specs.Moment.{Told, Moment, IsRun, IsCutOff, AsTold, Runs, Ran}
 use Rattle.keeper_core.specs.Keeping.{IsCoherent}
 use Rattle.programs.specs.Beside.{Beside, told_beside, moment_answering}
+use Rattle.shell_steps.specs.ShellState.{ShellState}
 use Rattle.sqla_shell.specs.Causes.{CountsFaults, CountsStop, faults, keeper_stop, stop_refusal}
 use Rattle.sqla_shell.specs.Outcome.{HasWritten, log_with, moment_writing, told_writing}
 use Rattle.sqla_shell.specs.Reference.{writes}
@@ -182,6 +183,12 @@ sink_stopped moment written before after v next own keeper old new piece stop (O
 sink_stopped moment written before after v next own keeper old new piece stop (Err d) p cause is =
     subst (λ e. Runs (moment_writing moment written) v (writes piece >>= next) (own, keeper, old) (Err (stop_refusal e)) (own, keeper, new)) (sym is)
     (then_err next (on_sink moment written before after own keeper old new piece (Err stop) p cause))
+
+-- a call was stopped, of which another would have gone on
+pub stopped_then : {S A B X Y : Type 0} {tell : S → Moment (Beside ShellState)} {v : X → A} (v' : Y → B) {m : Beside ShellState → Run (Beside ShellState) A} (next : A → Beside ShellState → Run (Beside ShellState) B) {old new : S} (stop : Stop) (r : Result Y Stop)
+    → IsErrAnd r (λ d. d ≡ stop) → Runs tell v m old (Err (stop_refusal stop)) new → Runs tell v' (m >>= next) old (as_refusal stop_refusal r) new
+stopped_then v' next stop (Ok y) is p = absurd is
+stopped_then {tell = tell} v' {m = m} next {old = old} {new = new} stop (Err d) is p = subst (λ (s : Stop). Runs tell v' (m >>= next) old (Err (stop_refusal s)) new) (sym is) (then_err next p)
 
 -- ---- a piece that goes out in parts
 

@@ -1,12 +1,14 @@
 -- How a run stands to the reference: what went out, the statements that were sent, the status and the tables.
 use Rattle.std.specs.Prelude.{◌≡◌, ◌≤◌, ℕ, Bool, true, false, List, [], ◌∷◌, ◌++◌, take, codes, Option, None, Some, Result, Ok, Err, IfOk, ◌⊎◌}
 use Rattle.base_core.specs.declared.refusal.Refusal.{Refusal}
+use Rattle.class_types.specs.Rules.{Rules}
 use Rattle.programs.specs.declared.sent.Sent.TheVariants.{Rollback}
 use Rattle.programs.specs.Store.{Store}
 use Rattle.programs.specs.Programs.{Event, Log, Run, Sends, after_events, each}
 use Rattle.programs.specs.Moment.{Moment, Told, Runs}
 use Rattle.keeper_core.specs.Keeping.{new_store}
 use Rattle.programs.specs.Beside.{Beside}
+use Rattle.shell_replies.specs.declared.notes.PrintOptions.{PrintOptions}
 use Rattle.shell_steps.specs.ShellState.{ShellState}
 use Rattle.sqla_shell.specs.declared.ending.Ending.{Ending}
 use Rattle.sqla_shell.specs.declared.ending.Ending.TheVariants.{Finished, TooLong}
@@ -62,15 +64,15 @@ ending_of true = TooLong
 ending_of false = Finished
 
 -- the lines of the script were done, and how they end is told
-abbrev pub DoesLines : {S : Type 0} → Option (List ℕ) → (S → Moment (Beside ShellState)) → S → Result Ending Refusal → S → Type 0
-DoesLines None tell old result new = Unit {0}
-DoesLines (Some bytes) tell old result new =
-    Runs tell (λ e. tt) (each do_and_reply tt (lines_of bytes).lines) old result new × IfOk result (λ e. e ≡ ending_of (lines_of bytes).too_long)
+abbrev pub DoesLines : {S : Type 0} → Rules → Option (List ℕ) → (S → Moment (Beside ShellState)) → S → Result Ending Refusal → S → Type 0
+DoesLines rules None tell old result new = Unit {0}
+DoesLines rules (Some bytes) tell old result new =
+    Runs tell (λ e. tt) (each (do_and_reply rules) tt (lines_of bytes).lines) old result new × IfOk result (λ e. e ≡ ending_of (lines_of bytes).too_long)
 
 -- the script was done
-abbrev pub DoesScript : {S : Type 0} → Option (List ℕ) → (S → Moment (Beside ShellState)) → S → Result Ending Refusal → S → Type 0
-DoesScript None tell old result new = Unit {0}
-DoesScript (Some bytes) tell old result new = Runs tell (λ e. e) (script bytes) old result new
+abbrev pub DoesScript : {S : Type 0} → Rules → Option (List ℕ) → (S → Moment (Beside ShellState)) → S → Result Ending Refusal → S → Type 0
+DoesScript rules None tell old result new = Unit {0}
+DoesScript rules (Some bytes) tell old result new = Runs tell (λ e. e) (script rules bytes) old result new
 
 -- ---- the end of a run
 
@@ -122,19 +124,19 @@ IsSettled told = (told.world.scopes ≡ []) × (told.world.tables ≡ told.log.c
 abbrev pub IsUntouched : Status → List ℕ → Option (Told Store) → List ℕ → Option (Told Store) → Type 0
 IsUntouched end before told written now = (written ≡ before) × (now ≡ told) × ((end ≡ status.KeeperFault) ⊎ (end ≡ status.Memory))
 
-abbrev pub IsReferenceOf : Option (List ℕ) → Option (List ℕ) → Option (Told Store) → Status → Bool → Option (List ℕ) → Option (Told Store) → Type 0
-IsReferenceOf None before told end attached written now = Unit {0}
-IsReferenceOf (Some bytes) None told end attached written now = Unit {0}
-IsReferenceOf (Some bytes) (Some before) told end attached written None = told ≡ None
-IsReferenceOf (Some bytes) (Some before) told end attached None (Some now) = ⊥
-IsReferenceOf (Some bytes) (Some before) told end false (Some written) (Some now) = IsUntouched end before told written (Some now)
-IsReferenceOf (Some bytes) (Some before) told end true (Some written) (Some now) = Ends (reference bytes) before end (log_with now.log written) × IsSettled now
+abbrev pub IsReferenceOf : PrintOptions → Rules → Option (List ℕ) → Option (List ℕ) → Option (Told Store) → Status → Bool → Option (List ℕ) → Option (Told Store) → Type 0
+IsReferenceOf options rules None before told end attached written now = Unit {0}
+IsReferenceOf options rules (Some bytes) None told end attached written now = Unit {0}
+IsReferenceOf options rules (Some bytes) (Some before) told end attached written None = told ≡ None
+IsReferenceOf options rules (Some bytes) (Some before) told end attached None (Some now) = ⊥
+IsReferenceOf options rules (Some bytes) (Some before) told end false (Some written) (Some now) = IsUntouched end before told written (Some now)
+IsReferenceOf options rules (Some bytes) (Some before) told end true (Some written) (Some now) = Ends (reference options rules bytes) before end (log_with now.log written) × IsSettled now
 
 -- The run of a script is the reference's: where the source tells the script's bytes, the sink what was written and the keeper its
 -- tables once it has its target, what went out, the statements sent, the status and the tables at the end are those of the
 -- reference. A keeper that told before goes on telling.
-abbrev pub IsReference : Seen → Status → Seen → Type 0
-IsReference old end new = IsReferenceOf old.left old.written old.keeper.told end new.keeper.attached new.written new.keeper.told
+abbrev pub IsReference : PrintOptions → Rules → Seen → Status → Seen → Type 0
+IsReference options rules old end new = IsReferenceOf options rules old.left old.written old.keeper.told end new.keeper.attached new.written new.keeper.told
 
 -- nothing is left of a script that was done to its end
 abbrev pub IsReadThrough : Status → Option (List ℕ) → Option (List ℕ) → Type 0
@@ -162,18 +164,18 @@ Concludes (Ok Finished) refused told end now = (end ≡ done_status refused) × 
 Concludes (Ok TooLong) refused told end now = (end ≡ status.TooLong) × IsRolledBack told now
 Concludes (Err stop) refused told end now = (end ≡ stop_status stop) × IsRolledBack told now
 
-abbrev pub IsDoneOf : Option (List ℕ) → Option (List ℕ) → Option (Told Store) → Status → Option (List ℕ) → Option (Told Store) → Type 0
-IsDoneOf None before told end written now = Unit {0}
-IsDoneOf (Some bytes) None told end written now = Unit {0}
-IsDoneOf (Some bytes) (Some before) None end written now = Unit {0}
-IsDoneOf (Some bytes) (Some before) (Some told) end None now = told ≡ new_store → ⊥
-IsDoneOf (Some bytes) (Some before) (Some told) end (Some written) None = told ≡ new_store → ⊥
-IsDoneOf (Some bytes) (Some before) (Some told) end (Some written) (Some now) =
-    told ≡ new_store → Ends (reference bytes) before end (log_with now.log written) × IsSettled now
+abbrev pub IsDoneOf : PrintOptions → Rules → Option (List ℕ) → Option (List ℕ) → Option (Told Store) → Status → Option (List ℕ) → Option (Told Store) → Type 0
+IsDoneOf options rules None before told end written now = Unit {0}
+IsDoneOf options rules (Some bytes) None told end written now = Unit {0}
+IsDoneOf options rules (Some bytes) (Some before) None end written now = Unit {0}
+IsDoneOf options rules (Some bytes) (Some before) (Some told) end None now = told ≡ new_store → ⊥
+IsDoneOf options rules (Some bytes) (Some before) (Some told) end (Some written) None = told ≡ new_store → ⊥
+IsDoneOf options rules (Some bytes) (Some before) (Some told) end (Some written) (Some now) =
+    told ≡ new_store → Ends (reference options rules bytes) before end (log_with now.log written) × IsSettled now
 
 -- the run of a script over a keeper that has nothing yet
-abbrev pub IsDone : Seen → Status → Seen → Type 0
-IsDone old end new = IsDoneOf old.left old.written old.keeper.told end new.written new.keeper.told
+abbrev pub IsDone : PrintOptions → Rules → Seen → Status → Seen → Type 0
+IsDone options rules old end new = IsDoneOf options rules old.left old.written old.keeper.told end new.written new.keeper.told
 
 -- the line that is written where words are none that the program takes
 abbrev pub usage_line : List ℕ

@@ -1,14 +1,14 @@
 //! The top call.
 
 ghost use Rattle.std.specs.Prelude.{◌≡◌, ◌≢◌, ◌≤◌, ℕ, Bool, map, None, Some, true, Ok, Err, IfOk, string_bytes};
+ghost use Rattle.class_types.specs.Shown.{rules_of};
 ghost use Rattle.keeper_core.specs.Keeping.{new_store};
-ghost use Rattle.programs.specs.declared.target.Target.{Target};
+ghost use Rattle.program_words.specs.Asked.{options_asked};
 ghost use Rattle.programs.specs.declared.target.Target.TheVariants as targets;
 ghost use Rattle.sqla_shell.specs.Causes.{CountsFaults, ShowsFaults, done_status, faults, stop_status};
 ghost use Rattle.sqla_shell.specs.Outcome.{Concludes, IsDone, IsReadThrough, IsReference, IsRolledBack, IsUsage, Rests};
 ghost use Rattle.sqla_shell.specs.Seen.{KeepsKeeper, moment_seen};
-ghost use Rattle.sqla_shell.specs.Words as words;
-ghost use Rattle.sqla_shell.specs.Words.{IsGiven, IsRun, target_named, untaken_status};
+ghost use Rattle.sqla_shell.specs.Words.{IsGiven, IsRun, print_options, untaken_status};
 
 use crate::ending::Ending;
 use crate::script::{do_script, write_all};
@@ -16,9 +16,10 @@ use crate::status::Status;
 use crate::stop::Stop;
 use base_core::Name;
 use byte_streams::{Sink, Source};
+use class_types::Hooks;
 use keeper_core::{Keeper, KeeperStop, Target};
 use program_words::{Options, WordsRefusal, read_words};
-use script_types::Dialect;
+use shell_replies::PrintOptions;
 use shell_steps::Shell;
 use std::alloc::Global;
 
@@ -27,10 +28,11 @@ const USAGE: &[u8] = b"usage: sqla [--dialect D] [--echo] [--store FILE] [--gene
 
 /// Does a script over a keeper, and answers to the sink.
 ///
-/// `words` are the words after the program's name. They name the keeper's target: memory, or a file. Where they are none that the
-/// program takes, or ask for the echo of statements or for another dialect than SQLite's, which are yet to come, the run writes the
-/// usage line and ends with `Usage`. Lines are done one by one as they are read, and what a line answers goes out after it has
-/// ended. At the script's end the session is closed; where the run ends before it, the keeper's transaction is rolled back.
+/// `words` are the words after the program's name. They name the keeper's target, memory or a file, the dialect in which texts of
+/// statements are printed, and whether those that each line sends are. Where they are none that the program takes, the run writes
+/// the usage line and ends with `Usage`. `hooks` are the validators that classes may name. Lines are done one by one as they are
+/// read, and what a line answers goes out after it has ended. At the script's end the session is closed; where the run ends before
+/// it, the keeper's transaction is rolled back.
 ///
 /// Where the source, the sink and the keeper tell what they have, what is written, the statements that are sent, the status
 /// and the tables at the end are those of the reference session (`specs/Reference.antt`).
@@ -40,72 +42,98 @@ pub fn run<S: Source, O: Sink, K: Keeper>(
     source: &mut S,
     sink: &mut O,
     keeper: &mut K,
+    hooks: &Hooks,
 ) -> Status
     requires { (K.moment keeper.old).target ≡ None }
-    // With words that name no target the usage line is written, and nothing else happens.
-    ensures usage { target_named (map string_bytes words.now.items) ≡ None
+    // With words that are none of the program's the usage line is written, and nothing else happens.
+    ensures usage { options_asked (map string_bytes words.now.items) ≡ None
         → IsUsage (O.written sink.old) result (O.written sink.new) }
-    ensures unread { target_named (map string_bytes words.now.items) ≡ None
+    ensures unread { options_asked (map string_bytes words.now.items) ≡ None
         → source.new ≡ source.old }
-    ensures unused { target_named (map string_bytes words.now.items) ≡ None
+    ensures unused { options_asked (map string_bytes words.now.items) ≡ None
         → keeper.new ≡ keeper.old }
     // With words that name memory the run is the reference's.
-    ensures reference { target_named (map string_bytes words.now.items) ≡ Some targets.Memory → IsRun
+    ensures reference { (options : Options) →
+        options_asked (map string_bytes words.now.items) ≡ Some options
+        → options.target ≡ targets.Memory → IsRun options
+        (rules_of hooks.now)
         (moment_seen (S.left source.old) (S.faults source.old) (O.written sink.old) (O.faults sink.old)
         (K.moment keeper.old))
         result
         (moment_seen (S.left source.new) (S.faults source.new) (O.written sink.new) (O.faults sink.new)
         (K.moment keeper.new)) }
     ensures through { IsReadThrough result (S.left source.old) (S.left source.new) }
-    ensures target { (target : Target) → target_named (map string_bytes words.now.items) ≡ Some target
-        → IsGiven (K.moment keeper.old) target result (K.moment keeper.new) }
+    ensures target { (options : Options) →
+        options_asked (map string_bytes words.now.items) ≡ Some options
+        → IsGiven (K.moment keeper.old) options.target result (K.moment keeper.new) }
     ensures words { result ≡ Status.Usage
-        → target_named (map string_bytes words.now.items) ≡ None }
+        → options_asked (map string_bytes words.now.items) ≡ None }
     ensures faults { ShowsFaults result (K.moment keeper.new).attached
         (faults (S.faults source.old) (O.faults sink.old) (K.moment keeper.old).faults)
         (faults (S.faults source.new) (O.faults sink.new) (K.moment keeper.new).faults) }
 {
-    match target_of(alloc, words.as_slice()) {
-        Ok(Target::Memory) => run_in_memory(alloc, source, sink, keeper),
-        Ok(Target::File(name)) => run_in_file(alloc, name, source, sink, keeper),
+    match options_of(alloc, words) {
+        Ok(options) => run_with(alloc, options, source, sink, keeper, hooks),
         Err(WordsRefusal::Usage) => refuse_words(sink),
         Err(WordsRefusal::Memory) => Status::Memory,
     }
 }
 
-/// Whether a run does what is asked for.
-fn is_built(options: &Options) -> bool
-    ensures { result ≡ words.is_built options.now }
+/// What the words ask for.
+fn options_of(alloc: Global, words: &Vec<String>) -> Result<Options, WordsRefusal>
+    ensures ok { IfOk result
+        (λ options. options_asked (map string_bytes words.now.items) ≡ Some options) }
+    ensures usage { result ≡ Err WordsRefusal.Usage
+        → options_asked (map string_bytes words.now.items) ≡ None }
 {
-    match options.dialect {
-        Dialect::Sqlite => !options.echo,
-        Dialect::Postgresql | Dialect::Mysql => false,
-    }
+    read_words(alloc, words.as_slice())
 }
 
-/// The target that the words name.
-#[tactic(auto, using(crate::proofs::WordsLemmas::naming))]
-fn target_of(alloc: Global, words: &[String]) -> Result<Target, WordsRefusal>
-    ensures ok { IfOk result (λ target. target_named (map string_bytes words.now) ≡ Some target) }
-    ensures usage { result ≡ Err WordsRefusal.Usage
-        → target_named (map string_bytes words.now) ≡ None }
+/// Does a script as the words ask for.
+fn run_with<S: Source, O: Sink, K: Keeper>(
+    alloc: Global,
+    options: Options,
+    source: &mut S,
+    sink: &mut O,
+    keeper: &mut K,
+    hooks: &Hooks,
+) -> Status
+    requires { (K.moment keeper.old).target ≡ None }
+    ensures reference { options.target ≡ targets.Memory → IsReference (print_options options)
+        (rules_of hooks.now)
+        (moment_seen (S.left source.old) (S.faults source.old) (O.written sink.old) (O.faults sink.old)
+        (K.moment keeper.old))
+        result
+        (moment_seen (S.left source.new) (S.faults source.new) (O.written sink.new) (O.faults sink.new)
+        (K.moment keeper.new)) }
+    ensures through { IsReadThrough result (S.left source.old) (S.left source.new) }
+    ensures target { (K.moment keeper.new).target ≡ Some options.target }
+    ensures usage { result ≢ Status.Usage }
+    ensures faults { ShowsFaults result (K.moment keeper.new).attached
+        (faults (S.faults source.old) (O.faults sink.old) (K.moment keeper.old).faults)
+        (faults (S.faults source.new) (O.faults sink.new) (K.moment keeper.new).faults) }
 {
-    let options = read_words(alloc, words)?;
-    if !is_built(&options) {
-        return Err(WordsRefusal::Usage);
+    let print = PrintOptions {
+        dialect: options.dialect,
+        echo: options.echo,
+    };
+    match options.target {
+        Target::Memory => run_in_memory(alloc, print, source, sink, keeper, hooks),
+        Target::File(name) => run_in_file(alloc, print, name, source, sink, keeper, hooks),
     }
-    Ok(options.target)
 }
 
 /// Does a script over a keeper in memory.
 fn run_in_memory<S: Source, O: Sink, K: Keeper>(
     alloc: Global,
+    print: PrintOptions,
     source: &mut S,
     sink: &mut O,
     keeper: &mut K,
+    hooks: &Hooks,
 ) -> Status
     requires { (K.moment keeper.old).target ≡ None }
-    ensures reference { IsReference
+    ensures reference { IsReference print (rules_of hooks.now)
         (moment_seen (S.left source.old) (S.faults source.old) (O.written sink.old) (O.faults sink.old)
         (K.moment keeper.old))
         result
@@ -119,7 +147,7 @@ fn run_in_memory<S: Source, O: Sink, K: Keeper>(
         (faults (S.faults source.new) (O.faults sink.new) (K.moment keeper.new).faults) }
 {
     match keeper.attach(alloc, Target::Memory) {
-        Ok(()) => run_script(alloc, source, sink, keeper),
+        Ok(()) => run_script(alloc, print, source, sink, keeper, hooks),
         Err(KeeperStop::Fault) => Status::KeeperFault,
         Err(KeeperStop::Memory) => Status::Memory,
     }
@@ -128,10 +156,12 @@ fn run_in_memory<S: Source, O: Sink, K: Keeper>(
 /// Does a script over a keeper in the file of a name.
 fn run_in_file<S: Source, O: Sink, K: Keeper>(
     alloc: Global,
+    print: PrintOptions,
     name: Name,
     source: &mut S,
     sink: &mut O,
     keeper: &mut K,
+    hooks: &Hooks,
 ) -> Status
     requires { (K.moment keeper.old).target ≡ None }
     ensures through { IsReadThrough result (S.left source.old) (S.left source.new) }
@@ -144,7 +174,7 @@ fn run_in_file<S: Source, O: Sink, K: Keeper>(
     if let Err(stop) = keeper.attach(alloc, Target::File(name)) {
         return status_untaken(stop);
     }
-    run_script(alloc, source, sink, keeper)
+    run_script(alloc, print, source, sink, keeper, hooks)
 }
 
 /// The status of a run whose keeper did not take its target.
@@ -173,13 +203,15 @@ pub fn refuse_words<O: Sink>(sink: &mut O) -> Status
 /// Does a script over a keeper that took its target.
 fn run_script<S: Source, O: Sink, K: Keeper>(
     alloc: Global,
+    print: PrintOptions,
     source: &mut S,
     sink: &mut O,
     keeper: &mut K,
+    hooks: &Hooks,
 ) -> Status
     requires attached { (K.moment keeper.old).attached ≡ true }
     requires outside { (K.moment keeper.old).depth ≡ 0 }
-    ensures reference { IsDone
+    ensures reference { IsDone print (rules_of hooks.now)
         (moment_seen (S.left source.old) (S.faults source.old) (O.written sink.old) (O.faults sink.old)
         (K.moment keeper.old))
         result
@@ -192,8 +224,8 @@ fn run_script<S: Source, O: Sink, K: Keeper>(
         (faults (S.faults source.old) (O.faults sink.old) (K.moment keeper.old).faults)
         (faults (S.faults source.new) (O.faults sink.new) (K.moment keeper.new).faults) }
 {
-    let mut shell = Shell::new(alloc);
-    let done = do_script(alloc, &mut shell, source, sink, keeper);
+    let mut shell = Shell::new(alloc, print);
+    let done = do_script(alloc, &mut shell, source, sink, keeper, hooks);
     conclude(&shell, keeper, done)
 }
 

@@ -1,18 +1,20 @@
 //! The lines of a script, each done and answered before the next is read.
 
 ghost use Rattle.std.specs.Prelude.{◌≡◌, [], None, true, false, IfOk, OnOk};
+ghost use Rattle.class_types.specs.Shown.{rules_of};
 ghost use Rattle.programs.specs.Programs.{as_refusal};
 ghost use Rattle.programs.specs.Moment.{Runs};
 ghost use Rattle.script_lines.specs.Cutting.{FitsSource, Pending, to_come};
 ghost use Rattle.shell_steps.specs.ShellState.{IsReady};
 ghost use Rattle.sqla_shell.specs.Causes.{CountsFaults, faults, stop_refusal};
 ghost use Rattle.sqla_shell.specs.Outcome.{DoesLines, DoesScript, HasNothingLeft, HasWritten, moment_writing};
-ghost use Rattle.sqla_shell.specs.Reference.{do_and_reply, end_script, writes};
+ghost use Rattle.sqla_shell.specs.Reference.{close_and_tell, do_and_reply, end_script, writes};
 ghost use Rattle.sqla_shell.specs.Seen.{Keeps, moment_seen};
 
 use crate::ending::Ending;
 use crate::stop::Stop;
 use byte_streams::{Sink, Source};
+use class_types::Hooks;
 use keeper_core::Keeper;
 use script_lines::{LineBuffer, NextLine};
 use shell_steps::Shell;
@@ -38,9 +40,10 @@ pub fn do_script<S: Source, O: Sink, K: Keeper>(
     source: &mut S,
     sink: &mut O,
     keeper: &mut K,
+    hooks: &Hooks,
 ) -> Result<Ending, Stop>
     requires ready { IsReady shell.old.stage (K.moment keeper.old) }
-    ensures reference { DoesScript (S.left source.old) (moment_writing K.moment O.written)
+    ensures reference { DoesScript (rules_of hooks.now) (S.left source.old) (moment_writing K.moment O.written)
         (shell.old, keeper.old, sink.old) (as_refusal stop_refusal result)
         (shell.new, keeper.new, sink.new) }
     ensures through { IfOk result (λ ending. ending ≡ Ending.Finished
@@ -55,7 +58,7 @@ pub fn do_script<S: Source, O: Sink, K: Keeper>(
         (λ ending. ending ≡ Ending.Finished → (K.moment keeper.new).depth ≡ 0) }
 {
     let mut lines = LineBuffer::new(alloc);
-    match do_lines(&mut lines, shell, source, sink, keeper)? {
+    match do_lines(&mut lines, shell, source, sink, keeper, hooks)? {
         Ending::Finished => finish(shell, sink, keeper),
         Ending::TooLong => Ok(Ending::TooLong),
     }
@@ -68,10 +71,11 @@ fn do_lines<S: Source, O: Sink, K: Keeper>(
     source: &mut S,
     sink: &mut O,
     keeper: &mut K,
+    hooks: &Hooks,
 ) -> Result<Ending, Stop>
     requires start { lines.old ≡ record { bytes = []; taken = 0; ended = false } }
     requires ready { IsReady shell.old.stage (K.moment keeper.old) }
-    ensures reference { DoesLines (S.left source.old) (moment_writing K.moment O.written)
+    ensures reference { DoesLines (rules_of hooks.now) (S.left source.old) (moment_writing K.moment O.written)
         (shell.old, keeper.old, sink.old) (as_refusal stop_refusal result)
         (shell.new, keeper.new, sink.new) }
     ensures through { IfOk result (λ ending. ending ≡ Ending.Finished
@@ -88,7 +92,7 @@ fn do_lines<S: Source, O: Sink, K: Keeper>(
         match lines.next_line(source)? {
             NextLine::End => return Ok(Ending::Finished),
             NextLine::TooLong => return Ok(Ending::TooLong),
-            NextLine::Line(line) => answer_line(shell, sink, keeper, line.as_slice())?,
+            NextLine::Line(line) => answer_line(shell, sink, keeper, hooks, line.as_slice())?,
         }
     }
     Ok(Ending::TooLong)
@@ -99,10 +103,12 @@ fn answer_line<O: Sink, K: Keeper>(
     shell: &mut Shell,
     sink: &mut O,
     keeper: &mut K,
+    hooks: &Hooks,
     line: &[u8],
 ) -> Result<(), Stop>
     requires { IsReady shell.old.stage (K.moment keeper.old) }
-    ensures step { Runs (moment_writing K.moment O.written) (λ u. u) (do_and_reply line.now tt)
+    ensures step { Runs (moment_writing K.moment O.written) (λ u. u)
+        (do_and_reply (rules_of hooks.now) line.now tt)
         (shell.old, keeper.old, sink.old) (as_refusal stop_refusal result)
         (shell.new, keeper.new, sink.new) }
     ensures ready { OnOk result (IsReady shell.new.stage (K.moment keeper.new)) }
@@ -111,7 +117,7 @@ fn answer_line<O: Sink, K: Keeper>(
         result
         (moment_seen None 0 (O.written sink.new) (O.faults sink.new) (K.moment keeper.new)) }
 {
-    let reply = shell.answer(keeper, line)?;
+    let reply = shell.answer(keeper, hooks, line)?;
     write_all(sink, reply.bytes())
 }
 
@@ -134,6 +140,22 @@ fn finish<O: Sink, K: Keeper>(
 {
     let reply = shell.answer_end(keeper)?;
     write_all(sink, reply.bytes())?;
-    shell.close(keeper)?;
+    close(shell, sink, keeper)?;
     Ok(Ending::Finished)
+}
+
+/// Closes the session, and then what is told of that goes out.
+fn close<O: Sink, K: Keeper>(shell: &mut Shell, sink: &mut O, keeper: &mut K) -> Result<(), Stop>
+    requires { IsReady shell.old.stage (K.moment keeper.old) }
+    ensures step { Runs (moment_writing K.moment O.written) (λ u. u) close_and_tell
+        (shell.old, keeper.old, sink.old) (as_refusal stop_refusal result)
+        (shell.new, keeper.new, sink.new) }
+    ensures outside { OnOk result ((K.moment keeper.new).depth ≡ 0) }
+    ensures keeps { Keeps
+        (moment_seen None 0 (O.written sink.old) (O.faults sink.old) (K.moment keeper.old))
+        result
+        (moment_seen None 0 (O.written sink.new) (O.faults sink.new) (K.moment keeper.new)) }
+{
+    let reply = shell.close(keeper)?;
+    write_all(sink, reply.bytes())
 }

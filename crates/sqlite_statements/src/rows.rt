@@ -13,6 +13,7 @@ use base_core::{
     ColumnNo, Copied, Key, KeyList, ListOf, Refusal, RowList, RowValues, TableId, Value,
 };
 use expr_types::Statement;
+use row_cells::{key_of, lacks_given, with_key};
 use schema_core::{
     ColumnSpec, RowStmt, Schema, TableSpec, Violation, has_generated_key, is_required,
 };
@@ -20,7 +21,6 @@ use sql_text::{Quoting, Writer};
 use sqlite_database::{Database, Ending};
 use sqlite_items::Boxed;
 use std::alloc::{AllocError, Global};
-use table_rows::{key_of, lacks_given, with_key};
 
 /// A list of one key.
 fn one_key(alloc: Global, key: &Key) -> Result<KeyList, AllocError>

@@ -1,22 +1,23 @@
 //! One index.
 
-ghost use Rattle.std.specs.Prelude.{◌≡◌, [], ◌∷◌, ◌++◌, true, false, List, None, Some, if◌then◌else◌, not, filter, IfOk, IfSome};
-ghost use Rattle.std.specs.Option.{option_copied, unwrap_or};
+ghost use Rattle.std.specs.Prelude.{◌≡◌, ◌⊎◌, true, false, List, None, IfOk};
+ghost use Rattle.std.specs.List.{list_any};
+ghost use Rattle.std.specs.Option.{option_copied};
 ghost use Rattle.base_core.specs.declared.value.Value.{Value};
 ghost use Rattle.schema_core.specs.Tables.{same_values};
-ghost use Rattle.table_index.specs.Indexed.{Found, IsChanged, IsComplete, cells_at, is_entered, keys_at};
+ghost use Rattle.table_index.specs.Indexed.{Found, IsComplete, cells_at, has_cells_of, is_entered, keys_at, keys_in};
 
 use crate::columns::cells_at;
-use base_core::{Copied, Key, KeyList, ListOf, RowValues, Value};
+use base_core::{Copied, Key, ListOf, RowValues, Value};
 use std::alloc::{AllocError, Global};
-use std::collections::BTreeMap;
+use std::collections::{BTreeMap, BTreeSet};
 
 /// The keys of rows by the values that the rows have in some columns, told by their places. Keys may stand in it whose rows
 /// have gone or have other values, so a key that is found is tested against its row.
 #[derive(Drop)]
 pub struct ValueIndex {
     pub(crate) columns: Vec<usize>,
-    pub(crate) holders: BTreeMap<RowValues, KeyList>,
+    pub(crate) holders: BTreeMap<RowValues, BTreeSet<Key>>,
 }
 
 /// Whether two lists of values are equal.
@@ -26,23 +27,14 @@ fn same_values(one: &ListOf<Value>, other: &ListOf<Value>) -> bool
     one.cmp(other).is_eq()
 }
 
-/// The keys found, as a vector.
-fn keys_of(alloc: Global, found: Option<KeyList>) -> Vec<Key>
-    ensures { result.items ≡ unwrap_or found [] }
+/// The keys found.
+fn keys_of(alloc: Global, found: Option<BTreeSet<Key>>) -> BTreeSet<Key>
+    ensures { result.keys ≡ keys_in found }
 {
     match found {
-        Some(keys) => keys.into_vec(),
-        None => Vec::new(alloc),
+        Some(keys) => keys,
+        None => BTreeSet::new(alloc),
     }
-}
-
-/// The keys but one.
-fn keys_without(keys: Vec<Key>, key: &Key) -> Vec<Key>
-    ensures { result.items ≡ filter (λ other. not (same_values key.now other)) keys.items }
-{
-    let mut keys = keys;
-    keys.retain(|other| !same_values(key, other));
-    keys
 }
 
 impl ValueIndex {
@@ -58,24 +50,49 @@ impl ValueIndex {
     }
 
     /// The keys that stand at a value.
-    pub fn keys(&self, value: &RowValues) -> Option<&KeyList>
-        ensures { unwrap_or (option_copied result) [] ≡ keys_at self.now.holders value.now }
+    pub fn keys(&self, value: &RowValues) -> Option<&BTreeSet<Key>>
+        ensures { keys_in (option_copied result) ≡ keys_at self.now.holders value.now }
     {
         self.holders.get(value)
     }
 
-    /// With a key at a value, behind those that stand there.
+    /// Whether a key stands at a value.
+    fn has_key(&self, value: &RowValues, key: &Key) -> bool
+        ensures { result ≡ list_any (same_values key.now) (keys_at self.now.holders value.now) }
+    {
+        match self.holders.get(value) {
+            Some(keys) => keys.contains(key),
+            None => false,
+        }
+    }
+
+    /// Whether a row is entered.
+    pub(crate) fn has_row(
+        &self,
+        alloc: Global,
+        key: &Key,
+        row: &[Value],
+    ) -> Result<bool, AllocError>
+        ensures { IfOk result (λ yes. yes ≡ is_entered self.now key.now row.now) }
+    {
+        let value = cells_at(alloc, self.columns.as_slice(), row)?;
+        Ok(self.has_key(&value, key))
+    }
+
+    /// With a key at a value.
     fn with_key(self, alloc: Global, value: RowValues, key: &Key) -> Result<ValueIndex, AllocError>
         ensures columns { IfOk result (λ index. index.columns.items ≡ self.columns.items) }
-        ensures keys { IfOk result (λ index. (q : List Value)
-            → keys_at index.holders q ≡ keys_at self.holders q
-            ++ (if same_values value q then key.now ∷ [] else [])) }
+        ensures entered { IfOk result (λ index.
+            list_any (same_values key.now) (keys_at index.holders value) ≡ true) }
+        ensures others { IfOk result (λ index. (other there : List Value)
+            → list_any (same_values other) (keys_at self.holders there) ≡ true
+            → list_any (same_values other) (keys_at index.holders there) ≡ true) }
     {
         let ValueIndex { columns, holders } = self;
         let mut holders = holders;
         let mut keys = keys_of(alloc, holders.remove(&value));
-        keys.push(key.copied()?)?;
-        holders.insert(value, ListOf::from_vec(keys))?;
+        keys.insert(key.copied()?)?;
+        holders.insert(value, keys)?;
         Ok(ValueIndex { columns, holders })
     }
 
@@ -87,23 +104,23 @@ impl ValueIndex {
         key: &Key,
     ) -> Result<ValueIndex, AllocError>
         ensures columns { IfOk result (λ index. index.columns.items ≡ self.columns.items) }
-        ensures keys { IfOk result (λ index. (q : List Value)
-            → keys_at index.holders q ≡ (if same_values value q
-            then filter (λ other. not (same_values key.now other)) (keys_at self.holders value)
-            else keys_at self.holders q)) }
+        ensures others { IfOk result (λ index. (other there : List Value)
+            → (same_values key.now other ≡ false) ⊎ (same_values value there ≡ false)
+            → list_any (same_values other) (keys_at self.holders there) ≡ true
+            → list_any (same_values other) (keys_at index.holders there) ≡ true) }
     {
         let ValueIndex { columns, holders } = self;
         let mut holders = holders;
-        let keys = keys_without(keys_of(alloc, holders.remove(&value)), key);
+        let mut keys = keys_of(alloc, holders.remove(&value));
+        keys.remove(key);
         if keys.len() == 0 {
             return Ok(ValueIndex { columns, holders });
         }
-        holders.insert(value, ListOf::from_vec(keys))?;
+        holders.insert(value, keys)?;
         Ok(ValueIndex { columns, holders })
     }
 
-    #[tactic(auto, using(crate::proofs::Entered::entering))]
-    /// With a row more, where none stood under its key.
+    /// With a row more, whether it is entered or not.
     pub fn with_row(self, alloc: Global, key: &Key, row: &[Value]) -> Result<ValueIndex, AllocError>
         ensures columns { IfOk result (λ index. index.columns.items ≡ self.columns.items) }
         ensures entered { IfOk result (λ index. is_entered index key.now row.now ≡ true) }
@@ -111,73 +128,46 @@ impl ValueIndex {
             → is_entered self other cells ≡ true → is_entered index other cells ≡ true) }
     {
         let value = cells_at(alloc, self.columns.as_slice(), row)?;
+        if self.has_key(&value, key) {
+            return Ok(self);
+        }
         Ok(self.with_key(alloc, value, key)?)
     }
 
-    #[tactic(auto, using(crate::proofs::Entered::leaving))]
-    /// Without a row, where it is not the one that stands under its key.
-    fn without_row(self, alloc: Global, key: &Key, row: &[Value]) -> Result<ValueIndex, AllocError>
-        ensures columns { IfOk result (λ index. index.columns.items ≡ self.columns.items) }
-        ensures others { IfOk result (λ index. (other cells : List Value)
-            → same_values key.now other ≡ false
-            → is_entered self other cells ≡ true → is_entered index other cells ≡ true) }
-        ensures apart { IfOk result (λ index. (other cells : List Value)
-            → same_values (cells_at self.columns.items row.now)
-            (cells_at self.columns.items cells) ≡ false
-            → is_entered self other cells ≡ true → is_entered index other cells ≡ true) }
-    {
-        let value = cells_at(alloc, self.columns.as_slice(), row)?;
-        Ok(self.without_key(alloc, value, key)?)
-    }
-
-    /// Whether two rows have equal cells in the columns.
-    fn has_same_cells(
+    /// Whether a row is there that has another's cells in the columns.
+    fn has_cells_of(
         &self,
         alloc: Global,
-        one: &[Value],
         other: &[Value],
+        row: Option<&RowValues>,
     ) -> Result<bool, AllocError>
-        ensures { IfOk result (λ yes. yes ≡ same_values
-            (cells_at self.now.columns.items one.now) (cells_at self.now.columns.items other.now)) }
+        ensures { IfOk result (λ yes. yes
+            ≡ has_cells_of self.now.columns.items other.now (option_copied row.entry)) }
     {
+        let Some(row) = row else {
+            return Ok(false);
+        };
         let columns = self.columns.as_slice();
-        let here = cells_at(alloc, columns, one)?;
-        let there = cells_at(alloc, columns, other)?;
+        let here = cells_at(alloc, columns, other)?;
+        let there = cells_at(alloc, columns, row.as_slice())?;
         Ok(same_values(&here, &there))
     }
 
-    /// Kept through a change of one row, which stood under its key or not.
-    pub(crate) fn with_change(
+    /// Without what a row had entered that stood under a key before, where another one stands there now, or none.
+    pub(crate) fn without_former(
         self,
         alloc: Global,
         key: &Key,
-        before: Option<&RowValues>,
-        row: &RowValues,
+        former: &[Value],
+        row: Option<&RowValues>,
     ) -> Result<ValueIndex, AllocError>
-        ensures { IfOk result (λ index. (rows after : Found) → IsComplete rows self
-            → rows key.now ≡ option_copied before.entry → IsChanged rows key.now (Some row.now) after
-            → IsComplete after index) }
+        ensures { IfOk result (λ index. (rows : Found) → IsComplete rows self
+            → rows key.now ≡ option_copied row.entry → IsComplete rows index) }
     {
-        let Some(before) = before else {
-            return Ok(self.with_row(alloc, key, row.as_slice())?);
-        };
-        if self.has_same_cells(alloc, before.as_slice(), row.as_slice())? {
+        if self.has_cells_of(alloc, former, row)? {
             return Ok(self);
         }
-        let index = self.with_row(alloc, key, row.as_slice())?;
-        Ok(index.without_row(alloc, key, before.as_slice())?)
-    }
-
-    /// Kept through the loss of the row under a key.
-    pub(crate) fn with_loss(
-        self,
-        alloc: Global,
-        key: &Key,
-        row: &RowValues,
-    ) -> Result<ValueIndex, AllocError>
-        ensures { IfOk result (λ index. (rows after : Found) → IsComplete rows self
-            → IsChanged rows key.now None after → IsComplete after index) }
-    {
-        Ok(self.without_row(alloc, key, row.as_slice())?)
+        let value = cells_at(alloc, self.columns.as_slice(), former)?;
+        Ok(self.without_key(alloc, value, key)?)
     }
 }

@@ -10,8 +10,8 @@ ghost use Rattle.table_log.specs.Undone.{AreWithin, scopes_at};
 ghost use Rattle.table_rows.specs.Rows.{rows_at, rows_present, tables_present};
 
 use crate::undoing::{LogEntry, forget, make_room, undo_from};
-use base_core::{Copied, Key, ListOf, RowList, RowValues, TableId};
-use schema_core::TableSpec;
+use base_core::{Copied, Key, ListOf, Name, RowList, RowValues, TableId};
+use schema_core::ColumnSpec;
 use std::alloc::{AllocError, Global};
 use std::marker::Model;
 use table_rows::{TableMap, TableRows};
@@ -86,16 +86,17 @@ impl TableLog {
         self.tables.bare(alloc)
     }
 
-    /// Makes an index for each unique constraint of a table that has none. No table changes.
-    pub fn index_uniques(
+    /// Makes an index on columns of these names of a table, where the table has them and there is none. No table changes.
+    pub fn index_columns(
         &mut self,
         alloc: Global,
-        spec: &TableSpec,
         table: TableId,
+        columns: &[ColumnSpec],
+        names: &[Name],
     ) -> Result<(), AllocError>
         ensures { self.new ≡ self.old }
     {
-        self.tables.index_uniques(alloc, spec, table)
+        self.tables.index_columns(alloc, table, columns, names)
     }
 
     /// What was replaced, the oldest first, and each scope's first place in it, the outermost first.
@@ -170,8 +171,8 @@ impl TableLog {
         ensures err { OnErr result (self.new ≡ self.old) }
     {
         if self.places.len() == 0 {
-            self.tables.take(table, key);
-            self.tables.sweep(table, key);
+            let taken = self.tables.take(table, key);
+            self.tables.sweep(table, key, taken.as_ref());
             return Ok(());
         }
         let noted = key.copied()?;

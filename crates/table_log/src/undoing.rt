@@ -33,18 +33,18 @@ pub(crate) fn make_room(
     Ok(())
 }
 
-/// Brings back what stood under the key of an entry, and leaves its key.
+/// Brings back what stood under the key of an entry, and leaves its key, with what stood there until now.
 fn undo(tables: &mut TableMap, entry: LogEntry) -> LogEntry
     requires { IsPlaced tables.old entry.table entry.key }
     ensures rows { tables_present tables.new ≡ before_change (tables_present tables.old) entry }
     ensures places { KeepsAllPlaces tables.old tables.new }
 {
     let LogEntry { table, key, before } = entry;
-    tables.restore(table, &key, before);
+    let replaced = tables.restore(table, &key, before);
     LogEntry {
         table,
         key,
-        before: None,
+        before: replaced,
     }
 }
 
@@ -72,12 +72,12 @@ pub(crate) fn undo_from(
     }
 }
 
-/// Gives up the places of the keys of entries where no row stands.
+/// Gives up the places of the keys of entries where no row stands, and what the entries' rows had entered in indexes.
 fn sweep(tables: &mut TableMap, entries: &[LogEntry])
     ensures { tables_present tables.new ≡ tables_present tables.old }
 {
     for entry in entries {
-        tables.sweep(entry.table, &entry.key);
+        tables.sweep(entry.table, &entry.key, entry.before.as_ref());
     }
 }
 

@@ -1,5 +1,5 @@
 -- Entries in the order of their keys: a value written in place, and changes that are taken back.
-use Rattle.std.proofs.Common.{◌≡◌, List, [], ◌∷◌, None, Some, refl, ap, ◌∙◌}
+use Rattle.std.proofs.Common.{◌≡◌, false, List, [], ◌∷◌, None, Some, refl, sym, ap, ◌∙◌}
 use Rattle.std.specs.declared.cmp.Ordering.{Ordering}
 use Rattle.std.specs.declared.cmp.Ordering.TheVariants.{Less, Equal, Greater}
 use Rattle.std.specs.Ordering.{ordering_reverse}
@@ -97,3 +97,25 @@ found_put {R = R} o k v (e ∷ es) = at (R k e.0) refl (found_put o k v es)
     at Less is rest = rw (is, same_key o k) refl
     at Equal is rest = rw (is, is) refl
     at Greater is rest = rw (is, is) rest
+
+-- ---- other keys
+
+-- what stands under another key is as it was after an insert
+pub put_other : {K X : Type 0} {R : K → K → Ordering} (exact : CmpEqualImpliesEq R) (q k : K) (v : X) (es : List (K × X)) → is_at (R q) k ≡ false → lookup (is_at (R q)) (insert_entry R es k v) ≡ lookup (is_at (R q)) es
+put_other exact q k v [] other = rw other refl
+put_other {R = R} exact q k v (e ∷ es) other = at (R k e.0) refl (put_other exact q k v es other)
+  where
+    at : (r : Ordering) → R k e.0 ≡ r → lookup (is_at (R q)) (insert_entry R es k v) ≡ lookup (is_at (R q)) es → lookup (is_at (R q)) (insert_entry R (e ∷ es) k v) ≡ lookup (is_at (R q)) (e ∷ es)
+    at Less is rest = rw (is, other) refl
+    at Equal is rest = let apart : is_at (R q) e.0 ≡ false = ap (is_at (R q)) (sym (exact k e.0 is)) ∙ other in rw (is, apart) refl
+    at Greater is rest = rw (is, rest) refl
+
+-- and after a removal
+pub removed_other : {K X : Type 0} {R : K → K → Ordering} (exact : CmpEqualImpliesEq R) (q k : K) (es : List (K × X)) → is_at (R q) k ≡ false → lookup (is_at (R q)) (remove_entry (is_at (R k)) es) ≡ lookup (is_at (R q)) es
+removed_other exact q k [] other = refl
+removed_other {R = R} exact q k (e ∷ es) other = at (R k e.0) refl (removed_other exact q k es other)
+  where
+    at : (r : Ordering) → R k e.0 ≡ r → lookup (is_at (R q)) (remove_entry (is_at (R k)) es) ≡ lookup (is_at (R q)) es → lookup (is_at (R q)) (remove_entry (is_at (R k)) (e ∷ es)) ≡ lookup (is_at (R q)) (e ∷ es)
+    at Less is rest = rw (is, rest) refl
+    at Equal is rest = let apart : is_at (R q) e.0 ≡ false = ap (is_at (R q)) (sym (exact k e.0 is)) ∙ other in rw (is, apart) refl
+    at Greater is rest = rw (is, rest) refl

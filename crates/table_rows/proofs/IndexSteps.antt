@@ -2,9 +2,7 @@
 use Rattle.std.proofs.Common.{◌≡◌, ◌⊎◌, inl, inr, Bool, true, false, List, [], ◌∷◌, Option, None, Some, refl, sym, ap, subst, ◌∙◌}
 use Rattle.std.specs.declared.cmp.Ordering.{Ordering}
 use Rattle.std.specs.declared.cmp.Ordering.TheVariants.{Less, Equal, Greater}
-use Rattle.std.specs.Ordering.{ordering_reverse}
 use Rattle.std.specs.Cmp.{IsTotalOrder}
-use Rattle.std.specs.List.{AllByRecursion}
 use Rattle.std.specs.List.Sorted.{IsStrictlySortedBy}
 use Rattle.std.specs.BTreeMap.{is_at}
 use Rattle.std.specs.Map.{keys_of, lookup, remove_entry}
@@ -18,8 +16,7 @@ use Rattle.table_index.specs.declared.indexes.Indexes.{Indexes}
 use Rattle.table_index.specs.Indexed.{AreComplete, IsChanged, is_entered}
 use Rattle.table_index.proofs.Entered.{lost_kept, same_is, same_values_equiv}
 use Rattle.table_rows.specs.Rows.{Places, rows_present, with_place}
-use Rattle.table_rows.proofs.Entries.{found_put, same_key}
-use Rattle.table_rows.proofs.Gone.{put_other, removed_other}
+use Rattle.table_rows.proofs.Entries.{found_put, put_other, removed_other}
 use Rattle.table_rows.proofs.Places.{as_above, none_above}
 
 -- nothing stands under a key that was taken out
@@ -92,14 +89,3 @@ all_entered index rows so_far key row there = elim (so_far key row there) [
 pub ruleset entering = (none_entered, entered_more, all_entered)
 
 -- ---- each row stands under its key
-
-later_found : (first : List Value × List Value) (rows some : Rows) → AllByRecursion (λ q. values_cmp first.0 q ≡ Less) (keys_of some) → AllByRecursion (λ e. row_under rows e.0 ≡ Some e.1) some → AllByRecursion (λ e. row_under (first ∷ rows) e.0 ≡ Some e.1) some
-later_found first rows [] above each = tt
-later_found first rows (e ∷ some) above each = (by (values_total.antisymm e.0 first.0 ∙ ap ordering_reverse above.0), later_found first rows some above.1 each.1)
-  where
-    by : values_cmp e.0 first.0 ≡ Greater → row_under (first ∷ rows) e.0 ≡ Some e.1
-    by is = rw is each.0
-
-pub each_found : (rows : Rows) → IsStrictlySortedBy values_cmp (keys_of rows) → AllByRecursion (λ e. row_under rows e.0 ≡ Some e.1) rows
-each_found [] sorted = tt
-each_found (e ∷ rows) sorted = (rw (same_key values_total e.0) refl, later_found e rows rows (sorted_head values_cmp e.0 (keys_of rows) sorted) (each_found rows (sorted_tail values_cmp e.0 (keys_of rows) sorted)))

@@ -1,7 +1,5 @@
-mod CellSteps
 pub mod Entries
-pub mod Gone
-mod HolderSteps
+mod Bounds
 mod IndexSteps
 pub mod Laws
 mod Places

@@ -1,5 +1,5 @@
 -- Rows in their places: found, put in, taken out and brought back.
-use Rattle.std.proofs.Common.{◌≡◌, true, false, List, [], ◌∷◌, ◌++◌, Option, None, Some, is_some, refl, sym, ap, ◌∙◌, append-nil}
+use Rattle.std.proofs.Common.{◌≡◌, List, Option, None, Some, ap, ◌∙◌}
 use Rattle.std.specs.Option.{option_flatten}
 use Rattle.std.specs.BTreeMap.{is_at}
 use Rattle.std.specs.Map.{keys_of, lookup, remove_entry, set_value}
@@ -7,8 +7,7 @@ use Rattle.std.specs.List.Sorted.{IsStrictlySortedBy}
 use Rattle.base_core.proofs.Exact.{exact_values, values_total}
 use Rattle.base_core.specs.declared.value.Value.{Value}
 use Rattle.base_core.specs.Order.{values_cmp}
-use Rattle.schema_core.specs.Apply.{key_after, next_key}
-use Rattle.schema_core.specs.Tables.{Rows, row_under, with_row, without_row}
+use Rattle.schema_core.specs.Tables.{row_under, with_row, without_row}
 use Rattle.std.specs.BTreeMap.{insert_entry}
 use Rattle.table_rows.specs.Rows.{KeepsPlaces, Places, rows_present, with_former_row}
 use Rattle.table_rows.proofs.Entries.{put_in_place}
@@ -44,27 +43,3 @@ pub kept_set : (places : Places) (key : List Value) (place : Option (List Value)
 kept_set places key place other there = keeps_set (is_at (values_cmp key)) (is_at (values_cmp other)) place places there
 
 pub ruleset standing = (row_found, row_put, row_taken, row_back, row_swept, rows_sorted, nothing_taken, kept_put, kept_set)
-
--- ---- the greatest key
-
-present_more : (first later : Places) → rows_present (first ++ later) ≡ rows_present first ++ rows_present later
-present_more [] later = refl
-present_more ((key, None) ∷ first) later = present_more first later
-present_more ((key, Some row) ∷ first) later = ap (λ rows. (key, row) ∷ rows) (present_more first later)
-
-last_key : (rows : Rows) (key row : List Value) → next_key (rows ++ (key, row) ∷ []) ≡ key_after key
-last_key [] key row = refl
-last_key (e ∷ []) key row = refl
-last_key (e ∷ f ∷ rows) key row = last_key (f ∷ rows) key row
-
--- an empty place is none
-pub next_below : (old new : Places) (key : List Value) (place : Option (List Value)) → old ≡ new ++ (key, place) ∷ [] → is_some place ≡ false → next_key (rows_present new) ≡ next_key (rows_present old)
-next_below old new key None is empty = sym (ap next_key (ap rows_present is ∙ present_more new ((key, None) ∷ []) ∙ append-nil (rows_present new)))
-next_below old new key (Some row) is empty = cc
-
--- the last row's key is the greatest
-pub next_above : (old new : Places) (key : List Value) (place : Option (List Value)) → old ≡ new ++ (key, place) ∷ [] → is_some place ≡ true → next_key (rows_present old) ≡ key_after key
-next_above old new key None is full = cc
-next_above old new key (Some row) is full = ap next_key (ap rows_present is ∙ present_more new ((key, Some row) ∷ [])) ∙ last_key (rows_present new) key row
-
-pub ruleset greatest = (next_below, next_above)

@@ -1,13 +1,14 @@
 -- The rows of a table that is held, and what stood under a key before.
-use Rattle.std.specs.Prelude.{◌≡◌, Bool, true, false, cond, List, [], ◌∷◌, Option, None, Some, is_some}
+use Rattle.std.specs.Prelude.{◌≡◌, Bool, true, false, not, List, [], ◌∷◌, Option, None, Some, is_some}
 use Rattle.std.specs.Option.{option_map, unwrap_or}
+use Rattle.std.specs.List.{list_all}
+use Rattle.std.specs.Ordering.{is_lt}
 use Rattle.std.specs.Map.{keys_of, lookup}
 use Rattle.std.specs.BTreeMap.{is_at}
 use Rattle.std.specs.List.Sorted.{IsStrictlySortedBy}
 use Rattle.base_core.specs.declared.ids.TableId.{TableId}
 use Rattle.base_core.specs.declared.value.Value.{Value}
 use Rattle.base_core.specs.Order.{values_cmp}
-use Rattle.schema_core.specs.declared.table.ColumnSpec.{ColumnSpec}
 use Rattle.schema_core.specs.Tables.{Rows, Tables, rows_in, table_cmp, with_row, without_row}
 
 -- one place more before these rows, where a row stands in it
@@ -61,10 +62,23 @@ rows_at tables table = unwrap_or (rows_in tables table) []
 abbrev pub with_former_row : Rows → List Value → Option (List Value) → Rows
 with_former_row rows key before = unwrap_or (option_map (with_row rows key) before) (without_row rows key)
 
--- a cell, or the key where the cell's column is of the key
-abbrev pub cell_or_key : ColumnSpec → Value → Value → Value
-cell_or_key column key cell = cond column.key key cell
-
 -- tables are ascending by number, and the rows of one of them by key
 abbrev pub AreSorted : Tables → TableId → Type 0
 AreSorted tables table = IsStrictlySortedBy table_cmp (keys_of tables) × IsStrictlySortedBy values_cmp (keys_of (rows_at tables table))
+
+-- ---- the greatest key
+
+-- the key of the last row, which is the greatest
+abbrev pub last_key : {K X : Type 0} → List (K × X) → Option K
+last_key [] = None
+last_key (row ∷ []) = Some row.0
+last_key (row ∷ next ∷ rows) = last_key (next ∷ rows)
+
+-- a key is not above the bound, where there is one
+abbrev pub is_within : Option (List Value) → List Value → Bool
+is_within None key = true
+is_within (Some bound) key = not (is_lt (values_cmp bound key))
+
+-- no row's key is above the bound
+abbrev pub is_bound : Option (List Value) → Rows → Bool
+is_bound bound rows = list_all (λ row. is_within bound row.0) rows

@@ -7,31 +7,120 @@ ghost use Rattle.std.specs.Map.{keys_of};
 ghost use Rattle.std.specs.List.Sorted.{IsStrictlySortedBy};
 ghost use Rattle.base_core.specs.Order.{values_cmp};
 ghost use Rattle.schema_core.specs.Apply.{key_after, next_key};
-ghost use Rattle.schema_core.specs.Tables.{row_under, with_row, without_row};
-ghost use Rattle.table_rows.specs.Rows.{KeepsPlaces, is_placed, rows_present, with_former_row};
+ghost use Rattle.schema_core.specs.Tables.{Rows, row_under, with_row, without_row};
+ghost use Rattle.table_rows.specs.Rows.{KeepsPlaces, is_bound, is_placed, is_within, last_key, rows_present, with_former_row};
 
 use base_core::{Copied, Key, ListOf, RowList, RowValues, Value};
 use std::alloc::{AllocError, Global};
 use std::collections::BTreeMap;
+use std::collections::btree_map::Range;
 use std::marker::Model;
+use std::mem;
 
 /// The rows of one table, by key. A row that is taken out keeps its place, which stands empty until it is swept.
 #[derive(Drop)]
 pub struct TableRows {
     rows: BTreeMap<Key, Option<RowValues>>,
+    /// A key that no row's key is above, so that empty places above it are not gone through for the greatest one; none where
+    /// there was no memory for its copy.
+    bound: Option<Key>,
 }
 
 impl Model for TableRows {
     ghost use Rattle.std.specs.Map.{keys_of};
     ghost use Rattle.std.specs.List.Sorted.{IsStrictlySortedBy};
     ghost use Rattle.base_core.specs.Order.{values_cmp};
-    ghost use Rattle.table_rows.specs.Rows.{Places};
+    ghost use Rattle.std.specs.Prelude.{◌≡◌, true};
+    ghost use Rattle.table_rows.specs.Rows.{Places, is_bound, rows_present};
 
     ghost Value = { Places };
 
     ghost view = { λ t. t.rows.entries };
 
-    ghost invariant = { λ t. IsStrictlySortedBy values_cmp (keys_of t.rows.entries) };
+    ghost invariant = { λ t. IsStrictlySortedBy values_cmp (keys_of t.rows.entries) × (is_bound t.bound (rows_present t.rows.entries) ≡ true) };
+}
+
+#[tactic(auto, using(crate::proofs::Bounds::lasting))]
+/// The last key of these places at which a row stands, if there is one.
+fn last_full<'a>(range: Range<'a, Key, Option<RowValues>>) -> Option<&'a Key>
+    ensures { option_copied result ≡ last_key (rows_present range.entry) }
+{
+    let mut places = range;
+    while let Some((key, place)) = places.next_back() {
+        if place.is_some() {
+            return Some(key);
+        }
+    }
+    None
+}
+
+/// The key of the last row, if there is a row; no row's key is above the bound.
+fn last_within<'a>(
+    rows: &'a BTreeMap<Key, Option<RowValues>>,
+    bound: &Option<Key>,
+) -> Option<&'a Key>
+    requires { is_bound bound.now (rows_present rows.now.entries) ≡ true }
+    ensures { option_copied result ≡ last_key (rows_present rows.now.entries) }
+{
+    match bound {
+        Some(bound) => last_full(rows.range(..=bound)),
+        None => last_full(rows.range(..)),
+    }
+}
+
+/// Whether a key is not above the bound.
+fn is_within(bound: &Option<Key>, key: &Key) -> bool
+    ensures { result ≡ is_within bound.now key.now }
+{
+    match bound {
+        Some(bound) => !bound.cmp(key).is_lt(),
+        None => true,
+    }
+}
+
+/// A copy of a key, if there is memory for it.
+fn copy_of(key: &Key) -> Option<Key>
+    ensures { IfSome result (λ copy. copy ≡ key.now) }
+{
+    match key.copied() {
+        Ok(copy) => Some(copy),
+        Err(_) => None,
+    }
+}
+
+#[tactic(auto, using(crate::proofs::Bounds::raising))]
+/// Makes the bound one of a key too.
+fn raise(bound: &mut Option<Key>, key: &Key)
+    ensures key { is_within bound.new key.now ≡ true }
+    ensures rows { (rows : Rows) → is_bound bound.old rows ≡ true → is_bound bound.new rows ≡ true }
+{
+    if is_within(bound, key) {
+        return;
+    }
+    *bound = copy_of(key);
+}
+
+/// Whether a row stands at the bound.
+fn has_bound(rows: &BTreeMap<Key, Option<RowValues>>, bound: &Option<Key>) -> bool {
+    match bound {
+        Some(bound) => matches!(rows.get(bound), Some(Some(_))),
+        None => false,
+    }
+}
+
+/// Makes the last row's key the bound, where no row stands at the bound.
+fn lower(rows: &BTreeMap<Key, Option<RowValues>>, bound: &mut Option<Key>)
+    requires bound { is_bound bound.old (rows_present rows.now.entries) ≡ true }
+    requires sorted { IsStrictlySortedBy values_cmp (keys_of rows.now.entries) }
+    ensures { is_bound bound.new (rows_present rows.now.entries) ≡ true }
+{
+    if has_bound(rows, bound) {
+        return;
+    }
+    let Some(last) = last_within(rows, bound) else {
+        return;
+    };
+    *bound = copy_of(last);
 }
 
 impl TableRows {
@@ -41,6 +130,7 @@ impl TableRows {
     {
         TableRows {
             rows: BTreeMap::new(alloc),
+            bound: Some(ListOf::new(alloc)),
         }
     }
 
@@ -80,6 +170,7 @@ impl TableRows {
         ensures err { OnErr result (self.new ≡ self.old) }
         ensures sorted { IsStrictlySortedBy values_cmp (keys_of (rows_present self.old)) }
     {
+        raise(&mut self.bound, &key);
         Ok(self.rows.insert(key, Some(row))?.flatten())
     }
 
@@ -95,20 +186,26 @@ impl TableRows {
         let Some(place) = self.rows.get_mut(key) else {
             return None;
         };
-        place.take()
+        let taken = place.take();
+        lower(&self.rows, &mut self.bound);
+        taken
     }
 
     #[tactic(auto, using(crate::proofs::Standing::standing))]
-    /// Brings back what stood in a place.
-    pub fn restore(&mut self, key: &Key, before: Option<RowValues>)
+    /// Brings back what stood in a place, and gives what stands in it now.
+    pub fn restore(&mut self, key: &Key, before: Option<RowValues>) -> Option<RowValues>
         requires { is_placed self.old key.now ≡ true }
+        ensures replaced { result ≡ row_under (rows_present self.old) key.now }
         ensures rows { rows_present self.new ≡ with_former_row (rows_present self.old) key.now before }
         ensures places { KeepsPlaces self.old self.new }
     {
+        raise(&mut self.bound, key);
         let Some(place) = self.rows.get_mut(key) else {
-            return;
+            return None;
         };
-        *place = before;
+        let replaced = mem::replace(place, before);
+        lower(&self.rows, &mut self.bound);
+        replaced
     }
 
     #[tactic(auto, using(crate::proofs::Standing::standing))]
@@ -147,18 +244,15 @@ impl TableRows {
         Ok(ListOf::from_vec(pairs))
     }
 
-    #[tactic(auto, using(crate::proofs::Standing::greatest))]
-    /// One above the greatest key, 1 where there are no rows; none where the greatest key is the greatest integer.
+    /// One above the greatest key, 1 where there are no rows; none where the greatest key is the greatest integer. Empty places
+    /// above the last row are not gone through.
     pub fn next_key(&self) -> Option<i64>
         ensures { result ≡ next_key (rows_present self.now) }
     {
-        let mut places = self.rows.iter();
-        while let Some((key, place)) = places.next_back() {
-            if place.is_some() {
-                return key_after(key.as_slice());
-            }
+        match last_within(&self.rows, &self.bound) {
+            Some(key) => key_after(key.as_slice()),
+            None => Some(1),
         }
-        Some(1)
     }
 }
 

@@ -9,8 +9,8 @@ ghost use Rattle.table_index.specs.Indexed.{IsComplete};
 ghost use Rattle.table_rows.specs.Rows.{KeepsPlaces, is_placed, rows_present, with_former_row};
 
 use crate::rows::TableRows;
-use base_core::{Key, RowValues};
-use schema_core::TableSpec;
+use base_core::{Key, Name, RowValues};
+use schema_core::ColumnSpec;
 use std::alloc::{AllocError, Global};
 use std::marker::Model;
 use table_index::{Indexes, ValueIndex, column_places};
@@ -70,7 +70,7 @@ impl IndexedRows {
     }
 
     /// The index on columns of these places, if there is one.
-    pub(crate) fn index_on(&self, columns: &[usize]) -> Option<&ValueIndex>
+    pub fn index_on(&self, columns: &[usize]) -> Option<&ValueIndex>
         ensures complete { IfSome result
             (λ index. IsComplete (row_under (rows_present self.now)) index.now) }
         ensures columns { IfSome result (λ index. index.now.columns.items ≡ columns.now) }
@@ -89,17 +89,19 @@ impl IndexedRows {
         self.indexes.add(index)
     }
 
-    /// Makes an index for each unique constraint that has none. No row changes.
-    pub fn index_uniques(&mut self, alloc: Global, spec: &TableSpec) -> Result<(), AllocError>
+    /// Makes an index on columns of these names, where the table has them and there is none. No row changes.
+    pub fn index_columns(
+        &mut self,
+        alloc: Global,
+        columns: &[ColumnSpec],
+        names: &[Name],
+    ) -> Result<(), AllocError>
         ensures { self.new ≡ self.old }
     {
-        for unique in spec.uniques.as_slice() {
-            let found = column_places(alloc, spec.columns.as_slice(), unique.as_slice())?;
-            if let Some(columns) = found {
-                self.make_index(alloc, columns)?;
-            }
+        match column_places(alloc, columns, names)? {
+            Some(places) => self.make_index(alloc, places),
+            None => Ok(()),
         }
-        Ok(())
     }
 
     /// Puts a row under a key, and gives what stood there. At an error the rows are as they were.
@@ -111,7 +113,7 @@ impl IndexedRows {
         ensures places { KeepsPlaces self.old self.new }
         ensures sorted { IsStrictlySortedBy values_cmp (keys_of (rows_present self.old)) }
     {
-        self.indexes.put(&key, self.rows.get(&key), &row);
+        self.indexes.put(&key, &row);
         match self.rows.put(key, row) {
             Ok(before) => Ok(before),
             Err(e) => {
@@ -121,7 +123,7 @@ impl IndexedRows {
         }
     }
 
-    /// Takes out the row of a key, whose place stays.
+    /// Takes out the row of a key, whose place stays, and so does what it had entered.
     pub fn take(&mut self, key: &Key) -> Option<RowValues>
         ensures taken { result ≡ row_under (rows_present self.old) key.now }
         ensures rows { rows_present self.new ≡ without_row (rows_present self.old) key.now }
@@ -129,32 +131,34 @@ impl IndexedRows {
         ensures places { KeepsPlaces self.old self.new }
         ensures sorted { IsStrictlySortedBy values_cmp (keys_of (rows_present self.old)) }
     {
-        let taken = self.rows.take(key);
-        if let Some(row) = &taken {
-            self.indexes.take(key, row);
-        }
-        taken
+        self.rows.take(key)
     }
 
-    /// Brings back what stood in a place. Takes no memory: where a row comes back, the indexes are given up.
-    pub fn restore(&mut self, key: &Key, before: Option<RowValues>)
+    /// Brings back what stood in a place, and gives what stands in it now. Needs no memory: where an index lacks the row that
+    /// comes back, or there is no memory to see that it has it, the indexes are given up.
+    pub fn restore(&mut self, key: &Key, before: Option<RowValues>) -> Option<RowValues>
         requires { is_placed self.old key.now ≡ true }
+        ensures replaced { result ≡ row_under (rows_present self.old) key.now }
         ensures places { KeepsPlaces self.old self.new }
         ensures rows { rows_present self.new ≡ with_former_row (rows_present self.old) key.now before }
     {
         self.rows.are_sorted();
         let Some(row) = before else {
-            self.rows.restore(key, None);
-            return;
+            return self.rows.restore(key, None);
         };
-        self.indexes.clear();
-        self.rows.restore(key, Some(row));
+        self.indexes.bring_back(key, &row);
+        self.rows.restore(key, Some(row))
     }
 
-    /// Gives a place up, where it stands empty.
-    pub fn sweep(&mut self, key: &Key)
+    /// Gives a place up, where it stands empty, and what the row had entered that stood there before.
+    pub fn sweep(&mut self, key: &Key, former: Option<&RowValues>)
         ensures { rows_present self.new ≡ rows_present self.old }
     {
+        let Some(former) = former else {
+            self.rows.sweep(key);
+            return;
+        };
+        self.indexes.sweep(key, former, self.rows.get(key));
         self.rows.sweep(key);
     }
 }

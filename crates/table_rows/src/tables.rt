@@ -9,8 +9,8 @@ ghost use Rattle.table_rows.specs.Rows.{AreSorted, IsPlaced, KeepsAllPlaces, row
 
 use crate::rows::TableRows;
 use crate::table::IndexedRows;
-use base_core::{Key, ListOf, RowList, RowValues, TableId};
-use schema_core::TableSpec;
+use base_core::{Key, ListOf, Name, RowList, RowValues, TableId};
+use schema_core::ColumnSpec;
 use std::alloc::{AllocError, Global};
 use std::collections::BTreeMap;
 use std::marker::Model;
@@ -62,19 +62,20 @@ impl TableMap {
     }
 
     #[tactic(auto, using(crate::proofs::Seen::seeing))]
-    /// Makes an index for each unique constraint of a table that has none. No table changes.
-    pub fn index_uniques(
+    /// Makes an index on columns of these names of a table, where the table has them and there is none. No table changes.
+    pub fn index_columns(
         &mut self,
         alloc: Global,
-        spec: &TableSpec,
         table: TableId,
+        columns: &[ColumnSpec],
+        names: &[Name],
     ) -> Result<(), AllocError>
         ensures { self.new ≡ self.old }
     {
         let Some(rows) = self.tables.get_mut(&table) else {
             return Ok(());
         };
-        rows.index_uniques(alloc, spec)
+        rows.index_columns(alloc, columns, names)
     }
 
     /// Each table's rows with its number, lent.
@@ -155,27 +156,32 @@ impl TableMap {
     }
 
     #[tactic(auto, using(crate::proofs::Seen::seeing))]
-    /// Brings back what stood in a place.
-    pub fn restore(&mut self, table: TableId, key: &Key, before: Option<RowValues>)
+    /// Brings back what stood in a place, and gives what stands in it now.
+    pub fn restore(
+        &mut self,
+        table: TableId,
+        key: &Key,
+        before: Option<RowValues>,
+    ) -> Option<RowValues>
         requires { IsPlaced self.old table key.now }
         ensures rows { tables_present self.new ≡ with_rows
             (tables_present self.old) table (with_former_row (rows_at (tables_present self.old) table) key.now before) }
         ensures places { KeepsAllPlaces self.old self.new }
     {
         let Some(rows) = self.tables.get_mut(&table) else {
-            return;
+            return None;
         };
-        rows.restore(key, before);
+        rows.restore(key, before)
     }
 
     #[tactic(auto, using(crate::proofs::Seen::seeing))]
-    /// Gives a place up, where no row stands in it.
-    pub fn sweep(&mut self, table: TableId, key: &Key)
+    /// Gives a place up, where no row stands in it, and what the row had entered that stood there before.
+    pub fn sweep(&mut self, table: TableId, key: &Key, former: Option<&RowValues>)
         ensures { tables_present self.new ≡ tables_present self.old }
     {
         let Some(rows) = self.tables.get_mut(&table) else {
             return;
         };
-        rows.sweep(key);
+        rows.sweep(key, former);
     }
 }

@@ -33,12 +33,12 @@ use Rattle.keeper_core.specs.Calls.{write_refusal}
 use Rattle.table_log.specs.Scopes.{scope_ended, scope_started, scope_undone, with_tables}
 use Rattle.table_rows.specs.Rows.{Places, rows_at, rows_present}
 use Rattle.table_rows.proofs.Entries.{put_again}
-use Rattle.table_rows.proofs.Gone.{divided_more, lost_among}
+use Rattle.row_judging.proofs.Gone.{divided_more, lost_among}
 use Rattle.table_rows.proofs.Laws.{absent_kept, rows_found}
 use Rattle.programs.specs.Store.{Store}
 use Rattle.schema_core.proofs.TableOrder.{tables_total}
-use Rattle.table_rows.specs.Lost.{some_lost}
-use Rattle.table_rows.specs.declared.judging.Before.TheVariants as before
+use Rattle.row_judging.specs.Lost.{some_lost}
+use Rattle.row_judging.specs.declared.losing.Before.TheVariants as before
 use Rattle.table_store.specs.Held.{IsDivided, Made, put_all, stand, take_all, with_entry, without_key}
 use Rattle.table_store.specs.Written.{Leaves, WroteBulk, keys_to_remove, rows_to_write, unwritten_refusal}
 use Rattle.table_store.proofs.Evaluated.{deletes_evaluated, updates_evaluated}

@@ -26,9 +26,9 @@ use Rattle.programs.specs.Store.{Store}
 use Rattle.table_store.specs.Held.{DidOrLeft, Wrote, put_all, put_from, stand, with_entry}
 use Rattle.table_rows.proofs.Entries.{found_put, put_again}
 use Rattle.table_rows.proofs.Laws.{rows_found}
-use Rattle.table_rows.specs.Lost.{some_lost}
-use Rattle.table_rows.specs.declared.judging.Before.TheVariants as before
-use Rattle.table_rows.proofs.Gone.{lost_alone}
+use Rattle.row_judging.specs.Lost.{some_lost}
+use Rattle.row_judging.specs.declared.losing.Before.TheVariants as before
+use Rattle.row_judging.proofs.Gone.{lost_alone}
 
 -- a table whose rows were changed is still created
 pub still_created : (tables new : Tables) (table : TableId) (rows : Rows) → new ≡ with_rows tables table rows → is_some (rows_in new table) ≡ true

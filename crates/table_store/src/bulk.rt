@@ -12,17 +12,19 @@ ghost use Rattle.table_rows.specs.Rows.{rows_at};
 ghost use Rattle.table_store.specs.Held.{IsDivided, Made, put_all, take_all, without_key};
 ghost use Rattle.table_store.specs.Written.{Leaves, WroteBulk, keys_to_remove, rows_to_write};
 
-use crate::references::{make_indexes, some_lost};
+use crate::references::{index_foreigns, make_indexes, some_lost};
 use crate::refusals::{taking_refusal, unwritten_refusal};
 use crate::writing::{insert_rows, put_copy, row_under, stand};
 use base_core::{ColumnNo, Copied, Key, ListOf, Refusal, RowValues, TableId};
 use expr_types::{Bulk, Expr};
 use keeper_core::WriteRefusal;
 use keeper_core::calls::table_of_bulk;
+use row_cells::lacks_value;
+use row_judging::Before;
 use schema_core::{Schema, TableSpec, Unwritten, Violation};
 use std::alloc::{AllocError, Global};
 use table_log::TableLog;
-use table_rows::{Before, TableRows, lacks_value};
+use table_rows::TableRows;
 
 #[tactic(auto, using(crate::proofs::BulkSteps::putting))]
 /// Writes rows, each under its key.
@@ -362,6 +364,21 @@ fn apply_in_scope(
     store.close(answer)
 }
 
+/// Makes the indexes by which what a statement does is judged, where there are none yet. No table changes.
+fn index_for(
+    alloc: Global,
+    schema: &Schema,
+    store: &mut TableLog,
+    statement: &Bulk,
+) -> Result<(), AllocError>
+    ensures { store.new ≡ store.old }
+{
+    match statement {
+        Bulk::Delete { table, .. } => index_foreigns(alloc, schema, store, *table),
+        _ => make_indexes(alloc, schema, store, table_of_bulk(statement)),
+    }
+}
+
 /// Does a bulk statement, and answers the number of its rows. Where it is refused, or finds no memory, everything is as it was.
 pub(crate) fn applied(
     alloc: Global,
@@ -373,7 +390,7 @@ pub(crate) fn applied(
     ensures { Leaves (spec.table_of statement.now)
         (spec.bulk_outcome schema.now store.old.tables statement.now) store.old result store.new }
 {
-    let Ok(()) = make_indexes(alloc, schema, store, table_of_bulk(statement)) else {
+    let Ok(()) = index_for(alloc, schema, store, statement) else {
         return Err(WriteRefusal::Memory);
     };
     apply_in_scope(alloc, schema, store, statement)

@@ -11,14 +11,16 @@ ghost use Rattle.schema_core.specs.WellFormed.{IsWellFormed};
 ghost use Rattle.table_rows.specs.Rows.{rows_at, rows_present};
 ghost use Rattle.table_store.specs.Held.{DidOrLeft, Wrote, put_from, stand, with_entry};
 
-use crate::references::{make_indexes, some_lost, some_repeats, some_written_dangles};
+use crate::references::{
+    index_foreigns, make_indexes, some_lost, some_repeats, some_written_dangles,
+};
 use base_core::{ColumnNo, Copied, Key, KeyList, ListOf, RowValues, TableId, Value};
+use row_cells::{has_null, key_of, lacks_given, lacks_value, with_cells, with_key};
+use row_judging::Before;
 use schema_core::{RowStmt, Schema, Unwritten, Violation};
 use std::alloc::{AllocError, Global};
 use table_log::TableLog;
-use table_rows::{
-    Before, TableRows, has_null, key_of, lacks_given, lacks_value, with_cells, with_key,
-};
+use table_rows::TableRows;
 
 /// A copy of the row of a key.
 pub(crate) fn row_under(
@@ -348,6 +350,21 @@ fn apply_in_scope(
     store.close(answer)
 }
 
+/// Makes the indexes by which what a statement does is judged, where there are none yet. No table changes.
+fn index_for(
+    alloc: Global,
+    schema: &Schema,
+    store: &mut TableLog,
+    statement: &RowStmt,
+) -> Result<(), AllocError>
+    ensures { store.new ≡ store.old }
+{
+    match statement {
+        RowStmt::Delete { table, .. } => index_foreigns(alloc, schema, store, *table),
+        _ => make_indexes(alloc, schema, store, statement.table()),
+    }
+}
+
 /// Does a statement on rows. Where it is refused, or finds no memory, everything is as it was.
 pub fn apply(
     alloc: Global,
@@ -359,6 +376,6 @@ pub fn apply(
     ensures { DidOrLeft (apply schema.now store.old.tables statement.now)
         store.old result store.new }
 {
-    make_indexes(alloc, schema, store, statement.table())?;
+    index_for(alloc, schema, store, statement)?;
     apply_in_scope(alloc, schema, store, statement)
 }

@@ -1,12 +1,10 @@
-use Rattle.std.proofs.Common.{◌≡◌, ◌+◌, ◌-◌, ◌<◌, ◌≤◌, ◌∷◌, ◌++◌, [], ◌∙◌, true, List, IfOk, Ok, Err, Result, length, map, sym, ap, subst, arith}
-use Rattle.std.specs.Ordering.{nat_cmp}
+use Rattle.std.proofs.Common.{◌≡◌, ◌+◌, ◌-◌, ◌<◌, ◌≤◌, ◌∷◌, [], ◌∙◌, List, length, map, sym, ap, subst, arith}
 use Rattle.base_core.specs.declared.ids.ObjId.{ObjId}
-use Rattle.base_core.specs.declared.refusal.Refusal.{Refusal}
 use Rattle.base_core.specs.Ascending.{IsAscending}
-use Rattle.cascades.specs.Closures.{IsClosure, linked_objects}
-use Rattle.cascades.specs.Walks.{Comes, has, id_of_number}
+use Rattle.cascades.specs.Closures.{IsClosure}
+use Rattle.cascades.specs.Walks.{Comes, id_of_number}
 use Rattle.std.proofs.lemmas.List.{length-append}
-use Rattle.cascades.proofs.ClosureLemmas.{IsWalk, empty_of, if_ok, in_order, is_it, none, reached_few, reached_made, taken_reached, walk_began, walk_ended, walk_more, walk_taken}
+use Rattle.cascades.proofs.ClosureLemmas.{empty_of, if_ok, in_order, none, reached_few, reached_made, taken_reached, walk_began, walk_ended, walk_more, walk_taken}
 use Rattle.cascades.proofs.closures.closure.Goals as goal
 
 pub loop-next-init : goal.loop-next-init

@@ -2,8 +2,9 @@ use Rattle.std.proofs.Common.{length, ap, ◌∙◌}
 use Rattle.programs.specs.Beside.{changes}
 use Rattle.session_scopes.specs.Scoping.{session_begun}
 use Rattle.session_scopes.specs.SessionState.{SessionState}
-use Rattle.session_calls.proofs.Acting.{begun_long, begun_open, begun_well}
+use Rattle.session_calls.proofs.Acting.{begun_long, begun_open, begun_well, memory_stops}
 use Rattle.session_calls.proofs.Joining.{noted_err, noted_then, passed_call}
+use Rattle.session_calls.proofs.Refusing.{begun_alike}
 use Rattle.session_calls.proofs.scopes.begin_transaction.Goals as goal
 
 pub begin-requires : goal.begin-requires
@@ -27,3 +28,9 @@ returns-clause-inside g c =
 
 pub returns-clause-well : goal.returns-clause-well
 returns-clause-well g c = begun_well c.args.session.now c.begin_store.new.session c.begin.new.self c.begin.result c.in_ok-begin_store.ensures.alike c.requires.well c.begin.ensures.ok
+
+pub returns-clause-begun : goal.returns-clause-begun
+returns-clause-begun g c = begun_alike c.args.session.now c.begin_store.new.session c.begin.new.self c.begin.result c.in_ok-begin_store.ensures.alike c.begin.ensures.ok
+
+pub returns-clause-stops : goal.returns-clause-stops
+returns-clause-stops g c = memory_stops c.begin.result c.begin.ensures.cause

@@ -8,8 +8,8 @@ recover-requires g c = record {
   left = gone_fits c.args.session.now.failed c.args.session.now.frames.scopes (length c.args.session.now.drawn.handles) c.args.place c.savepoints-count.ensures.depth (sym c.is_gone.ensures ∙ c.if-is_gone.true);
 }
 
-pub returns-then-is_gone : goal.returns-then-is_gone
-returns-then-is_gone g c =
+pub returns-then-is_gone-clause-call : goal.returns-then-is_gone-clause-call
+returns-then-is_gone-clause-call g c =
     place_rolled g.K.Keeper.moment c.args.place (length c.args.session.now.drawn.handles - c.args.place + 1) true (sym c.is_gone.ensures ∙ c.if-is_gone.true) refl
     (recovers g.K.Keeper.moment (c.args.place + 1) c.recover.ensures.ok c.recover.ensures.same c.requires.in_step)
 
@@ -23,6 +23,6 @@ go_back-requires g c =
       left = omega (arith, c.savepoints-count.ensures.count, c.requires.place);
     }
 
-pub returns : goal.returns
-returns g c =
+pub returns-clause-call : goal.returns-clause-call
+returns-clause-call g c =
     place_rolled g.K.Keeper.moment c.args.place (c.savepoints-count.result - c.args.place + 1) false (sym c.is_gone.ensures ∙ c.if-is_gone.false) (ap (λ n. n - c.args.place + 1) (sym c.savepoints-count.ensures.count)) c.go_back.ensures.call

@@ -1,9 +1,10 @@
 use Rattle.std.proofs.Common.{true, false, length, sym, ap, ◌∙◌, arith}
 use Rattle.session_calls.proofs.Joining.{passed_call}
+use Rattle.session_calls.proofs.Refusing.{call_calm, passed_on}
 use Rattle.session_flush.specs.Flush.{flush, give_up}
 use Rattle.session_flush.specs.Outcome.{IsFlushCause, IsGivenUp, changes_of}
 use Rattle.session_flush.proofs.Guarding.{answers, ended, lost_undo, undone}
-use Rattle.session_flush.proofs.Outcomes.{calm_cause, call_calm, early_cause, given_up, not_given_up, passed_on}
+use Rattle.session_flush.proofs.Outcomes.{calm_cause, early_cause, given_up, not_given_up}
 use Rattle.session_flush.proofs.flushing.flush.Goals as goal
 
 pub returns-in-Ok-clause-call : goal.returns-in-Ok-clause-call

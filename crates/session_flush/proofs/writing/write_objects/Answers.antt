@@ -1,9 +1,10 @@
-use Rattle.std.proofs.Common.{IfErr, OnOk, refl}
+use Rattle.std.proofs.Common.{IfErr, OnOk, refl, ap}
 use Rattle.schema_core.specs.declared.changes.RowChanges.{RowChanges}
 use Rattle.object_rows.specs.declared.prepared.Prepared.{Prepared}
 use Rattle.session_calls.proofs.Joining.{passed_call}
+use Rattle.session_calls.proofs.Refusing.{passed_on}
 use Rattle.session_flush.specs.Outcome.{IsFlushCause, IsUntouched, IsWriteCause, IsWritten, changes_of}
-use Rattle.session_flush.proofs.Outcomes.{as_flushed, memory_cause, passed_on, untouched_early}
+use Rattle.session_flush.proofs.Outcomes.{as_flushed, memory_cause, untouched_early}
 use Rattle.session_flush.proofs.Steps.{no_room_alike, objects_written}
 use Rattle.session_flush.proofs.writing.write_objects.Goals as goal
 
@@ -30,6 +31,14 @@ pub returns-in_err-rows-clause-cause : goal.returns-in_err-rows-clause-cause
 returns-in_err-rows-clause-cause g c =
     passed_on (λ e. IsFlushCause c.args.session.now (g.K.Keeper.moment c.args.keeper.now) e (g.K.Keeper.moment c.args.keeper.now)) c.from_residual-in_err-rows.result c.from_residual-in_err-rows.ensures.1
     (memory_cause c.args.session.now.mapping.schema (changes_of c.args.session.now) c.in_err-rows.field-0.0 (g.K.Keeper.moment c.args.keeper.now) (g.K.Keeper.moment c.args.keeper.now) c.in_err-rows.ensures.cause)
+
+pub write_warned-requires : goal.write_warned-requires
+write_warned-requires g c = record {
+  in_step = c.requires.in_step;
+  inside = c.requires.inside;
+  range = c.in_ok-rows.ensures.range;
+  cleared = ap (λ (p : Prepared). p.cleared) c.in_ok-prepared.ensures.prepared;
+}
 
 pub returns-clause-call : goal.returns-clause-call
 returns-clause-call g c = objects_written g.K.Keeper.moment c.in_ok-prepared.prepared c.in_ok-rows.rows c.in_ok-prepared.ensures.prepared c.in_ok-rows.ensures.changes c.requires.in_step c.write_warned.ensures.call

@@ -3,8 +3,9 @@ use Rattle.std.proofs.lemmas.Result.{IfErr-weaker}
 use Rattle.base_core.specs.declared.refusal.Refusal.TheVariants.{Memory}
 use Rattle.session_scopes.specs.SessionState.{SessionState}
 use Rattle.session_calls.proofs.Joining.{passed_call}
+use Rattle.session_calls.proofs.Refusing.{passed_on}
 use Rattle.session_flush.specs.Outcome.{IsUntouched, IsWriteCause}
-use Rattle.session_flush.proofs.Outcomes.{memory_cause, passed_on, plan_cause, rows_settled, run_cause, untouched_early, untouched_still}
+use Rattle.session_flush.proofs.Outcomes.{memory_cause, plan_cause, rows_settled, run_cause, untouched_early, untouched_still}
 use Rattle.session_flush.proofs.Steps.{rows_refused, rows_unplanned, rows_written}
 use Rattle.session_flush.proofs.writing.write_rows.Goals as goal
 

@@ -4,8 +4,9 @@ use Rattle.flush_order.specs.Ready.{AreInRange}
 use Rattle.schema_core.specs.Catalog.{Catalog}
 use Rattle.session_scopes.specs.SessionState.{SessionState, with_warnings}
 use Rattle.session_calls.proofs.Joining.{passed_call}
+use Rattle.session_calls.proofs.Refusing.{passed_on}
 use Rattle.session_flush.specs.Outcome.{IsUntouched, IsWriteCause}
-use Rattle.session_flush.proofs.Outcomes.{memory_cause, passed_on, untouched_along, untouched_early, written_warned}
+use Rattle.session_flush.proofs.Outcomes.{memory_cause, untouched_along, untouched_early, written_warned}
 use Rattle.session_flush.proofs.Steps.{alike_in_step, no_room_alike, rows_warned}
 use Rattle.session_flush.proofs.writing.write_warned.Goals as goal
 
@@ -33,6 +34,7 @@ pub write_rows-requires : goal.write_rows-requires
 write_rows-requires g c = record {
   in_step = alike_in_step (g.K.Keeper.moment c.args.keeper.now) c.args.session.now c.warn_all.new.self c.in_ok-warn_all.ensures.alike c.requires.in_step;
   inside = omega (arith, ap (λ (s : SessionState). length s.frames.scopes) c.in_ok-warn_all.ensures.alike, c.requires.inside);
+  cleared = c.requires.cleared;
   range = subst (λ (s : SessionState). AreInRange s.mapping.schema c.args.rows.now) (sym c.in_ok-warn_all.ensures.alike) c.requires.range;
 }
 

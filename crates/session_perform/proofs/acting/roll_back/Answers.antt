@@ -9,4 +9,4 @@ returns-in-None g c =
 
 pub returns-in-Some : goal.returns-in-Some
 returns-in-Some g c =
-    subst (λ (h : Option ℕ). IsSessionCall g.K.Keeper.moment (λ (u : Unit {0}). u) (roll_back h) (c.args.session.now, c.args.keeper.now) c.rollback_handle.result (c.rollback_handle.new.session, c.rollback_handle.new.keeper)) (sym c.in-Some.is) c.rollback_handle.ensures
+    subst (λ (h : Option ℕ). IsSessionCall g.K.Keeper.moment (λ (u : Unit {0}). u) (roll_back h) (c.args.session.now, c.args.keeper.now) c.rollback_handle.result (c.rollback_handle.new.session, c.rollback_handle.new.keeper)) (sym c.in-Some.is) c.rollback_handle.ensures.call

@@ -1,4 +1,10 @@
-use Rattle.std.proofs.Common.{sym, ap, ◌∙◌}
+use Rattle.std.proofs.Common.{ℕ, Bool, Option, refl, sym, ap, ◌∙◌}
+use Rattle.std.specs.Prelude.{is_none}
+use Rattle.base_core.specs.declared.refusal.Refusal.TheVariants.{PendingRollbackError, ResourceClosedError}
+use Rattle.object_arena.specs.Graph.{either_fault}
+use Rattle.session_calls.specs.Parts.{fault_if}
+use Rattle.session_calls.specs.Refusals.{Before}
+use Rattle.session_savepoints.specs.Steps.{handle_fault}
 use Rattle.session_savepoints.proofs.Acting.{handle_closed, handle_open, handle_waits}
 use Rattle.session_savepoints.proofs.asking.check_handle.Goals as goal
 
@@ -10,3 +16,14 @@ returns-in-None-clause-call g c = handle_closed g.K.Keeper.moment c.args.handle 
 
 pub returns-in-Some-clause-call : goal.returns-in-Some-clause-call
 returns-in-Some-clause-call g c = handle_open g.K.Keeper.moment c.args.handle c.in-Some._place (sym c.is_failed.ensures ∙ c.if-is_failed.false) c.in-Some.ensures.place c.requires.in_step
+
+pub returns-then-is_failed-clause-refused : goal.returns-then-is_failed-clause-refused
+returns-then-is_failed-clause-refused g c =
+    Before (ap (λ (b : Bool). either_fault (fault_if b PendingRollbackError) (handle_fault c.args.handle c.args.session.now)) (sym c.is_failed.ensures ∙ c.if-is_failed.true)) refl
+
+pub returns-in-None-clause-refused : goal.returns-in-None-clause-refused
+returns-in-None-clause-refused g c =
+    Before
+    (ap (λ (b : Bool). either_fault (fault_if b PendingRollbackError) (handle_fault c.args.handle c.args.session.now)) (sym c.is_failed.ensures ∙ c.if-is_failed.false)
+    ∙ ap (λ (found : Option ℕ). fault_if (is_none found) ResourceClosedError) (sym c.in-None.ensures.place))
+    refl

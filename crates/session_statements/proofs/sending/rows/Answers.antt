@@ -2,7 +2,7 @@ use Rattle.std.proofs.Common.{ap, ◌∙◌}
 use Rattle.class_mapping.specs.Mapped.{Mapped}
 use Rattle.session_scopes.specs.SessionState.{SessionState}
 use Rattle.session_statements.specs.Steps.{rows}
-use Rattle.session_statements.proofs.Statements.{asks, no_room_call}
+use Rattle.session_statements.proofs.Statements.{asks, no_room_call, query_refused}
 use Rattle.session_statements.proofs.sending.rows.Goals as goal
 
 pub returns-in-Ok-clause-call : goal.returns-in-Ok-clause-call
@@ -13,3 +13,9 @@ returns-in-Ok-clause-call g c =
 
 pub returns-in-Err-clause-call : goal.returns-in-Err-clause-call
 returns-in-Err-clause-call g c = no_room_call g.K.Keeper.moment (rows c.args.select.now) c.in-Err.ensures.err
+
+pub returns-in-Ok-clause-refused : goal.returns-in-Ok-clause-refused
+returns-in-Ok-clause-refused g c =
+    query_refused g.K.Keeper.moment c.schema.result.now c.args.select.now c.args.session.now c.note_query.new.session
+    (c.schema.ensures ∙ ap (λ (m : Mapped). m.schema) c.mapping.ensures.mapping ∙ ap (λ (s : SessionState). s.mapping.schema) c.in-Ok.ensures.ok)
+    c.in-Ok.ensures.ok c.query.ensures.call

@@ -1,12 +1,14 @@
-use Rattle.std.proofs.Common.{refl, rules}
+use Rattle.std.proofs.Common.{◌≡◌, true, refl, rules}
+use Rattle.programs.specs.Programs.{ends_early}
 use Rattle.programs.proofs.Sequence.{reaches_start, unit_end, unit_err, unit_turn}
 use Rattle.session_calls.proofs.Joining.{passed_call, same_alike, same_more}
+use Rattle.session_calls.proofs.Refusing.{passed_on}
 use Rattle.session_tables.specs.Steps.{change_one}
 use Rattle.session_tables.proofs.Changing.{alike_more}
 use Rattle.session_tables.proofs.tables.change_each.Goals as goal
 
-pub returns-in_err-change_one : goal.returns-in_err-change_one
-returns-in_err-change_one g c =
+pub returns-in_err-change_one-clause-call : goal.returns-in_err-change_one-clause-call
+returns-in_err-change_one-clause-call g c =
     passed_call c.from_residual.ensures.1
     (record {
       step = unit_err (change_one c.args.change) c.args.order.now c.loop-table.table-index c.loop-table.invariant.0 c.loop-table-test.true (search rules) c.in_err-change_one.ensures.call.step;
@@ -26,11 +28,20 @@ loop-table-preserved g c = (
   c.in_ok-change_one.ensures.call.kept.in_step,
 )
 
-pub returns : goal.returns
-returns g c = record {
+pub returns-clause-call : goal.returns-clause-call
+returns-clause-call g c = record {
   step = unit_end (change_one c.args.change) c.args.order.now c.loop-table.table-index c.loop-table.invariant.0 c.loop-table-test.false;
   kept = record {
     same = same_alike c.args.session.now c.loop-table.session c.loop-table.invariant.1;
     in_step = c.loop-table.invariant.2;
   };
 }
+
+pub returns-in_err-change_one-clause-alike : goal.returns-in_err-change_one-clause-alike
+returns-in_err-change_one-clause-alike g c = alike_more c.args.session.now c.loop-table.session c.change_one.new.session c.loop-table.invariant.1 c.in_err-change_one.ensures.alike
+
+pub returns-in_err-change_one-clause-stops : goal.returns-in_err-change_one-clause-stops
+returns-in_err-change_one-clause-stops g c = passed_on (λ e. ends_early e ≡ true) c.from_residual.result c.from_residual.ensures.1 c.in_err-change_one.ensures.stops
+
+pub returns-clause-alike : goal.returns-clause-alike
+returns-clause-alike g c = c.loop-table.invariant.1

@@ -1,9 +1,12 @@
-use Rattle.std.proofs.Common.{◌≡◌, Bool, Ok, OnOk, subst}
+use Rattle.std.proofs.Common.{◌≡◌, Bool, true, Ok, OnOk, subst}
+use Rattle.programs.specs.Programs.{ends_early}
 use Rattle.programs.specs.declared.sent.Sent.{Sent}
 use Rattle.session_scopes.specs.SessionState.{with_note}
 use Rattle.keeper_core.specs.Keeping.{IsCall}
 use Rattle.session_tables.specs.Steps.{change_in_store}
+use Rattle.session_calls.proofs.Acting.{memory_stops}
 use Rattle.session_calls.proofs.Joining.{passed_call}
+use Rattle.session_calls.proofs.Refusing.{passed_on}
 use Rattle.session_tables.proofs.Changing.{alike_then, change_ended, change_none, change_sent}
 use Rattle.session_tables.proofs.tables.change_one.Goals as goal
 
@@ -23,3 +26,9 @@ pub returns-clause-call : goal.returns-clause-call
 returns-clause-call g c =
     change_none g.K.Keeper.moment c.args.change c.args.table (g.met.K.Keeper.coherent c.args.keeper.now) c.requires.in_step c.requires.outside
     (subst (λ (b : Bool). IsCall g.K.Keeper.moment (change_in_store c.args.change c.args.table) 0 c.args.keeper.now (Ok b) c.store_changes.new.keeper) c.if-has_changed.false c.in_ok-has_changed.ensures)
+
+pub returns-in_err-has_changed-clause-stops : goal.returns-in_err-has_changed-clause-stops
+returns-in_err-has_changed-clause-stops g c = passed_on (λ e. ends_early e ≡ true) c.from_residual.result c.from_residual.ensures.1 c.in_err-has_changed.ensures.stops
+
+pub returns-then-has_changed-clause-stops : goal.returns-then-has_changed-clause-stops
+returns-then-has_changed-clause-stops g c = memory_stops c.note.result c.note.ensures.cause

@@ -3,6 +3,7 @@ use Rattle.std.specs.Io.KnownBytes.{IsAtEnd}
 use Rattle.programs.specs.Moment.{Runs}
 use Rattle.script_lines.specs.Cutting.{IsNextOf, KeepsLimits, to_come}
 use Rattle.shell_steps.specs.ShellState.{ShellState}
+use Rattle.class_types.specs.Shown.{rules_of}
 use Rattle.sqla_shell.specs.Causes.{stop_refusal}
 use Rattle.sqla_shell.specs.Outcome.{moment_writing}
 use Rattle.sqla_shell.specs.Reference.{do_and_reply}
@@ -13,8 +14,8 @@ use Rattle.sqla_shell.proofs.script.do_lines.Goals as goal
 -- src/script.rt:78:5
 pub loop-turn-init : goal.loop-turn-init
 loop-turn-init g c = record {
-  way = subst (λ p. OnLines (g.S.Source.left c.args.source.now) (moment_writing {S = ShellState} g.K.Keeper.moment g.O.Sink.written) (c.args.shell.now, c.args.keeper.now, c.args.sink.now) 0 p.taken (to_come p (g.S.Source.left c.args.source.now)) (c.args.shell.now, c.args.keeper.now, c.args.sink.now)) (sym c.requires.start)
-      (lines_start (moment_writing {S = ShellState} g.K.Keeper.moment g.O.Sink.written) (c.args.shell.now, c.args.keeper.now, c.args.sink.now) (g.S.Source.left c.args.source.now));
+  way = subst (λ p. OnLines (rules_of c.args.hooks.now) (g.S.Source.left c.args.source.now) (moment_writing {S = ShellState} g.K.Keeper.moment g.O.Sink.written) (c.args.shell.now, c.args.keeper.now, c.args.sink.now) 0 p.taken (to_come p (g.S.Source.left c.args.source.now)) (c.args.shell.now, c.args.keeper.now, c.args.sink.now)) (sym c.requires.start)
+      (lines_start (rules_of c.args.hooks.now) (moment_writing {S = ShellState} g.K.Keeper.moment g.O.Sink.written) (c.args.shell.now, c.args.keeper.now, c.args.sink.now) (g.S.Source.left c.args.source.now));
   turns = omega arith;
   few = subst (λ p. p.taken ≤ 16777216) (sym c.requires.start) (omega arith);
   fits = subst (λ p. p.ended ≡ true → IsAtEnd (g.S.Source.left c.args.source.now)) (sym c.requires.start) (λ is. cc);
@@ -24,14 +25,14 @@ loop-turn-init g c = record {
 
 -- src/script.rt:80:30
 pub returns-in-End-clause-reference : goal.returns-in-End-clause-reference
-returns-in-End-clause-reference g c = lines_ended (moment_writing {S = ShellState} g.K.Keeper.moment g.O.Sink.written) (c.args.shell.now, c.args.keeper.now, c.args.sink.now) (c.loop-turn.shell, c.loop-turn.keeper, c.loop-turn.sink)
+returns-in-End-clause-reference g c = lines_ended (rules_of c.args.hooks.now) (moment_writing {S = ShellState} g.K.Keeper.moment g.O.Sink.written) (c.args.shell.now, c.args.keeper.now, c.args.sink.now) (c.loop-turn.shell, c.loop-turn.keeper, c.loop-turn.sink)
     (g.S.Source.left c.args.source.now) c.loop-turn._turn c.loop-turn.lines.taken (to_come c.loop-turn.lines (g.S.Source.left c.loop-turn.source)) c.next_line.new.self.taken (to_come c.next_line.new.self (g.S.Source.left c.next_line.new.source))
     c.loop-turn.invariant.few c.loop-turn.invariant.way
     (subst (λ a. IsNextOf c.loop-turn.lines.taken (to_come c.loop-turn.lines (g.S.Source.left c.loop-turn.source)) a c.next_line.new.self.taken (to_come c.next_line.new.self (g.S.Source.left c.next_line.new.source))) c.in-End.is c.in_ok-next_line.ensures.next)
 
 -- src/script.rt:81:34
 pub returns-in-TooLong-clause-reference : goal.returns-in-TooLong-clause-reference
-returns-in-TooLong-clause-reference g c = lines_too_long (moment_writing {S = ShellState} g.K.Keeper.moment g.O.Sink.written) (c.args.shell.now, c.args.keeper.now, c.args.sink.now) (c.loop-turn.shell, c.loop-turn.keeper, c.loop-turn.sink)
+returns-in-TooLong-clause-reference g c = lines_too_long (rules_of c.args.hooks.now) (moment_writing {S = ShellState} g.K.Keeper.moment g.O.Sink.written) (c.args.shell.now, c.args.keeper.now, c.args.sink.now) (c.loop-turn.shell, c.loop-turn.keeper, c.loop-turn.sink)
     (g.S.Source.left c.args.source.now) c.loop-turn._turn c.loop-turn.lines.taken (to_come c.loop-turn.lines (g.S.Source.left c.loop-turn.source)) c.next_line.new.self.taken (to_come c.next_line.new.self (g.S.Source.left c.next_line.new.source))
     c.loop-turn.invariant.few c.loop-turn.invariant.way
     (subst (λ a. IsNextOf c.loop-turn.lines.taken (to_come c.loop-turn.lines (g.S.Source.left c.loop-turn.source)) a c.next_line.new.self.taken (to_come c.next_line.new.self (g.S.Source.left c.next_line.new.source))) c.in-TooLong.is c.in_ok-next_line.ensures.next)
@@ -41,23 +42,23 @@ pub returns-in_err-answer_line-in-Line-clause-reference :
     goal.returns-in_err-answer_line-in-Line-clause-reference
 returns-in_err-answer_line-in-Line-clause-reference g c =
     let limits = subst (λ a. KeepsLimits a c.loop-turn.lines.taken c.next_line.new.self.taken) c.in-Line.is c.in_ok-next_line.ensures.limits in
-    line_stopped_as (c.args.shell.now, c.args.keeper.now, c.args.sink.now)
+    line_stopped_as (rules_of c.args.hooks.now) (c.args.shell.now, c.args.keeper.now, c.args.sink.now)
     (g.S.Source.left c.args.source.now) c.loop-turn._turn c.loop-turn.lines.taken (to_come c.loop-turn.lines (g.S.Source.left c.loop-turn.source)) c.in-Line.line c.next_line.new.self.taken (to_come c.next_line.new.self (g.S.Source.left c.next_line.new.source))
     limits.1 limits.2 c.loop-turn.invariant.way
     (subst (λ a. IsNextOf c.loop-turn.lines.taken (to_come c.loop-turn.lines (g.S.Source.left c.loop-turn.source)) a c.next_line.new.self.taken (to_come c.next_line.new.self (g.S.Source.left c.next_line.new.source))) c.in-Line.is c.in_ok-next_line.ensures.next)
     c.in_err-answer_line-in-Line.field-0.0 c.from_residual-in_err-answer_line-in-Line.result c.from_residual-in_err-answer_line-in-Line.ensures.1
-    (subst (λ line. Runs (moment_writing {S = ShellState} g.K.Keeper.moment g.O.Sink.written) (λ u. u) (do_and_reply line tt) (c.loop-turn.shell, c.loop-turn.keeper, c.loop-turn.sink) (Err (stop_refusal c.in_err-answer_line-in-Line.field-0.0)) (c.answer_line.new.shell, c.answer_line.new.keeper, c.answer_line.new.sink)) c.as_slice.ensures c.in_err-answer_line-in-Line.ensures.step)
+    (subst (λ line. Runs (moment_writing {S = ShellState} g.K.Keeper.moment g.O.Sink.written) (λ u. u) (do_and_reply (rules_of c.args.hooks.now) line tt) (c.loop-turn.shell, c.loop-turn.keeper, c.loop-turn.sink) (Err (stop_refusal c.in_err-answer_line-in-Line.field-0.0)) (c.answer_line.new.shell, c.answer_line.new.keeper, c.answer_line.new.sink)) c.as_slice.ensures c.in_err-answer_line-in-Line.ensures.step)
 
 -- src/script.rt:78:5
 pub loop-turn-preserved : goal.loop-turn-preserved
 loop-turn-preserved g c =
     let limits = subst (λ a. KeepsLimits a c.loop-turn.lines.taken c.next_line.new.self.taken) c.in-Line.is c.in_ok-next_line.ensures.limits in
     record {
-      way = line_done (c.args.shell.now, c.args.keeper.now, c.args.sink.now)
+      way = line_done (rules_of c.args.hooks.now) (c.args.shell.now, c.args.keeper.now, c.args.sink.now)
           (g.S.Source.left c.args.source.now) c.loop-turn._turn c.loop-turn.lines.taken (to_come c.loop-turn.lines (g.S.Source.left c.loop-turn.source)) c.in-Line.line c.next_line.new.self.taken (to_come c.next_line.new.self (g.S.Source.left c.next_line.new.source))
           limits.1 limits.2 c.loop-turn.invariant.way
           (subst (λ a. IsNextOf c.loop-turn.lines.taken (to_come c.loop-turn.lines (g.S.Source.left c.loop-turn.source)) a c.next_line.new.self.taken (to_come c.next_line.new.self (g.S.Source.left c.next_line.new.source))) c.in-Line.is c.in_ok-next_line.ensures.next)
-          (subst (λ line. Runs (moment_writing {S = ShellState} g.K.Keeper.moment g.O.Sink.written) (λ u. u) (do_and_reply line tt) (c.loop-turn.shell, c.loop-turn.keeper, c.loop-turn.sink) (Ok tt) (c.answer_line.new.shell, c.answer_line.new.keeper, c.answer_line.new.sink)) c.as_slice.ensures c.in_ok-answer_line-in-Line.ensures.step);
+          (subst (λ line. Runs (moment_writing {S = ShellState} g.K.Keeper.moment g.O.Sink.written) (λ u. u) (do_and_reply (rules_of c.args.hooks.now) line tt) (c.loop-turn.shell, c.loop-turn.keeper, c.loop-turn.sink) (Ok tt) (c.answer_line.new.shell, c.answer_line.new.keeper, c.answer_line.new.sink)) c.as_slice.ensures c.in_ok-answer_line-in-Line.ensures.step);
       turns = omega (arith, c.loop-turn.invariant.turns, limits.1);
       few = limits.2;
       fits = c.in_ok-next_line.ensures.fits;
@@ -66,7 +67,7 @@ loop-turn-preserved g c =
     }
 
 pub returns-in-End-clause-through : goal.returns-in-End-clause-through
-returns-in-End-clause-through g c = λ is. nothing_left (moment_writing {S = ShellState} g.K.Keeper.moment g.O.Sink.written) (c.args.shell.now, c.args.keeper.now, c.args.sink.now) (c.loop-turn.shell, c.loop-turn.keeper, c.loop-turn.sink)
+returns-in-End-clause-through g c = λ is. nothing_left (rules_of c.args.hooks.now) (moment_writing {S = ShellState} g.K.Keeper.moment g.O.Sink.written) (c.args.shell.now, c.args.keeper.now, c.args.sink.now) (c.loop-turn.shell, c.loop-turn.keeper, c.loop-turn.sink)
     (g.S.Source.left c.args.source.now) c.loop-turn._turn c.loop-turn.lines.taken (to_come c.loop-turn.lines (g.S.Source.left c.loop-turn.source)) c.next_line.new.self.taken c.next_line.new.self.bytes (g.S.Source.left c.next_line.new.source)
     c.loop-turn.invariant.way
     (subst (λ a. IsNextOf c.loop-turn.lines.taken (to_come c.loop-turn.lines (g.S.Source.left c.loop-turn.source)) a c.next_line.new.self.taken (to_come c.next_line.new.self (g.S.Source.left c.next_line.new.source))) c.in-End.is c.in_ok-next_line.ensures.next)

@@ -1,6 +1,7 @@
 use Rattle.std.proofs.Common.{◌≤◌, Ok}
 use Rattle.script_lines.specs.Cutting.{FitsSource, most_bytes, to_come}
 use Rattle.shell_steps.specs.ShellState.{IsReady}
+use Rattle.class_types.specs.Shown.{rules_of}
 use Rattle.sqla_shell.specs.Outcome.{moment_writing}
 use Rattle.sqla_shell.specs.Seen.{Keeps, moment_seen}
 use Rattle.sqla_shell.proofs.LinesLemmas.{OnLines}
@@ -8,7 +9,7 @@ use Rattle.sqla_shell.proofs.script.do_lines.Given as goal
 
 abbrev pub invariant-loop-turn : goal.invariant-loop-turn
 invariant-loop-turn g l = record {
-  way : OnLines (g.S.Source.left l.fn.source) (moment_writing g.K.Keeper.moment g.O.Sink.written) (l.fn.shell, l.fn.keeper, l.fn.sink) l._turn l.lines.taken (to_come l.lines (g.S.Source.left l.source)) (l.shell, l.keeper, l.sink);
+  way : OnLines (rules_of l.hooks) (g.S.Source.left l.fn.source) (moment_writing g.K.Keeper.moment g.O.Sink.written) (l.fn.shell, l.fn.keeper, l.fn.sink) l._turn l.lines.taken (to_come l.lines (g.S.Source.left l.source)) (l.shell, l.keeper, l.sink);
   turns : l._turn ≤ l.lines.taken;
   few : l.lines.taken ≤ most_bytes;
   fits : FitsSource l.lines (g.S.Source.left l.source);

@@ -7,4 +7,4 @@ use Rattle.table_store.proofs.bulk.applied.Goals as goal
 
 pub returns : goal.returns
 returns c =
-    subst (λ (store : Store). Leaves (spec.table_of c.args.statement.now) (spec.bulk_outcome c.args.schema.now store.tables c.args.statement.now) store c.apply_in_scope.result c.apply_in_scope.new.store) c.make_indexes.ensures c.apply_in_scope.ensures
+    subst (λ (store : Store). Leaves (spec.table_of c.args.statement.now) (spec.bulk_outcome c.args.schema.now store.tables c.args.statement.now) store c.apply_in_scope.result c.apply_in_scope.new.store) c.index_for.ensures c.apply_in_scope.ensures

@@ -1,7 +1,7 @@
 -- The tables that are lent are those of the store.
 use Rattle.std.proofs.Common.{◌≡◌, IfOk, subst}
 use Rattle.schema_core.specs.Tables.{Tables}
-use Rattle.table_rows.specs.Lost.{some_lost}
+use Rattle.row_judging.specs.Lost.{some_lost}
 use Rattle.table_store.proofs.references.some_lost.Goals as goal
 
 pub returns : goal.returns

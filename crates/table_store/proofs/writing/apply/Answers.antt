@@ -6,4 +6,4 @@ use Rattle.table_store.specs.Held.{DidOrLeft}
 use Rattle.table_store.proofs.writing.apply.Goals as goal
 
 pub returns : goal.returns
-returns c = subst (λ (store : Store). DidOrLeft (apply c.args.schema.now store.tables c.args.statement.now) store c.apply_in_scope.result c.apply_in_scope.new.store) c.make_indexes.ensures c.apply_in_scope.ensures
+returns c = subst (λ (store : Store). DidOrLeft (apply c.args.schema.now store.tables c.args.statement.now) store c.apply_in_scope.result c.apply_in_scope.new.store) c.index_for.ensures c.apply_in_scope.ensures

@@ -1,5 +1,5 @@
-use Rattle.shell_steps.proofs.Bindings.{bound_in_session}
+use Rattle.shell_steps.proofs.Replying.{closed_ok}
 use Rattle.shell_steps.proofs.shell.Shell.close.Goals as goal
 
-pub invariant_of-self-2 : goal.invariant_of-self-2
-invariant_of-self-2 g c = bound_in_session c.self.inside.names c.close.new.session c.in-Configured.is c.close.ensures.call.kept.same c.self.invariant
+pub returns-clause-step : goal.returns-clause-step
+returns-clause-step g c = closed_ok g.K.Keeper.moment c.new.ensures c.in_ok-close_stage.ensures.step c.tell_notes-2.ensures.step

@@ -20,4 +20,4 @@ invariant_of-self-2 c =
 
 pub returns-clause-call : goal.returns-clause-call
 returns-clause-call c =
-    tells_view c.args.answer (record { stage = c.self.inside.stage; names = c.self.inside.names; desk = c.self.inside.desk }) c.args.self.now c.bind.new.names c.in_ok-reply.reply c.mapping.result.now c.self.view_is c.in_ok-bind.ensures.ok c.mapping.ensures c.in_ok-reply.ensures.text
+    tells_view c.args.answer (record { options = c.self.inside.options; stage = c.self.inside.stage; names = c.self.inside.names; desk = c.self.inside.desk }) c.args.self.now c.bind.new.names c.in_ok-reply.reply c.mapping.result.now c.self.view_is c.in_ok-bind.ensures.ok c.mapping.ensures c.in_ok-reply.ensures.text

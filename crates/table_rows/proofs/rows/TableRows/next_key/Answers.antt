@@ -1,14 +1,13 @@
--- The last row's key is the greatest; an empty place is none.
-use Rattle.std.proofs.Common.{ap, sym, ◌∙◌}
-use Rattle.schema_core.specs.Apply.{key_after}
-use Rattle.table_rows.proofs.Standing.{next_above, next_below}
+-- The last row's key is the greatest.
+use Rattle.std.proofs.Common.{ap, ◌∙◌}
+use Rattle.schema_core.specs.Apply.{key_after, next_key}
+use Rattle.table_rows.specs.Rows.{Places, rows_present}
+use Rattle.table_rows.proofs.Bounds.{next_above, next_first}
 use Rattle.table_rows.proofs.rows.TableRows.next_key.Goals as goal
 
-pub returns-then-is_some : goal.returns-then-is_some
-returns-then-is_some c =
-    c.key_after.ensures ∙ ap key_after c.as_slice.ensures
-    ∙ sym (next_above c.loop-key.places c.next_back.new.self c.in-Some.key.now c.in-Some.place.now c.in-Some.ensures.steps (sym c.is_some.ensures ∙ c.if-is_some.true)) ∙ c.loop-key.invariant
+pub returns-in-Some : goal.returns-in-Some
+returns-in-Some c = c.key_after.ensures ∙ ap key_after c.as_slice.ensures ∙ next_above (rows_present c.self.inside.rows.entries) c.in-Some.key.now c.in-Some.ensures
+    ∙ ap (λ (places : Places). next_key (rows_present places)) c.self.view_is
 
-pub loop-key-preserved : goal.loop-key-preserved
-loop-key-preserved c =
-    next_below c.loop-key.places c.next_back.new.self c.in-Some.key.now c.in-Some.place.now c.in-Some.ensures.steps (sym c.is_some.ensures ∙ c.if-is_some.false) ∙ c.loop-key.invariant
+pub returns-in-None : goal.returns-in-None
+returns-in-None c = next_first (rows_present c.self.inside.rows.entries) c.in-None.ensures ∙ ap (λ (places : Places). next_key (rows_present places)) c.self.view_is

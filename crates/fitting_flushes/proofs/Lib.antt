@@ -1,0 +1,4 @@
+mod Columns
+mod PartKinds
+mod Links
+pub mod Fitting

@@ -1,0 +1,3 @@
+pub mod Gone
+mod HolderSteps
+mod LostSteps

@@ -1,0 +1,22 @@
+use Rattle.relations.specs.Calls.{end_of, is_of_collection}
+use Rattle.session_parts.proofs.ObjectLemmas.{made_still}
+use Rattle.session_calls.proofs.Joining.{passed_call}
+use Rattle.session_links.proofs.Acting.{changes_link, changes_not, end_still, form_still, place_still}
+use Rattle.session_links.proofs.changing.change_link.Goals as goal
+
+pub change_inside-requires : goal.change_inside-requires
+change_inside-requires g c =
+    let same = c.in_ok-enter.ensures.call.kept.same in
+    record {
+      in_step = c.in_ok-enter.ensures.call.kept.in_step;
+      owner = made_still c.args.session.now.graph c.enter.new.session.graph c.args.owner same.classes c.requires.owner;
+      relation = place_still c.args.session.now c.enter.new.session c.args.owner c.args.relation same c.requires.owner c.requires.relation;
+      form = form_still c.args.session.now c.enter.new.session c.args.owner c.args.relation (is_of_collection c.args.call) same c.requires.owner c.requires.form;
+      end = end_still c.args.session.now c.enter.new.session (end_of c.args.call) same c.requires.end;
+    }
+
+pub returns-in_err-enter : goal.returns-in_err-enter
+returns-in_err-enter g c = passed_call c.from_residual.ensures.1 (changes_not g.K.Keeper.moment c.args.owner c.args.relation c.args.call c.in_err-enter.ensures.call)
+
+pub returns : goal.returns
+returns g c = changes_link g.K.Keeper.moment c.args.owner c.args.relation c.args.call c.in_ok-enter.ensures.call c.change_inside.ensures

@@ -1,0 +1,18 @@
+use Rattle.session_parts.proofs.ObjectLemmas.{made_still}
+use Rattle.session_calls.proofs.Joining.{passed_call}
+use Rattle.session_links.proofs.Acting.{place_still, reads, reads_not}
+use Rattle.session_links.proofs.reading.read_related.Goals as goal
+
+pub read_link-requires : goal.read_link-requires
+read_link-requires g c =
+    let same = c.in_ok-enter.ensures.call.kept.same in
+    record {
+      object = made_still c.args.session.now.graph c.enter.new.session.graph c.args.object same.classes c.requires.object;
+      relation = place_still c.args.session.now c.enter.new.session c.args.object c.args.relation same c.requires.object c.requires.relation;
+    }
+
+pub returns-in_err-enter-clause-call : goal.returns-in_err-enter-clause-call
+returns-in_err-enter-clause-call g c = passed_call c.from_residual.ensures.1 (reads_not g.K.Keeper.moment c.args.object c.args.relation c.in_err-enter.ensures.call)
+
+pub returns-clause-call : goal.returns-clause-call
+returns-clause-call g c = reads g.K.Keeper.moment c.args.object c.args.relation c.in_ok-enter.ensures.call c.read_link.ensures.read

@@ -1,0 +1,5 @@
+pub mod Putting
+pub mod Relinked
+pub mod Linking
+pub mod Reading
+pub mod Steps

@@ -1,0 +1,268 @@
+//! One link of an object is changed.
+
+ghost use Rattle.std.specs.Prelude.{◌≡◌, ◌<◌, None, Ok, OnOk, IfErr, IfOk, IfSome, length};
+ghost use Rattle.base_core.specs.Answers.{Gives};
+ghost use Rattle.base_core.specs.declared.refusal.Refusal.TheVariants.{Memory};
+ghost use Rattle.class_mapping.specs.Mapped.{relations_of};
+ghost use Rattle.object_arena.specs.Fit.{relation_of};
+ghost use Rattle.object_arena.specs.Graph.{IsObject, object_at};
+ghost use Rattle.programs.specs.Alone.{IsOwn};
+ghost use Rattle.relations.specs.Calls.{end_of, is_of_collection, link_change};
+ghost use Rattle.relations.specs.Fits.{ChangeFits};
+ghost use Rattle.relations.specs.Keys.{IsEnd};
+ghost use Rattle.relations.specs.Places.{IsPlaced};
+ghost use Rattle.session_scopes.specs.SessionState.{IsInStep, SameObjects};
+ghost use Rattle.session_calls.specs.Calling.{IsSessionCall};
+ghost use Rattle.session_objects.specs.Taking.{AreOnce, MayComeIn, session_joined};
+ghost use Rattle.session_links.specs.Linking as spec;
+ghost use Rattle.session_links.specs.Steps as steps;
+
+use crate::places::relation_at;
+use crate::putting::put_change;
+use base_core::{ListOf, ObjId, ObjList, Refusal, RelNo};
+use keeper_core::Keeper;
+use object_arena::State;
+use relations::{Change, LinkCall, is_unloaded, link_change};
+use session_calls::enter;
+use session_objects::{coming_objects, conflict_fault, take_all};
+use session_scopes::Session;
+
+/// Sets a many-to-one link of an object to another object or to none, appends a member to a collection, or takes one out. Both sides
+/// change at once. Where the owner is in the session and the relationship has save-update, an object that joins comes into the
+/// session with those that hang on it, it first and the others by number; the other side's cascades bring in nothing. An object is
+/// touched in the innermost scope where its record comes to differ.
+///
+/// Nothing at all happens where the link leads there already and is loaded, or the member is there already.
+///
+/// # Errors
+/// `PendingRollbackError` while a failed flush waits for its rollback; then, in the transaction, `InvalidRequestError` with the first
+/// that holds: `BadOwner` (the owner is deleted or detached), `BadMember` (the named object is, or is of no class at or under the
+/// link's target), `KeyChange` (a link over key columns of a persistent object would lead to an object that is no known old parent
+/// and does not keep the key), `NotAMember` (a collection whose members are known lacks the object that is to be taken out),
+/// `IdentityConflict` (an object that would come in is detached, and a persistent object or another one has its identity); last
+/// `NotBuilt` for a collection that is not loaded.
+pub fn change_link<K: Keeper>(
+    session: &mut Session,
+    keeper: &mut K,
+    owner: ObjId,
+    relation: RelNo,
+    call: LinkCall,
+) -> Result<(), Refusal>
+    requires in_step { IsInStep session.old (K.moment keeper.old) }
+    requires owner { IsObject session.old.graph owner }
+    requires relation { relation.0
+        < length (relations_of session.old.mapping (object_at session.old.graph owner).class) }
+    requires form { (relation_of session.old.mapping (object_at session.old.graph owner).class relation).many
+        ≡ is_of_collection call }
+    requires end { IsEnd session.old.graph (end_of call) }
+    ensures { IsSessionCall K.moment (λ u. u) (steps.change_link owner relation call)
+        (session.old, keeper.old) result (session.new, keeper.new) }
+{
+    enter(session, keeper)?;
+    change_inside(session, keeper, owner, relation, call)
+}
+
+/// What is done in the transaction.
+fn change_inside<K: Keeper>(
+    session: &mut Session,
+    keeper: &K,
+    owner: ObjId,
+    relation: RelNo,
+    call: LinkCall,
+) -> Result<(), Refusal>
+    requires in_step { IsInStep session.old (K.moment keeper.now) }
+    requires owner { IsObject session.old.graph owner }
+    requires relation { relation.0
+        < length (relations_of session.old.mapping (object_at session.old.graph owner).class) }
+    requires form { (relation_of session.old.mapping (object_at session.old.graph owner).class relation).many
+        ≡ is_of_collection call }
+    requires end { IsEnd session.old.graph (end_of call) }
+    ensures { IsSessionCall K.moment (λ u. u) (steps.change_inside owner relation call)
+        (session.old, keeper.now) result (session.new, keeper.now) }
+{
+    match change_of(session, owner, relation, call) {
+        Ok(change) => change_links(session, keeper, owner, relation, call, change),
+        Err(refusal) => {
+            if is_request(&refusal) {
+                return Err(refusal);
+            }
+            Err(Refusal::Memory)
+        }
+    }
+}
+
+fn is_request(refusal: &Refusal) -> bool
+    ensures { result ≡ spec.is_request refusal.now }
+{
+    matches!(refusal, Refusal::InvalidRequestError(_))
+}
+
+/// Which links change.
+///
+/// # Errors
+/// As `relations::link_change`.
+fn change_of(
+    session: &Session,
+    owner: ObjId,
+    relation: RelNo,
+    call: LinkCall,
+) -> Result<Change, Refusal>
+    requires owner { IsObject session.now.graph owner }
+    requires relation { relation.0
+        < length (relations_of session.now.mapping (object_at session.now.graph owner).class) }
+    requires form { (relation_of session.now.mapping (object_at session.now.graph owner).class relation).many
+        ≡ is_of_collection call }
+    requires end { IsEnd session.now.graph (end_of call) }
+    ensures change { Gives (λ change. change) result
+        (link_change session.now.graph session.now.mapping owner relation call) }
+    ensures placed { IfOk result (IsPlaced session.now.graph) }
+    ensures fits { IfOk result (ChangeFits session.now.mapping session.now.graph) }
+{
+    link_change(
+        session.alloc(),
+        session.arena(),
+        session.mapping(),
+        owner,
+        relation,
+        call,
+    )
+}
+
+/// Changes links that can change, unless something is against what comes in with them.
+fn change_links<K: Keeper>(
+    session: &mut Session,
+    keeper: &K,
+    owner: ObjId,
+    relation: RelNo,
+    call: LinkCall,
+    change: Change,
+) -> Result<(), Refusal>
+    requires in_step { IsInStep session.old (K.moment keeper.now) }
+    requires owner { IsObject session.old.graph owner }
+    requires relation { relation.0
+        < length (relations_of session.old.mapping (object_at session.old.graph owner).class) }
+    requires end { IsEnd session.old.graph (end_of call) }
+    requires change { link_change session.old.graph session.old.mapping owner relation call ≡ Ok change }
+    requires placed { IsPlaced session.old.graph change }
+    requires fits { ChangeFits session.old.mapping session.old.graph change }
+    ensures { IsSessionCall K.moment (λ u. u) (steps.change_inside owner relation call)
+        (session.old, keeper.now) result (session.new, keeper.now) }
+{
+    let objects = coming_along(session, owner, relation, call, change.joined.is_some())?;
+    let coming = objects.as_slice();
+    match coming_fault(session, owner, relation, call, coming) {
+        Some(fault) => Err(fault),
+        None => put_all(session, child_of(owner, call), change, coming),
+    }
+}
+
+/// The links change, and then the objects come in. The only refusal is `Memory`.
+fn put_all(
+    session: &mut Session,
+    child: ObjId,
+    change: Change,
+    objects: &[ObjId],
+) -> Result<(), Refusal>
+    requires child { IsObject session.old.graph child }
+    requires placed { IsPlaced session.old.graph change }
+    requires fits { ChangeFits session.old.mapping session.old.graph change }
+    requires free { MayComeIn session.old.graph objects.now }
+    requires rooted { length session.old.graph.roots ≡ length session.old.graph.objects }
+    ensures ok { OnOk result (session.new
+        ≡ session_joined objects.now (spec.session_linked child change session.old)) }
+    ensures cause { IfErr result (λ e. e ≡ Memory) }
+    ensures same { SameObjects session.old session.new }
+    ensures scopes { session.new.frames.scopes ≡ session.old.frames.scopes }
+{
+    put_change(session, child, change)?;
+    take_all(session, objects)
+}
+
+/// The object that a change of its parent may make an orphan.
+fn child_of(owner: ObjId, call: LinkCall) -> ObjId
+    ensures { result ≡ spec.child_of owner call }
+{
+    match call {
+        LinkCall::Set(_parent) => owner,
+        LinkCall::Append(member) | LinkCall::Remove(member) => member,
+    }
+}
+
+/// The objects that come in along the side that is acted on, where a collection is joined or is not. The only refusal is `Memory`.
+fn coming_along(
+    session: &Session,
+    owner: ObjId,
+    relation: RelNo,
+    call: LinkCall,
+    joins: bool,
+) -> Result<ObjList, Refusal>
+    requires owner { IsObject session.now.graph owner }
+    requires relation { relation.0
+        < length (relations_of session.now.mapping (object_at session.now.graph owner).class) }
+    requires end { IsEnd session.now.graph (end_of call) }
+    ensures objects { IfOk result (λ objects. objects
+        ≡ spec.coming_if joins session.now owner relation call) }
+    ensures once { IfOk result (AreOnce session.now.graph) }
+    ensures cause { IfErr result (λ e. e ≡ Memory) }
+{
+    if !(joins && brings_in(session, owner, relation)) {
+        return Ok(ListOf::new(session.alloc()));
+    }
+    match call.end() {
+        Some(end) => coming_objects(session, end),
+        None => Ok(ListOf::new(session.alloc())),
+    }
+}
+
+/// Whether an owner is in the session, and what is linked to it comes in with it.
+fn brings_in(session: &Session, owner: ObjId, relation: RelNo) -> bool
+    requires owner { IsObject session.now.graph owner }
+    requires relation { relation.0
+        < length (relations_of session.now.mapping (object_at session.now.graph owner).class) }
+    ensures { result ≡ spec.brings_in session.now owner relation }
+{
+    is_inside(session.object(owner).state)
+        && relation_at(session, owner, relation).cascade.save_update
+}
+
+fn is_inside(state: State) -> bool
+    ensures { result ≡ spec.is_inside state }
+{
+    match state {
+        State::Pending | State::Persistent => true,
+        State::Transient | State::Deleted | State::Detached => false,
+    }
+}
+
+/// What is against a change whose links can change: an identity that would come in twice, and then members that are not known.
+fn coming_fault(
+    session: &Session,
+    owner: ObjId,
+    relation: RelNo,
+    call: LinkCall,
+    objects: &[ObjId],
+) -> Option<Refusal>
+    requires owner { IsObject session.now.graph owner }
+    requires once { AreOnce session.now.graph objects.now }
+    ensures fault { result ≡ spec.coming_fault session.now owner relation call objects.now }
+    ensures own { IfSome result IsOwn }
+    ensures free { result ≡ None → MayComeIn session.now.graph objects.now }
+    ensures rooted { length session.now.graph.roots ≡ length session.now.graph.objects }
+{
+    if let Some(fault) = conflict_fault(session, objects) {
+        return Some(fault);
+    }
+    if is_of_collection(call) && is_unloaded(session.arena(), owner, relation) {
+        return Some(Refusal::NotBuilt);
+    }
+    None
+}
+
+fn is_of_collection(call: LinkCall) -> bool
+    ensures { result ≡ is_of_collection call }
+{
+    match call {
+        LinkCall::Set(_parent) => false,
+        LinkCall::Append(_member) | LinkCall::Remove(_member) => true,
+    }
+}

@@ -1,0 +1,9 @@
+pub mod Beginning
+pub mod Touches
+pub mod Changes
+pub mod Programs
+pub mod Objects
+pub mod Everyone
+pub mod Ending
+pub mod Restoring
+pub mod Rolling

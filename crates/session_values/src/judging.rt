@@ -1,0 +1,193 @@
+//! Whether values are taken by validators, and which attributes are discriminators.
+
+ghost use Rattle.std.specs.Prelude.{◌≡◌, true, Some, IfErr, IfOk, IfSome};
+ghost use Rattle.std.specs.List.{All, find, list_any};
+ghost use Rattle.std.specs.Option.{option_copied};
+ghost use Rattle.base_core.specs.declared.refusal.Refusal.TheVariants.{Memory};
+ghost use Rattle.schema_core.specs.Tables.{kind_of_value};
+ghost use Rattle.class_types.specs.Shown.{rules_of};
+ghost use Rattle.class_mapping.specs.Mapped.{IsAttribute, IsClass};
+ghost use Rattle.programs.specs.Alone.{IsOwn};
+ghost use Rattle.session_values.specs.Judging as spec;
+ghost use Rattle.session_values.specs.Steps as steps;
+
+use base_core::{AttrNo, ClassId, Copied, Kind, Name, Refusal, RequestKind, Value};
+use class_mapping::Mapping;
+use class_types::{Attribute, Hooks, check_value};
+use schema_core::{kind_of_value, same_kind};
+
+fn takes_kind(wanted: Option<Kind>, kind: Kind) -> bool
+    ensures { result ≡ spec.takes_kind wanted kind }
+{
+    match wanted {
+        Some(wanted) => same_kind(wanted, kind),
+        None => false,
+    }
+}
+
+/// Whether the validator of a name takes a value of a kind.
+fn is_taken_as(hooks: &Hooks, hook: &Name, value: &Value, kind: Kind) -> bool
+    requires { kind_of_value value.now ≡ Some kind }
+    ensures { result ≡ spec.is_taken_as (rules_of hooks.now) hook.now value.now (Some kind) }
+{
+    let takes = takes_kind(hooks.kind_of(hook), kind);
+    if takes {
+        check_value(hooks, hook, value)
+    } else {
+        false
+    }
+}
+
+/// Whether the validator of a name takes a value: NULL always, another one where it is of the validator's kind and as its rule asks.
+fn is_taken(hooks: &Hooks, hook: &Name, value: &Value) -> bool
+    ensures { result ≡ spec.is_taken (rules_of hooks.now) hook.now value.now }
+{
+    match kind_of_value(value) {
+        Some(kind) => is_taken_as(hooks, hook, value, kind),
+        None => true,
+    }
+}
+
+/// Whether a validator is one of the attribute of a name, and does not take a value.
+fn refuses(hooks: &Hooks, name: &Name, value: &Value, validator: &(Name, Name)) -> bool
+    ensures { result ≡ spec.refuses (rules_of hooks.now) name.now value.now validator.now }
+{
+    validator.0 == *name && !is_taken(hooks, &validator.1, value)
+}
+
+/// The first validator of an attribute that does not take a value.
+fn first_refusing<'a>(
+    hooks: &Hooks,
+    validators: &'a [(Name, Name)],
+    name: &Name,
+    value: &Value,
+) -> Option<&'a (Name, Name)>
+    ensures { option_copied result
+        ≡ find (spec.refuses (rules_of hooks.now) name.now value.now) validators.now }
+{
+    for validator in validators {
+        if refuses(hooks, name, value, validator) {
+            return Some(validator);
+        }
+    }
+    None
+}
+
+/// Why a value is not given to an attribute of a class: the first validator that does not take it. The only refusal is `Memory`.
+pub(crate) fn invalid_fault(
+    mapping: &Mapping,
+    hooks: &Hooks,
+    class: ClassId,
+    attr: AttrNo,
+    value: &Value,
+) -> Result<Option<Refusal>, Refusal>
+    requires configured { mapping.now.configured ≡ true }
+    requires class { IsClass mapping.now class }
+    requires attr { IsAttribute mapping.now class attr }
+    ensures fault { IfOk result (λ fault. fault
+        ≡ spec.invalid_fault (rules_of hooks.now) mapping.now class attr value.now) }
+    ensures own { IfOk result (λ fault. IfSome fault IsOwn) }
+    ensures cause { IfErr result (λ e. e ≡ Memory) }
+{
+    let name = &mapping.attributes(class)[attr.0 as usize].name;
+    match first_refusing(hooks, mapping.validators(class), name, value) {
+        Some(validator) => {
+            let hook = validator.1.copied()?;
+            Ok(Some(Refusal::ValidationError(class, attr, hook)))
+        }
+        None => Ok(None),
+    }
+}
+
+/// Why values are not given to attributes of a class: the first of them that is not taken. The only refusal is `Memory`.
+fn first_invalid(
+    mapping: &Mapping,
+    hooks: &Hooks,
+    class: ClassId,
+    given: &[(AttrNo, Value)],
+) -> Result<Option<Refusal>, Refusal>
+    requires configured { mapping.now.configured ≡ true }
+    requires class { IsClass mapping.now class }
+    requires attributes { All (λ one. IsAttribute mapping.now class one.0) given.now }
+    ensures fault { IfOk result (λ fault. fault
+        ≡ spec.first_invalid (rules_of hooks.now) mapping.now class given.now) }
+    ensures own { IfOk result (λ fault. IfSome fault IsOwn) }
+    ensures cause { IfErr result (λ e. e ≡ Memory) }
+{
+    for one in given {
+        if let Some(fault) = invalid_fault(mapping, hooks, class, one.0, &one.1)? {
+            return Ok(Some(fault));
+        }
+    }
+    Ok(None)
+}
+
+fn is_named_by(name: &Option<Name>, attribute: Option<&Attribute>) -> bool
+    ensures { result ≡ spec.is_named_by name.now (option_copied attribute.entry) }
+{
+    match (name, attribute) {
+        (Some(name), Some(attribute)) => *name == attribute.name,
+        _ => false,
+    }
+}
+
+/// Whether an attribute of a class tells the classes of its hierarchy apart.
+pub(crate) fn is_discriminator(mapping: &Mapping, class: ClassId, attr: AttrNo) -> bool
+    requires configured { mapping.now.configured ≡ true }
+    requires class { IsClass mapping.now class }
+    ensures { result ≡ spec.is_discriminator mapping.now class attr }
+{
+    let root = mapping.root_of(class);
+    let attributes = mapping.attributes(class);
+    is_named_by(
+        &mapping.spec_of(root).discriminator,
+        attributes.get(attr.0 as usize),
+    )
+}
+
+/// Whether one of some values is for the discriminator.
+fn sets_discriminator(mapping: &Mapping, class: ClassId, given: &[(AttrNo, Value)]) -> bool
+    requires configured { mapping.now.configured ≡ true }
+    requires class { IsClass mapping.now class }
+    ensures { result ≡ list_any (λ one. spec.is_discriminator mapping.now class one.0) given.now }
+{
+    for one in given {
+        if is_discriminator(mapping, class, one.0) {
+            return true;
+        }
+    }
+    false
+}
+
+/// Why an object of a class is not made with these values: a validator does not take one of them, or one is for the discriminator. The
+/// only refusal is `Memory`.
+pub(crate) fn given_fault(
+    mapping: &Mapping,
+    hooks: &Hooks,
+    class: ClassId,
+    given: &[(AttrNo, Value)],
+) -> Result<Option<Refusal>, Refusal>
+    requires configured { mapping.now.configured ≡ true }
+    requires class { IsClass mapping.now class }
+    requires attributes { All (λ one. IsAttribute mapping.now class one.0) given.now }
+    ensures fault { IfOk result (λ fault. fault
+        ≡ steps.given_fault (rules_of hooks.now) mapping.now class given.now) }
+    ensures own { IfOk result (λ fault. IfSome fault IsOwn) }
+    ensures cause { IfErr result (λ e. e ≡ Memory) }
+{
+    match first_invalid(mapping, hooks, class, given)? {
+        Some(fault) => Ok(Some(fault)),
+        None => Ok(discriminator_if(sets_discriminator(mapping, class, given))),
+    }
+}
+
+/// Refused where a discriminator would be set.
+pub(crate) fn discriminator_if(is_set: bool) -> Option<Refusal>
+    ensures fault { result ≡ spec.discriminator_if is_set }
+    ensures own { IfSome result IsOwn }
+{
+    if is_set {
+        return Some(Refusal::InvalidRequestError(RequestKind::Discriminator));
+    }
+    None
+}
