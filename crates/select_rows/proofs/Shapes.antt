@@ -21,7 +21,7 @@ use Rattle.sql_semantics.specs.declared.sort_key.SortKey.{SortKey}
 use Rattle.sql_semantics.specs.Order.{Rank, rank_cmp, ranked_from, in_order, same_row}
 use Rattle.sql_semantics.specs.Shapes.{AreWide}
 use Rattle.select_sources.proofs.Sure.{Sure, always, bind_sure, every_more, kept_sure, mapped_sure}
-use Rattle.select_rows.proofs.Firsts.{same_row_equiv}
+use Rattle.join_keys.proofs.KeyedRows.{same_row_equiv}
 use Rattle.sql_semantics.specs.Rows.{Frame, Keyed, mapped_from, at, at_basis, sources, rows_where, row_with_key, groups, first_row, group_bases, bases, groups_having, firsts_from, rows_with, keys_from, values, output, distinct, cut_off, within_limit, answer_rows, of_rows, tables_of, require_created, answer}
 
 -- ---- lists

@@ -1,3 +1,4 @@
 pub mod Columns
+pub mod FoundRows
 pub mod Sure
 pub mod Surveys

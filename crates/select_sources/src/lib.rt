@@ -2,6 +2,7 @@
 #![tactic(auto)]
 
 mod filter;
+mod found;
 mod frame;
 mod source;
 mod survey;
