@@ -71,7 +71,8 @@ grown_of : (old new : Graph) (root : ClassId) (objects : List ObjId) → Grows o
 unfolding classes_of
 grown_of old new root objects grows h = subst (λ (roots : List ClassId). AreOf roots root objects) (sym grows.rooted) (all_still old.roots grows.roots root objects h)
 
-object_of : (mapped : Mapped) (graph : Graph) (root : ClassId) (object : ObjId) → IsFit mapped graph → IsObject graph object → (root_at graph object).0 ≡ root.0 → is_of_root graph.roots root object ≡ true
+-- an object of the hierarchy
+pub object_of : (mapped : Mapped) (graph : Graph) (root : ClassId) (object : ObjId) → IsFit mapped graph → IsObject graph object → (root_at graph object).0 ≡ root.0 → is_of_root graph.roots root object ≡ true
 object_of mapped graph root object fit made is =
     let long : length graph.roots ≡ length graph.objects = ap (λ (roots : List ClassId). length roots) fit.roots ∙ length-map graph.objects (λ (o : Object). root_of mapped o.class) in
     let first : 0 < object.0 = made.0 in

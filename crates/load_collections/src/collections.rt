@@ -19,26 +19,16 @@ ghost use Rattle.load_calls.specs.Reading.{IsReady, StaysReady};
 ghost use Rattle.load_collections.specs.Collections as spec;
 
 use crate::rows::take_rows;
-use base_core::{ClassId, ObjId, Refusal, RelNo, RowList};
+use base_core::{ObjId, Refusal, RelNo, RowList};
 use class_mapping::{Mapping, Relation};
 use collection_selects::members_select;
 use expr_types::Select;
 use keeper_core::{Keeper, Notes};
 use load_calls::read;
-use load_links::{fill_collection, identity_key};
+use load_links::{fill_collection, identity_key, relation_at};
 use mapping_laws::has_hierarchies;
 use object_arena::Arena;
 use std::alloc::Global;
-
-/// The relationship at a place of a class.
-fn relation_at(mapping: &Mapping, class: ClassId, place: RelNo) -> &Relation
-    requires class { IsClass mapping.now class }
-    requires configured { mapping.now.configured ≡ true }
-    requires place { place.0 < length (relations_of mapping.now class) }
-    ensures { result.now ≡ relation_of mapping.now class place }
-{
-    &mapping.relations(class)[place.0 as usize]
-}
 
 /// The select of the members of a persistent owner.
 fn select_of_members(

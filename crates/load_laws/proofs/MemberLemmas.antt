@@ -74,7 +74,7 @@ names_typed mapped sources place table (name ∷ names) (target ∷ targets) at 
 
 -- ---- the keys of a class's tables are all of the kinds of its root's
 
-kinds_along : (mapped : Mapped) (class : ClassId) → HasTables mapped class → (n : ℕ) (table : TableId) → slice_get (tables_of mapped class) n ≡ Some table
+pub kinds_along : (mapped : Mapped) (class : ClassId) → HasTables mapped class → (n : ℕ) (table : TableId) → slice_get (tables_of mapped class) n ≡ Some table
     → kinds_of (key_columns (root_spec mapped class)) ≡ kinds_of (key_columns (spec_of mapped.schema table))
 kinds_along mapped class known zero table e =
     let first : root_table mapped class ≡ table = same_Some (root_table mapped class) table (sym (ap (λ (tables : List TableId). slice_get tables 0) known.first) ∙ e) in
@@ -87,7 +87,7 @@ kinds_along mapped class known (suc n) table e =
     kinds_along mapped class known n parent above ∙ known.alike n parent table above e
 
 -- where a table stands in a list
-place_in : (tables : List TableId) (table : TableId) → Has tables table → (n : ℕ) × (slice_get tables n ≡ Some table)
+pub place_in : (tables : List TableId) (table : TableId) → Has tables table → (n : ℕ) × (slice_get tables n ≡ Some table)
 place_in tables table has = (unwrap_or (position (λ other. other.0 == table.0) tables) 0, rank_finds tables table has)
 
 -- ---- the foreign key of a one-to-many relationship
@@ -100,14 +100,14 @@ pub record RefersTo (mapped : Mapped) (key : TableKey) (class : ClassId) : Type 
   pub inside : Has (tables_of mapped class) table
   pub target : is_table (find_table mapped.schema.tables foreign.target) table ≡ true
 
-referred : (mapped : Mapped) (key : TableKey) (class : ClassId) (found : Option ForeignSpec) → foreign_at mapped.schema.tables key ≡ found → refers_by mapped.schema.tables (tables_of mapped class) found ≡ true → RefersTo mapped key class
+pub referred : (mapped : Mapped) (key : TableKey) (class : ClassId) (found : Option ForeignSpec) → foreign_at mapped.schema.tables key ≡ found → refers_by mapped.schema.tables (tables_of mapped class) found ≡ true → RefersTo mapped key class
 referred mapped key class None e h = absurd cc
 referred mapped key class (Some foreign) e h =
     let found = some_of (refers_to mapped.schema.tables foreign) (tables_of mapped class) h in
     record { foreign = foreign; is = e; table = found.0; inside = found.1; target = found.2 }
 
 -- the kinds of its columns are those of the key to which it refers
-foreign_kinds : (mapped : Mapped) (key : TableKey) (class : ClassId) → HasHierarchies mapped → key.0.0 < length mapped.schema.tables → (to : RefersTo mapped key class)
+pub foreign_kinds : (mapped : Mapped) (key : TableKey) (class : ClassId) → HasHierarchies mapped → key.0.0 < length mapped.schema.tables → (to : RefersTo mapped key class)
     → pointwise (has_kind (spec_of mapped.schema key.0).columns) to.foreign.columns (key_columns (spec_of mapped.schema to.table)) ≡ true
 foreign_kinds mapped key class has less to =
     let tables : List TableSpec = mapped.schema.tables in
@@ -117,7 +117,7 @@ foreign_kinds mapped key class has less to =
     let all : list_all (has_target tables spec) spec.foreigns ≡ true = all_of (λ (one : TableSpec). list_all (has_target tables one) one.foreigns) tables spec has.valid.targets (has_at tables key.0.0 spec here) in
     target_by tables spec to.foreign to.table (find_table tables to.foreign.target) to.target (all_of (has_target tables spec) spec.foreigns to.foreign all there)
 
-among_has : (tables : List TableId) (table : TableId) → is_among tables table ≡ true → Has tables table
+pub among_has : (tables : List TableId) (table : TableId) → is_among tables table ≡ true → Has tables table
 among_has tables table h =
     let found = some_of (λ (other : TableId). other.0 == table.0) tables h in
     let same : found.0 ≡ table = ap (λ (n : ℕ). let one : TableId = record { 0 = n } in one) (eqb-true found.0.0 table.0 found.2) in

@@ -1,5 +1,5 @@
 -- Collections that are filled hold objects of their target's hierarchy.
-use Rattle.std.proofs.Common.{◌≡◌, ℕ, zero, suc, ◌-◌, ◌<◌, Bool, true, false, ◌&&◌, ◌||◌, nat_lt, cond, List, [], ◌∷◌, length, filter, fold, get_or, Option, None, Some, refl, sym, ap, subst, ◌∙◌, arith}
+use Rattle.std.proofs.Common.{◌≡◌, ℕ, zero, suc, ◌-◌, ◌<◌, Bool, true, false, ◌&&◌, ◌||◌, nat_lt, not, cond, List, [], ◌∷◌, length, filter, fold, get_or, Option, None, Some, refl, sym, ap, subst, ◌∙◌, arith}
 use Rattle.std.specs.Prelude.{slice_get}
 use Rattle.std.specs.List.{All, AllByRecursion, list_all}
 use Rattle.std.specs.Map.{values_of}
@@ -20,11 +20,11 @@ use Rattle.class_mapping.proofs.Lists.{all_append}
 use Rattle.object_arena.specs.declared.object.Link.{Link}
 use Rattle.object_arena.specs.declared.object.Link.TheVariants.{Unset, Unloaded, One, Many}
 use Rattle.object_arena.specs.declared.object.Object.{Object}
-use Rattle.object_arena.specs.Fit.{IsFit, held_fit, is_empty, is_of_root, is_root, link_fits, links_fit, no_relation, relation_of}
+use Rattle.object_arena.specs.Fit.{IsFit, end_fits, held_fit, is_empty, is_of_root, is_root, link_fits, links_fit, no_relation, relation_of}
 use Rattle.object_arena.specs.Graph.{Graph, IsObject, object_at, place_of}
 use Rattle.keeper_core.specs.declared.notes.Note.TheVariants as note
 use Rattle.load_rows.specs.Reading.{identity_key}
-use Rattle.load_links.specs.Links.{collection_of, in_key_order, link_at, linked, with_key, without}
+use Rattle.load_links.specs.Links.{collection_of, end_of, in_key_order, link_at, linked, with_key, without}
 
 -- ---- objects of a hierarchy
 
@@ -107,11 +107,22 @@ collection_fits mapped graph relation read ordered link new many fits of is made
     ∙ all_true (is_of_root graph.roots root) (in_key_order graph read) (ordered_all (λ object. is_of_root graph.roots root object ≡ true) graph read of) in
     collected_by graph.roots root relation.many ordered link new many fits all (sym made)
 
-pointwise_at : {A B : Type 0} (test : A → B → Bool) (xs : List A) (ys : List B) (i : ℕ) (d : A) (e : B) → i < length xs → pointwise test xs ys ≡ true → test (get_or xs i d) (get_or ys i e) ≡ true
+-- what holds of two lists one by one holds at each place
+pub pointwise_at : {A B : Type 0} (test : A → B → Bool) (xs : List A) (ys : List B) (i : ℕ) (d : A) (e : B) → i < length xs → pointwise test xs ys ≡ true → test (get_or xs i d) (get_or ys i e) ≡ true
 pointwise_at test [] ys i d e less h = absurd (omega (arith, less))
 pointwise_at test (x ∷ xs) [] i d e less h = absurd cc
 pointwise_at test (x ∷ xs) (y ∷ ys) zero d e less h = (and_parts (test x y) (pointwise test xs ys) h).0
 pointwise_at test (x ∷ xs) (y ∷ ys) (suc i) d e less h = pointwise_at test xs ys i d e (omega (arith, less)) (and_parts (test x y) (pointwise test xs ys) h).1
+
+-- a many-to-one link that leads to none, or into its target's hierarchy, fits
+pub end_link_fits : (mapped : Mapped) (graph : Graph) (relation : Relation) (end : Option ObjId) (link new : Link) → relation.many ≡ false → end_fits graph.roots (root_of mapped relation.target) end ≡ true → end_of end link ≡ Some new
+    → link_fits mapped graph.roots relation new ≡ true
+end_link_fits mapped graph relation end (Unloaded added removed) new one fits e =
+    subst (λ (l : Link). link_fits mapped graph.roots relation l ≡ true) (same_Some (One end false) new e)
+    (ap (λ (b : Bool). not b && end_fits graph.roots (root_of mapped relation.target) end) one ∙ fits)
+end_link_fits mapped graph relation end Unset new one fits e = absurd cc
+end_link_fits mapped graph relation end (One other changed) new one fits e = absurd cc
+end_link_fits mapped graph relation end (Many members base) new one fits e = absurd cc
 
 -- a link of an object fits its relationship
 pub own_link_fits : (mapped : Mapped) (graph : Graph) (object : ObjId) (own : Object) (place : RelNo) → own ≡ object_at graph object → place.0 < length (relations_of mapped (object_at graph object).class)

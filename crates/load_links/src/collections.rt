@@ -3,7 +3,7 @@
 ghost use Rattle.std.specs.Prelude.{◌≡◌, ◌<◌, true, length, IfErr, OnOk};
 ghost use Rattle.std.specs.List.{All};
 ghost use Rattle.base_core.specs.declared.refusal.Refusal.TheVariants.{Memory};
-ghost use Rattle.class_mapping.specs.Mapped.{relations_of, root_of};
+ghost use Rattle.class_mapping.specs.Mapped.{IsClass, relations_of, root_of};
 ghost use Rattle.object_arena.specs.Every.{classes_of};
 ghost use Rattle.object_arena.specs.Fit.{IsFit, is_of_root, link_fits, relation_of};
 ghost use Rattle.object_arena.specs.Graph.{IsLink, IsObject, object_at};
@@ -12,14 +12,24 @@ ghost use Rattle.load_links.specs.Links as spec;
 
 use crate::members::collection_of;
 use crate::order::in_key_order;
-use base_core::{ObjId, Refusal, RelNo};
-use class_mapping::Mapping;
+use base_core::{ClassId, ObjId, Refusal, RelNo};
+use class_mapping::{Mapping, Relation};
 use keeper_core::{Note, Notes};
 use object_arena::{Arena, Link};
 use std::alloc::Global;
 
+/// The relationship at a place of a class.
+pub fn relation_at(mapping: &Mapping, class: ClassId, place: RelNo) -> &Relation
+    requires class { IsClass mapping.now class }
+    requires configured { mapping.now.configured ≡ true }
+    requires place { place.0 < length (relations_of mapping.now class) }
+    ensures { result.now ≡ relation_of mapping.now class place }
+{
+    &mapping.relations(class)[place.0 as usize]
+}
+
 /// The link of an object at a place.
-fn link_at(arena: &Arena, object: ObjId, place: RelNo) -> &Link
+pub(crate) fn link_at(arena: &Arena, object: ObjId, place: RelNo) -> &Link
     requires object { IsObject arena.now object }
     requires place { IsLink arena.now object place }
     ensures { result.now ≡ spec.link_at arena.now object place }
@@ -28,7 +38,7 @@ fn link_at(arena: &Arena, object: ObjId, place: RelNo) -> &Link
 }
 
 /// An object has a link for a relationship of its class. It does nothing when it runs.
-fn has_link(arena: &Arena, mapping: &Mapping, object: ObjId, place: RelNo)
+pub(crate) fn has_link(arena: &Arena, mapping: &Mapping, object: ObjId, place: RelNo)
     requires fit { IsFit mapping.now arena.now }
     requires object { IsObject arena.now object }
     requires place { place.0 < length (relations_of mapping.now (object_at arena.now object).class) }

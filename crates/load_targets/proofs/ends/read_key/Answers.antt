@@ -1,0 +1,27 @@
+use Rattle.std.proofs.Common.{subst, List}
+use Rattle.base_core.specs.declared.value.Value.{Value}
+use Rattle.expr_types.specs.declared.select.Select.{Select}
+use Rattle.programs.proofs.Lifting.{no_room}
+use Rattle.programs.proofs.Sequence.{passed_on}
+use Rattle.programs.specs.Beside.{moment_beside}
+use Rattle.programs.specs.Moment.{Runs}
+use Rattle.load_rows.specs.Loading.{loading}
+use Rattle.load_calls.specs.Reading.{read}
+use Rattle.load_calls.proofs.ReadLemmas.{passed_stays}
+use Rattle.load_targets.proofs.EndLemmas.{key_rows}
+use Rattle.load_targets.proofs.ends.read_key.Goals as goal
+
+pub returns-in_err-wanted-clause-step : goal.returns-in_err-wanted-clause-step
+returns-in_err-wanted-clause-step g c = passed_on c.from_residual.ensures.1 (no_room c.in_err-wanted.ensures.cause)
+
+pub returns-in_err-wanted-clause-stays : goal.returns-in_err-wanted-clause-stays
+returns-in_err-wanted-clause-stays g c = passed_stays c.args.mapping.now.schema (g.K.Keeper.moment c.args.keeper.now) _ c.from_residual.result c.from_residual.ensures.1 c.in_err-wanted.ensures.cause
+
+pub returns-clause-step : goal.returns-clause-step
+returns-clause-step g c =
+    subst (λ (s : Select). Runs (moment_beside g.K.Keeper.moment) (λ (rows : List (List Value)). rows) (read c.args.mapping.now.schema s) (loading c.args.arena.now c.args.notes.now, c.args.keeper.now) c.read.result (loading c.args.arena.now c.read.new.notes, c.read.new.keeper))
+    c.in_ok-wanted.ensures.select (c.read.ensures.step c.args.arena.now)
+
+pub returns-clause-rows : goal.returns-clause-rows
+returns-clause-rows g c =
+    key_rows c.args.mapping.now c.args.class c.args.key.now c.in_ok-wanted.wanted c.read.result c.in_ok-wanted.ensures.hierarchies c.requires.class c.in_ok-wanted.ensures.select c.read.ensures.kinds c.read.ensures.given

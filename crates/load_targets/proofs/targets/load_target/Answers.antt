@@ -1,0 +1,79 @@
+use Rattle.std.proofs.Common.{◌≡◌, ◌∙◌, ◌<◌, true, ap, sym, subst, length}
+use Rattle.base_core.specs.declared.ids.ClassId.{ClassId}
+use Rattle.class_types.specs.declared.mapped.Relation.{Relation}
+use Rattle.class_mapping.specs.Mapped.{relations_of, root_of}
+use Rattle.object_arena.specs.declared.object.Object.{Object}
+use Rattle.object_arena.specs.Fit.{end_fits, relation_of}
+use Rattle.object_arena.specs.Graph.{object_at}
+use Rattle.programs.proofs.Sequence.{passed_on}
+use Rattle.load_calls.proofs.ReadLemmas.{ready_stays}
+use Rattle.load_collections.proofs.CollectionLemmas.{class_there, owner_there, same_relation}
+use Rattle.load_collections.proofs.RowsLemmas.{grows_then}
+use Rattle.load_targets.proofs.TargetLemmas.{refresh_refused, same_grow, target_loaded, target_refused}
+use Rattle.load_targets.proofs.targets.load_target.Goals as goal
+
+pub relation_at-relation-requires-clause-class : goal.relation_at-relation-requires-clause-class
+relation_at-relation-requires-clause-class g c = (c.object.ensures.fits c.args.mapping.now c.requires.fit).class
+
+pub relation_at-relation-requires-clause-place : goal.relation_at-relation-requires-clause-place
+relation_at-relation-requires-clause-place g c = subst (λ (o : Object). c.args.place.0 < length (relations_of c.args.mapping.now o.class)) (sym c.object.ensures.is) c.requires.place
+
+pub returns-in_err-refresh_key-clause-step : goal.returns-in_err-refresh_key-clause-step
+returns-in_err-refresh_key-clause-step g c =
+    passed_on c.from_residual.ensures.1
+    (refresh_refused g.K.Keeper.moment c.args.mapping.now c.relation_at-relation.result.now (relation_of c.args.mapping.now (object_at c.args.arena.now c.args.child).class c.args.place) c.args.child c.args.place _
+    (c.relation_at-relation.ensures ∙ ap (λ (o : Object). relation_of c.args.mapping.now o.class c.args.place) c.object.ensures.is) c.in_err-refresh_key.ensures.step)
+
+pub returns-in_err-refresh_key-clause-grows : goal.returns-in_err-refresh_key-clause-grows
+returns-in_err-refresh_key-clause-grows g c = same_grow c.args.arena.now c.refresh_key.new.arena c.in_err-refresh_key.ensures.classes
+
+pub read_target-requires-clause-child : goal.read_target-requires-clause-child
+read_target-requires-clause-child g c = owner_there c.args.arena.now c.refresh_key.new.arena c.args.child (same_grow c.args.arena.now c.refresh_key.new.arena c.in_ok-refresh_key.ensures.classes) c.requires.child
+
+pub read_target-requires-clause-place : goal.read_target-requires-clause-place
+read_target-requires-clause-place g c =
+    subst (λ (class : ClassId). c.args.place.0 < length (relations_of c.args.mapping.now class)) (sym (class_there c.args.arena.now c.refresh_key.new.arena c.args.child (same_grow c.args.arena.now c.refresh_key.new.arena c.in_ok-refresh_key.ensures.classes) c.requires.child)) c.requires.place
+
+pub read_target-requires-clause-relation : goal.read_target-requires-clause-relation
+read_target-requires-clause-relation g c =
+    c.relation_at-relation.ensures ∙ ap (λ (o : Object). relation_of c.args.mapping.now o.class c.args.place) c.object.ensures.is
+    ∙ sym (same_relation c.args.mapping.now c.args.arena.now c.refresh_key.new.arena c.args.child c.args.place (same_grow c.args.arena.now c.refresh_key.new.arena c.in_ok-refresh_key.ensures.classes) c.requires.child)
+
+pub read_target-requires-clause-one : goal.read_target-requires-clause-one
+read_target-requires-clause-one g c = ap (λ (r : Relation). r.many) (c.relation_at-relation.ensures ∙ ap (λ (o : Object). relation_of c.args.mapping.now o.class c.args.place) c.object.ensures.is) ∙ c.requires.one
+
+pub returns-in_err-end-clause-step : goal.returns-in_err-end-clause-step
+returns-in_err-end-clause-step g c =
+    passed_on c.from_residual-in_err-end.ensures.1
+    (target_refused g.K.Keeper.moment c.args.mapping.now c.relation_at-relation.result.now (relation_of c.args.mapping.now (object_at c.args.arena.now c.args.child).class c.args.place) c.args.child c.args.place _
+    (c.relation_at-relation.ensures ∙ ap (λ (o : Object). relation_of c.args.mapping.now o.class c.args.place) c.object.ensures.is) c.in_ok-refresh_key.ensures.step c.in_err-end.ensures.step)
+
+pub returns-in_err-end-clause-grows : goal.returns-in_err-end-clause-grows
+returns-in_err-end-clause-grows g c = grows_then c.args.arena.now c.refresh_key.new.arena c.read_target.new.arena (same_grow c.args.arena.now c.refresh_key.new.arena c.in_ok-refresh_key.ensures.classes) c.in_err-end.ensures.grows
+
+pub fill_end-requires-clause-owner : goal.fill_end-requires-clause-owner
+fill_end-requires-clause-owner g c = owner_there c.args.arena.now c.read_target.new.arena c.args.child (grows_then c.args.arena.now c.refresh_key.new.arena c.read_target.new.arena (same_grow c.args.arena.now c.refresh_key.new.arena c.in_ok-refresh_key.ensures.classes) c.in_ok-end.ensures.grows) c.requires.child
+
+pub fill_end-requires-clause-place : goal.fill_end-requires-clause-place
+fill_end-requires-clause-place g c =
+    subst (λ (class : ClassId). c.args.place.0 < length (relations_of c.args.mapping.now class)) (sym (class_there c.args.arena.now c.read_target.new.arena c.args.child (grows_then c.args.arena.now c.refresh_key.new.arena c.read_target.new.arena (same_grow c.args.arena.now c.refresh_key.new.arena c.in_ok-refresh_key.ensures.classes) c.in_ok-end.ensures.grows) c.requires.child)) c.requires.place
+
+pub fill_end-requires-clause-one : goal.fill_end-requires-clause-one
+fill_end-requires-clause-one g c = ap (λ (r : Relation). r.many) (same_relation c.args.mapping.now c.args.arena.now c.read_target.new.arena c.args.child c.args.place (grows_then c.args.arena.now c.refresh_key.new.arena c.read_target.new.arena (same_grow c.args.arena.now c.refresh_key.new.arena c.in_ok-refresh_key.ensures.classes) c.in_ok-end.ensures.grows) c.requires.child) ∙ c.requires.one
+
+pub fill_end-requires-clause-end : goal.fill_end-requires-clause-end
+fill_end-requires-clause-end g c =
+    subst (λ (r : Relation). end_fits c.read_target.new.arena.roots (root_of c.args.mapping.now r.target) c.in_ok-end.end ≡ true)
+    ((c.relation_at-relation.ensures ∙ ap (λ (o : Object). relation_of c.args.mapping.now o.class c.args.place) c.object.ensures.is) ∙ sym (same_relation c.args.mapping.now c.args.arena.now c.read_target.new.arena c.args.child c.args.place (grows_then c.args.arena.now c.refresh_key.new.arena c.read_target.new.arena (same_grow c.args.arena.now c.refresh_key.new.arena c.in_ok-refresh_key.ensures.classes) c.in_ok-end.ensures.grows) c.requires.child))
+    c.in_ok-end.ensures.of
+
+pub returns-clause-step : goal.returns-clause-step
+returns-clause-step g c =
+    target_loaded g.K.Keeper.moment c.args.mapping.now c.relation_at-relation.result.now (relation_of c.args.mapping.now (object_at c.args.arena.now c.args.child).class c.args.place) c.args.child c.args.place c.in_ok-end.end
+    (c.relation_at-relation.ensures ∙ ap (λ (o : Object). relation_of c.args.mapping.now o.class c.args.place) c.object.ensures.is) c.in_ok-refresh_key.ensures.step c.in_ok-end.ensures.step c.fill_end.ensures.filled c.fill_end.ensures.cause
+
+pub returns-clause-stays : goal.returns-clause-stays
+returns-clause-stays g c = ready_stays c.args.mapping.now.schema (g.K.Keeper.moment c.read_target.new.keeper) c.fill_end.result c.in_ok-end.ensures.stays
+
+pub returns-clause-grows : goal.returns-clause-grows
+returns-clause-grows g c = grows_then c.args.arena.now c.read_target.new.arena c.fill_end.new.arena (grows_then c.args.arena.now c.refresh_key.new.arena c.read_target.new.arena (same_grow c.args.arena.now c.refresh_key.new.arena c.in_ok-refresh_key.ensures.classes) c.in_ok-end.ensures.grows) (same_grow c.read_target.new.arena c.fill_end.new.arena c.fill_end.ensures.classes)

@@ -1,0 +1,23 @@
+use Rattle.std.proofs.Common.{◌∙◌}
+use Rattle.programs.proofs.Lifting.{no_room}
+use Rattle.programs.proofs.Sequence.{passed_on}
+use Rattle.load_targets.proofs.TargetLemmas.{asked_by, expired_is, key_held, key_refreshed}
+use Rattle.load_targets.proofs.targets.refresh_key.Goals as goal
+
+pub returns-in_err-attrs-clause-step : goal.returns-in_err-attrs-clause-step
+returns-in_err-attrs-clause-step g c = passed_on c.from_residual.ensures.1 (no_room c.in_err-attrs.ensures.cause)
+
+pub returns-then-not-is_expired_among-clause-step : goal.returns-then-not-is_expired_among-clause-step
+returns-then-not-is_expired_among-clause-step g c =
+    key_held g.K.Keeper.moment c.args.mapping.now c.args.relation.now c.args.child c.args.arena.now
+    (expired_is c.args.mapping.now c.args.relation.now c.args.arena.now c.args.child c.object-record.result.now c.in_ok-attrs.attrs c.is_expired_among.result c.object-record.ensures.is c.in_ok-attrs.ensures.attrs
+    (asked_by c.as_slice.result.now c.in_ok-attrs.attrs c.object-record.result.now c.is_expired_among.result c.as_slice.ensures c.is_expired_among.ensures)
+    ∙ c.if-not-is_expired_among.true)
+
+pub returns-clause-step : goal.returns-clause-step
+returns-clause-step g c =
+    key_refreshed g.K.Keeper.moment c.args.mapping.now c.args.relation.now c.args.child c.args.arena.now
+    (expired_is c.args.mapping.now c.args.relation.now c.args.arena.now c.args.child c.object-record.result.now c.in_ok-attrs.attrs c.is_expired_among.result c.object-record.ensures.is c.in_ok-attrs.ensures.attrs
+    (asked_by c.as_slice.result.now c.in_ok-attrs.attrs c.object-record.result.now c.is_expired_among.result c.as_slice.ensures c.is_expired_among.ensures)
+    ∙ c.if-not-is_expired_among.false)
+    c.refresh.ensures.step

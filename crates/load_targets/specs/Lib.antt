@@ -1,0 +1,2 @@
+pub mod ForeignKeys
+pub mod Targets
