@@ -31,7 +31,7 @@ use Rattle.object_arena.specs.Fit.{identity_fits, is_just_of_kind, is_of_kind, k
 use Rattle.object_arena.proofs.PartLemmas.{pointwise_at}
 use Rattle.object_rows.specs.Cells.{key_value}
 use Rattle.mapping_laws.specs.Hierarchies.{HasHierarchies, HasTables, kinds_of}
-use Rattle.row_laws.proofs.KeyKinds.{key_kinds}
+use Rattle.key_laws.proofs.KeyKinds.{key_kinds}
 use Rattle.fitting_flushes.proofs.Columns.{IsColumnOf, one_column}
 
 -- ---- the tables of a class

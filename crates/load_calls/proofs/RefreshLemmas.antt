@@ -36,7 +36,7 @@ use Rattle.sql_semantics.specs.Shapes.{AreOfItems}
 use Rattle.mapping_laws.specs.Hierarchies.{HasHierarchies}
 use Rattle.mapping_laws.proofs.Ties.{class_tables}
 use Rattle.load_laws.proofs.ClassLemmas.{cells_are_plain}
-use Rattle.row_laws.proofs.KeyKinds.{keys_alike}
+use Rattle.key_laws.proofs.KeyKinds.{keys_alike}
 use Rattle.row_laws.proofs.RowKeys.{are_cells}
 use Rattle.load_selects.specs.Selects.{cells_select}
 use Rattle.load_filling.specs.Filled.{AreFoundFor, value_found, value_or_none}

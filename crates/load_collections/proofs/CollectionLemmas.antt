@@ -40,7 +40,7 @@ use Rattle.mapping_laws.proofs.Ties.{class_tables}
 use Rattle.collection_selects.specs.Collections.{members_by, members_select, owner_columns}
 use Rattle.load_columns.specs.Conditions.{has_values}
 use Rattle.load_laws.proofs.MemberLemmas.{members_are_plain}
-use Rattle.row_laws.proofs.KeyKinds.{keys_alike}
+use Rattle.key_laws.proofs.KeyKinds.{keys_alike}
 use Rattle.row_laws.proofs.RowKeys.{are_rows}
 use Rattle.load_rows.specs.Loading.{Loading, loading}
 use Rattle.load_rows.specs.Reading.{IsRowOf, identity_key}

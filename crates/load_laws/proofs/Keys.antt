@@ -22,6 +22,7 @@ use Rattle.class_mapping.proofs.Having.{Has, all_from, from_filter, from_numbere
 use Rattle.load_columns.specs.Placing.{columns_at, key_numbers, number_at}
 use Rattle.mapping_laws.specs.Hierarchies.{kinds_of}
 use Rattle.mapping_laws.proofs.Attributes.{numbered_there}
+use Rattle.key_laws.proofs.KeyColumns.{keys_placed, kinds_at, kinds_placed}
 use Rattle.load_laws.proofs.Standing.{IsThere, is_of}
 use Rattle.load_laws.proofs.Typed.{AreTyped, fit_kinds, typed_long}
 
@@ -40,24 +41,8 @@ column_there schema sources source table c spec at there = record {
 
 -- ---- the columns of a table's key
 
-abbrev keys_placed : List ColumnSpec → List (ℕ × ColumnSpec)
-keys_placed columns = filter (λ placed. placed.1.key) (enumerate_from 0 columns)
-
 abbrev AreThere : List ColumnSpec → List (ℕ × ColumnSpec) → Type 0
 AreThere columns placed = AllByRecursion (λ (one : ℕ × ColumnSpec). slice_get columns one.0 ≡ Some one.1) placed
-
-abbrev kinds_at : List (ℕ × ColumnSpec) → List Kind
-kinds_at placed = map (λ (one : ℕ × ColumnSpec). kind_of one.1.kind) placed
-
-kept_same : (b : Bool) (one : ℕ × ColumnSpec) (placed : List (ℕ × ColumnSpec)) (columns : List ColumnSpec) → kinds_at placed ≡ kinds_of columns
-    → kinds_at (cond b (one ∷ placed) placed) ≡ kinds_of (cond b (one.1 ∷ columns) columns)
-kept_same true one placed columns h = ap (λ (rest : List Kind). kind_of one.1.kind ∷ rest) h
-kept_same false one placed columns h = h
-
-pub kinds_placed : (n : ℕ) (columns : List ColumnSpec) → kinds_at (filter (λ placed. placed.1.key) (enumerate_from n columns)) ≡ kinds_of (filter (λ column. column.key) columns)
-kinds_placed n [] = refl
-kinds_placed n (column ∷ columns) =
-    kept_same column.key (n, column) (filter (λ placed. placed.1.key) (enumerate_from (n + 1) columns)) (filter (λ other. other.key) columns) (kinds_placed (n + 1) columns)
 
 placed_typed : (schema : Catalog) (sources : List Origin) (source : ℕ) (table : TableId) (placed : List (ℕ × ColumnSpec)) → IsAt sources source table → AreThere (spec_of schema table).columns placed
     → AreTyped schema sources (columns_at source (map number_at placed)) (kinds_at placed)

@@ -1,2 +1,1 @@
-pub mod KeyKinds
 pub mod RowKeys

@@ -47,7 +47,7 @@ use Rattle.row_laws.specs.Cells.{AreCellsOf}
 use Rattle.load_laws.proofs.Keys.{turned_kind}
 use Rattle.load_laws.proofs.Standing.{column_stands}
 use Rattle.load_laws.proofs.ClassLemmas.{attribute_typed, at_sources, branch_under, rank_is, sources_are, sources_by}
-use Rattle.row_laws.proofs.KeyKinds.{attributes_split, is_just, key_by_column, keys_alike, no_later_key, numbered_at}
+use Rattle.key_laws.proofs.KeyKinds.{attributes_split, is_just, key_by_column, keys_alike, no_later_key, numbered_at}
 
 -- ---- the values of a row
 

@@ -35,7 +35,7 @@ use Rattle.mapping_laws.specs.Hierarchies.{HasHierarchies, HasTables, kinds_of}
 use Rattle.mapping_laws.proofs.Attributes.{IsOfColumn, numbered_there, of_column}
 use Rattle.mapping_laws.proofs.Tables.{not_zero, tables_declared}
 use Rattle.mapping_laws.proofs.Ties.{table_faultless}
-use Rattle.load_laws.proofs.Keys.{kinds_placed}
+use Rattle.key_laws.proofs.KeyColumns.{kinds_placed}
 
 -- ---- no class owns a column of a key
 

@@ -1,0 +1,2 @@
+pub mod KeyKinds
+pub mod KeyColumns
