@@ -1,14 +1,16 @@
 -- The keys and the cascades of the relationships of a valid mapping.
 use Rattle.std.proofs.Common.{◌≡◌, ◌⊎◌, inl, inr, ℕ, ◌<◌, Bool, true, false, cond, not, ◌&&◌, ◌||◌, List, [], ◌∷◌, ◌∙◌, length, ap, sym, refl, subst, Option, None, Some, is_some, is_none, ◌==◌, if◌then◌else◌}
-use Rattle.std.specs.Prelude.{find}
-use Rattle.std.specs.List.{All}
+use Rattle.std.specs.Prelude.{find, get_or}
+use Rattle.std.specs.Option.{option_map}
+use Rattle.std.specs.List.{All, position}
 use Rattle.std.proofs.lemmas.Bool.{eq-eqb, eqb-true}
 use Rattle.std.proofs.lemmas.List.Elements.{All-from_recursion}
+use Rattle.std.proofs.lemmas.List.Quantifiers.{position-Some}
 use Rattle.std.proofs.lemmas.Option.{same_Some}
 use Rattle.base_core.specs.declared.ids.ClassId.{ClassId}
 use Rattle.base_core.specs.declared.ids.TableId.{TableId}
 use Rattle.schema_core.specs.declared.table.TableSpec.{TableSpec}
-use Rattle.schema_core.specs.Catalog.{same_name}
+use Rattle.schema_core.specs.Catalog.{no_table, same_name}
 use Rattle.schema_core.proofs.Names.{same_names}
 use Rattle.class_types.specs.declared.declared.ClassSpec.{ClassSpec}
 use Rattle.class_types.specs.declared.mapped.Relation.{Relation}
@@ -24,7 +26,7 @@ use Rattle.class_sides.specs.Pairs.{is_partner, is_plain, join_of, same_secondar
 use Rattle.class_sides.specs.Linking.{class_or, ends_from, ends_on, far_key, far_or, is_same_pair, key_or_none, near_key, near_or, swapped_ends}
 use Rattle.class_mapping.specs.Lines.{AreLines}
 use Rattle.class_mapping.specs.Mapped.{IsClass, Mapped, layout_of, relations_of}
-use Rattle.class_mapping.specs.Related.{IsRelated, has_keys, orphans_rightly}
+use Rattle.class_mapping.specs.Related.{IsRelated, has_keys, is_unmapped, orphans_rightly}
 use Rattle.class_mapping.specs.Valid.{IsValid, covers, covers_both, holds_of, is_covered, is_joined, joins, joins_ends, refers_to_class}
 use Rattle.class_mapping.proofs.Having.{Has, all_from, all_of, none_of}
 use Rattle.class_mapping.proofs.Lists.{and_both, and_every, and_left, and_right, none_is, some_is}
@@ -119,6 +121,34 @@ no_ends : (tables : List TableSpec) (specs : List ClassSpec) (secondary : Option
     → (if maps_name specs secondary then None else ends_in tables (named_table tables secondary) near far) ≡ None
 no_ends tables specs secondary near far e =
     ap (λ (name : Option (List ℕ)). if maps_name specs name then None else ends_in tables (named_table tables name) near far) e
+
+-- ---- a secondary table is the one of its name, which no class has
+
+name_found : (tables : List TableSpec) (name : List ℕ) (o : Option ℕ) (table : TableId) → position (λ spec. same_name spec.name name) tables ≡ o
+    → option_map (λ place. let found : TableId = record { 0 = place } in found) o ≡ Some table → name ≡ (get_or tables table.0 no_table).name
+name_found tables name None table e h = absurd cc
+name_found tables name (Some place) table e h =
+    let same : place ≡ table.0 = ap (λ (found : TableId). found.0) (same_Some (record { 0 = place }) table h) in
+    let there = position-Some (λ (spec : TableSpec). same_name spec.name name) tables place no_table e in
+    sym (same_names (get_or tables place no_table).name name there.1) ∙ ap (λ (n : ℕ). (get_or tables n no_table).name) same
+
+pub named_as : (tables : List TableSpec) (name : Option (List ℕ)) (table : TableId) → named_table tables name ≡ Some table → name ≡ Some (get_or tables table.0 no_table).name
+named_as tables None table e = absurd cc
+named_as tables (Some name) table e = ap (λ (n : List ℕ). Some n) (name_found tables name (position (λ spec. same_name spec.name name) tables) table refl e)
+
+pub table_found : (o : Option TableId) (table : TableId) → is_table o table ≡ true → o ≡ Some table
+table_found None table h = absurd cc
+table_found (Some found) table h = ap (λ (t : TableId). Some t) (same_table found table h)
+
+ends_free : (free : Bool) (found : Option Ends) (ends : Ends) → (if free then None else found) ≡ Some ends → free ≡ false
+ends_free true found ends h = absurd cc
+ends_free false found ends h = refl
+
+-- no class has the table of a name that none has
+table_free : (tables : List TableSpec) (specs : List ClassSpec) (name : Option (List ℕ)) (table : TableId) → maps_name specs name ≡ false → is_table (named_table tables name) table ≡ true
+    → maps_name specs (Some (get_or tables table.0 no_table).name) ≡ false
+table_free tables specs name table free is =
+    ap (maps_name specs) (sym (named_as tables name table (table_found (named_table tables name) table is))) ∙ free
 
 -- ---- the keys of a relationship without a secondary table
 
@@ -274,6 +304,35 @@ module _ (mapped : Mapped) (lined : length mapped.classes.lines ≡ length mappe
       subst (λ (ends : Option Ends). has_keys mapped (back_with side (is_plain side) ends) (near_key ends) ≡ true) (sym keys.1)
       (covers_swapped tables (Some (layout_of mapped side.class)) (Some (layout_of mapped (class_or side.target side.class))) keys.0.0 keys.0.1 covered)
 
+  -- the name of a side's secondary table is that of no class
+  side_free : (side : Side) → Has sides side → is_plain side ≡ false → maps_name classes.specs side.spec.secondary ≡ false
+  side_free side h many =
+      let keys = covered_ends side h many in
+      ends_free (maps_name classes.specs side.spec.secondary) (ends_in tables (named_table tables side.spec.secondary) (layout_at layouts (Some side.class)) (layout_at layouts (target_of classes.specs side.spec))) keys.0
+      (ap (λ (s : Side). s.ends) (sym (side_from mapped lined lines side h).is) ∙ keys.1)
+
+  free_at : (side : Side) → Has sides side → is_plain side ≡ false → (keys : Ends) → covers tables layouts side keys ≡ true
+      → maps_name classes.specs (Some (get_or tables keys.0.0.0 no_table).name) ≡ false
+  free_at side h many keys covered =
+      table_free tables classes.specs side.spec.secondary keys.0.0 (side_free side h many)
+      (and_left (is_table (named_table tables side.spec.secondary) keys.0.0) (covers_both tables (layout_at layouts (Some side.class)) (layout_at layouts side.target) keys) covered)
+
+  own_unmapped : (side : Side) → Has sides side → (plain : Bool) → is_plain side ≡ plain → is_unmapped mapped (own_in mapped side) ≡ true
+  own_unmapped side h true plain =
+      subst (λ (ends : Option Ends). is_unmapped mapped (own_with side ends) ≡ true) (sym (plain_found side h plain (ends_on sides side) (found_ends side h))) refl
+  own_unmapped side h false many =
+      let keys = covered_found side h many (ends_on sides side) (found_ends side h) in
+      subst (λ (ends : Option Ends). is_unmapped mapped (own_with side ends) ≡ true) (sym keys.1) (ap not (free_at side h many keys.0 keys.2))
+
+  back_unmapped : (side : Side) → Has sides side → (plain : Bool) → is_plain side ≡ plain → is_unmapped mapped (back_in mapped side) ≡ true
+  back_unmapped side h true plain =
+      subst (λ (ends : Option Ends). is_unmapped mapped (back_with side (is_plain side) ends) ≡ true) (sym (plain_found side h plain (ends_on sides side) (found_ends side h))) refl
+  back_unmapped side h false many =
+      let keys = covered_found side h many (ends_on sides side) (found_ends side h) in
+      let one = one_table tables (layout_at layouts (Some side.class)) (layout_at layouts side.target) keys.0 (both_covered side keys.0 keys.2) in
+      subst (λ (ends : Option Ends). is_unmapped mapped (back_with side (is_plain side) ends) ≡ true) (sym keys.1)
+      (ap not (ap (λ (table : TableId). maps_name classes.specs (Some (get_or tables table.0 no_table).name)) (sym one) ∙ free_at side h many keys.0 keys.2))
+
   own_orphans : (side : Side) → Has sides side → (plain : Bool) → is_plain side ≡ plain → orphans_rightly (own_in mapped side) ≡ true
   own_orphans side h true plain =
       let cascade = cascade_or_default side.spec.cascade in
@@ -296,6 +355,7 @@ module _ (mapped : Mapped) (lined : length mapped.classes.lines ≡ length mappe
         target = target_less side found.1;
         partner = has_partner mapped lined lines valid.differing valid.led valid.paired line (own_in mapped side) (inl (side, found.1, found.2, refl));
         keys = own_keys side found.1 (is_plain side) refl;
+        unmapped = own_unmapped side found.1 (is_plain side) refl;
         orphans = own_orphans side found.1 (is_plain side) refl;
       })
   related line relation (inr found) =
@@ -306,6 +366,7 @@ module _ (mapped : Mapped) (lined : length mapped.classes.lines ≡ length mappe
         target = (side_from mapped lined lines side found.1).class;
         partner = has_partner mapped lined lines valid.differing valid.led valid.paired line (back_in mapped side) (inr (side, found.1, found.2, found.3, refl));
         keys = back_keys side found.1 (is_plain side) refl;
+        unmapped = back_unmapped side found.1 (is_plain side) refl;
         orphans = refl;
       })
 

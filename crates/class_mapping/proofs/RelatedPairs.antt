@@ -38,7 +38,7 @@ use Rattle.schema_core.proofs.Names.{same_names}
 use Rattle.class_mapping.proofs.Lists.{and_both, and_every, and_left, and_right, or_left, or_right, and_three, three_parts}
 use Rattle.class_mapping.proofs.RelatedLemmas.{Came, IsDeclared, back_in, back_partners, came, declared_partner, layouts_in, list_for, one_side as one_of, own_in, own_partners, side_from, sides_in}
 use Rattle.class_mapping.proofs.RelatedJoins.{join_turned}
-use Rattle.class_mapping.proofs.RelatedKeys.{both_covered, covered_found, each_related, find_has, found_ends, held, not_none, one_table, or_rest, plain_found, same_first, same_table, target_is}
+use Rattle.class_mapping.proofs.RelatedKeys.{both_covered, covered_found, each_related, find_has, found_ends, held, not_none, one_table, or_rest, plain_found, same_first, same_table, table_found, target_is}
 
 -- ---- two of a list of which no two pass a test
 
@@ -92,10 +92,6 @@ either_holds false b h = inr h
 pub none_some : {A B : Type 0} (o : Option A) → o ≡ None → is_some o ≡ true → B
 none_some None e h = absurd cc
 none_some (Some x) e h = absurd cc
-
-is_found : (o : Option TableId) (table : TableId) → is_table o table ≡ true → o ≡ Some table
-is_found None table h = absurd cc
-is_found (Some found) table h = ap (λ (t : TableId). Some t) (same_table found table h)
 
 placed_at : (o : Option ℕ) (table : TableId) → option_map (λ place. let t : TableId = record { 0 = place } in t) o ≡ Some table → o ≡ Some table.0
 placed_at None table e = absurd cc
@@ -324,8 +320,8 @@ module _ (mapped : Mapped) (lined : length mapped.classes.lines ≡ length mappe
 
   tables_apart : (relation other : Relation) → IsAcross relation → IsAcross other → relation.foreign.0 ≡ other.foreign.0 → Apart relation other
   tables_apart relation other first last table =
-      let one = is_found (named_table tables first.side.spec.secondary) relation.foreign.0 first.table ∙ ap (λ (t : TableId). Some t) table in
-      let two = is_found (named_table tables last.side.spec.secondary) other.foreign.0 last.table in
+      let one = table_found (named_table tables first.side.spec.secondary) relation.foreign.0 first.table ∙ ap (λ (t : TableId). Some t) table in
+      let two = table_found (named_table tables last.side.spec.secondary) other.foreign.0 last.table in
       two_sides_apart relation other first.side last.side first.has last.has first.is last.is
       (shares_table first.side last.side (one_named tables first.side.spec.secondary last.side.spec.secondary other.foreign.0 one two) first.many)
       (shares_table last.side first.side (one_named tables last.side.spec.secondary first.side.spec.secondary other.foreign.0 two one) last.many)

@@ -3,7 +3,9 @@ use Rattle.std.specs.Prelude.{◌≡◌, ◌⊎◌, ◌==◌, Bool, true, not, �
 use Rattle.std.specs.List.{All}
 use Rattle.base_core.specs.declared.ids.ClassId.{ClassId}
 use Rattle.base_core.specs.declared.ids.RelNo.{RelNo}
+use Rattle.schema_core.specs.Catalog.{spec_of}
 use Rattle.class_types.specs.declared.mapped.Relation.{Relation}
+use Rattle.class_layouts.specs.Faults.{maps_name}
 use Rattle.class_sides.specs.Keys.{TableKey, same_key}
 use Rattle.class_sides.specs.Pairs.{differ}
 use Rattle.class_mapping.specs.Valid.{covers_both, joins}
@@ -40,6 +42,11 @@ abbrev pub orphans_rightly : Relation → Bool
 orphans_rightly relation =
     not relation.cascade.delete_orphan || (relation.cascade.delete && relation.many && is_none relation.far)
 
+-- no class maps the secondary table, where there is one
+abbrev pub is_unmapped : Mapped → Relation → Bool
+is_unmapped mapped relation =
+    is_none relation.far || not (maps_name mapped.classes.specs (Some (spec_of mapped.schema relation.foreign.0).name))
+
 -- what each relationship has
 pub record IsRelated (mapped : Mapped) (relation : Relation) : Type 0 where
   -- the class that declares it, and the one to which it leads
@@ -47,6 +54,7 @@ pub record IsRelated (mapped : Mapped) (relation : Relation) : Type 0 where
   pub target : IsClass mapped relation.target
   pub partner : (other : Relation) × ArePartners mapped relation other
   pub keys : has_keys mapped relation relation.far ≡ true
+  pub unmapped : is_unmapped mapped relation ≡ true
   pub orphans : orphans_rightly relation ≡ true
 
 -- without a secondary table both have one foreign key, and one of the two is many

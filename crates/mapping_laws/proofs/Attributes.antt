@@ -1,5 +1,5 @@
 -- The columns of a class's attributes.
-use Rattle.std.proofs.Common.{◌≡◌, ℕ, Bool, true, List, map, filter, get_or, Some, sym, ap, ◌∙◌, arith}
+use Rattle.std.proofs.Common.{◌≡◌, ℕ, Bool, true, List, filter, get_or, Some, sym, ap, ◌∙◌, arith}
 use Rattle.std.specs.Prelude.{slice_get}
 use Rattle.std.specs.List.{enumerate_from}
 use Rattle.std.proofs.lemmas.Option.{same_Some}

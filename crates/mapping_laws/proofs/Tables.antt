@@ -1,10 +1,8 @@
 -- The tables of a class: its root's first, all declared, and no two of one name.
 use Rattle.std.proofs.Common.{◌≡◌, inl, inr, ℕ, zero, suc, ◌<◌, ◌≤◌, Bool, true, false, not, ◌&&◌, ◌==◌, nat_lt, List, [], ◌∷◌, ◌∙◌, length, map, get_or, ap, sym, refl, Option, None, Some, is_some, is_none, arith}
 use Rattle.std.specs.Prelude.{slice_get}
-use Rattle.std.specs.Option.{option_map}
-use Rattle.std.specs.List.{cons_option, filter_map, list_any, position}
+use Rattle.std.specs.List.{cons_option, filter_map, list_any}
 use Rattle.std.proofs.lemmas.Bool.{eq-eqb, eqb-true, ltb-false, ltb-true}
-use Rattle.std.proofs.lemmas.List.Quantifiers.{position-Some}
 use Rattle.std.proofs.lemmas.Option.{same_Some}
 use Rattle.base_core.specs.declared.ids.ClassId.{ClassId}
 use Rattle.base_core.specs.declared.ids.TableId.{TableId}
@@ -20,11 +18,12 @@ use Rattle.class_layouts.specs.Faults.{is_named, maps_name}
 use Rattle.class_layouts.specs.Hierarchy.{line_of, root_in}
 use Rattle.class_mapping.specs.Lines.{is_root_over, is_rooted, is_same_class, maps_same}
 use Rattle.class_mapping.specs.Mapped.{IsClass, Mapped, class_or, root_table, table_or_none, tables_of}
-use Rattle.class_mapping.proofs.Having.{Has, from_map, named_alike, none_of, true_false}
+use Rattle.class_mapping.proofs.Having.{Has, from_map, has_at, named_alike, none_of, true_false}
 use Rattle.class_mapping.proofs.LineLemmas.{all_at, none_at}
 use Rattle.class_mapping.proofs.Lists.{and_right, or_left, or_right, some_is}
 use Rattle.class_mapping.proofs.OnceLemmas.{none_by}
 use Rattle.class_mapping.proofs.PlainClassLemmas.{found_table}
+use Rattle.class_mapping.proofs.RelatedKeys.{named_as}
 use Rattle.class_mapping.proofs.RelatedLemmas.{line_for}
 use Rattle.mapping_laws.specs.Hierarchies.{HasHierarchies}
 
@@ -82,18 +81,6 @@ pub record IsOwn (tables : List TableSpec) (classes : Classes) (class : ℕ) (ta
   pub named : spec.table ≡ Some (get_or tables table.0 no_table).name
   pub inside : table.0 < length tables
 
-name_found : (tables : List TableSpec) (name : List ℕ) (o : Option ℕ) (table : TableId) → position (λ spec. same_name spec.name name) tables ≡ o
-    → option_map (λ place. let found : TableId = record { 0 = place } in found) o ≡ Some table → name ≡ (get_or tables table.0 no_table).name
-name_found tables name None table e h = absurd cc
-name_found tables name (Some place) table e h =
-    let same : place ≡ table.0 = ap (λ (found : TableId). found.0) (same_Some (record { 0 = place }) table h) in
-    let there = position-Some (λ (spec : TableSpec). same_name spec.name name) tables place no_table e in
-    sym (same_names (get_or tables place no_table).name name there.1) ∙ ap (λ (n : ℕ). (get_or tables n no_table).name) same
-
-named_as : (tables : List TableSpec) (name : Option (List ℕ)) (table : TableId) → named_table tables name ≡ Some table → name ≡ Some (get_or tables table.0 no_table).name
-named_as tables None table e = absurd cc
-named_as tables (Some name) table e = ap (λ (n : List ℕ). Some n) (name_found tables name (position (λ spec. same_name spec.name name) tables) table refl e)
-
 own_by : (tables : List TableSpec) (classes : Classes) (class : ℕ) (table : TableId) (found : Option ClassSpec) → slice_get classes.specs class ≡ found → table_in tables found ≡ Some table → IsOwn tables classes class table
 own_by tables classes class table None e h = absurd cc
 own_by tables classes class table (Some spec) e h = record { spec = spec; declared = e; named = named_as tables spec.table table h; inside = found_table tables spec.table table h }
@@ -133,7 +120,7 @@ apart_before tables classes one other first second apart less own far =
     names_differ own.spec far.spec (get_or tables first.0 no_table).name (get_or tables second.0 no_table).name own.named far.named
     (two_at maps_same classes.specs one other own.spec far.spec apart less own.declared far.declared)
 
-turned : (one other : List ℕ) → same_name one other ≡ false → same_name other one ≡ false
+pub turned : (one other : List ℕ) → same_name one other ≡ false → same_name other one ≡ false
 turned one other h = not_true (same_name other one) (λ e. true_false (same_name one other) (named_alike one other (sym (same_names other one e))) h)
 
 apart_by : (tables : List TableSpec) (classes : Classes) (one other : ℕ) (first second : TableId) (before : Bool) → nat_lt one other ≡ before → some_two maps_same classes.specs ≡ false → (one == other) ≡ false
@@ -178,3 +165,17 @@ pub tables_apart : (mapped : Mapped) (class : ClassId) → HasHierarchies mapped
 tables_apart mapped class has less =
     names_on mapped.schema.tables mapped.classes (line_of mapped.classes class.0) has.lines.apart
     (none_at (λ line. some_two is_same_class line) mapped.classes.lines class.0 (line_of mapped.classes class.0) has.lines.once (line_for mapped has.lined has.lines class.0 less))
+
+-- a name that no class maps is that of none of a class's tables
+pub unmapped_named : (mapped : Mapped) (class : ClassId) (name : List ℕ) → maps_name mapped.classes.specs (Some name) ≡ false
+    → has_name (map (name_at mapped.schema.tables) (tables_of mapped class)) name ≡ false
+unmapped_named mapped class name free =
+    let tables = mapped.schema.tables in
+    let classes = mapped.classes in
+    none_by (λ other. same_name other name) (map (name_at tables) (tables_of mapped class)) (λ other has.
+    let named = from_map (name_at tables) (tables_of mapped class) other has in
+    let within = from_filter_map (λ (other : ClassId). own_table tables classes other.0) (line_of classes class.0) named.0 named.1 in
+    let own = own_is tables classes within.0.0 named.0 within.2 in
+    ap (λ (n : List ℕ). same_name n name) (sym named.2)
+    ∙ ap (λ (o : Option (List ℕ)). is_named o name) (sym own.named)
+    ∙ none_of (λ spec. is_named spec.table name) classes.specs own.spec free (has_at classes.specs within.0.0 own.spec own.declared))
