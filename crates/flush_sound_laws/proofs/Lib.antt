@@ -1,2 +1,2 @@
 pub mod Answered
-mod Refused
+pub mod Refused

@@ -31,11 +31,11 @@ use Rattle.flush_sound_laws.specs.Laws.{RefusedFlushIsSound}
 
 -- ---- objects and scopes are as they were
 
-record IsUnmoved (old now : World) : Type 0 where
-  mapping : now.own.mapping ≡ old.own.mapping
-  graph : now.own.graph ≡ old.own.graph
-  frames : now.own.frames ≡ old.own.frames
-  starts : now.store.scopes ≡ old.store.scopes
+pub record IsUnmoved (old now : World) : Type 0 where
+  pub mapping : now.own.mapping ≡ old.own.mapping
+  pub graph : now.own.graph ≡ old.own.graph
+  pub frames : now.own.frames ≡ old.own.frames
+  pub starts : now.store.scopes ≡ old.store.scopes
 
 unmoved : (w : World) → IsUnmoved w w
 unmoved w = record { mapping = refl; graph = refl; frames = refl; starts = refl }
@@ -84,7 +84,7 @@ warned_refused old prepared rows w e same is =
     refused_then (IsUnmoved old) (changes (with_warnings rows.warnings)) (λ u. write_rows prepared rows) w e (noted_unmoved old w warned.own refl refl refl same)
     (λ u stopped. rows_refused old prepared rows warned e (noted_unmoved old w warned.own refl refl refl same) stopped) is
 
-objects_refused : (w : World) (e : Refusal) → (write_objects w).answer ≡ Err e → IsUnmoved w (write_objects w).after
+pub objects_refused : (w : World) (e : Refusal) → (write_objects w).answer ≡ Err e → IsUnmoved w (write_objects w).after
 unfolding write_objects prepare write_prepared by_own give
 objects_refused w e is =
     refused_then (IsUnmoved w) prepare write_prepared w e (unmoved w)
@@ -120,7 +120,7 @@ given_up w e inside starts =
     answer_up run.events (record { own = with_notes run.events w.own; store = run.after }) run.answer e (answered_back (depth == 1) depth w.store)
     (failed_sound (with_notes run.events w.own) w.store inside (record { graph = starts.graph; scopes = starts.scopes }))
 
-undone : (events : List Event) (v : World) (answer : Result (Unit {0}) Refusal) (e : Refusal) → (undo_on_refusal events v answer give_up).answer ≡ Err e → ((f : Refusal) → answer ≡ Err f → IsSound ((give_up >>= λ u. refuse {A = Unit {0}} f) v).after)
+pub undone : (events : List Event) (v : World) (answer : Result (Unit {0}) Refusal) (e : Refusal) → (undo_on_refusal events v answer give_up).answer ≡ Err e → ((f : Refusal) → answer ≡ Err f → IsSound ((give_up >>= λ u. refuse {A = Unit {0}} f) v).after)
     → IsSound (undo_on_refusal events v answer give_up).after
 undone events v (Ok u) e is later = absurd cc
 undone events v (Err f) e is later = later f refl

@@ -43,7 +43,7 @@ no_starts mapped graph frames [] [] none sound = refl
 no_starts mapped graph frames [] (tables ∷ starts) none sound = absurd sound
 no_starts mapped graph frames (scope ∷ scopes) starts none sound = absurd cc
 
-at_rest : (graph : Graph) (scopes : List Scope) → scopes ≡ [] → RestIf scopes graph → EachObject IsAtRest graph
+pub at_rest : (graph : Graph) (scopes : List Scope) → scopes ≡ [] → RestIf scopes graph → EachObject IsAtRest graph
 at_rest graph [] none rest = rest
 at_rest graph (scope ∷ scopes) none rest = absurd cc
 

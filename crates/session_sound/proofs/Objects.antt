@@ -39,7 +39,7 @@ made_there old new object is made = subst (λ (g : Graph). IsObject g object) (s
 -- ---- a cell gets a value
 
 -- its base stays
-base_kept : (o : Object) (attr other : AttrNo) (value : Value) → other.0 < length o.cells → (cell_in (cell_put o attr (record (cell_in o attr) { value = Some value })) other).base ≡ (cell_in o other).base
+pub base_kept : (o : Object) (attr other : AttrNo) (value : Value) → other.0 < length o.cells → (cell_in (cell_put o attr (record (cell_in o attr) { value = Some value })) other).base ≡ (cell_in o other).base
 base_kept o attr other value less =
     let put : Cell = record (cell_in o attr) { value = Some value } in
     ⊎_elim
@@ -51,7 +51,7 @@ base_kept o attr other value less =
     (λ (apart : other.0 ≢ attr.0). ap (λ (c : Cell). c.base) (get_or-set_other o.cells attr.0 other.0 put expired_cell apart))
     (cases_eq other.0 attr.0)
 
-cells_long : (o : Object) (attr : AttrNo) (cell : Cell) → length (cell_put o attr cell).cells ≡ length o.cells
+pub cells_long : (o : Object) (attr : AttrNo) (cell : Cell) → length (cell_put o attr cell).cells ≡ length o.cells
 cells_long o attr cell = length-set o.cells attr.0 cell
 
 put_fresh : (mapped : Mapped) (tables : Tables) (o : Object) (attr : AttrNo) (value : Value) → IsFresh mapped tables o → IsFresh mapped tables (cell_put o attr (record (cell_in o attr) { value = Some value }))
