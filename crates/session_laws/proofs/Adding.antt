@@ -80,7 +80,7 @@ taken_fresh mapped tables Detached number o fresh = fresh_unknown mapped tables 
 
 -- ---- delete marks
 
-marked_left : (o : Object) (given : List (AttrNo × Value)) → (object_with o given).marked ≡ o.marked
+pub marked_left : (o : Object) (given : List (AttrNo × Value)) → (object_with o given).marked ≡ o.marked
 marked_left o [] = refl
 marked_left o (one ∷ others) = marked_left (cell_put o one.0 (unwritten_cell one.1)) others
 

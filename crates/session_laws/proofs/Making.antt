@@ -89,7 +89,7 @@ module _ (mapped : Mapped) (class : ClassId) (given : List (AttrNo × Value)) (g
       ∙ get_or-set_same wider.objects (length graph.objects) (object_with (object_at wider new_id) given) no_object (omega (arith, wider_long))
       ∙ ap (λ (o : Object). object_with o given) fresh_there
 
-  made_before : (place : ℕ) → place < length graph.objects → get_or made.objects place no_object ≡ get_or graph.objects place no_object
+  pub made_before : (place : ℕ) → place < length graph.objects → get_or made.objects place no_object ≡ get_or graph.objects place no_object
   made_before place less =
       let apart : place ≢ place_of new_id = λ same. omega (arith, less, same, last_place) in
       get_or-set_other wider.objects (place_of new_id) place (object_with (object_at wider new_id) given) no_object apart

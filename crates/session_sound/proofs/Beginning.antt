@@ -53,7 +53,7 @@ started_in [] place = refl
 started_in (o ∷ objects) zero = refl
 started_in (o ∷ objects) (suc place) = started_in objects place
 
-started_at : (graph : Graph) (place : ℕ) → standing_at (begun_at graph) place ≡ standing_of (get_or graph.objects place no_object)
+pub started_at : (graph : Graph) (place : ℕ) → standing_at (begun_at graph) place ≡ standing_of (get_or graph.objects place no_object)
 started_at graph place = started_in graph.objects place
 
 pending_none : (graph : Graph) → EachObject IsSettled graph → (place : ℕ) → (standing_at (begun_at graph) place).state ≢ Pending
