@@ -5,9 +5,11 @@ mod connections;
 mod database;
 mod ending;
 mod link;
+mod over;
 mod values;
 
 pub use connections::Opens;
 pub use database::Database;
 pub use ending::Ending;
 pub use link::{Link, Sqlite};
+pub use over::{OverDatabases, over_sqlite};
