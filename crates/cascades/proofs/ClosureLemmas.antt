@@ -1,23 +1,18 @@
 -- A walk that follows the links of each object to which it came has come to the closure.
-use Rattle.std.proofs.Common.{◌≡◌, ℕ, ◌+◌, ◌<◌, ◌≤◌, Bool, true, false, ◌||◌, List, [], ◌∷◌, ◌++◌, length, map, Result, Ok, Err, IfOk, refl, sym, ap, ◌∙◌, subst, ⊎_elim, arith}
+use Rattle.std.proofs.Common.{◌≡◌, ℕ, ◌+◌, ◌<◌, ◌≤◌, Bool, true, false, ◌||◌, List, [], ◌∷◌, ◌++◌, length, cond, drop, get_or, replicate, zero, suc, Result, Ok, Err, IfOk, refl, sym, ap, ◌∙◌, subst, ⊎_elim, arith}
 use Rattle.std.specs.Prelude.{◌==◌}
-use Rattle.std.specs.Ordering.{eq_by_cmp, nat_cmp}
-use Rattle.std.specs.Cmp.{unsigned_tied}
-use Rattle.std.specs.List.{All, AllByRecursion, list_all}
-use Rattle.std.specs.List.Sorted.{IsStrictlySortedBy}
-use Rattle.std.proofs.lemmas.Bool.{and_from, and_parts, cases_Bool, eqb-true, eq-eqb, or_right}
-use Rattle.std.proofs.lemmas.Bool.Decides.{nat_tests}
+use Rattle.std.specs.List.{All, list_all}
+use Rattle.std.proofs.lemmas.Bool.{and_from, and_parts, cases_Bool, eqb-true, eq-eqb, or_left, or_right}
+use Rattle.std.proofs.lemmas.List.{drop_more}
 use Rattle.std.proofs.lemmas.List.Elements.{All-nil, All-cons}
-use Rattle.std.proofs.lemmas.Map.Views.{length-le_from_below}
 use Rattle.base_core.specs.declared.ids.ObjId.{ObjId}
 use Rattle.base_core.specs.Ascending.{IsAbove, IsAscending, IsBelow}
-use Rattle.std.specs.declared.cmp.Ordering.TheVariants.{Less}
 use Rattle.class_mapping.specs.Mapped.{Mapped}
 use Rattle.object_arena.specs.Graph.{Graph, IsObject}
 use Rattle.object_arena.specs.Fit.{IsFit}
 use Rattle.cascades.specs.declared.closures.Flag.{Flag}
 use Rattle.cascades.specs.Closures.{IsClosed, IsClosure, is_among, linked_objects}
-use Rattle.cascades.specs.Walks.{Comes, has, id_of_number}
+use Rattle.cascades.specs.Walks.{Comes, has, id_of_number, marked_from}
 use Rattle.cascades.proofs.EndLemmas.{is_is_made, is_made, linked_made, made_is}
 use Rattle.cascades.proofs.WalkLemmas.{among_left, among_one, among_split, clash, or_cases}
 
@@ -49,7 +44,7 @@ from_each inside (other ∷ objects) each =
 
 -- The walk began at the object. All that waits it has come to; the links of what waits no more, but for what is skipped,
 -- lead to where it has come; and it has come to nothing that a closed set with the object lacks.
-pub record IsWalk (flag : Flag) (mapped : Mapped) (graph : Graph) (object : ObjId) (skip : ObjId → Bool) (reached : List ℕ) (waiting : List ObjId) : Type 0 where
+pub record IsWalk (flag : Flag) (mapped : Mapped) (graph : Graph) (object : ObjId) (skip : ObjId → Bool) (reached : List Bool) (waiting : List ObjId) : Type 0 where
   pub began : has reached object.0 ≡ true
   pub held : (x : ObjId) → is_among waiting x ≡ true → has reached x.0 ≡ true
   pub done : (x y : ObjId) → has reached x.0 ≡ true → is_among waiting x ≡ false → skip x ≡ false → is_among (linked_objects flag mapped graph x) y ≡ true → has reached y.0 ≡ true
@@ -61,17 +56,23 @@ none x = false
 abbrev pub is_it : ObjId → ObjId → Bool
 is_it next x = x.0 == next.0
 
+-- no number has a mark
+pub none_marked : (count number : ℕ) → has (replicate count false) number ≡ false
+none_marked zero number = refl
+none_marked (suc count) zero = refl
+none_marked (suc count) (suc number) = none_marked count number
+
 -- it begins
-pub walk_began : (flag : Flag) (mapped : Mapped) (graph : Graph) (object : ObjId) (keys : List ℕ) (waiting : List ObjId) → Comes [] keys [] waiting (object ∷ []) → IsWalk flag mapped graph object none keys waiting
-walk_began flag mapped graph object keys waiting comes = record {
+pub walk_began : (flag : Flag) (mapped : Mapped) (graph : Graph) (object : ObjId) (count : ℕ) (keys : List Bool) (waiting : List ObjId) → Comes (replicate count false) keys [] waiting (object ∷ []) → IsWalk flag mapped graph object none keys waiting
+walk_began flag mapped graph object count keys waiting comes = record {
   began = comes.all object (ap (λ (b : Bool). b || false) (eq-eqb object.0 object.0 refl));
   held = λ x among. comes.held x among refl;
-  done = λ x y there idle skip linked_to. clash (is_among waiting x) (comes.waits x.0 there refl) idle;
-  least = λ inside begins closed number there. subst (λ (n : ℕ). inside (id_of_number n) ≡ true) (sym (among_one (id_of_number number) object (comes.only number there refl))) begins;
+  done = λ x y there idle skip linked_to. clash (is_among waiting x) (comes.waits x.0 there (none_marked count x.0)) idle;
+  least = λ inside begins closed number there. subst (λ (n : ℕ). inside (id_of_number n) ≡ true) (sym (among_one (id_of_number number) object (comes.only number there (none_marked count number)))) begins;
 }
 
 -- an object is taken out to be followed
-pub walk_taken : (flag : Flag) (mapped : Mapped) (graph : Graph) (object : ObjId) (keys : List ℕ) (waiting rest : List ObjId) (next : ObjId) → waiting ≡ rest ++ next ∷ [] → IsWalk flag mapped graph object none keys waiting → IsWalk flag mapped graph object (is_it next) keys rest
+pub walk_taken : (flag : Flag) (mapped : Mapped) (graph : Graph) (object : ObjId) (keys : List Bool) (waiting rest : List ObjId) (next : ObjId) → waiting ≡ rest ++ next ∷ [] → IsWalk flag mapped graph object none keys waiting → IsWalk flag mapped graph object (is_it next) keys rest
 walk_taken flag mapped graph object keys waiting rest next is walk = record {
   began = walk.began;
   held = λ x among. walk.held x (subst (λ (ws : List ObjId). is_among ws x ≡ true) (sym is) (among_left rest (next ∷ []) x among));
@@ -91,7 +92,7 @@ walk_taken flag mapped graph object keys waiting rest next is walk = record {
         (cases_Bool (is_among (rest ++ next ∷ []) x))
 
 -- the object that was taken out had been reached
-pub taken_reached : (flag : Flag) (mapped : Mapped) (graph : Graph) (object : ObjId) (keys : List ℕ) (waiting rest : List ObjId) (next : ObjId) → waiting ≡ rest ++ next ∷ [] → IsWalk flag mapped graph object none keys waiting → has keys next.0 ≡ true
+pub taken_reached : (flag : Flag) (mapped : Mapped) (graph : Graph) (object : ObjId) (keys : List Bool) (waiting rest : List ObjId) (next : ObjId) → waiting ≡ rest ++ next ∷ [] → IsWalk flag mapped graph object none keys waiting → has keys next.0 ≡ true
 taken_reached flag mapped graph object keys waiting rest next is walk =
     walk.held next (subst (λ (ws : List ObjId). is_among ws next ≡ true) (sym is) (last rest))
   where
@@ -104,7 +105,7 @@ taken_reached flag mapped graph object keys waiting rest next is walk =
         more false b h = h
 
 -- its links were followed
-pub walk_more : (flag : Flag) (mapped : Mapped) (graph : Graph) (object : ObjId) (old new : List ℕ) (rest waiting : List ObjId) (next : ObjId) → has old next.0 ≡ true → IsWalk flag mapped graph object (is_it next) old rest → Comes old new rest waiting (linked_objects flag mapped graph next) → IsWalk flag mapped graph object none new waiting
+pub walk_more : (flag : Flag) (mapped : Mapped) (graph : Graph) (object : ObjId) (old new : List Bool) (rest waiting : List ObjId) (next : ObjId) → has old next.0 ≡ true → IsWalk flag mapped graph object (is_it next) old rest → Comes old new rest waiting (linked_objects flag mapped graph next) → IsWalk flag mapped graph object none new waiting
 walk_more flag mapped graph object old new rest waiting next reached walk comes = record {
   began = comes.kept object.0 walk.began;
   held = λ x among.
@@ -141,37 +142,34 @@ walk_more flag mapped graph object old new rest waiting next reached walk comes 
 made_closed : (flag : Flag) (mapped : Mapped) (graph : Graph) → IsFit mapped graph → IsClosed flag mapped graph (is_made graph)
 made_closed flag mapped graph fit x made = linked_made flag mapped graph x fit (made_is graph x made)
 
-pub reached_made : (flag : Flag) (mapped : Mapped) (graph : Graph) (object : ObjId) (skip : ObjId → Bool) (keys : List ℕ) (waiting : List ObjId) (number : ℕ) → IsFit mapped graph → IsObject graph object → IsWalk flag mapped graph object skip keys waiting → has keys number ≡ true → IsObject graph (id_of_number number)
+pub reached_made : (flag : Flag) (mapped : Mapped) (graph : Graph) (object : ObjId) (skip : ObjId → Bool) (keys : List Bool) (waiting : List ObjId) (number : ℕ) → IsFit mapped graph → IsObject graph object → IsWalk flag mapped graph object skip keys waiting → has keys number ≡ true → IsObject graph (id_of_number number)
 reached_made flag mapped graph object skip keys waiting number fit within walk there =
     made_is graph (id_of_number number) (walk.least (is_made graph) (is_is_made graph object within) (made_closed flag mapped graph fit) number there)
 
--- each number of a list is in it
-own_key : (key : ℕ) (keys : List ℕ) → has (key ∷ keys) key ≡ true
-own_key key keys = ap (λ (b : Bool). b || has keys key) (unsigned_tied key key ∙ eq-eqb key key refl)
+-- the objects to which one is linked have marks, each its own
+pub ends_within : (flag : Flag) (mapped : Mapped) (graph : Graph) (object : ObjId) (ends : List ObjId) (marks : List Bool) → IsFit mapped graph → IsObject graph object → ends ≡ linked_objects flag mapped graph object → length marks ≡ length graph.objects + 1
+    → All (λ (end : ObjId). end.0 < length marks) ends
+ends_within flag mapped graph object ends marks fit within is long =
+    all_within ends (ap (list_all (is_made graph)) is ∙ linked_made flag mapped graph object fit within)
+  where
+    all_within : (objects : List ObjId) → list_all (is_made graph) objects ≡ true → All (λ (end : ObjId). end.0 < length marks) objects
+    all_within [] made = All-nil (λ (end : ObjId). end.0 < length marks)
+    all_within (x ∷ objects) made =
+        let parts = and_parts (is_made graph x) (list_all (is_made graph) objects) made in
+        let it : x.0 ≤ length graph.objects = (made_is graph x parts.0).1 in
+        All-cons (λ (end : ObjId). end.0 < length marks) x objects (omega (arith, it, long)) (all_within objects parts.1)
 
-below : (count : ℕ) (keys : List ℕ) → ((number : ℕ) → has keys number ≡ true → number < count) → All (λ number. number < count) keys
-below count [] each = All-nil (λ number. number < count)
-below count (key ∷ keys) each =
-    All-cons (λ number. number < count) key keys (each key (own_key key keys)) (below count keys (λ number there. each number (or_right _ (has keys number) there)))
+-- ---- the objects that have marks, in order
 
--- no more than there are objects
-pub reached_few : (flag : Flag) (mapped : Mapped) (graph : Graph) (object : ObjId) (skip : ObjId → Bool) (keys : List ℕ) (waiting : List ObjId) → IsFit mapped graph → IsObject graph object → IsStrictlySortedBy nat_cmp keys → IsWalk flag mapped graph object skip keys waiting → length keys ≤ length graph.objects + 1
-reached_few flag mapped graph object skip keys waiting fit within ascending walk =
-    length-le_from_below (length graph.objects + 1) keys ascending
-    (below (length graph.objects + 1) keys (λ number there.
-    let inside : number ≤ length graph.objects = (reached_made flag mapped graph object skip keys waiting number fit within walk there).1 in
-    omega arith))
+below_marked : (x : ObjId) (number : ℕ) (marks : List Bool) → x.0 < number → IsBelow x (marked_from number marks)
+below_marked x number [] less = tt
+below_marked x number (true ∷ marks) less = (less, below_marked x (number + 1) marks (omega (arith, less)))
+below_marked x number (false ∷ marks) less = below_marked x (number + 1) marks (omega (arith, less))
 
--- ---- numbers in order are objects in order
-
-below_all : (key : ℕ) (keys : List ℕ) → AllByRecursion (λ y. nat_cmp key y ≡ Less) keys → IsBelow (id_of_number key) (map id_of_number keys)
-below_all key [] all = tt
-below_all key (next ∷ keys) all = let less : nat_cmp key next ≡ Less = all.0 in (grind (arith, nat_tests), below_all key keys all.1)
-
-pub in_order : (keys : List ℕ) → IsStrictlySortedBy nat_cmp keys → IsAscending (map id_of_number keys)
-unfolding IsStrictlySortedBy
-in_order [] ascending = tt
-in_order (key ∷ keys) ascending = (below_all key keys ascending.0, in_order keys ascending.1)
+pub rising_marked : (number : ℕ) (marks : List Bool) → IsAscending (marked_from number marks)
+rising_marked number [] = tt
+rising_marked number (true ∷ marks) = (below_marked (id_of_number number) (number + 1) marks (omega arith), rising_marked (number + 1) marks)
+rising_marked number (false ∷ marks) = rising_marked (number + 1) marks
 
 below_one : (x : ObjId) (xs : List ObjId) (y : ObjId) (ys : List ObjId) → IsBelow x (xs ++ y ∷ ys) → x.0 < y.0
 below_one x [] y ys below = below.0
@@ -182,19 +180,55 @@ pub above_before : (xs : List ObjId) (y : ObjId) (ys : List ObjId) → IsAscendi
 above_before [] y ys ascending = tt
 above_before (x ∷ xs) y ys ascending = (below_one x xs y ys ascending.0, above_before xs y ys ascending.1)
 
+-- ---- a loop over the marks
+
+marked_turn : (marks : List Bool) (number : ℕ) → number < length marks → marked_from number (drop number marks) ≡ cond (has marks number) (id_of_number number ∷ []) [] ++ marked_from (number + 1) (drop (number + 1) marks)
+marked_turn marks number less = ap (marked_from number) (drop_more marks number false less) ∙ by (has marks number)
+  where
+    by : (b : Bool) → marked_from number (b ∷ drop (number + 1) marks) ≡ cond b (id_of_number number ∷ []) [] ++ marked_from (number + 1) (drop (number + 1) marks)
+    by true = refl
+    by false = refl
+
+marked_as : (marks : List Bool) (number : ℕ) (b : Bool) → number < length marks → has marks number ≡ b → marked_from number (drop number marks) ≡ cond b (id_of_number number ∷ []) [] ++ marked_from (number + 1) (drop (number + 1) marks)
+marked_as marks number b less is = marked_turn marks number less ∙ ap (λ (m : Bool). cond m (id_of_number number ∷ []) [] ++ marked_from (number + 1) (drop (number + 1) marks)) is
+
+-- the next object is above those before it
+pub above_marked : (marks : List Bool) (number : ℕ) (set : List ObjId) → number < length marks → has marks number ≡ true → set ++ marked_from number (drop number marks) ≡ marked_from 0 marks → IsAbove set (id_of_number number)
+above_marked marks number set less mark so_far =
+    above_before set (id_of_number number) (marked_from (number + 1) (drop (number + 1) marks))
+    (subst IsAscending (sym (ap (λ (rest : List ObjId). set ++ rest) (sym (marked_as marks number true less mark)) ∙ so_far)) (rising_marked 0 marks))
+
 -- ---- the end
 
-among_has : (keys : List ℕ) (object : ObjId) → is_among (map id_of_number keys) object ≡ has keys object.0
-among_has [] object = refl
-among_has (key ∷ keys) object =
-    ap (λ (b : Bool). b || is_among (map id_of_number keys) object) (sym (unsigned_tied object.0 key)) ∙ ap (λ (b : Bool). eq_by_cmp nat_cmp object.0 key || b) (among_has keys object)
+other_number : (n m : ℕ) → (n ≡ m → ⊥) → (n == m) ≡ false
+other_number n m differs = by (n == m) refl
+  where
+    by : (b : Bool) → (n == m) ≡ b → b ≡ false
+    by true same = absurd (differs (eqb-true n m same))
+    by false same = refl
+
+before_marked : (number : ℕ) (marks : List Bool) (object : ObjId) → object.0 < number → is_among (marked_from number marks) object ≡ false
+before_marked number [] object less = refl
+before_marked number (true ∷ marks) object less =
+    ap (λ (b : Bool). b || is_among (marked_from (number + 1) marks) object) (other_number object.0 number (λ same. omega (arith, same, less)))
+    ∙ before_marked (number + 1) marks object (omega (arith, less))
+before_marked number (false ∷ marks) object less = before_marked (number + 1) marks object (omega (arith, less))
+
+among_at : (number : ℕ) (marks : List Bool) (object : ObjId) (place : ℕ) → object.0 ≡ number + place → is_among (marked_from number marks) object ≡ get_or marks place false
+among_at number [] object place is = refl
+among_at number (true ∷ marks) object zero is = or_left (object.0 == number) (is_among (marked_from (number + 1) marks) object) (eq-eqb object.0 number (omega (arith, is)))
+among_at number (true ∷ marks) object (suc place) is =
+    ap (λ (b : Bool). b || is_among (marked_from (number + 1) marks) object) (other_number object.0 number (λ same. omega (arith, same, is)))
+    ∙ among_at (number + 1) marks object place (omega (arith, is))
+among_at number (false ∷ marks) object zero is = before_marked (number + 1) marks object (omega (arith, is))
+among_at number (false ∷ marks) object (suc place) is = among_at (number + 1) marks object place (omega (arith, is))
 
 -- nothing waits any more
-pub walk_ended : (flag : Flag) (mapped : Mapped) (graph : Graph) (object : ObjId) (keys : List ℕ) (waiting : List ObjId) (set : List ObjId) → IsFit mapped graph → IsObject graph object → IsAscending set → waiting ≡ [] → set ≡ map id_of_number keys → IsWalk flag mapped graph object none keys waiting → IsClosure flag mapped graph object set
-walk_ended flag mapped graph object keys waiting set fit within ascending ended is walk =
-    let there : (x : ObjId) → is_among set x ≡ has keys x.0 = λ x. ap (λ (xs : List ObjId). is_among xs x) is ∙ among_has keys x in
+pub walk_ended : (flag : Flag) (mapped : Mapped) (graph : Graph) (object : ObjId) (keys : List Bool) (waiting : List ObjId) (set : List ObjId) → IsFit mapped graph → IsObject graph object → waiting ≡ [] → set ≡ marked_from 0 keys → IsWalk flag mapped graph object none keys waiting → IsClosure flag mapped graph object set
+walk_ended flag mapped graph object keys waiting set fit within ended is walk =
+    let there : (x : ObjId) → is_among set x ≡ has keys x.0 = λ x. ap (λ (xs : List ObjId). is_among xs x) is ∙ among_at 0 keys x x.0 (omega arith) in
     record {
-      ascending = ascending;
+      ascending = subst IsAscending (sym is) (rising_marked 0 keys);
       has = there object ∙ walk.began;
       closed = λ x inside. from_each (is_among set) (linked_objects flag mapped graph x) (λ y linked_to.
           there y ∙ walk.done x y (sym (there x) ∙ inside) (ap (λ (ws : List ObjId). is_among ws x) ended) refl linked_to);

@@ -88,7 +88,7 @@ pub fn expire_closure(
     closure(alloc, arena, mapping, Flag::RefreshExpire, object)
 }
 
-/// The least closed set that has an object.
+/// The least closed set that has an object. The only refusal is `Memory`.
 fn closure(
     alloc: Global,
     arena: &Arena,
@@ -102,55 +102,53 @@ fn closure(
     ensures closure { IfOk result (spec.IsClosure flag mapping.now arena.now object) }
     ensures cause { IfErr result (λ e. e ≡ Memory) }
 {
-    let mut walk = Walk::new(alloc);
+    let mut walk = Walk::new(alloc, arena.count())?;
+    let mut ends = ListOf::new(alloc);
     walk.come_to(object)?;
     while let Some(next) = walk.waiting.pop() {
-        let ends = linked(alloc, arena, mapping, flag, next)?;
+        ends.clear();
+        add_linked(&mut ends, arena, mapping, flag, next)?;
         walk.come_to_all(ends.as_slice())?;
     }
     walk.into_set(alloc)
 }
 
-/// The objects to which an object is linked along relationships with the flag.
+/// The objects to which an object is linked along relationships with the flag go to the end. The only refusal is `Memory`.
 #[tactic(auto, unfolding(crate::specs::Closures::linked_objects))]
-fn linked(
-    alloc: Global,
+fn add_linked(
+    ends: &mut ObjList,
     arena: &Arena,
     mapping: &Mapping,
     flag: Flag,
     object: ObjId,
-) -> Result<ObjList, Refusal>
+) -> Result<(), Refusal>
     requires configured { mapping.now.configured ≡ true }
     requires fit { IsFit mapping.now arena.now }
     requires object { IsObject arena.now object }
-    ensures linked { IfOk result (λ ends. ends ≡ spec.linked_objects flag mapping.now arena.now object) }
+    ensures linked { OnOk result
+        (ends.new ≡ ends.old ++ spec.linked_objects flag mapping.now arena.now object) }
     ensures cause { IfErr result (λ e. e ≡ Memory) }
 {
     let record = arena.object(object);
-    ends_along(
-        alloc,
-        flag,
-        mapping.relations(record.class),
-        record.links.as_slice(),
-    )
+    let relations = mapping.relations(record.class);
+    add_along(ends, flag, relations, record.links.as_slice())
 }
 
-/// What the links hold whose relationships have the flag.
-fn ends_along(
-    alloc: Global,
+/// What the links hold whose relationships have the flag goes to the end. The only refusal is `Memory`.
+fn add_along(
+    ends: &mut ObjList,
     flag: Flag,
     relations: &[Relation],
     links: &[Link],
-) -> Result<ObjList, Refusal>
-    ensures ends { IfOk result (λ ends. ends ≡ spec.ends_along flag relations.now links.now) }
+) -> Result<(), Refusal>
+    ensures ends { OnOk result (ends.new ≡ ends.old ++ spec.ends_along flag relations.now links.now) }
     ensures cause { IfErr result (λ e. e ≡ Memory) }
 {
-    let mut ends = ListOf::new(alloc);
     for place in 0..relations.len().min(links.len()) {
         let goes_on = has_flag(flag, &relations[place].cascade);
-        add_ends(&mut ends, goes_on, &links[place])?;
+        add_ends(ends, goes_on, &links[place])?;
     }
-    Ok(ends)
+    Ok(())
 }
 
 /// Whether calls go on along a relationship with such cascades.

@@ -1,57 +1,55 @@
-use Rattle.std.proofs.Common.{◌≡◌, ◌+◌, ◌-◌, ◌<◌, ◌≤◌, ◌∷◌, [], ◌∙◌, List, length, map, sym, ap, subst, arith}
+use Rattle.std.proofs.Common.{◌≡◌, ◌+◌, ◌∷◌, [], ◌++◌, ◌∙◌, Bool, List, false, length, ap, subst, arith}
+use Rattle.std.proofs.lemmas.List.{length-replicate}
 use Rattle.base_core.specs.declared.ids.ObjId.{ObjId}
-use Rattle.base_core.specs.Ascending.{IsAscending}
-use Rattle.cascades.specs.Closures.{IsClosure}
-use Rattle.cascades.specs.Walks.{Comes, id_of_number}
-use Rattle.std.proofs.lemmas.List.{length-append}
-use Rattle.cascades.proofs.ClosureLemmas.{empty_of, if_ok, in_order, none, reached_few, reached_made, taken_reached, walk_began, walk_ended, walk_more, walk_taken}
+use Rattle.cascades.specs.Closures.{IsClosure, linked_objects}
+use Rattle.cascades.specs.Walks.{Comes, marked_from}
+use Rattle.cascades.proofs.ClosureLemmas.{empty_of, ends_within, if_ok, none, reached_made, taken_reached, walk_began, walk_ended, walk_more, walk_taken}
 use Rattle.cascades.proofs.closures.closure.Goals as goal
 
-pub loop-next-init : goal.loop-next-init
-loop-next-init c = (
-  walk_began c.args.flag c.args.mapping.now c.args.arena.now c.args.object c.come_to.new.self.reached.keys c.come_to.new.self.waiting.items
-      (subst (λ ks. Comes ks c.come_to.new.self.reached.keys [] c.come_to.new.self.waiting.items (c.args.object ∷ [])) c.new-walk.ensures.reached
-      (subst (λ ws. Comes c.new-walk.result.reached.keys c.come_to.new.self.reached.keys ws c.come_to.new.self.waiting.items (c.args.object ∷ [])) c.new-walk.ensures.waiting c.in_ok-come_to.ensures.ok)),
-  c.in_ok-come_to.ensures.ascending,
-)
+pub come_to-requires : goal.come_to-requires
+come_to-requires c =
+    let long : length c.in_ok-walk.walk.marks.items ≡ c.count.result + 1 = ap (λ (ms : List Bool). length ms) c.in_ok-walk.ensures.marks ∙ length-replicate (c.count.result + 1) false in
+    omega (arith, long, c.count.ensures.count, c.requires.object.1)
 
-pub linked-requires-clause-object : goal.linked-requires-clause-object
-linked-requires-clause-object c =
-    reached_made c.args.flag c.args.mapping.now c.args.arena.now c.args.object none c.loop-next.walk.reached.keys c.loop-next.walk.waiting.items c.in-Some.next.0 c.requires.fit c.requires.object c.loop-next.invariant.0
-    (taken_reached c.args.flag c.args.mapping.now c.args.arena.now c.args.object c.loop-next.walk.reached.keys c.loop-next.walk.waiting.items c.pop.new.self.items c.in-Some.next c.in-Some.ensures.items c.loop-next.invariant.0)
+pub loop-next-init : goal.loop-next-init
+loop-next-init c =
+    let start = c.in_ok-walk.walk.marks.items in
+    let long : length start ≡ c.count.result + 1 = ap (λ (ms : List Bool). length ms) c.in_ok-walk.ensures.marks ∙ length-replicate (c.count.result + 1) false in (
+      walk_began c.args.flag c.args.mapping.now c.args.arena.now c.args.object (c.count.result + 1) c.come_to.new.self.marks.items c.come_to.new.self.waiting.items
+          (subst (λ ms. Comes ms c.come_to.new.self.marks.items [] c.come_to.new.self.waiting.items (c.args.object ∷ [])) c.in_ok-walk.ensures.marks
+          (subst (λ ws. Comes start c.come_to.new.self.marks.items ws c.come_to.new.self.waiting.items (c.args.object ∷ [])) c.in_ok-walk.ensures.waiting c.in_ok-come_to.ensures.ok)),
+      omega (arith, c.in_ok-come_to.ensures.ok.long, long, c.count.ensures.count),
+    )
+
+pub add_linked-requires-clause-object : goal.add_linked-requires-clause-object
+add_linked-requires-clause-object c =
+    reached_made c.args.flag c.args.mapping.now c.args.arena.now c.args.object none c.loop-next.walk.marks.items c.loop-next.walk.waiting.items c.in-Some.next.0 c.requires.fit c.requires.object c.loop-next.invariant.0
+    (taken_reached c.args.flag c.args.mapping.now c.args.arena.now c.args.object c.loop-next.walk.marks.items c.loop-next.walk.waiting.items c.pop.new.self.items c.in-Some.next c.in-Some.ensures.items c.loop-next.invariant.0)
+
+pub come_to_all-requires : goal.come_to_all-requires
+come_to_all-requires c =
+    let ends : List ObjId = linked_objects c.args.flag c.args.mapping.now c.args.arena.now c.in-Some.next in
+    ends_within c.args.flag c.args.mapping.now c.args.arena.now c.in-Some.next c.as_slice.result.now c.loop-next.walk.marks.items c.requires.fit
+    (reached_made c.args.flag c.args.mapping.now c.args.arena.now c.args.object none c.loop-next.walk.marks.items c.loop-next.walk.waiting.items c.in-Some.next.0 c.requires.fit c.requires.object c.loop-next.invariant.0
+    (taken_reached c.args.flag c.args.mapping.now c.args.arena.now c.args.object c.loop-next.walk.marks.items c.loop-next.walk.waiting.items c.pop.new.self.items c.in-Some.next c.in-Some.ensures.items c.loop-next.invariant.0))
+    (c.as_slice.ensures ∙ c.in_ok-add_linked.ensures.linked ∙ ap (λ (xs : List ObjId). xs ++ ends) c.clear.ensures) c.loop-next.invariant.1
 
 pub loop-next-preserved : goal.loop-next-preserved
 loop-next-preserved c =
-    let followed = subst (λ ends. Comes c.loop-next.walk.reached.keys c.come_to_all.new.self.reached.keys c.pop.new.self.items c.come_to_all.new.self.waiting.items ends)
-    (c.as_slice.ensures ∙ c.in_ok-ends.ensures.linked) c.in_ok-come_to_all.ensures.ok in (
-      walk_more c.args.flag c.args.mapping.now c.args.arena.now c.args.object c.loop-next.walk.reached.keys c.come_to_all.new.self.reached.keys c.pop.new.self.items c.come_to_all.new.self.waiting.items c.in-Some.next
-          (taken_reached c.args.flag c.args.mapping.now c.args.arena.now c.args.object c.loop-next.walk.reached.keys c.loop-next.walk.waiting.items c.pop.new.self.items c.in-Some.next c.in-Some.ensures.items c.loop-next.invariant.0)
-          (walk_taken c.args.flag c.args.mapping.now c.args.arena.now c.args.object c.loop-next.walk.reached.keys c.loop-next.walk.waiting.items c.pop.new.self.items c.in-Some.next c.in-Some.ensures.items c.loop-next.invariant.0)
-          followed,
-      c.in_ok-come_to_all.ensures.ascending,
+    let ends : List ObjId = linked_objects c.args.flag c.args.mapping.now c.args.arena.now c.in-Some.next in
+    let came = c.in_ok-come_to_all.ensures.ok in (
+      walk_more c.args.flag c.args.mapping.now c.args.arena.now c.args.object c.loop-next.walk.marks.items c.come_to_all.new.self.marks.items c.pop.new.self.items c.come_to_all.new.self.waiting.items c.in-Some.next
+          (taken_reached c.args.flag c.args.mapping.now c.args.arena.now c.args.object c.loop-next.walk.marks.items c.loop-next.walk.waiting.items c.pop.new.self.items c.in-Some.next c.in-Some.ensures.items c.loop-next.invariant.0)
+          (walk_taken c.args.flag c.args.mapping.now c.args.arena.now c.args.object c.loop-next.walk.marks.items c.loop-next.walk.waiting.items c.pop.new.self.items c.in-Some.next c.in-Some.ensures.items c.loop-next.invariant.0)
+          (subst (λ (es : List ObjId). Comes c.loop-next.walk.marks.items c.come_to_all.new.self.marks.items c.pop.new.self.items c.come_to_all.new.self.waiting.items es)
+          (c.as_slice.ensures ∙ c.in_ok-add_linked.ensures.linked ∙ ap (λ (xs : List ObjId). xs ++ ends) c.clear.ensures) came),
+      came.long ∙ c.loop-next.invariant.1,
     )
-
-pub loop-next-smaller : goal.loop-next-smaller
-loop-next-smaller c =
-    let followed = subst (λ ends. Comes c.loop-next.walk.reached.keys c.come_to_all.new.self.reached.keys c.pop.new.self.items c.come_to_all.new.self.waiting.items ends)
-    (c.as_slice.ensures ∙ c.in_ok-ends.ensures.linked) c.in_ok-come_to_all.ensures.ok in
-    let taken : length c.loop-next.walk.waiting.items ≡ length c.pop.new.self.items + 1 =
-    ap (λ (xs : List ObjId). length xs) c.in-Some.ensures.items ∙ length-append c.pop.new.self.items (c.in-Some.next ∷ []) in
-    let few : length c.come_to_all.new.self.reached.keys ≤ length c.args.arena.now.objects + 1 =
-    reached_few c.args.flag c.args.mapping.now c.args.arena.now c.args.object none c.come_to_all.new.self.reached.keys c.come_to_all.new.self.waiting.items c.requires.fit c.requires.object
-    c.in_ok-come_to_all.ensures.ascending (loop-next-preserved c).0 in
-    let before : length c.loop-next.walk.reached.keys ≤ length c.args.arena.now.objects + 1 =
-    reached_few c.args.flag c.args.mapping.now c.args.arena.now c.args.object none c.loop-next.walk.reached.keys c.loop-next.walk.waiting.items c.requires.fit c.requires.object
-    c.loop-next.invariant.1 c.loop-next.invariant.0 in
-    let smaller : (length c.args.arena.now.objects + 1 - length c.come_to_all.new.self.reached.keys) + length c.come_to_all.new.self.waiting.items
-    < (length c.args.arena.now.objects + 1 - length c.loop-next.walk.reached.keys) + length c.loop-next.walk.waiting.items = omega (arith, followed.count, taken, few, before) in
-    smaller
 
 pub returns-clause-closure : goal.returns-clause-closure
 returns-clause-closure c =
     let nothing : length c.loop-next.walk.waiting.items ≡ 0 = omega (arith, c.loop-next.walk.waiting.ok, c.in_default.ensures.cases.0) in
-    if_ok (λ (set : List ObjId). set ≡ map id_of_number c.loop-next.walk.reached.keys) (IsClosure c.args.flag c.args.mapping.now c.args.arena.now c.args.object) c.into_set.result
-    (λ set is. walk_ended c.args.flag c.args.mapping.now c.args.arena.now c.args.object c.loop-next.walk.reached.keys c.loop-next.walk.waiting.items set c.requires.fit c.requires.object
-    (subst (λ (xs : List ObjId). IsAscending xs) (sym is) (in_order c.loop-next.walk.reached.keys c.loop-next.invariant.1))
+    if_ok (λ (set : List ObjId). set ≡ marked_from 0 c.loop-next.walk.marks.items) (IsClosure c.args.flag c.args.mapping.now c.args.arena.now c.args.object) c.into_set.result
+    (λ set is. walk_ended c.args.flag c.args.mapping.now c.args.arena.now c.args.object c.loop-next.walk.marks.items c.loop-next.walk.waiting.items set c.requires.fit c.requires.object
     (empty_of c.loop-next.walk.waiting.items nothing) is c.loop-next.invariant.0)
     c.into_set.ensures.set

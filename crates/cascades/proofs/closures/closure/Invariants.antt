@@ -1,11 +1,12 @@
-use Rattle.std.proofs.Common.{◌+◌, ◌-◌, length}
-use Rattle.std.specs.Ordering.{nat_cmp}
-use Rattle.std.specs.List.Sorted.{IsStrictlySortedBy}
+use Rattle.std.proofs.Common.{◌≡◌, ◌+◌, length}
+use Rattle.cascades.specs.Walks.{count_left}
 use Rattle.cascades.proofs.ClosureLemmas.{IsWalk, none}
 use Rattle.cascades.proofs.closures.closure.Given as goal
 
 abbrev pub invariant-loop-next : goal.invariant-loop-next
-invariant-loop-next l = IsWalk l.flag l.mapping l.arena l.fn.object none l.walk.reached.keys l.walk.waiting.items × IsStrictlySortedBy nat_cmp l.walk.reached.keys
+invariant-loop-next l =
+    IsWalk l.flag l.mapping l.arena l.fn.object none l.walk.marks.items l.walk.waiting.items
+    × (length l.walk.marks.items ≡ length l.arena.objects + 1)
 
 abbrev pub decreases-loop-next : goal.decreases-loop-next
-decreases-loop-next l = (length l.arena.objects + 1 - length l.walk.reached.keys) + length l.walk.waiting.items
+decreases-loop-next l = count_left l.walk.marks.items + length l.walk.waiting.items
