@@ -186,7 +186,7 @@ module _ (w : World) (steady : IsSteady w) (sound : IsSound w) where
       cells_are mapped (it_at place).class (length (it_at place).cells) (class_is place less)
       (as_long cell_fits (attributes_of mapped (it_at place).class) (it_at place).cells (steady.plain.fit.objects place no_object less).cells)
 
-  all_steady : AreSteady mapped w.own.graph (prepared_of w.own.graph) w.store.tables
+  pub all_steady : AreSteady mapped w.own.graph (prepared_of w.own.graph) w.store.tables
   all_steady = record {
     plain = steady.plain;
     well = steady.well;

@@ -1,3 +1,3 @@
-mod Making
-mod Placed
-mod Dropping
+pub mod Making
+pub mod Placed
+pub mod Dropping
