@@ -5,6 +5,6 @@ pub mod Fresh
 pub mod One
 mod Pending
 pub mod Plain
-mod Rows
+pub mod Rows
 mod Staying
-mod Told
+pub mod Told

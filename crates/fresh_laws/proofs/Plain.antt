@@ -126,11 +126,11 @@ module _ (mapped : Mapped) (graph : Graph) (plain : ArePlainObjects mapped graph
 
 -- ---- nothing is written late, and there are no pairs
 
-none_pass : {A : Type 0} (test : A → Bool) (xs : List A) → AllByRecursion (λ x. test x ≡ false) xs → filter test xs ≡ []
+pub none_pass : {A : Type 0} (test : A → Bool) (xs : List A) → AllByRecursion (λ x. test x ≡ false) xs → filter test xs ≡ []
 none_pass test [] all = refl
 none_pass test (x ∷ xs) all = ap (λ (b : Bool). cond b (x ∷ filter test xs) (filter test xs)) all.0 ∙ none_pass test xs all.1
 
-none_any : {A : Type 0} (test : A → Bool) (xs : List A) → AllByRecursion (λ x. test x ≡ false) xs → list_any test xs ≡ false
+pub none_any : {A : Type 0} (test : A → Bool) (xs : List A) → AllByRecursion (λ x. test x ≡ false) xs → list_any test xs ≡ false
 none_any test [] all = refl
 none_any test (x ∷ xs) all = ap (λ (b : Bool). b || list_any test xs) all.0 ∙ none_any test xs all.1
 
@@ -142,7 +142,7 @@ in_range : (P : ℕ → Type 0) (n count : ℕ) → ((k : ℕ) → n ≤ k → k
 in_range P n zero each = tt
 in_range P n (suc count) each = (each n (omega arith) (omega arith), in_range P (n + 1) count (λ k low high. each k (omega (arith, low)) (omega (arith, high))))
 
-given_all : {A : Type 0} (P : A → Type 0) (xs : List A) → ((x : A) → P x) → AllByRecursion P xs
+pub given_all : {A : Type 0} (P : A → Type 0) (xs : List A) → ((x : A) → P x) → AllByRecursion P xs
 given_all P [] each = tt
 given_all P (x ∷ xs) each = (each x, given_all P xs each)
 

@@ -70,7 +70,7 @@ first_false : (b : Bool) → (b || false) ≡ false → b ≡ false
 first_false true is = absurd cc
 first_false false is = refl
 
-both_false : (a b : Bool) → (a && b) ≡ false → a ≡ true → b ≡ false
+pub both_false : (a b : Bool) → (a && b) ≡ false → a ≡ true → b ≡ false
 both_false true b is held = is
 both_false false b is held = absurd cc
 
