@@ -146,16 +146,11 @@ impl<'a> Projection<'a> {
     }
 
     #[tactic(auto, using(class_layouts::proofs::Steps::steps))]
-    /// The row of an object in a table, with the cells that change.
-    fn changed_row(
-        &self,
-        alloc: Global,
-        object: ObjId,
-        table: TableId,
-    ) -> Result<ChangedRow, Refusal>
+    /// The cells that change of an object's row in a table. Takes no memory where there are none.
+    fn changed_cells(&self, alloc: Global, object: ObjId, table: TableId) -> Result<Cells, Refusal>
         requires ready { IsReady self.now }
         requires object { IsObject self.now.arena.now object }
-        ensures row { IfOk result (λ row. row ≡ spec.changed_row self.now.mapping.now
+        ensures cells { IfOk result (λ cells. cells ≡ spec.changed_cells self.now.mapping.now
             self.now.arena.now self.now.prepared.now self.now.names.now object table) }
         ensures cause { IfErr result (λ e. e ≡ Memory) }
     {
@@ -164,12 +159,7 @@ impl<'a> Projection<'a> {
         for (number, column) in columns.iter().enumerate() {
             self.push_change(&mut cells, object, table, number, column)?;
         }
-        let key = key_or_none(alloc, &self.arena.object(object).identity)?;
-        Ok(ChangedRow {
-            name: RowName { table, object },
-            key,
-            cells,
-        })
+        Ok(cells)
     }
 
     /// The row of an object in a table goes behind others, where some cell of it changes.
@@ -187,11 +177,16 @@ impl<'a> Projection<'a> {
             self.now.prepared.now self.now.names.now object) (table ∷ []))) }
         ensures cause { IfErr result (λ e. e ≡ Memory) }
     {
-        let row = self.changed_row(alloc, object, table)?;
-        if !row.cells.is_empty() {
-            out.push(row)?;
+        let cells = self.changed_cells(alloc, object, table)?;
+        if cells.is_empty() {
+            return Ok(());
         }
-        Ok(())
+        let key = key_or_none(alloc, &self.arena.object(object).identity)?;
+        out.push(ChangedRow {
+            name: RowName { table, object },
+            key,
+            cells,
+        })
     }
 
     #[tactic(auto, using(class_layouts::proofs::Steps::steps, object_arena::proofs::FitLemmas::fit_class))]
