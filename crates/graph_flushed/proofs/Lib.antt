@@ -4,5 +4,5 @@ mod FollowSteps
 mod HolderSteps
 mod KeySteps
 pub mod ObjectSteps
-mod PlainSteps
+pub mod SettledSteps
 mod SettleSteps

@@ -1,6 +1,5 @@
 -- The records that are put in are the objects after success.
-use Rattle.std.proofs.Common.{◌≡◌, List, length, Result, Ok, Err, OnOk, IfOk, sym, ap, ◌∙◌}
-use Rattle.std.specs.List.{All}
+use Rattle.std.proofs.Common.{◌≡◌, List, length, Option, Result, Ok, Err, OnOk, IfOk, sym, ap, ◌∙◌}
 use Rattle.base_core.specs.declared.refusal.Refusal.{Refusal}
 use Rattle.object_arena.specs.declared.object.Object.{Object}
 use Rattle.object_arena.specs.Graph.{Graph}
@@ -9,25 +8,23 @@ use Rattle.object_records.specs.Records.{CanFollow, with_records}
 use Rattle.savepoints.specs.Scopes.{Framed}
 use Rattle.touching.specs.Touched.{frames_touched_between}
 use Rattle.graph_flushed.specs.Flushed.{Written, graph_written}
-use Rattle.graph_flushed.specs.Ready.{IsNarrow}
+use Rattle.graph_flushed.specs.Ready.{AreNarrowThen}
 use Rattle.graph_flushed.proofs.FollowSteps.{can_follow}
+use Rattle.graph_flushed.proofs.ObjectSteps.{narrow_all}
 
-records_are : (written : Written) (objects : List Object) → objects ≡ (graph_written written).objects → with_records written.graph objects ≡ graph_written written
-unfolding graph_written
-records_are written objects is = ap (λ (list : List Object). record { objects = list; roots = written.graph.roots }) is
+pub settled_ok : (written : Written) (new : Graph) (records : List (Option Object)) (r : Result (Unit {0}) Refusal) → with_records written.graph records ≡ graph_written written → OnOk r (new ≡ with_records written.graph records) → OnOk r (new ≡ graph_written written)
+settled_ok written new records (Ok u) is put = put ∙ is
+settled_ok written new records (Err e) is put = tt
 
-pub settled_ok : (written : Written) (new : Graph) (objects : List Object) (r : Result (Unit {0}) Refusal) → objects ≡ (graph_written written).objects → OnOk r (new ≡ with_records written.graph objects) → OnOk r (new ≡ graph_written written)
-settled_ok written new objects (Ok u) is put = put ∙ records_are written objects is
-settled_ok written new objects (Err e) is put = tt
-
-pub settled_touched : (written : Written) (new : Graph) (objects : List Object) (r : Result (Unit {0}) Refusal) (old now : Framed) → OnOk r (new ≡ with_records written.graph objects)
-    → OnOk r (now ≡ frames_touched_between written.graph (with_records written.graph objects) old) → OnOk r (now ≡ frames_touched_between written.graph new old)
-settled_touched written new objects (Ok u) old now put touched = touched ∙ ap (λ (g : Graph). frames_touched_between written.graph g old) (sym put)
-settled_touched written new objects (Err e) old now put touched = tt
+pub settled_touched : (written : Written) (new : Graph) (records : List (Option Object)) (r : Result (Unit {0}) Refusal) (old now : Framed) → OnOk r (new ≡ with_records written.graph records)
+    → OnOk r (now ≡ frames_touched_between written.graph (with_records written.graph records) old) → OnOk r (now ≡ frames_touched_between written.graph new old)
+settled_touched written new records (Ok u) old now put touched = touched ∙ ap (λ (g : Graph). frames_touched_between written.graph g old) (sym put)
+settled_touched written new records (Err e) old now put touched = tt
 
 -- ---- the objects can follow
 
-pub objects_follow : (written : Written) (r : Result (List Object) Refusal) → IfOk r (λ objects. objects ≡ (graph_written written).objects) → IsGraph written.graph.objects written.graph.roots → length written.keys ≡ length written.graph.objects
-    → IfOk r (All IsNarrow) → IfOk r (CanFollow written.graph)
-objects_follow written (Ok objects) is graph long narrow = can_follow written objects is graph long narrow
-objects_follow written (Err e) is graph long narrow = tt
+pub records_follow : (written : Written) (r : Result (List (Option Object)) Refusal) → IfOk r (λ records. with_records written.graph records ≡ graph_written written) → IsGraph written.graph.objects written.graph.roots → length written.keys ≡ length written.graph.objects
+    → IfOk r (λ records. AreNarrowThen written.graph records (length written.graph.objects)) → IfOk r (λ records. CanFollow written.graph (with_records written.graph records).objects)
+records_follow written (Ok records) is graph long narrow =
+    can_follow written (with_records written.graph records).objects (ap (λ (g : Graph). g.objects) is) graph long (narrow_all written.graph records narrow)
+records_follow written (Err e) is graph long narrow = tt

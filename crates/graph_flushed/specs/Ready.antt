@@ -1,10 +1,12 @@
 -- When it can be told what success of a flush makes of the objects.
-use Rattle.std.specs.Prelude.{◌≡◌, ◌≤◌, List, length, map, Option, Some, if◌then◌else◌}
+use Rattle.std.specs.Prelude.{◌≡◌, ℕ, ◌<◌, ◌≤◌, List, length, map, slice_index_or, Option, Some, if◌then◌else◌}
 use Rattle.base_core.specs.declared.ids.ClassId.{ClassId}
 use Rattle.base_core.specs.declared.ids.ObjId.{ObjId}
 use Rattle.base_core.specs.declared.value.Value.{Value}
 use Rattle.identity_maps.specs.Entries.{Keyed, entry_of}
 use Rattle.object_arena.specs.declared.object.Object.{Object}
+use Rattle.object_arena.specs.Graph.{Graph, no_object}
+use Rattle.object_records.specs.Records.{record_at}
 use Rattle.object_rows.specs.Ready.{IsReady}
 use Rattle.graph_flushed.specs.declared.flushing.Flushing.{Flushing}
 use Rattle.graph_flushed.specs.declared.keys.RowKeys.{RowKeys}
@@ -43,3 +45,7 @@ pub record IsFlushing (flushing : Flushing) : Type 0 where
 -- the cells and links of an object have numbers
 abbrev pub IsNarrow : Object → Type 0
 IsNarrow object = (length object.cells ≤ 4294967295) × (length object.links ≤ 4294967295)
+
+-- so have those of what the objects before a place come to be, where they get these records
+abbrev pub AreNarrowThen : Graph → List (Option Object) → ℕ → Type 0
+AreNarrowThen graph records count = (place : ℕ) → place < count → IsNarrow (record_at records place (slice_index_or graph.objects place no_object))

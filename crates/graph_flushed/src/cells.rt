@@ -1,6 +1,6 @@
 //! The cells of objects after success.
 
-ghost use Rattle.std.specs.Prelude.{◌≡◌, ◌==◌, ◌<◌, true, length, map, Some, IfOk, IfErr};
+ghost use Rattle.std.specs.Prelude.{◌≡◌, ◌==◌, ◌<◌, true, length, map, Some, IfOk, IfErr, IsTrue};
 ghost use Rattle.std.specs.List.{enumerate_from, list_any, position};
 ghost use Rattle.base_core.specs.declared.refusal.Refusal.TheVariants.{Memory};
 ghost use Rattle.class_mapping.specs.Mapped.{IsClass, attribute_of, attributes_of, is_key_attribute, key_attributes};
@@ -9,7 +9,7 @@ ghost use Rattle.graph_flushed.specs.Flushed as spec;
 ghost use Rattle.graph_flushed.specs.Ready.{IsFlushing, written_of};
 
 use crate::flushing::Flushing;
-use base_core::{AttrNo, ClassId, Copied, Key, ListOf, ObjId, Refusal, Value};
+use base_core::{AttrNo, ClassId, Copied, Key, ListOf, ObjId, Refusal, Value, compare};
 use class_layouts::number_of;
 use object_arena::Cell;
 use object_rows::part_of_key;
@@ -25,6 +25,28 @@ fn held_cell(value: Value) -> Result<Cell, Refusal>
         value: Some(value),
         base: Some(base),
     })
+}
+
+/// Whether both values are equal.
+#[tactic(auto, using(crate::proofs::SettledSteps::values))]
+fn is_value(value: &Value, known: &Option<Value>) -> bool
+    ensures { IsTrue result → known.now ≡ Some value.now }
+{
+    match known {
+        Some(known) => compare(value, known).is_eq(),
+        None => false,
+    }
+}
+
+/// Whether a cell is expired, or its row has its value.
+#[tactic(auto, using(crate::proofs::SettledSteps::values))]
+fn is_kept(cell: &Cell) -> bool
+    ensures { IsTrue result → spec.kept_cell cell.now ≡ cell.now }
+{
+    match &cell.value {
+        Some(value) => is_value(value, &cell.base),
+        None => true,
+    }
 }
 
 /// A cell whose row has its value.
@@ -142,6 +164,58 @@ impl<'a> Flushing<'a> {
             Some(value) => held_cell(value),
             None => kept_cell(cell),
         }
+    }
+
+    /// Whether a cell of an object that keeps its rows stays as it is.
+    fn keeps_cell(
+        &self,
+        object: ObjId,
+        class: ClassId,
+        place: usize,
+        cell: &Cell,
+    ) -> Result<bool, Refusal>
+        requires flushing { IsFlushing self.now }
+        requires object { IsObject self.now.projection.now.arena.now object }
+        requires class { IsClass self.now.projection.now.mapping.now class }
+        requires place { place < length (attributes_of self.now.projection.now.mapping.now class) }
+        ensures kept { IfOk result (λ kept. IsTrue kept
+            → spec.staying_cell (written_of self.now) object class (place, cell.now) ≡ cell.now) }
+        ensures cause { IfErr result (λ e. e ≡ Memory) }
+    {
+        if !is_kept(cell) {
+            return Ok(false);
+        }
+        let mapping = self.projection.mapping;
+        if is_among(mapping.key_attributes(class), place) {
+            return Ok(true);
+        }
+        let come = self.value_come(object, &mapping.attributes(class)[place])?;
+        Ok(come.is_none())
+    }
+
+    /// Whether the cells of an object that keeps its rows stay as they are. Takes no memory, where nothing comes through a link.
+    pub(crate) fn keeps_cells(
+        &self,
+        object: ObjId,
+        class: ClassId,
+        cells: &[Cell],
+    ) -> Result<bool, Refusal>
+        requires flushing { IsFlushing self.now }
+        requires object { IsObject self.now.projection.now.arena.now object }
+        requires class { IsClass self.now.projection.now.mapping.now class }
+        requires long { length cells.now
+            ≡ length (attributes_of self.now.projection.now.mapping.now class) }
+        ensures kept { IfOk result (λ kept. IsTrue kept → map
+            (spec.staying_cell (written_of self.now) object class) (enumerate_from 0 cells.now)
+            ≡ cells.now) }
+        ensures cause { IfErr result (λ e. e ≡ Memory) }
+    {
+        for (place, cell) in cells.iter().enumerate() {
+            if !self.keeps_cell(object, class, place, cell)? {
+                return Ok(false);
+            }
+        }
+        Ok(true)
     }
 
     /// The cells of an object that keeps its rows.

@@ -1,6 +1,6 @@
 //! The links of objects after success.
 
-ghost use Rattle.std.specs.Prelude.{◌≡◌, map, IfOk, IfErr};
+ghost use Rattle.std.specs.Prelude.{◌≡◌, map, IfOk, IfErr, IsTrue};
 ghost use Rattle.std.specs.List.{enumerate_from};
 ghost use Rattle.base_core.specs.declared.refusal.Refusal.TheVariants.{Memory};
 ghost use Rattle.object_rows.specs.Seen.{is_cleared};
@@ -54,6 +54,44 @@ pub(crate) fn prepared_links(
         all.push(prepared_link(is_none, link)?)?;
     }
     Ok(all)
+}
+
+/// Whether a link has neither flags nor kept changes. A collection that was read is not told.
+fn is_kept(link: &Link) -> bool
+    ensures { IsTrue result → spec.kept_link link.now ≡ link.now }
+{
+    match link {
+        Link::Unloaded { added, removed } => added.is_empty() && removed.is_empty(),
+        Link::One { changed, .. } => !*changed,
+        Link::Unset | Link::Many { .. } => false,
+    }
+}
+
+/// Whether a link of an object that was written stays as it is.
+fn keeps_link(is_cleared: bool, link: &Link) -> bool
+    ensures { IsTrue result
+        → spec.kept_link (spec.prepared_link is_cleared link.now) ≡ link.now }
+{
+    !is_cleared && is_kept(link)
+}
+
+/// Whether the links of an object that was written stay as they are. The only refusal is `Memory`, and it takes none.
+pub(crate) fn keeps_links(
+    prepared: &Prepared,
+    object: ObjId,
+    links: &[Link],
+) -> Result<bool, Refusal>
+    ensures kept { IfOk result (λ kept. IsTrue kept
+        → spec.kept_links prepared.now object links.now ≡ links.now) }
+    ensures cause { IfErr result (λ e. e ≡ Memory) }
+{
+    for (number, link) in links.iter().enumerate() {
+        let is_none = is_cleared(prepared, object, RelNo(number_of(number)?));
+        if !keeps_link(is_none, link) {
+            return Ok(false);
+        }
+    }
+    Ok(true)
 }
 
 /// A link without flags and kept changes.

@@ -1,16 +1,17 @@
 //! Objects after success.
 
-ghost use Rattle.std.specs.Prelude.{◌≡◌, None, Some, IfOk, IfErr};
-ghost use Rattle.std.specs.List.{All};
+ghost use Rattle.std.specs.Prelude.{◌≡◌, None, Some, length, IfOk, IfErr, IsTrue};
+ghost use Rattle.std.specs.Option.{unwrap_or};
 ghost use Rattle.base_core.specs.declared.refusal.Refusal.TheVariants.{Memory};
 ghost use Rattle.object_arena.specs.Graph.{IsObject, object_at};
 ghost use Rattle.object_arena.specs.Identity.{is_other};
 ghost use Rattle.graph_flushed.specs.Flushed as spec;
-ghost use Rattle.graph_flushed.specs.Ready.{IsFlushing, IsNarrow, written_of};
+ghost use Rattle.object_records.specs.Records.{with_records};
+ghost use Rattle.graph_flushed.specs.Ready.{AreNarrowThen, IsFlushing, IsNarrow, written_of};
 
 use crate::cells::kept_cells;
 use crate::flushing::Flushing;
-use crate::links::{kept_links, prepared_links};
+use crate::links::{keeps_links, kept_links, prepared_links};
 use base_core::{Copied, Key, ListOf, ObjId, Refusal};
 use object_arena::{Object, State};
 use object_rows::is_among;
@@ -246,35 +247,130 @@ impl<'a> Flushing<'a> {
         }
     }
 
-    /// An object after success, whose cells and links have numbers.
-    fn narrow_object(&self, alloc: Global, object: ObjId) -> Result<Object, Refusal>
+    /// Whether the state of a persistent object stays, by its identity.
+    fn keeps_state(&self, object: ObjId, identity: &Option<Key>) -> bool
         requires flushing { IsFlushing self.now }
         requires object { IsObject self.now.projection.now.arena.now object }
-        ensures object { IfOk result (λ new. new ≡ spec.object_flushed (written_of self.now)
-            object (object_at self.now.projection.now.arena.now object)) }
-        ensures narrow { IfOk result IsNarrow }
-        ensures cause { IfErr result (λ e. e ≡ Memory) }
+        ensures { IsTrue result → spec.state_under (written_of self.now) object identity.now
+            ≡ State.Persistent }
     {
-        let new = self.object_flushed(alloc, object)?;
-        if new.cells.len() > u32::MAX as usize || new.links.len() > u32::MAX as usize {
-            return Err(Refusal::Memory);
-        }
-        Ok(new)
+        matches!(self.state_under(object, identity), State::Persistent)
     }
 
-    #[tactic(auto, using(crate::proofs::ObjectSteps::object_steps))]
-    /// All objects after success.
-    pub(crate) fn objects(&self, alloc: Global) -> Result<ListOf<Object>, Refusal>
+    /// Whether an object that keeps its rows stays as it is.
+    #[tactic(auto, using(crate::proofs::SettledSteps::stays))]
+    fn keeps_object(&self, object: ObjId) -> Result<bool, Refusal>
         requires flushing { IsFlushing self.now }
-        ensures objects { IfOk result
-            (λ objects. objects ≡ (spec.graph_written (written_of self.now)).objects) }
-        ensures narrow { IfOk result (All IsNarrow) }
+        requires object { IsObject self.now.projection.now.arena.now object }
+        requires persistent { (object_at self.now.projection.now.arena.now object).state
+            ≡ State.Persistent }
+        ensures kept { IfOk result (λ kept. IsTrue kept
+            → spec.staying_object (written_of self.now) object
+            (object_at self.now.projection.now.arena.now object)
+            ≡ object_at self.now.projection.now.arena.now object) }
         ensures cause { IfErr result (λ e. e ≡ Memory) }
     {
-        let mut objects = ListOf::new(alloc);
-        for number in 0..self.projection.arena.count() {
-            objects.push(self.narrow_object(alloc, ObjId(number + 1))?)?;
+        let old = self.projection.arena.object(object);
+        if !self.keeps_state(object, &old.identity)
+            || !keeps_links(self.projection.prepared, object, old.links.as_slice())?
+        {
+            return Ok(false);
         }
-        Ok(objects)
+        self.keeps_cells(object, old.class, old.cells.as_slice())
+    }
+
+    /// Whether success leaves an object as it is, as far as that is told without memory.
+    #[tactic(auto, using(crate::proofs::SettledSteps::stays))]
+    fn is_settled(&self, object: ObjId) -> Result<bool, Refusal>
+        requires flushing { IsFlushing self.now }
+        requires object { IsObject self.now.projection.now.arena.now object }
+        ensures settled { IfOk result (λ settled. IsTrue settled
+            → spec.object_flushed (written_of self.now) object
+            (object_at self.now.projection.now.arena.now object)
+            ≡ object_at self.now.projection.now.arena.now object) }
+        ensures cause { IfErr result (λ e. e ≡ Memory) }
+    {
+        match self.projection.arena.state_of(object) {
+            State::Persistent => {
+                if is_among(&self.projection.prepared.deleted, object) {
+                    return Ok(false);
+                }
+                self.keeps_object(object)
+            }
+            State::Transient | State::Pending | State::Deleted | State::Detached => Ok(false),
+        }
+    }
+
+    /// The record that an object gets, unless it stays as it is.
+    fn record_flushed(&self, alloc: Global, object: ObjId) -> Result<Option<Object>, Refusal>
+        requires flushing { IsFlushing self.now }
+        requires object { IsObject self.now.projection.now.arena.now object }
+        ensures object { IfOk result (λ given.
+            unwrap_or given (object_at self.now.projection.now.arena.now object)
+            ≡ spec.object_flushed (written_of self.now) object
+            (object_at self.now.projection.now.arena.now object)) }
+        ensures cause { IfErr result (λ e. e ≡ Memory) }
+    {
+        if self.is_settled(object)? {
+            return Ok(None);
+        }
+        let new = self.object_flushed(alloc, object)?;
+        Ok(Some(new))
+    }
+
+    /// The record that an object gets, whose cells and links have numbers.
+    fn narrow_record(&self, alloc: Global, object: ObjId) -> Result<Option<Object>, Refusal>
+        requires flushing { IsFlushing self.now }
+        requires object { IsObject self.now.projection.now.arena.now object }
+        ensures object { IfOk result (λ given.
+            unwrap_or given (object_at self.now.projection.now.arena.now object)
+            ≡ spec.object_flushed (written_of self.now) object
+            (object_at self.now.projection.now.arena.now object)) }
+        ensures narrow { IfOk result (λ given. IsNarrow
+            (unwrap_or given (object_at self.now.projection.now.arena.now object))) }
+        ensures cause { IfErr result (λ e. e ≡ Memory) }
+    {
+        let given = self.record_flushed(alloc, object)?;
+        if !is_narrow_then(self.projection.arena.object(object), &given) {
+            return Err(Refusal::Memory);
+        }
+        Ok(given)
+    }
+
+    /// The records that objects get; one that stays as it is gets none.
+    pub(crate) fn records(&self, alloc: Global) -> Result<ListOf<Option<Object>>, Refusal>
+        requires flushing { IsFlushing self.now }
+        ensures records { IfOk result (λ records.
+            with_records self.now.projection.now.arena.now records
+            ≡ spec.graph_written (written_of self.now)) }
+        ensures long { IfOk result (λ records. length records
+            ≡ length self.now.projection.now.arena.now.objects) }
+        ensures narrow { IfOk result (λ records. AreNarrowThen
+            self.now.projection.now.arena.now records
+            (length self.now.projection.now.arena.now.objects)) }
+        ensures cause { IfErr result (λ e. e ≡ Memory) }
+    {
+        let mut records = ListOf::new(alloc);
+        for number in 0..self.projection.arena.count() {
+            records.push(self.narrow_record(alloc, ObjId(number + 1))?)?;
+        }
+        Ok(records)
+    }
+}
+
+/// Whether an object's cells and links have numbers.
+fn is_narrow(object: &Object) -> bool
+    ensures { IsTrue result → IsNarrow object.now }
+{
+    object.cells.len() <= u32::MAX as usize && object.links.len() <= u32::MAX as usize
+}
+
+/// Whether the cells and links have numbers of the record that an object gets, or of the one that it has.
+fn is_narrow_then(object: &Object, given: &Option<Object>) -> bool
+    ensures { IsTrue result → IsNarrow (unwrap_or given.now object.now) }
+{
+    match given {
+        Some(new) => is_narrow(new),
+        None => is_narrow(object),
     }
 }

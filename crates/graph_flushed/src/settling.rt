@@ -1,20 +1,18 @@
 //! The objects as success of a flush makes them.
 
-ghost use Rattle.std.specs.Prelude.{◌≡◌, true, IfErr, IfOk, OnErr, OnOk};
+ghost use Rattle.std.specs.Prelude.{◌≡◌, true, length, IfErr, IfOk, OnErr, OnOk};
 ghost use Rattle.base_core.specs.declared.refusal.Refusal.TheVariants.{Memory};
-ghost use Rattle.class_mapping.specs.PlainClass.{ArePlain, IsPlainClass};
 ghost use Rattle.object_arena.specs.Every.{classes_of};
-ghost use Rattle.object_arena.specs.Graph.{IsObject, object_at};
 ghost use Rattle.object_arena.specs.Fit.{IsFit};
 ghost use Rattle.touching.specs.Touched.{frames_touched_between};
-ghost use Rattle.object_records.specs.Records.{CanFollow};
+ghost use Rattle.object_records.specs.Records.{CanFollow, with_records};
 ghost use Rattle.graph_flushed.specs.Fitting.{IsFitting};
 ghost use Rattle.graph_flushed.specs.Flushed as spec;
 
 use crate::flushing::Flushing;
 use crate::holders::key_holders;
 use crate::keys::new_keys;
-use base_core::{Key, ListOf, ObjId, Refusal};
+use base_core::{Key, ListOf, Refusal};
 use class_mapping::Mapping;
 use object_arena::{Arena, Object};
 use object_records::put_records;
@@ -23,32 +21,22 @@ use savepoints::Frames;
 use schema_core::RowChanges;
 use std::alloc::Global;
 
-#[tactic(auto, using(crate::proofs::PlainSteps::plain_steps))]
-/// Where each class is a plain root, so is that of each object.
-fn see_classes(arena: &Arena, mapping: &Mapping)
-    requires { IsFit mapping.now arena.now }
-    ensures { ArePlain mapping.now → (object : ObjId) → IsObject arena.now object
-        → IsPlainClass mapping.now (object_at arena.now object).class }
-{
-    for number in 0..arena.count() {
-        let _table = mapping.root_table(arena.class_of(ObjId(number + 1)));
-    }
-}
-
-/// The objects after success of a flush of a prepared graph whose new rows have these keys.
-fn objects_flushed(
+/// The records that objects get by success of a flush of a prepared graph whose new rows have these keys.
+fn records_flushed(
     alloc: Global,
     arena: &Arena,
     mapping: &Mapping,
     prepared: &Prepared,
     changes: &RowChanges,
     keys: &ListOf<Key>,
-) -> Result<ListOf<Object>, Refusal>
+) -> Result<ListOf<Option<Object>>, Refusal>
     requires configured { mapping.now.configured ≡ true }
     requires fit { IsFit mapping.now arena.now }
-    ensures objects { IfOk result (λ objects. objects ≡ (spec.graph_flushed mapping.now
-        prepared.now changes.now keys.now arena.now).objects) }
-    ensures follow { IfOk result (CanFollow arena.now) }
+    ensures records { IfOk result (λ records. with_records arena.now records
+        ≡ spec.graph_flushed mapping.now prepared.now changes.now keys.now arena.now) }
+    ensures long { IfOk result (λ records. length records ≡ length arena.now.objects) }
+    ensures follow { IfOk result
+        (λ records. CanFollow arena.now (with_records arena.now records).objects) }
     ensures cause { IfErr result (λ e. e ≡ Memory) }
 {
     let names = new_names(alloc, mapping, arena, prepared)?;
@@ -68,7 +56,7 @@ fn objects_flushed(
         keys: given,
         holders: &holders,
     };
-    flushing.objects(alloc)
+    flushing.records(alloc)
 }
 
 #[tactic(auto, using(crate::proofs::FitSteps::fits))]
@@ -82,8 +70,7 @@ fn objects_flushed(
 /// deleted, is detached; so are all but the first of several new ones with one key.
 ///
 /// The objects fit the mapping then, where what came through links and the classes'
-/// identities fit their attributes, and no collection is cleared; so it is
-/// where each class is a plain root.
+/// identities fit their attributes, and no collection is cleared.
 ///
 /// # Errors
 /// `Memory` alone, also where an object has more cells or links than have numbers: some objects may have been touched then, and
@@ -106,12 +93,10 @@ pub fn settle(
     ensures err { OnErr result (arena.new ≡ arena.old) }
     ensures fits { IsFitting (spec.written_with mapping.now
         prepared.now changes.now keys.now arena.old) → IsFit mapping.now arena.new }
-    ensures plain { ArePlain mapping.now → IsFit mapping.now arena.new }
     ensures classes { classes_of arena.new ≡ classes_of arena.old }
     ensures scopes { frames.new.scopes ≡ frames.old.scopes }
     ensures cause { IfErr result (λ e. e ≡ Memory) }
 {
-    see_classes(arena, mapping);
-    let objects = objects_flushed(alloc, arena, mapping, prepared, changes, keys)?;
-    put_records(alloc, arena, frames, objects)
+    let records = records_flushed(alloc, arena, mapping, prepared, changes, keys)?;
+    put_records(arena, frames, records)
 }

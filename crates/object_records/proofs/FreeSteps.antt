@@ -1,8 +1,8 @@
 -- The identities of records are free when the records are put in.
-use Rattle.std.proofs.Common.{◌≡◌, ◌≢◌, ℕ, ◌+◌, ◌-◌, ◌<◌, Bool, true, false, ◌&&◌, List, length, map, get_or, refl, sym, ap, ◌∙◌, subst, ⊎_elim, arith}
+use Rattle.std.proofs.Common.{◌≡◌, ◌≢◌, ℕ, ◌+◌, ◌-◌, ◌<◌, Bool, true, false, ◌&&◌, List, [], ◌∷◌, length, map, get_or, refl, sym, ap, ◌∙◌, subst, ⊎_elim, arith}
 use Rattle.std.specs.Prelude.{not, Option, None, Some, slice_set, ◌==◌}
-use Rattle.std.specs.List.{position, zip}
-use Rattle.std.specs.Option.{option_map}
+use Rattle.std.specs.List.{enumerate_from, position, zip}
+use Rattle.std.specs.Option.{option_map, unwrap_or}
 use Rattle.std.proofs.lemmas.Bool.{and_from, and_parts, cases_eq, eq-eqb}
 use Rattle.std.proofs.lemmas.List.{same_lists, get_or-map, length-map}
 use Rattle.base_core.specs.declared.ids.ClassId.{ClassId}
@@ -15,8 +15,9 @@ use Rattle.object_arena.specs.Identity.{IsFree, IsOne, has_key, holds, holds_at,
 use Rattle.object_arena.proofs.GraphLemmas.{at_other, at_same, held_inside, same_equiv}
 use Rattle.object_arena.proofs.HolderLemmas.{place_holds}
 use Rattle.savepoints.proofs.BackLemmas.{each_at, each_long}
-use Rattle.object_records.specs.Records.{CanFollow, CanReplace, with_records}
-use Rattle.object_records.specs.Way.{ArePuttable, HoldNoMore, aside, aside_if}
+use Rattle.object_records.specs.Records.{CanFollow, CanReplace, record_at, with_records}
+use Rattle.object_records.specs.Way.{ArePuttable, HoldNoMore, aside, aside_for, aside_if}
+use Rattle.object_records.proofs.StateSteps.{aside_itself}
 
 -- ---- who holds what
 
@@ -99,27 +100,49 @@ aside_held root own key old new false is can has =
     stays_so true false e h = absurd cc
     stays_so false b e h = absurd cc
 
--- the records can be put into it
-pub aside_puttable : (old now : Graph) (records : List Object) → now ≡ each_placed (aside records) old → CanFollow old records → length old.roots ≡ length old.objects → ArePuttable now records
+-- what an object comes to be, it comes to be from where it stands aside
+record_then : (records : List (Option Object)) (n : ℕ) (objects : List Object)
+    → map (λ placed. record_at records placed.0 placed.1) (enumerate_from n (map (λ placed. aside records placed.0 placed.1) (enumerate_from n objects))) ≡ map (λ placed. record_at records placed.0 placed.1) (enumerate_from n objects)
+record_then records n [] = refl
+record_then records n (o ∷ objects) =
+    ap (λ (it : Object). it ∷ map (λ placed. record_at records placed.0 placed.1) (enumerate_from (n + 1) (map (λ placed. aside records placed.0 placed.1) (enumerate_from (n + 1) objects)))) (same_record (get_or records n None) o)
+    ∙ ap (λ (os : List Object). record_at records n o ∷ os) (record_then records (n + 1) objects)
+  where
+    same_record : (record_there : Option Object) (object : Object) → unwrap_or record_there (aside_for (unwrap_or record_there object) object) ≡ unwrap_or record_there object
+    same_record None object = aside_itself object
+    same_record (Some new) object = refl
+
+pub records_aside : (old now : Graph) (records : List (Option Object)) → now ≡ each_placed (aside records) old → with_records now records ≡ with_records old records
+records_aside old now records is =
+    ap (λ (g : Graph). with_records g records) is ∙ ap (λ (os : List Object). record { objects = os; roots = old.roots }) (record_then records 0 old.objects)
+
+-- the objects that come to be can be put into it
+pub aside_puttable : (old now : Graph) (records : List (Option Object)) → now ≡ each_placed (aside records) old → CanFollow old (with_records old records).objects → length old.roots ≡ length old.objects → ArePuttable now (with_records now records).objects
 aside_puttable old now records is can rooted =
     let graph : Graph = each_placed (aside records) old in
-    let at : (place : ℕ) → place < length old.objects → get_or graph.objects place no_object ≡ aside records place (get_or old.objects place no_object) = λ place less. each_at (aside records) old place no_object no_object less in
-    subst (λ (g : Graph). ArePuttable g records) (sym is)
+    let objects : List Object = (with_records old records).objects in
+    let new : ℕ → Object = λ place. get_or objects place no_object in
+    let at : (place : ℕ) → place < length old.objects → get_or graph.objects place no_object ≡ aside_for (new place) (get_or old.objects place no_object) =
+    λ place less.
+    each_at (aside records) old place no_object no_object less
+    ∙ ap (λ (o : Object). aside_for o (get_or old.objects place no_object)) (sym (each_at (record_at records) old place no_object no_object less)) in
+    subst (ArePuttable now) (sym (ap (λ (g : Graph). g.objects) (records_aside old now records is)))
+    (subst (λ (g : Graph). ArePuttable g objects) (sym is)
     (record {
       long = can.long ∙ sym (each_long (aside records) old);
       rooted = rooted ∙ sym (each_long (aside records) old);
       each = λ place less.
           let within : place < length old.objects = omega (arith, each_long (aside records) old, less) in
-          subst (λ (o : Object). CanReplace o (get_or records place no_object)) (sym (at place within))
-          (aside_replaced (get_or old.objects place no_object) (get_or records place no_object) (is_persistent (get_or old.objects place no_object).state && not (is_persistent (get_or records place no_object).state)) refl (can.each place within));
+          subst (λ (o : Object). CanReplace o (new place)) (sym (at place within))
+          (aside_replaced (get_or old.objects place no_object) (new place) (is_persistent (get_or old.objects place no_object).state && not (is_persistent (new place).state)) refl (can.each place within));
       one = can.one;
       held = λ root key place has.
           let inside : place < length graph.objects = held_within graph root key place has in
           let within : place < length old.objects = omega (arith, each_long (aside records) old, inside) in
-          aside_held root (get_or old.roots place no_class_id) key (get_or old.objects place no_object) (get_or records place no_object)
-          (is_persistent (get_or old.objects place no_object).state && not (is_persistent (get_or records place no_object).state)) refl (can.each place within)
+          aside_held root (get_or old.roots place no_class_id) key (get_or old.objects place no_object) (new place)
+          (is_persistent (get_or old.objects place no_object).state && not (is_persistent (new place).state)) refl (can.each place within)
           (ap (λ (o : Object). holds root key (o, get_or old.roots place no_class_id)) (sym (at place within)) ∙ has);
-    })
+    }))
   where
     held_within : (graph : Graph) (root : ClassId) (key : List Value) (place : ℕ) → holds_at graph.objects graph.roots root key place ≡ true → place < length graph.objects
     held_within graph root key place has = held_inside graph.objects graph.roots root key place has
@@ -127,16 +150,22 @@ aside_puttable old now records is can rooted =
 -- ---- classes
 
 -- records of the objects' classes
-pub classes_put : (old new : Graph) (records : List Object) → CanFollow old records → new ≡ with_records old records → classes_of new ≡ classes_of old
+same_classes : (old : Graph) (objects : List Object) → CanFollow old objects → map (λ (o : Object). o.class) objects ≡ map (λ (o : Object). o.class) old.objects
+same_classes old objects can =
+    same_lists (map (λ (o : Object). o.class) objects) (map (λ (o : Object). o.class) old.objects)
+    (length-map objects (λ (o : Object). o.class) ∙ can.long ∙ sym (length-map old.objects (λ (o : Object). o.class)))
+    (λ place d less.
+    let within : place < length objects = rw (sym (length-map objects (λ (o : Object). o.class))) less in
+    let inside : place < length old.objects = omega (arith, can.long, within) in
+    get_or-map (λ (o : Object). o.class) objects place no_object d within ∙ (can.each place inside).class ∙ sym (get_or-map (λ (o : Object). o.class) old.objects place no_object d inside))
+
+pub classes_put : (old new : Graph) (records : List (Option Object)) → CanFollow old (with_records old records).objects → new ≡ with_records old records → classes_of new ≡ classes_of old
 unfolding classes_of
 classes_put old new records can is =
-    rw is
-    (ap (λ (classes : List ClassId). (classes, old.roots))
-    (same_lists (map (λ (o : Object). o.class) records) (map (λ (o : Object). o.class) old.objects)
-    (length-map records (λ (o : Object). o.class) ∙ can.long ∙ sym (length-map old.objects (λ (o : Object). o.class)))
-    (λ place d less.
-    let within : place < length records = rw (sym (length-map records (λ (o : Object). o.class))) less in
-    let inside : place < length old.objects = omega (arith, can.long, within) in
-    get_or-map (λ (o : Object). o.class) records place no_object d within ∙ (can.each place inside).class ∙ sym (get_or-map (λ (o : Object). o.class) old.objects place no_object d inside))))
+    ap (λ (g : Graph). (map (λ (o : Object). o.class) g.objects, g.roots)) is ∙ ap (λ (classes : List ClassId). (classes, old.roots)) (same_classes old (with_records old records).objects can)
 
-pub ruleset frees = (aside_puttable, classes_put)
+-- the records were put in where objects stood aside
+pub put_aside : (old now new : Graph) (records : List (Option Object)) → now ≡ each_placed (aside records) old → new ≡ with_records now records → new ≡ with_records old records
+put_aside old now new records is write = write ∙ records_aside old now records is
+
+pub ruleset frees = (aside_puttable, classes_put, put_aside)

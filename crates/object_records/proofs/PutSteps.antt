@@ -1,8 +1,8 @@
 -- Records, and the lists of their cells and links, put in one after another.
-use Rattle.std.proofs.Common.{◌≡◌, ℕ, ◌+◌, ◌-◌, ◌<◌, ◌≤◌, List, [], ◌∷◌, ◌++◌, length, map, get_or, take, drop, zero, suc, refl, sym, ap, ◌∙◌, arith, add-one}
-use Rattle.std.specs.Prelude.{Option, Some, slice_get, slice_set}
-use Rattle.std.specs.List.{enumerate_from}
-use Rattle.std.proofs.lemmas.List.{append-nil, drop_all, drop_more, get_or-set_other, length-append, length-drop, length-set, length-take, take_all}
+use Rattle.std.proofs.Common.{◌≡◌, ℕ, ◌+◌, ◌-◌, ◌<◌, ◌≤◌, List, [], ◌∷◌, ◌++◌, length, get_or, take, drop, zero, suc, refl, sym, ap, ◌∙◌, arith, add-one}
+use Rattle.std.specs.Prelude.{Option, None, Some, slice_get, slice_set}
+use Rattle.std.specs.Option.{unwrap_or}
+use Rattle.std.proofs.lemmas.List.{append-nil, drop_all, get_or-set_other, length-append, length-drop, length-set, length-take, take_all}
 use Rattle.std.proofs.lemmas.Option.{get_or_from_slice_get}
 use Rattle.base_core.specs.declared.ids.AttrNo.{AttrNo}
 use Rattle.base_core.specs.declared.ids.ClassId.{ClassId}
@@ -17,7 +17,8 @@ use Rattle.object_arena.specs.declared.object.State.TheVariants.{Transient, Pend
 use Rattle.object_arena.specs.Graph.{Graph, IsObject, cell_put, no_object, object_at, place_of, with_cell, with_link, with_object}
 use Rattle.object_arena.specs.Identity.{id_of_place}
 use Rattle.object_arena.proofs.TurnLemmas.{at_with, graph_before, placed_all, placed_left, placed_long, placed_more, with_same, written_twice}
-use Rattle.object_records.specs.Records.{with_records}
+use Rattle.savepoints.proofs.BackLemmas.{each_at}
+use Rattle.object_records.specs.Records.{record_at, with_records}
 use Rattle.object_records.specs.Way.{stood, with_own_marks}
 
 -- ---- what is left of a list whose items are taken out in order
@@ -156,33 +157,35 @@ record_whole a b c d e object new made class one two three four =
 
 -- ---- all records
 
-abbrev pub records_before : List Object → Graph → ℕ → Graph
-records_before records graph place = graph_before (λ i object. get_or records i no_object) graph place
-
-pub records_more : (records : List Object) (graph now new : Graph) (i : ℕ) (it : Object) → i < length graph.objects → it ≡ get_or records i no_object → now ≡ records_before records graph i → new ≡ with_object now (id_of_place i) it → new ≡ records_before records graph (i + 1)
-records_more records graph now new i it less at so_far write =
-    placed_more (λ i object. get_or records i no_object) graph now new i (i + 1) less so_far refl (write ∙ ap (with_object now (id_of_place i)) at)
+abbrev pub records_before : List (Option Object) → Graph → ℕ → Graph
+records_before records graph place = graph_before (record_at records) graph place
 
 -- an object whose record is still to come
-pub record_left : (records : List Object) (graph now : Graph) (i : ℕ) → now ≡ records_before records graph i → object_at now (id_of_place i) ≡ get_or graph.objects i no_object
+pub record_left : (records : List (Option Object)) (graph now : Graph) (i : ℕ) → now ≡ records_before records graph i → object_at now (id_of_place i) ≡ get_or graph.objects i no_object
 record_left records graph now i so_far =
     let place : i + 1 - 1 ≡ i = omega arith in
     ap (λ (g : Graph). object_at g (id_of_place i)) so_far
     ∙ ap (λ (p : ℕ). get_or (records_before records graph i).objects p no_object) place
-    ∙ placed_left (λ i object. get_or records i no_object) 0 graph.objects i i no_object (omega arith)
+    ∙ placed_left (record_at records) 0 graph.objects i i no_object (omega arith)
 
-pub records_long : (records : List Object) (graph now : Graph) (i : ℕ) → now ≡ records_before records graph i → length now.objects ≡ length graph.objects
-records_long records graph now i so_far = ap (λ (g : Graph). length g.objects) so_far ∙ placed_long (λ i object. get_or records i no_object) 0 graph.objects i
+-- what it comes to be
+pub record_taken : (records : List (Option Object)) (graph now : Graph) (i : ℕ) (record_there : Option Object) → i < length graph.objects → record_there ≡ get_or records i None → now ≡ records_before records graph i
+    → unwrap_or record_there (object_at now (id_of_place i)) ≡ get_or (with_records graph records).objects i no_object
+record_taken records graph now i record_there less at so_far =
+    ap (λ (r : Option Object). unwrap_or r (object_at now (id_of_place i))) at
+    ∙ ap (λ (o : Object). record_at records i o) (record_left records graph now i so_far)
+    ∙ sym (each_at (record_at records) graph i no_object no_object less)
 
-taken_from : (records : List Object) (objects : List Object) (n : ℕ) → length records ≡ n + length objects → map (λ (placed : ℕ × Object). get_or records placed.0 no_object) (enumerate_from n objects) ≡ drop n records
-taken_from records [] n long = sym (drop_all n records (omega (arith, long)))
-taken_from records (o ∷ objects) n long =
-    ap (λ (xs : List Object). get_or records n no_object ∷ xs) (taken_from records objects (n + 1) (omega (arith, long)))
-    ∙ sym (drop_more records n no_object (omega (arith, long)))
+pub records_more : (records : List (Option Object)) (graph now new : Graph) (i : ℕ) (record_there : Option Object) → i < length graph.objects → record_there ≡ get_or records i None → now ≡ records_before records graph i
+    → new ≡ with_object now (id_of_place i) (unwrap_or record_there (object_at now (id_of_place i))) → new ≡ records_before records graph (i + 1)
+records_more records graph now new i record_there less at so_far write =
+    placed_more (record_at records) graph now new i (i + 1) less so_far refl
+    (write ∙ ap (λ (r : Option Object). with_object now (id_of_place i) (unwrap_or r (object_at now (id_of_place i)))) at)
 
-pub records_all : (records : List Object) (graph now : Graph) (i : ℕ) → length records ≡ length graph.objects → length graph.objects ≤ i → now ≡ records_before records graph i → now ≡ with_records graph records
-records_all records graph now i long ended so_far =
-    placed_all (λ i object. get_or records i no_object) graph now i ended so_far
-    ∙ ap (λ (objects : List Object). record { objects = objects; roots = graph.roots }) (taken_from records graph.objects 0 (omega (arith, long)))
+pub records_long : (records : List (Option Object)) (graph now : Graph) (i : ℕ) → now ≡ records_before records graph i → length now.objects ≡ length graph.objects
+records_long records graph now i so_far = ap (λ (g : Graph). length g.objects) so_far ∙ placed_long (record_at records) 0 graph.objects i
+
+pub records_all : (records : List (Option Object)) (graph now : Graph) (i : ℕ) → length graph.objects ≤ i → now ≡ records_before records graph i → now ≡ with_records graph records
+records_all records graph now i ended so_far = placed_all (record_at records) graph now i ended so_far
 
 pub ruleset puts = (cells_none, cells_all, links_none, links_all, records_all)

@@ -1,13 +1,14 @@
 -- Objects that go into other states.
 use Rattle.std.proofs.Common.{◌≡◌, ℕ, ◌<◌, Bool, true, false, List, length, get_or, refl, sym, ap, ◌∙◌, subst}
-use Rattle.std.specs.Prelude.{not, Option, is_some, if◌then◌else◌}
+use Rattle.std.specs.Prelude.{not, ◌&&◌, Option, None, is_some, if◌then◌else◌}
+use Rattle.std.specs.Option.{unwrap_or}
 use Rattle.std.proofs.lemmas.List.{get_or_default, length-map}
 use Rattle.base_core.specs.declared.ids.ObjId.{ObjId}
 use Rattle.base_core.specs.declared.value.Value.{Value}
 use Rattle.object_arena.specs.declared.object.Object.{Object}
 use Rattle.object_arena.specs.declared.object.State.{State}
 use Rattle.object_arena.specs.declared.object.State.TheVariants.{Transient, Pending, Persistent, Deleted, Detached}
-use Rattle.object_arena.specs.Graph.{Graph, has_identity, is_persistent, no_object, object_at, put_back_object, settled_cell, settled_link, with_object}
+use Rattle.object_arena.specs.Graph.{Graph, has_identity, is_persistent, object_at, put_back_object, settled_cell, settled_link, with_object}
 use Rattle.object_arena.specs.Identity.{is_identified}
 use Rattle.object_arena.proofs.TurnLemmas.{with_same}
 use Rattle.object_records.specs.Way.{aside, aside_for, aside_if, stood}
@@ -93,8 +94,25 @@ pub aside_one : (graph new : Graph) (object : ObjId) (leaves : Bool) → leaves 
 aside_one graph new object leaves is write = write ∙ ap (λ (b : Bool). with_object graph object (aside_if b (object_at graph object))) (sym is)
 
 -- by the record at a place
-pub aside_at : (records : List Object) (i : ℕ) (it object : Object) → it ≡ get_or records i it → i < length records → aside_for it object ≡ aside records i object
-aside_at records i it object at within = ap (λ (o : Object). aside_for o object) (at ∙ get_or_default records i it no_object within)
+pub aside_at : (records : List (Option Object)) (i : ℕ) (it : Option Object) (object : Object) → it ≡ get_or records i it → i < length records → aside_for (unwrap_or it object) object ≡ aside records i object
+aside_at records i it object at within = ap (λ (r : Option Object). aside_for (unwrap_or r object) object) (at ∙ get_or_default records i it None within)
+
+aside_never : (persistent : Bool) (object : Object) → aside_if (persistent && not persistent) object ≡ object
+aside_never true object = refl
+aside_never false object = refl
+
+-- an object that stays what it is does not step aside
+pub aside_itself : (object : Object) → aside_for object object ≡ object
+aside_itself object = aside_never (is_persistent object.state) object
+
+-- an object that gets no record stays as it is
+pub aside_unless : (graph : Graph) (object : ObjId) → graph ≡ with_object graph object (aside_for (object_at graph object) (object_at graph object))
+aside_unless graph object = sym (ap (with_object graph object) (aside_itself (object_at graph object)) ∙ with_same graph object)
+
+pub stays_there : (graph : Graph) (object : ObjId) → graph ≡ with_object graph object (object_at graph object)
+stays_there graph object = sym (with_same graph object)
+
+pub ruleset stays = (aside_unless, stays_there)
 
 agreed : (a b : Bool) → (if a then b else not b) ≡ true → a ≡ b
 agreed true true h = refl

@@ -1,6 +1,7 @@
 -- The touching of all objects that differ, one after another.
 use Rattle.std.proofs.Common.{◌≡◌, ℕ, ◌+◌, ◌-◌, ◌<◌, ◌≤◌, Bool, true, false, cond, List, [], ◌∷◌, ◌++◌, length, get_or, take, refl, sym, ap, ◌∙◌, arith}
-use Rattle.std.specs.Prelude.{not, fold}
+use Rattle.std.specs.Prelude.{not, fold, Option, None}
+use Rattle.std.specs.Option.{unwrap_or}
 use Rattle.std.specs.List.{enumerate_from, filter}
 use Rattle.std.proofs.lemmas.List.{get_or-map, get_or_default, length-map, take_all, take_more}
 use Rattle.std.proofs.lemmas.List.Elements.{filter-append}
@@ -10,10 +11,12 @@ use Rattle.base_core.specs.declared.ids.ObjId.{ObjId}
 use Rattle.object_arena.specs.declared.object.Object.{Object}
 use Rattle.object_arena.specs.Graph.{Graph, no_object, object_at}
 use Rattle.object_arena.specs.Identity.{id_of_place}
+use Rattle.savepoints.proofs.BackLemmas.{each_at}
 use Rattle.savepoints.specs.Scopes.{Framed, touch}
+use Rattle.touching.proofs.Exact.{object_itself}
 use Rattle.touching.specs.Same.{same_object}
 use Rattle.touching.specs.Touched.{differs, frames_touched_between, frames_with_touched, object_ids}
-use Rattle.object_records.specs.Records.{with_records}
+use Rattle.object_records.specs.Records.{record_at, with_records}
 use Rattle.object_records.specs.Way.{touched_if}
 
 -- ---- one object
@@ -25,12 +28,16 @@ not_asked graph object frames same is = sym (ap (λ (b : Bool). touched_if (not 
 pub asked : (graph : Graph) (object : ObjId) (frames : Framed) (same : Bool) → same ≡ false → touch graph object frames ≡ touched_if (not same) graph object frames
 asked graph object frames same is = sym (ap (λ (b : Bool). touched_if (not b) graph object frames) is)
 
-pub ruleset one_touched = (not_asked, asked)
+-- nor for an object that gets no record
+pub not_given : (graph : Graph) (object : ObjId) (frames : Framed) → frames ≡ touched_if (not (same_object (object_at graph object) (object_at graph object))) graph object frames
+not_given graph object frames = not_asked graph object frames (same_object (object_at graph object) (object_at graph object)) (object_itself (object_at graph object))
+
+pub ruleset one_touched = (not_asked, asked, not_given)
 
 -- ---- all objects
 
 -- the scopes when those that differ of the objects before a place have been touched
-abbrev pub touched_before : Graph → List Object → ℕ → Framed → Framed
+abbrev pub touched_before : Graph → List (Option Object) → ℕ → Framed → Framed
 touched_before old records place frames = frames_with_touched old (filter (differs old (with_records old records)) (take place (object_ids old))) frames
 
 ids_long : (graph : Graph) → length (object_ids graph) ≡ length graph.objects
@@ -55,16 +62,20 @@ folded_more step test ids frames now new i object d less at so_far write =
     ∙ ap (fold step frames) (sym (filter-append test (take i ids) (object ∷ [])))
     ∙ ap (λ (some : List ObjId). fold step frames (filter test some)) (sym (take_more ids i d less ∙ ap (λ (id : ObjId). take i ids ++ id ∷ []) at))
 
-pub touched_more : (old : Graph) (records : List Object) (frames now new : Framed) (i : ℕ) (it : Object) → i < length old.objects → it ≡ get_or records i it → i < length records
-    → now ≡ touched_before old records i frames → new ≡ touched_if (not (same_object (object_at old (id_of_place i)) it)) old (id_of_place i) now
+pub touched_more : (old : Graph) (records : List (Option Object)) (frames now new : Framed) (i : ℕ) (it : Option Object) → i < length old.objects → it ≡ get_or records i it → i < length records
+    → now ≡ touched_before old records i frames → new ≡ touched_if (not (same_object (object_at old (id_of_place i)) (unwrap_or it (object_at old (id_of_place i))))) old (id_of_place i) now
     → new ≡ touched_before old records (i + 1) frames
 touched_more old records frames now new i it less at within so_far write =
     let place : i + 1 - 1 ≡ i = omega arith in
-    let here : it ≡ get_or records (i + 1 - 1) no_object = at ∙ get_or_default records i it no_object within ∙ ap (λ (p : ℕ). get_or records p no_object) (sym place) in
+    let here : unwrap_or it (object_at old (id_of_place i)) ≡ get_or (with_records old records).objects (i + 1 - 1) no_object =
+    ap (λ (r : Option Object). unwrap_or r (object_at old (id_of_place i))) (at ∙ get_or_default records i it None within)
+    ∙ ap (λ (p : ℕ). record_at records i (get_or old.objects p no_object)) place
+    ∙ sym (each_at (record_at records) old i no_object no_object less)
+    ∙ ap (λ (p : ℕ). get_or (with_records old records).objects p no_object) (sym place) in
     folded_more (λ f object. touch old object f) (differs old (with_records old records)) (object_ids old) frames now new i (id_of_place i) (id_of_place 0) (rw ids_long less) (id_at old i less) so_far
     (write ∙ ap (λ (o : Object). touched_if (not (same_object (object_at old (id_of_place i)) o)) old (id_of_place i) now) here)
 
-pub touched_all : (old : Graph) (records : List Object) (frames now : Framed) (i : ℕ) → length old.objects ≤ i → now ≡ touched_before old records i frames → now ≡ frames_touched_between old (with_records old records) frames
+pub touched_all : (old : Graph) (records : List (Option Object)) (frames now : Framed) (i : ℕ) → length old.objects ≤ i → now ≡ touched_before old records i frames → now ≡ frames_touched_between old (with_records old records) frames
 unfolding frames_touched_between
 touched_all old records frames now i ended so_far =
     so_far ∙ ap (λ (ids : List ObjId). frames_with_touched old (filter (differs old (with_records old records)) ids) frames) (take_all i (object_ids old) (rw ids_long ended))

@@ -1,4 +1,4 @@
-//! Another record for every object: those whose records differ are touched, and then all records are put in.
+//! Other records for objects: those whose records come to differ are touched, and then the records are put in.
 #![tactic(auto)]
 
 mod puts;

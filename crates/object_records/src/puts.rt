@@ -2,41 +2,42 @@
 
 ghost use Rattle.std.specs.Prelude.{◌≡◌, ◌<◌, ◌≤◌, length, true};
 ghost use Rattle.object_arena.specs.Graph.{IsCell, IsLink, IsObject, is_persistent, object_at, with_cell, with_link, with_object};
-ghost use Rattle.object_arena.specs.Graph.{no_object};
+ghost use Rattle.std.specs.Option.{unwrap_or};
 ghost use Rattle.object_arena.specs.Identity.{IsFree};
 ghost use Rattle.object_records.specs.Records.{CanReplace, with_records};
 ghost use Rattle.object_records.specs.Way as way;
 
 use crate::states::put_state;
-use base_core::{AttrNo, ClassId, ListOf, ObjId, RelNo};
-use object_arena::{Arena, Cell, Link, Object, State};
-use std::alloc::Global;
+use base_core::{AttrNo, ListOf, ObjId, RelNo};
+use object_arena::{Arena, Cell, Link, Object};
 
-/// A record that is none.
-fn no_object(alloc: Global) -> Object
-    ensures { result ≡ no_object }
-{
-    Object {
-        class: ClassId(0),
-        state: State::Transient,
-        identity: None,
-        added: 0,
-        marked: false,
-        orphan: false,
-        cells: ListOf::new(alloc),
-        links: ListOf::new(alloc),
-    }
-}
-
-/// Each object gets the record at its place.
-pub(crate) fn put_all(alloc: Global, arena: &mut Arena, records: ListOf<Object>)
-    requires { way.ArePuttable arena.old records }
+/// Each object gets the record at its place, where there is one.
+pub(crate) fn put_all(arena: &mut Arena, records: ListOf<Option<Object>>)
+    requires long { length records ≡ length arena.old.objects }
+    requires puttable { way.ArePuttable arena.old (with_records arena.old records).objects }
     ensures { arena.new ≡ with_records arena.old records }
 {
     let mut records = records;
     for number in 0..arena.count() {
-        let new = records.replace(number as usize, no_object(alloc));
-        put_record(arena, ObjId(number + 1), new);
+        let given = records.replace(number as usize, None);
+        put_one(arena, ObjId(number + 1), given);
+    }
+}
+
+#[tactic(auto, using(crate::proofs::StateSteps::stays))]
+/// An object gets another record, if there is one.
+fn put_one(arena: &mut Arena, object: ObjId, given: Option<Object>)
+    requires object { IsObject arena.old object }
+    requires replaces { CanReplace (object_at arena.old object)
+        (unwrap_or given (object_at arena.old object)) }
+    requires free { is_persistent (unwrap_or given (object_at arena.old object)).state ≡ true
+        → IsFree arena.old object (unwrap_or given (object_at arena.old object)).identity }
+    ensures { arena.new ≡ with_object arena.old object
+        (unwrap_or given (object_at arena.old object)) }
+{
+    match given {
+        Some(new) => put_record(arena, object, new),
+        None => {}
     }
 }
 

@@ -1,6 +1,6 @@
-//! Another record for every object.
+//! Other records for objects.
 
-ghost use Rattle.std.specs.Prelude.{◌≡◌, IfErr, OnErr, OnOk};
+ghost use Rattle.std.specs.Prelude.{◌≡◌, length, IfErr, OnErr, OnOk};
 ghost use Rattle.base_core.specs.declared.refusal.Refusal.TheVariants.{Memory};
 ghost use Rattle.object_arena.specs.Every.{classes_of, each_placed};
 ghost use Rattle.touching.specs.Touched.{frames_touched_between};
@@ -13,20 +13,20 @@ use crate::touches::touch_all;
 use base_core::{ListOf, Refusal};
 use object_arena::{Arena, Object};
 use savepoints::Frames;
-use std::alloc::Global;
 
-/// Each object gets the record at its place. Before that each object whose record comes to differ is touched in the innermost
-/// scope, and no other. Time grows as the logarithm of the number of objects for each of them.
+/// Each object gets the record at its place, where there is one. Before that each object whose record comes to differ is touched in
+/// the innermost scope, and no other. Time grows as the logarithm of the number of objects for each record, and an object that gets
+/// none takes no memory.
 ///
 /// # Errors
 /// `Memory` alone: some objects may have been touched then, and no record has changed.
 pub fn put_records(
-    alloc: Global,
     arena: &mut Arena,
     frames: &mut Frames,
-    records: ListOf<Object>,
+    records: ListOf<Option<Object>>,
 ) -> Result<(), Refusal>
-    requires { spec.CanFollow arena.old records }
+    requires long { length records ≡ length arena.old.objects }
+    requires follow { spec.CanFollow arena.old (spec.with_records arena.old records).objects }
     ensures ok { OnOk result (arena.new ≡ spec.with_records arena.old records) }
     ensures touched { OnOk result (frames.new ≡ frames_touched_between
         arena.old (spec.with_records arena.old records) frames.old) }
@@ -36,20 +36,21 @@ pub fn put_records(
     ensures cause { IfErr result (λ e. e ≡ Memory) }
 {
     touch_all(frames, arena, records.as_slice())?;
-    put_in(alloc, arena, records);
+    put_in(arena, records);
     Ok(())
 }
 
 #[tactic(auto, using(crate::proofs::FreeSteps::frees))]
-/// Each object gets the record at its place. Takes no memory but for the identities of new persistent objects, without which
-/// they are found more slowly.
-fn put_in(alloc: Global, arena: &mut Arena, records: ListOf<Object>)
-    requires { spec.CanFollow arena.old records }
+/// Each object gets the record at its place, where there is one. Takes no memory but for the identities of new persistent objects,
+/// without which they are found more slowly.
+fn put_in(arena: &mut Arena, records: ListOf<Option<Object>>)
+    requires long { length records ≡ length arena.old.objects }
+    requires follow { spec.CanFollow arena.old (spec.with_records arena.old records).objects }
     ensures put { arena.new ≡ spec.with_records arena.old records }
     ensures classes { classes_of arena.new ≡ classes_of arena.old }
 {
     // There is a root class for each object.
     let _count = arena.count();
     step_aside(arena, records.as_slice());
-    put_all(alloc, arena, records);
+    put_all(arena, records);
 }

@@ -1,6 +1,7 @@
 //! Objects in other states.
 
 ghost use Rattle.std.specs.Prelude.{◌≡◌, length, true, false, is_some, not, ◌&&◌};
+ghost use Rattle.std.specs.Option.{unwrap_or};
 ghost use Rattle.object_arena.specs.Graph.{IsObject, has_identity, is_persistent, object_at, with_object};
 ghost use Rattle.object_arena.specs.Every.{classes_of, each_placed};
 ghost use Rattle.object_arena.specs.Fit.{Keeps};
@@ -21,13 +22,27 @@ fn is_persistent(state: State) -> bool
 }
 
 /// The objects that are to be persistent no more are detached.
-pub(crate) fn step_aside(arena: &mut Arena, records: &[Object])
+pub(crate) fn step_aside(arena: &mut Arena, records: &[Option<Object>])
     requires { length records.now ≡ length arena.old.objects }
     ensures aside { arena.new ≡ each_placed (way.aside records.now) arena.old }
     ensures keeps { Keeps arena.old arena.new }
 {
     for number in 0..arena.count() {
-        step_one(arena, ObjId(number + 1), &records[number as usize]);
+        step_for(arena, ObjId(number + 1), &records[number as usize]);
+    }
+}
+
+#[tactic(auto, using(crate::proofs::StateSteps::stays))]
+/// An object that is to be persistent no more, by the record for it if there is one, is detached.
+fn step_for(arena: &mut Arena, object: ObjId, given: &Option<Object>)
+    requires { IsObject arena.old object }
+    ensures aside { arena.new ≡ with_object arena.old object (way.aside_for
+        (unwrap_or given.now (object_at arena.old object)) (object_at arena.old object)) }
+    ensures keeps { Keeps arena.old arena.new }
+{
+    match given {
+        Some(new) => step_one(arena, object, new),
+        None => {}
     }
 }
 

@@ -1,6 +1,7 @@
 //! The touching of all objects whose records come to differ.
 
 ghost use Rattle.std.specs.Prelude.{◌≡◌, length, not, IfErr, OnOk};
+ghost use Rattle.std.specs.Option.{unwrap_or};
 ghost use Rattle.base_core.specs.declared.refusal.Refusal.TheVariants.{Memory};
 ghost use Rattle.object_arena.specs.Graph.{IsObject, object_at};
 ghost use Rattle.touching.specs.Same.{same_object};
@@ -18,7 +19,7 @@ use touching::same_object;
 pub(crate) fn touch_all(
     frames: &mut Frames,
     arena: &Arena,
-    records: &[Object],
+    records: &[Option<Object>],
 ) -> Result<(), Refusal>
     requires { length records.now ≡ length arena.now.objects }
     ensures ok { OnOk result (frames.new ≡ frames_touched_between
@@ -27,9 +28,30 @@ pub(crate) fn touch_all(
     ensures cause { IfErr result (λ e. e ≡ Memory) }
 {
     for number in 0..arena.count() {
-        touch_one(frames, arena, ObjId(number + 1), &records[number as usize])?;
+        touch_for(frames, arena, ObjId(number + 1), &records[number as usize])?;
     }
     Ok(())
+}
+
+#[tactic(auto, using(crate::proofs::TouchSteps::one_touched))]
+/// An object that is to have another record, if there is one for it, is touched.
+fn touch_for(
+    frames: &mut Frames,
+    arena: &Arena,
+    object: ObjId,
+    given: &Option<Object>,
+) -> Result<(), Refusal>
+    requires { IsObject arena.now object }
+    ensures ok { OnOk result (frames.new ≡ way.touched_if
+        (not (same_object (object_at arena.now object)
+        (unwrap_or given.now (object_at arena.now object)))) arena.now object frames.old) }
+    ensures scopes { frames.new.scopes ≡ frames.old.scopes }
+    ensures cause { IfErr result (λ e. e ≡ Memory) }
+{
+    match given {
+        Some(new) => touch_one(frames, arena, object, new),
+        None => Ok(()),
+    }
 }
 
 #[tactic(auto, using(touching::proofs::Scopes::kept_scopes, crate::proofs::TouchSteps::one_touched))]

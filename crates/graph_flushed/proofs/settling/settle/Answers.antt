@@ -1,16 +1,15 @@
 use Rattle.graph_flushed.specs.Flushed.{Written, written_with}
 use Rattle.graph_flushed.proofs.FitSteps.{flushed_fits}
-use Rattle.graph_flushed.proofs.PlainSteps.{plain_fits}
 use Rattle.graph_flushed.proofs.SettleSteps.{settled_ok, settled_touched}
 use Rattle.graph_flushed.proofs.settling.settle.Goals as goal
 
 pub returns-clause-ok : goal.returns-clause-ok
 returns-clause-ok c =
-    settled_ok (written_with c.args.mapping.now c.args.prepared.now c.args.changes.now c.args.keys.now c.args.arena.now) c.put_records.new.arena c.in_ok-objects.objects c.put_records.result c.in_ok-objects.ensures.objects c.put_records.ensures.ok
+    settled_ok (written_with c.args.mapping.now c.args.prepared.now c.args.changes.now c.args.keys.now c.args.arena.now) c.put_records.new.arena c.in_ok-records.records c.put_records.result c.in_ok-records.ensures.records c.put_records.ensures.ok
 
 pub returns-clause-touched : goal.returns-clause-touched
 returns-clause-touched c =
-    settled_touched (written_with c.args.mapping.now c.args.prepared.now c.args.changes.now c.args.keys.now c.args.arena.now) c.put_records.new.arena c.in_ok-objects.objects c.put_records.result c.args.frames.now c.put_records.new.frames
+    settled_touched (written_with c.args.mapping.now c.args.prepared.now c.args.changes.now c.args.keys.now c.args.arena.now) c.put_records.new.arena c.in_ok-records.records c.put_records.result c.args.frames.now c.put_records.new.frames
     c.put_records.ensures.ok c.put_records.ensures.touched
 
 pub returns-clause-fits : goal.returns-clause-fits
@@ -18,12 +17,4 @@ returns-clause-fits c =
     λ good.
     let written : Written = written_with c.args.mapping.now c.args.prepared.now c.args.changes.now c.args.keys.now c.args.arena.now in
     flushed_fits c.args.mapping.now c.args.arena.now c.put_records.new.arena c.args.prepared.now c.args.changes.now c.args.keys.now c.put_records.result c.requires.fit
-    (settled_ok written c.put_records.new.arena c.in_ok-objects.objects c.put_records.result c.in_ok-objects.ensures.objects c.put_records.ensures.ok) c.put_records.ensures.err c.put_records.ensures.classes good
-
-pub returns-clause-plain : goal.returns-clause-plain
-returns-clause-plain c =
-    λ plain.
-    let written : Written = written_with c.args.mapping.now c.args.prepared.now c.args.changes.now c.args.keys.now c.args.arena.now in
-    flushed_fits c.args.mapping.now c.args.arena.now c.put_records.new.arena c.args.prepared.now c.args.changes.now c.args.keys.now c.put_records.result c.requires.fit
-    (settled_ok written c.put_records.new.arena c.in_ok-objects.objects c.put_records.result c.in_ok-objects.ensures.objects c.put_records.ensures.ok) c.put_records.ensures.err c.put_records.ensures.classes
-    (plain_fits written plain c.requires.fit c.see_classes.ensures)
+    (settled_ok written c.put_records.new.arena c.in_ok-records.records c.put_records.result c.in_ok-records.ensures.records c.put_records.ensures.ok) c.put_records.ensures.err c.put_records.ensures.classes good

@@ -13,10 +13,10 @@ loop-number-preserved c =
     let object : ObjId = record { 0 = c.loop-number.number + 1 } in
     let less : c.loop-number.number < length c.args.arena.now.objects = subst (λ (n : ℕ). c.loop-number.number < n) c.count-number-end.ensures.count c.loop-number-test.true in
     let within : c.loop-number.number < length c.args.records.now = subst (λ (n : ℕ). c.loop-number.number < n) (sym c.requires) less in (
-      placed_more (aside c.args.records.now) c.args.arena.now c.loop-number.arena c.step_one.new.arena c.loop-number.number (c.loop-number.number + 1) less c.loop-number.invariant.0 refl
-          (c.step_one.ensures.aside ∙ ap (with_object c.loop-number.arena object) (aside_at c.args.records.now c.loop-number.number c.index-records-number.result (object_at c.loop-number.arena object) c.index-records-number.is within)),
-      classes_long c.loop-number.arena c.step_one.new.arena c.step_one.ensures.keeps.classes ∙ c.loop-number.invariant.1,
-      keeps_then c.args.arena.now c.loop-number.arena c.step_one.new.arena c.loop-number.invariant.2 c.step_one.ensures.keeps,
+      placed_more (aside c.args.records.now) c.args.arena.now c.loop-number.arena c.step_for.new.arena c.loop-number.number (c.loop-number.number + 1) less c.loop-number.invariant.0 refl
+          (c.step_for.ensures.aside ∙ ap (with_object c.loop-number.arena object) (aside_at c.args.records.now c.loop-number.number c.index-records-number.result (object_at c.loop-number.arena object) c.index-records-number.is within)),
+      classes_long c.loop-number.arena c.step_for.new.arena c.step_for.ensures.keeps.classes ∙ c.loop-number.invariant.1,
+      keeps_then c.args.arena.now c.loop-number.arena c.step_for.new.arena c.loop-number.invariant.2 c.step_for.ensures.keeps,
     )
 
 pub returns-clause-aside : goal.returns-clause-aside
