@@ -24,14 +24,14 @@ use Rattle.session_objects.proofs.TakingLemmas.{identity_left}
 
 -- ---- tests
 
-clash : {P : Type 0} (b : Bool) → b ≡ true → b ≡ false → P
+pub clash : {P : Type 0} (b : Bool) → b ≡ true → b ≡ false → P
 clash b yes_ no_ = absurd (let e : true ≡ false = sym yes_ ∙ no_ in cc)
 
 or_false : (a b : Bool) → (a || b) ≡ false → (a ≡ false) × (b ≡ false)
 or_false true b h = absurd cc
 or_false false b h = (refl, h)
 
-false_of : (b : Bool) → (b ≡ true → ⊥) → b ≡ false
+pub false_of : (b : Bool) → (b ≡ true → ⊥) → b ≡ false
 false_of true h = absurd (h refl)
 false_of false h = refl
 
@@ -56,7 +56,7 @@ none_mapped None h = refl
 none_mapped (Some place) h = absurd cc
 
 -- where none is found none holds
-unheld_by : (graph : Graph) (object : ObjId) (key : List Value) → IsGraph graph.objects graph.roots → is_mapped graph object (Some key) ≡ false → (place : ℕ) → holds_at graph.objects graph.roots (root_at graph object) key place ≡ false
+pub unheld_by : (graph : Graph) (object : ObjId) (key : List Value) → IsGraph graph.objects graph.roots → is_mapped graph object (Some key) ≡ false → (place : ℕ) → holds_at graph.objects graph.roots (root_at graph object) key place ≡ false
 unheld_by graph object key is none place =
     false_of (holds_at graph.objects graph.roots (root_at graph object) key place)
     (λ held.
@@ -159,7 +159,7 @@ taken_holds Detached number o root own key is persists detached =
     let parts = and_parts (own.0 == root.0) (has_key key new.identity) both in
     clash (has_key key o.identity) (ap (has_key key) (sym identity) ∙ parts.1) (detached refl (eqb-true own.0 root.0 parts.0)))
 
-other_still : (graph : Graph) (object other : ObjId) (new : Object) → place_of other ≢ place_of object → object_at (with_object graph object new) other ≡ object_at graph other
+pub other_still : (graph : Graph) (object other : ObjId) (new : Object) → place_of other ≢ place_of object → object_at (with_object graph object new) other ≡ object_at graph other
 other_still graph object other new differs = get_or-set_other graph.objects (place_of object) (place_of other) new no_object differs
 
 -- an identity that another object does not bring stays free

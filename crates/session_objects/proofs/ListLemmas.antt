@@ -4,15 +4,17 @@ use Rattle.std.specs.Prelude.{not, ◌==◌}
 use Rattle.std.specs.List.{All, filter, list_any}
 use Rattle.std.proofs.lemmas.Bool.{eq-eqb, eqb-true}
 use Rattle.std.proofs.lemmas.List.{drop_all, drop_more}
+use Rattle.std.proofs.lemmas.List.Elements.{filter-append}
 use Rattle.base_core.specs.declared.ids.ObjId.{ObjId}
 use Rattle.base_core.specs.Ascending.{IsAscending, IsBelow}
 use Rattle.cascades.specs.declared.closures.Flag.TheVariants.{SaveUpdate}
 use Rattle.cascades.specs.Closures.{IsClosure, closure_of, is_among}
 use Rattle.cascades.proofs.LeastLemmas.{part_passes, rising_part}
 use Rattle.class_mapping.specs.Mapped.{Mapped}
-use Rattle.object_arena.specs.Graph.{Graph, IsObject}
+use Rattle.object_arena.specs.Graph.{Graph, IsObject, object_at}
 use Rattle.relations.specs.Sides.{without}
-use Rattle.session_objects.specs.Taking.{AreMade, AreOnce, coming_objects}
+use Rattle.session_objects.specs.Taking.{AreMade, AreOnce, coming_objects, is_inside, outsiders}
+use Rattle.session_objects.proofs.OutsiderLemmas.{outsiders_once}
 
 -- ---- a test of each object
 
@@ -46,16 +48,27 @@ filter_from p xs i d less = ap (filter p) (drop_more xs i d less) ∙ by (p (get
     by true = refl
     by false = refl
 
-pub other_more : (xs : List ObjId) (object : ObjId) (i : ℕ) (d : ObjId) (now new whole : List ObjId) → i < length xs → new ≡ now ++ cond (not ((get_or xs i d).0 == object.0)) (get_or xs i d ∷ []) [] → now ++ without (drop i xs) object ≡ whole
-    → new ++ without (drop (i + 1) xs) object ≡ whole
-other_more xs object i d now new whole less put so_far =
+pub other_more : (graph : Graph) (xs : List ObjId) (object : ObjId) (i : ℕ) (d : ObjId) (now new whole : List ObjId) → i < length xs → new ≡ now ++ outsiders graph (cond (not ((get_or xs i d).0 == object.0)) (get_or xs i d ∷ []) [])
+    → now ++ outsiders graph (without (drop i xs) object) ≡ whole → new ++ outsiders graph (without (drop (i + 1) xs) object) ≡ whole
+other_more graph xs object i d now new whole less put so_far =
     let p : ObjId → Bool = λ other. not (other.0 == object.0) in
-    ap (λ (list : List ObjId). list ++ filter p (drop (i + 1) xs)) put
-    ∙ append_assoc now (cond (p (get_or xs i d)) (get_or xs i d ∷ []) []) (filter p (drop (i + 1) xs))
-    ∙ ap (λ (list : List ObjId). now ++ list) (sym (filter_from p xs i d less)) ∙ so_far
+    let outside : ObjId → Bool = λ other. not (is_inside (object_at graph other).state) in
+    let here : List ObjId = cond (p (get_or xs i d)) (get_or xs i d ∷ []) [] in
+    ap (λ (list : List ObjId). list ++ filter outside (filter p (drop (i + 1) xs))) put
+    ∙ append_assoc now (filter outside here) (filter outside (filter p (drop (i + 1) xs)))
+    ∙ ap (λ (list : List ObjId). now ++ list) (sym (filter-append outside here (filter p (drop (i + 1) xs))))
+    ∙ ap (λ (list : List ObjId). now ++ filter outside list) (sym (filter_from p xs i d less)) ∙ so_far
 
-pub other_all : (xs : List ObjId) (object : ObjId) (i : ℕ) (now whole : List ObjId) → length xs ≤ i → now ++ without (drop i xs) object ≡ whole → now ≡ whole
-other_all xs object i now whole ended so_far = sym (append-nil now) ∙ sym (ap (λ (left : List ObjId). now ++ without left object) (drop_all i xs ended)) ∙ so_far
+pub other_all : (graph : Graph) (xs : List ObjId) (object : ObjId) (i : ℕ) (now whole : List ObjId) → length xs ≤ i → now ++ outsiders graph (without (drop i xs) object) ≡ whole → now ≡ whole
+other_all graph xs object i now whole ended so_far =
+    sym (append-nil now) ∙ sym (ap (λ (left : List ObjId). now ++ outsiders graph (without left object)) (drop_all i xs ended)) ∙ so_far
+
+-- the one object is first
+pub others_begin : (graph : Graph) (xs : List ObjId) (object : ObjId) (empty now : List ObjId) → empty ≡ [] → now ≡ empty ++ outsiders graph (object ∷ []) → now ++ outsiders graph (without xs object) ≡ outsiders graph (object ∷ without xs object)
+others_begin graph xs object empty now none put =
+    let outside : ObjId → Bool = λ other. not (is_inside (object_at graph other).state) in
+    ap (λ (list : List ObjId). list ++ outsiders graph (without xs object)) (put ∙ ap (λ (list : List ObjId). list ++ outsiders graph (object ∷ [])) none)
+    ∙ sym (filter-append outside (object ∷ []) (without xs object))
 
 -- ---- the objects that come in are told once
 
@@ -93,11 +106,12 @@ not_itself objects object = by (is_among (without objects object) object) refl
         absurd (let e : true ≡ false = sym passes ∙ fails in cc)
     by false among = refl
 
-pub coming_once : (mapped : Mapped) (graph : Graph) (object : ObjId) (closure list : List ObjId) → IsObject graph object → IsClosure SaveUpdate mapped graph object closure → list ≡ object ∷ without closure object → AreOnce graph list
+pub coming_once : (mapped : Mapped) (graph : Graph) (object : ObjId) (closure list : List ObjId) → IsObject graph object → IsClosure SaveUpdate mapped graph object closure → list ≡ outsiders graph (object ∷ without closure object) → AreOnce graph list
 coming_once mapped graph object closure list made is same =
     let p : ObjId → Bool = λ other. not (other.0 == object.0) in
     subst (AreOnce graph) (sym same)
-    (made, not_itself closure object, rising_once graph (without closure object) (made_part graph p closure (all_made graph closure is.objects)) (rising_part p closure is.ascending))
+    (outsiders_once graph (λ other. not (is_inside (object_at graph other).state)) (object ∷ without closure object)
+    (made, not_itself closure object, rising_once graph (without closure object) (made_part graph p closure (all_made graph closure is.objects)) (rising_part p closure is.ascending)))
 
-pub coming_is : (mapped : Mapped) (graph : Graph) (object : ObjId) (closure list : List ObjId) → closure ≡ closure_of SaveUpdate mapped graph object → list ≡ object ∷ without closure object → list ≡ coming_objects mapped graph object
-coming_is mapped graph object closure list is same = same ∙ ap (λ (objects : List ObjId). object ∷ without objects object) is
+pub coming_is : (mapped : Mapped) (graph : Graph) (object : ObjId) (closure list : List ObjId) → closure ≡ closure_of SaveUpdate mapped graph object → list ≡ outsiders graph (object ∷ without closure object) → list ≡ outsiders graph (coming_objects mapped graph object)
+coming_is mapped graph object closure list is same = same ∙ ap (λ (objects : List ObjId). outsiders graph (object ∷ without objects object)) is

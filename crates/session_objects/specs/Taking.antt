@@ -1,5 +1,6 @@
 -- What becomes of objects that come into a session.
 use Rattle.std.specs.Prelude.{◌≡◌, ◌≢◌, ℕ, ◌+◌, Bool, true, false, not, List, [], ◌∷◌, Option, None, Some, if◌then◌else◌}
+use Rattle.std.specs.List.{filter}
 use Rattle.base_core.specs.Counts.{one_more}
 use Rattle.base_core.specs.Order.{same_value}
 use Rattle.base_core.specs.declared.ids.AttrNo.{AttrNo}
@@ -70,6 +71,16 @@ session_joined (object ∷ objects) session = session_joined objects (session_ta
 -- the objects that come in with an object along save-update, it first and the others by number
 abbrev pub coming_objects : Mapped → Graph → ObjId → List ObjId
 coming_objects mapped graph object = object ∷ without (closure_of SaveUpdate mapped graph object) object
+
+-- pending and persistent objects are in the session
+abbrev pub is_inside : State → Bool
+is_inside Pending = true
+is_inside Persistent = true
+is_inside state = false
+
+-- those of the objects that are not in the session
+abbrev pub outsiders : Graph → List ObjId → List ObjId
+outsiders graph objects = filter (λ object. not (is_inside (object_at graph object).state)) objects
 
 abbrev pub unmarked : Graph → ObjId → Graph
 unmarked graph object = with_object graph object (object_unmarked (object_at graph object))

@@ -5,6 +5,9 @@ ghost use Rattle.base_core.specs.declared.refusal.Refusal.TheVariants.{Memory};
 ghost use Rattle.object_arena.specs.Graph.{IsObject};
 ghost use Rattle.session_scopes.specs.SessionState.{IsInStep, SameObjects};
 ghost use Rattle.session_calls.specs.Calling.{IsSessionCall};
+ghost use Rattle.session_calls.specs.Refusals.{IsRefused};
+ghost use Rattle.session_calls.specs.Steps.{pending_fault};
+ghost use Rattle.session_objects.specs.Conflicts.{add_fault};
 ghost use Rattle.session_objects.specs.Steps as steps;
 ghost use Rattle.session_objects.specs.Taking as spec;
 
@@ -29,8 +32,10 @@ use session_scopes::Session;
 pub fn add<K: Keeper>(session: &mut Session, keeper: &mut K, object: ObjId) -> Result<(), Refusal>
     requires in_step { IsInStep session.old (K.moment keeper.old) }
     requires object { IsObject session.old.graph object }
-    ensures { IsSessionCall K.moment (λ u. u) (steps.add object)
+    ensures call { IsSessionCall K.moment (λ u. u) (steps.add object)
         (session.old, keeper.old) result (session.new, keeper.new) }
+    ensures refused { IfErr result (λ e. IsRefused (pending_fault session.old)
+        (add_fault object session.old) session.old e session.new) }
 {
     enter(session, keeper)?;
     add_inside(session, keeper, object)
@@ -40,8 +45,10 @@ pub fn add<K: Keeper>(session: &mut Session, keeper: &mut K, object: ObjId) -> R
 fn add_inside<K: Keeper>(session: &mut Session, keeper: &K, object: ObjId) -> Result<(), Refusal>
     requires in_step { IsInStep session.old (K.moment keeper.now) }
     requires object { IsObject session.old.graph object }
-    ensures { IsSessionCall K.moment (λ u. u) (steps.add_inside object)
+    ensures call { IsSessionCall K.moment (λ u. u) (steps.add_inside object)
         (session.old, keeper.now) result (session.new, keeper.now) }
+    ensures refused { IfErr result (λ e. steps.IsRefusedInside
+        (add_fault object session.old) session.old e session.new) }
 {
     let objects = coming_objects(session, object)?;
     let coming = objects.as_slice();

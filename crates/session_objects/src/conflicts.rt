@@ -1,9 +1,9 @@
 //! Why objects do not come into the session.
 
-ghost use Rattle.std.specs.Prelude.{◌≡◌, None, Some, IfSome, length};
+ghost use Rattle.std.specs.Prelude.{◌≡◌, None, Some, IfSome};
 ghost use Rattle.std.specs.List.{list_any};
 ghost use Rattle.object_arena.specs.Graph.{IsObject, object_at};
-ghost use Rattle.object_arena.specs.Identity.{has_key};
+ghost use Rattle.object_arena.specs.Identity.{IsGraph, has_key};
 ghost use Rattle.programs.specs.Alone.{IsOwn};
 ghost use Rattle.session_objects.specs.Conflicts as spec;
 ghost use Rattle.session_objects.specs.Taking.{AreMade, AreOnce, MayComeIn, MayJoin};
@@ -20,7 +20,10 @@ pub(crate) fn add_fault(session: &Session, object: ObjId, objects: &[ObjId]) -> 
     ensures fault { result ≡ spec.add_fault_among object objects.now session.now }
     ensures own { IfSome result IsOwn }
     ensures free { result ≡ None → MayJoin session.now objects.now }
+    ensures graph { IsGraph session.now.graph.objects session.now.graph.roots }
 {
+    // Each state has an identity or has none.
+    let _count = session.arena().count();
     if is_deleted(session.object(object).state) {
         return Some(Refusal::InvalidRequestError(RequestKind::Deleted));
     }
@@ -43,7 +46,7 @@ pub fn conflict_fault(session: &Session, objects: &[ObjId]) -> Option<Refusal>
     ensures fault { result ≡ spec.conflict_fault session.now.graph objects.now }
     ensures own { IfSome result IsOwn }
     ensures free { result ≡ None → MayComeIn session.now.graph objects.now }
-    ensures rooted { length session.now.graph.roots ≡ length session.now.graph.objects }
+    ensures graph { IsGraph session.now.graph.objects session.now.graph.roots }
 {
     let arena = session.arena();
     // No two persistent objects have one root and one key.

@@ -8,6 +8,6 @@ mod joining;
 mod taking;
 
 pub use adding::add;
-pub use coming::coming_objects;
+pub use coming::{coming_objects, is_inside};
 pub use conflicts::conflict_fault;
 pub use joining::take_all;

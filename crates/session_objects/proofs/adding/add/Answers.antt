@@ -1,6 +1,10 @@
 use Rattle.session_parts.proofs.ObjectLemmas.{made_still}
+use Rattle.session_calls.specs.Refusals.{IsRefused}
+use Rattle.session_calls.specs.Steps.{pending_fault}
 use Rattle.session_calls.proofs.Joining.{passed_call}
-use Rattle.session_objects.proofs.Acting.{adds, adds_not}
+use Rattle.session_calls.proofs.Refusing.{passed_on, refused_entering}
+use Rattle.session_objects.specs.Conflicts.{add_fault}
+use Rattle.session_objects.proofs.Acting.{adds, adds_not, inside_refused}
 use Rattle.session_objects.proofs.adding.add.Goals as goal
 
 pub add_inside-requires : goal.add_inside-requires
@@ -9,8 +13,16 @@ add_inside-requires g c = record {
   object = made_still c.args.session.now.graph c.enter.new.session.graph c.args.object c.in_ok-enter.ensures.call.kept.same.classes c.requires.object;
 }
 
-pub returns-in_err-enter : goal.returns-in_err-enter
-returns-in_err-enter g c = passed_call c.from_residual.ensures.1 (adds_not g.K.Keeper.moment c.args.object c.in_err-enter.ensures.call)
+pub returns-in_err-enter-clause-call : goal.returns-in_err-enter-clause-call
+returns-in_err-enter-clause-call g c = passed_call c.from_residual.ensures.1 (adds_not g.K.Keeper.moment c.args.object c.in_err-enter.ensures.call)
 
-pub returns : goal.returns
-returns g c = adds g.K.Keeper.moment c.args.object c.in_ok-enter.ensures.call c.add_inside.ensures
+pub returns-in_err-enter-clause-refused : goal.returns-in_err-enter-clause-refused
+returns-in_err-enter-clause-refused g c =
+    passed_on (λ e. IsRefused (pending_fault c.args.session.now) (add_fault c.args.object c.args.session.now) c.args.session.now e c.enter.new.session) c.from_residual.result c.from_residual.ensures.1 (refused_entering c.in_err-enter.ensures.refused)
+
+pub returns-clause-call : goal.returns-clause-call
+returns-clause-call g c = adds g.K.Keeper.moment c.args.object c.in_ok-enter.ensures.call c.add_inside.ensures.call
+
+pub returns-clause-refused : goal.returns-clause-refused
+returns-clause-refused g c =
+    inside_refused (add_fault c.args.object) c.args.session.now c.enter.new.session c.add_inside.new.session c.add_inside.result c.in_ok-enter.ensures.entered c.in_ok-enter.ensures.well c.add_inside.ensures.refused

@@ -1,4 +1,4 @@
-use Rattle.std.proofs.Common.{length, sym, ap, subst, ◌∙◌, ◌≡◌}
+use Rattle.std.proofs.Common.{sym, ap, subst, ◌∙◌}
 use Rattle.object_arena.specs.Graph.{Graph}
 use Rattle.object_arena.specs.Identity.{IsGraph}
 use Rattle.session_objects.specs.Conflicts.{has_conflict}
@@ -9,11 +9,11 @@ use Rattle.session_objects.proofs.conflicts.conflict_fault.Goals as goal
 pub has_conflict-requires : goal.has_conflict-requires
 has_conflict-requires c = subst (λ (g : Graph). AreMade g c.args.objects.now) (sym c.arena-arena.ensures.objects) (once_made c.args.session.now.graph c.args.objects.now c.requires.once)
 
-pub returns-then-has_conflict-clause-rooted : goal.returns-then-has_conflict-clause-rooted
-returns-then-has_conflict-clause-rooted c = subst (λ (g : Graph). length g.roots ≡ length g.objects) c.arena-arena.ensures.objects c.count-count.ensures.graph.rooted
+pub returns-then-has_conflict-clause-graph : goal.returns-then-has_conflict-clause-graph
+returns-then-has_conflict-clause-graph c = subst (λ (g : Graph). IsGraph g.objects g.roots) c.arena-arena.ensures.objects c.count-count.ensures.graph
 
-pub returns-clause-rooted : goal.returns-clause-rooted
-returns-clause-rooted c = subst (λ (g : Graph). length g.roots ≡ length g.objects) c.arena-arena.ensures.objects c.count-count.ensures.graph.rooted
+pub returns-clause-graph : goal.returns-clause-graph
+returns-clause-graph c = subst (λ (g : Graph). IsGraph g.objects g.roots) c.arena-arena.ensures.objects c.count-count.ensures.graph
 
 pub returns-clause-free : goal.returns-clause-free
 returns-clause-free c = λ none.
