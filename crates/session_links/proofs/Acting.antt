@@ -10,7 +10,8 @@ use Rattle.base_core.specs.declared.refusal.Refusal.TheVariants as refusal
 use Rattle.base_core.specs.declared.refusal.Refusal.TheVariants.{Memory}
 use Rattle.class_mapping.specs.Mapped.{Mapped, relations_of}
 use Rattle.object_arena.specs.Fit.{relation_of}
-use Rattle.object_arena.specs.Graph.{Graph, IsObject, object_at}
+use Rattle.object_arena.specs.Graph.{Graph, IsObject, either_fault, object_at}
+use Rattle.object_arena.specs.Identity.{IsGraph}
 use Rattle.programs.specs.Alone.{IsOwn, IsQuiet}
 use Rattle.programs.specs.Store.{Store}
 use Rattle.programs.specs.Moment.{Moment}
@@ -26,9 +27,10 @@ use Rattle.session_calls.specs.Calling.{IsSessionCall}
 use Rattle.session_calls.specs.Steps.{enter}
 use Rattle.session_calls.proofs.Joining.{change_call, err_call, fails, own_call, passes, same_itself, then_call}
 use Rattle.session_objects.proofs.Acting.{in_step_at}
-use Rattle.session_objects.specs.Taking.{session_joined}
+use Rattle.session_objects.proofs.OutsiderLemmas.{StayInside, outsiders_conflict, outsiders_join}
+use Rattle.session_objects.specs.Taking.{outsiders, session_joined}
 use Rattle.session_links.specs.declared.reading.Related.{Related}
-use Rattle.session_links.specs.Linking.{change_fault, child_of, coming_fault, coming_if, fault_by, is_request, session_by, session_changed, session_linked}
+use Rattle.session_links.specs.Linking.{change_fault, child_of, coming_fault, coming_if, fault_by, is_request, session_by, session_changed, session_linked, unread_fault}
 use Rattle.session_links.specs.Reading.{link_read}
 use Rattle.session_links.specs.Steps.{change_inside, change_link, read_related}
 
@@ -95,43 +97,57 @@ request_own refusal.KeeperFault h = absurd cc
 request_own refusal.NotBuilt h = absurd cc
 
 -- the links can not change
+pub no_change_told : (own : SessionState) (owner : ObjId) (place : RelNo) (call : LinkCall) (e : Refusal) → is_request e ≡ true → Refuses e (link_change own.graph own.mapping owner place call) → change_fault owner place call own ≡ Some e
+unfolding change_fault
+no_change_told own owner place call e is refuses_it =
+    ap (fault_by own owner place call) (subst (λ (b : Bool). MatchBool b (Unit {0}) (link_change own.graph own.mapping owner place call ≡ Err e)) (request_own e is).1 refuses_it)
+
 pub no_change_made : {K : Type 0} (moment : K → Moment Store) (owner : ObjId) (place : RelNo) (call : LinkCall) (e : Refusal) {own : SessionState} {keeper : K} → is_request e ≡ true → Refuses e (link_change own.graph own.mapping owner place call) → IsInStep own (moment keeper)
     → IsSessionCall moment (λ (u : Unit {0}). u) (change_inside owner place call) (own, keeper) (Err e) (own, keeper)
-unfolding change_fault
-no_change_made moment owner place call e {own = own} is refuses_it in_step =
-    let parts = request_own e is in
-    let told : link_change own.graph own.mapping owner place call ≡ Err e = subst (λ (b : Bool). MatchBool b (Unit {0}) (link_change own.graph own.mapping owner place call ≡ Err e)) parts.1 refuses_it in
-    refused_by moment owner place call (ap (fault_by own owner place call) told) parts.0 in_step
+no_change_made moment owner place call e {own = own} is refuses_it in_step = refused_by moment owner place call (no_change_told own owner place call e is refuses_it) (request_own e is).0 in_step
 
-fault_told : (own : SessionState) (owner : ObjId) (place : RelNo) (call : LinkCall) (change : Change) (objects : List ObjId) (fault : Option Refusal) → link_change own.graph own.mapping owner place call ≡ Ok change → objects ≡ coming_if (is_some change.joined) own owner place call
-    → fault ≡ coming_fault own owner place call objects → change_fault owner place call own ≡ fault
+-- the objects that come in where a collection is joined or is not, but for those that are in the session
+abbrev AreComing : Bool → SessionState → ObjId → RelNo → LinkCall → List ObjId → Type 0
+AreComing joins own owner place call objects = objects ≡ outsiders own.graph (coming_if joins own owner place call)
+
+pub fault_told : (own : SessionState) (owner : ObjId) (place : RelNo) (call : LinkCall) (change : Change) (objects : List ObjId) (fault : Option Refusal) → link_change own.graph own.mapping owner place call ≡ Ok change → IsGraph own.graph.objects own.graph.roots
+    → AreComing (is_some change.joined) own owner place call objects → fault ≡ coming_fault own owner place call objects → change_fault owner place call own ≡ fault
 unfolding change_fault
-fault_told own owner place call change objects fault told is found =
-    ap (fault_by own owner place call) told ∙ sym (found ∙ ap (coming_fault own owner place call) is)
+fault_told own owner place call change objects fault told graph is found =
+    ap (fault_by own owner place call) told
+    ∙ sym (found ∙ ap (coming_fault own owner place call) is
+    ∙ ap (λ (f : Option Refusal). either_fault f (unread_fault own owner place call)) (outsiders_conflict own.graph (coming_if (is_some change.joined) own owner place call) graph))
 
 -- something is against what comes in with them
 pub refuses : {K : Type 0} (moment : K → Moment Store) (owner : ObjId) (place : RelNo) (call : LinkCall) (change : Change) (objects : List ObjId) {own : SessionState} {keeper : K} {e : Refusal} → link_change own.graph own.mapping owner place call ≡ Ok change
-    → objects ≡ coming_if (is_some change.joined) own owner place call → Some e ≡ coming_fault own owner place call objects → IsOwn e → IsInStep own (moment keeper)
+    → IsGraph own.graph.objects own.graph.roots → AreComing (is_some change.joined) own owner place call objects → Some e ≡ coming_fault own owner place call objects → IsOwn e → IsInStep own (moment keeper)
     → IsSessionCall moment (λ (u : Unit {0}). u) (change_inside owner place call) (own, keeper) (Err e) (own, keeper)
-refuses moment owner place call change objects {own = own} {e = e} told is fault is_own in_step =
-    refused_by moment owner place call (fault_told own owner place call change objects (Some e) told is fault) is_own in_step
+refuses moment owner place call change objects {own = own} {e = e} told graph is fault is_own in_step =
+    refused_by moment owner place call (fault_told own owner place call change objects (Some e) told graph is fault) is_own in_step
 
 changed_as : (r : Result (Unit {0}) Refusal) (owner : ObjId) (place : RelNo) (call : LinkCall) (change : Change) (objects : List ObjId) (child : ObjId) (own now : SessionState) → link_change own.graph own.mapping owner place call ≡ Ok change
-    → objects ≡ coming_if (is_some change.joined) own owner place call → child ≡ child_of owner call → OnOk r (now ≡ session_joined objects (session_linked child change own)) → OnOk r (now ≡ session_changed owner place call own)
+    → StayInside own.graph (session_linked child change own).graph → AreComing (is_some change.joined) own owner place call objects → child ≡ child_of owner call → OnOk r (now ≡ session_joined objects (session_linked child change own))
+    → OnOk r (now ≡ session_changed owner place call own)
 unfolding session_changed
-changed_as (Ok u) owner place call change objects child own now told is whose put =
+changed_as (Ok u) owner place call change objects child own now told stay is whose put =
+    let coming : List ObjId = coming_if (is_some change.joined) own owner place call in
     put ∙ ap (λ (os : List ObjId). session_joined os (session_linked child change own)) is
-    ∙ ap (λ (c : ObjId). session_joined (coming_if (is_some change.joined) own owner place call) (session_linked c change own)) whose
+    ∙ outsiders_join own.graph coming (session_linked child change own) stay
+    ∙ ap (λ (c : ObjId). session_joined coming (session_linked c change own)) whose
     ∙ sym (ap (session_by owner place call own) told)
-changed_as (Err e) owner place call change objects child own now told is whose put = tt
+changed_as (Err e) owner place call change objects child own now told stay is whose put = tt
 
 -- nothing is
 pub change_made : {K : Type 0} (moment : K → Moment Store) (owner : ObjId) (place : RelNo) (call : LinkCall) (change : Change) (objects : List ObjId) (child : ObjId) {own now : SessionState} {keeper : K} {r : Result (Unit {0}) Refusal} → link_change own.graph own.mapping owner place call ≡ Ok change
-    → objects ≡ coming_if (is_some change.joined) own owner place call → child ≡ child_of owner call → None ≡ coming_fault own owner place call objects → IsInStep own (moment keeper)
+    → IsGraph own.graph.objects own.graph.roots → OnOk r (StayInside own.graph (session_linked child change own).graph) → AreComing (is_some change.joined) own owner place call objects → child ≡ child_of owner call → None ≡ coming_fault own owner place call objects → IsInStep own (moment keeper)
     → OnOk r (now ≡ session_joined objects (session_linked child change own)) → IfErr r (λ e. e ≡ Memory) → SameObjects own now → now.frames.scopes ≡ own.frames.scopes → IsSessionCall moment (λ u. u) (change_inside owner place call) (own, keeper) r (now, keeper)
-change_made moment owner place call change objects child {own = own} {now = now} {keeper = keeper} {r = r} told is whose none in_step put cause same scopes =
-    then_call (λ u. changes (session_changed owner place call)) (passes moment (change_fault owner place call) (fault_told own owner place call change objects None told is none) in_step)
-    (change_call moment (session_changed owner place call) {own = own} (changed_as r owner place call change objects child own now told is whose put) cause same (in_step_at r own now (moment keeper) in_step (ap length scopes)))
+change_made moment owner place call change objects child {own = own} {now = now} {keeper = keeper} {r = r} told graph stay is whose none in_step put cause same scopes =
+    then_call (λ u. changes (session_changed owner place call)) (passes moment (change_fault owner place call) (fault_told own owner place call change objects None told graph is none) in_step)
+    (change_call moment (session_changed owner place call) {own = own} (both r stay put) cause same (in_step_at r own now (moment keeper) in_step (ap length scopes)))
+  where
+    both : (q : Result (Unit {0}) Refusal) → OnOk q (StayInside own.graph (session_linked child change own).graph) → OnOk q (now ≡ session_joined objects (session_linked child change own)) → OnOk q (now ≡ session_changed owner place call own)
+    both (Ok u) stays_ is_put = changed_as (Ok u) owner place call change objects child own now told stays_ is whose is_put
+    both (Err e) stays_ is_put = tt
 
 -- ---- what is read
 

@@ -12,7 +12,9 @@ use Rattle.relations.specs.Mirror.{with_orphan}
 use Rattle.relations.specs.Places.{IsPutIn}
 use Rattle.relations.specs.declared.change.LinkPut.{LinkPut}
 use Rattle.relations.proofs.ChangeLemmas.{fits_later}
+use Rattle.session_objects.specs.Taking.{is_inside}
 use Rattle.session_objects.proofs.JoiningLemmas.{StandAlike}
+use Rattle.session_objects.proofs.OutsiderLemmas.{StayInside}
 use Rattle.session_scopes.specs.SessionState.{SameObjects, SessionState}
 use Rattle.touching.specs.Same.{same_bool, same_object}
 use Rattle.touching.proofs.Differing.{differs_as}
@@ -102,3 +104,7 @@ fits_there old new put same placed fits = subst (λ (mapped : Mapped). PutFits m
 
 pub stand_alike : (old new : Graph) → IsRelinked old new → StandAlike old new
 stand_alike old new same = record { long = same.places.objects; roots = same.roots; state = same.state; identity = same.identity }
+
+-- who was in the session is in it still
+pub stay_inside : (old new : Graph) → IsRelinked old new → StayInside old new
+stay_inside old new same object inside = ap is_inside (same.state (place_of object)) ∙ inside

@@ -4,8 +4,6 @@ use Rattle.base_core.specs.declared.ids.ObjId.{ObjId}
 use Rattle.base_core.specs.declared.ids.RelNo.{RelNo}
 use Rattle.base_core.specs.declared.refusal.Refusal.{Refusal}
 use Rattle.base_core.specs.declared.refusal.Refusal.TheVariants.{InvalidRequestError, NotBuilt}
-use Rattle.object_arena.specs.declared.object.State.{State}
-use Rattle.object_arena.specs.declared.object.State.TheVariants.{Pending, Persistent}
 use Rattle.object_arena.specs.Fit.{relation_of}
 use Rattle.object_arena.specs.Graph.{either_fault, object_at, with_link}
 use Rattle.relations.specs.declared.calls.LinkCall.{LinkCall}
@@ -17,7 +15,7 @@ use Rattle.relations.specs.Mirror.{is_unloaded, link_at, with_orphan}
 use Rattle.session_scopes.specs.SessionState.{SessionState, with_graph}
 use Rattle.session_calls.specs.Parts.{fault_if}
 use Rattle.session_objects.specs.Conflicts.{conflict_fault}
-use Rattle.session_objects.specs.Taking.{coming_objects, session_joined}
+use Rattle.session_objects.specs.Taking.{coming_objects, is_inside, session_joined}
 
 -- ---- the links
 
@@ -42,11 +40,6 @@ child_of owner (Append member) = member
 child_of owner (Remove member) = member
 
 -- ---- the objects that come in
-
-abbrev pub is_inside : State → Bool
-is_inside Pending = true
-is_inside Persistent = true
-is_inside state = false
 
 -- the owner is in the session, and what is linked to it comes in with it
 abbrev pub brings_in : SessionState → ObjId → RelNo → Bool

@@ -14,6 +14,7 @@ use Rattle.object_arena.specs.Graph.{Graph, IsObject, object_at}
 use Rattle.relations.specs.Mirror.{link_at}
 use Rattle.programs.specs.Programs.{Run, quiet}
 use Rattle.session_scopes.specs.SessionState.{SessionState}
+use Rattle.session_calls.specs.Refusals.{fault_in}
 use Rattle.session_links.specs.declared.reading.Related.{Related}
 use Rattle.session_links.specs.declared.reading.Related.TheVariants.{One, Many}
 
@@ -42,6 +43,10 @@ is_many session object place = (relation_of session.mapping (object_at session.g
 unfoldable pub related_of : ObjId → RelNo → SessionState → Result Related Refusal
 related_of object place session =
     related_by (is_many session object place) (object_at session.graph object).state object (link_at session.graph object place)
+
+-- why nothing is told of a link
+abbrev pub related_fault : ObjId → RelNo → SessionState → Option Refusal
+related_fault object place session = fault_in (related_of object place session)
 
 unfoldable pub link_read : ObjId → RelNo → SessionState → Run SessionState Related
 link_read object place session = quiet (related_of object place session) session

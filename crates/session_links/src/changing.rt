@@ -6,6 +6,7 @@ ghost use Rattle.base_core.specs.declared.refusal.Refusal.TheVariants.{Memory};
 ghost use Rattle.class_mapping.specs.Mapped.{relations_of};
 ghost use Rattle.object_arena.specs.Fit.{relation_of};
 ghost use Rattle.object_arena.specs.Graph.{IsObject, object_at};
+ghost use Rattle.object_arena.specs.Identity.{IsGraph};
 ghost use Rattle.programs.specs.Alone.{IsOwn};
 ghost use Rattle.relations.specs.Calls.{end_of, is_of_collection, link_change};
 ghost use Rattle.relations.specs.Fits.{ChangeFits};
@@ -13,18 +14,21 @@ ghost use Rattle.relations.specs.Keys.{IsEnd};
 ghost use Rattle.relations.specs.Places.{IsPlaced};
 ghost use Rattle.session_scopes.specs.SessionState.{IsInStep, SameObjects};
 ghost use Rattle.session_calls.specs.Calling.{IsSessionCall};
-ghost use Rattle.session_objects.specs.Taking.{AreOnce, MayComeIn, session_joined};
+ghost use Rattle.session_calls.specs.Refusals.{IsRefused};
+ghost use Rattle.session_calls.specs.Steps.{pending_fault};
+ghost use Rattle.session_objects.specs.Steps.{IsRefusedInside};
+ghost use Rattle.session_objects.specs.Taking.{AreOnce, MayComeIn, outsiders, session_joined};
 ghost use Rattle.session_links.specs.Linking as spec;
+ghost use Rattle.session_links.specs.Relinked.{IsRelinked};
 ghost use Rattle.session_links.specs.Steps as steps;
 
 use crate::places::relation_at;
 use crate::putting::put_change;
 use base_core::{ListOf, ObjId, ObjList, Refusal, RelNo};
 use keeper_core::Keeper;
-use object_arena::State;
 use relations::{Change, LinkCall, is_unloaded, link_change};
 use session_calls::enter;
-use session_objects::{coming_objects, conflict_fault, take_all};
+use session_objects::{coming_objects, conflict_fault, is_inside, take_all};
 use session_scopes::Session;
 
 /// Sets a many-to-one link of an object to another object or to none, appends a member to a collection, or takes one out. Both sides
@@ -55,8 +59,10 @@ pub fn change_link<K: Keeper>(
     requires form { (relation_of session.old.mapping (object_at session.old.graph owner).class relation).many
         ≡ is_of_collection call }
     requires end { IsEnd session.old.graph (end_of call) }
-    ensures { IsSessionCall K.moment (λ u. u) (steps.change_link owner relation call)
+    ensures call { IsSessionCall K.moment (λ u. u) (steps.change_link owner relation call)
         (session.old, keeper.old) result (session.new, keeper.new) }
+    ensures refused { IfErr result (λ e. IsRefused (pending_fault session.old)
+        (spec.change_fault owner relation call session.old) session.old e session.new) }
 {
     enter(session, keeper)?;
     change_inside(session, keeper, owner, relation, call)
@@ -77,8 +83,10 @@ fn change_inside<K: Keeper>(
     requires form { (relation_of session.old.mapping (object_at session.old.graph owner).class relation).many
         ≡ is_of_collection call }
     requires end { IsEnd session.old.graph (end_of call) }
-    ensures { IsSessionCall K.moment (λ u. u) (steps.change_inside owner relation call)
+    ensures call { IsSessionCall K.moment (λ u. u) (steps.change_inside owner relation call)
         (session.old, keeper.now) result (session.new, keeper.now) }
+    ensures refused { IfErr result (λ e. IsRefusedInside
+        (spec.change_fault owner relation call session.old) session.old e session.new) }
 {
     match change_of(session, owner, relation, call) {
         Ok(change) => change_links(session, keeper, owner, relation, call, change),
@@ -145,8 +153,10 @@ fn change_links<K: Keeper>(
     requires change { link_change session.old.graph session.old.mapping owner relation call ≡ Ok change }
     requires placed { IsPlaced session.old.graph change }
     requires fits { ChangeFits session.old.mapping session.old.graph change }
-    ensures { IsSessionCall K.moment (λ u. u) (steps.change_inside owner relation call)
+    ensures call { IsSessionCall K.moment (λ u. u) (steps.change_inside owner relation call)
         (session.old, keeper.now) result (session.new, keeper.now) }
+    ensures refused { IfErr result (λ e. IsRefusedInside
+        (spec.change_fault owner relation call session.old) session.old e session.new) }
 {
     let objects = coming_along(session, owner, relation, call, change.joined.is_some())?;
     let coming = objects.as_slice();
@@ -170,6 +180,8 @@ fn put_all(
     requires rooted { length session.old.graph.roots ≡ length session.old.graph.objects }
     ensures ok { OnOk result (session.new
         ≡ session_joined objects.now (spec.session_linked child change session.old)) }
+    ensures relinked { OnOk result (IsRelinked session.old.graph
+        (spec.session_linked child change session.old).graph) }
     ensures cause { IfErr result (λ e. e ≡ Memory) }
     ensures same { SameObjects session.old session.new }
     ensures scopes { session.new.frames.scopes ≡ session.old.frames.scopes }
@@ -188,7 +200,8 @@ fn child_of(owner: ObjId, call: LinkCall) -> ObjId
     }
 }
 
-/// The objects that come in along the side that is acted on, where a collection is joined or is not. The only refusal is `Memory`.
+/// The objects that come in along the side that is acted on, where a collection is joined or is not; but for those that are in the
+/// session already, since nothing becomes of them. The only refusal is `Memory`.
 fn coming_along(
     session: &Session,
     owner: ObjId,
@@ -200,8 +213,8 @@ fn coming_along(
     requires relation { relation.0
         < length (relations_of session.now.mapping (object_at session.now.graph owner).class) }
     requires end { IsEnd session.now.graph (end_of call) }
-    ensures objects { IfOk result (λ objects. objects
-        ≡ spec.coming_if joins session.now owner relation call) }
+    ensures objects { IfOk result (λ objects. objects ≡ outsiders session.now.graph
+        (spec.coming_if joins session.now owner relation call)) }
     ensures once { IfOk result (AreOnce session.now.graph) }
     ensures cause { IfErr result (λ e. e ≡ Memory) }
 {
@@ -225,15 +238,6 @@ fn brings_in(session: &Session, owner: ObjId, relation: RelNo) -> bool
         && relation_at(session, owner, relation).cascade.save_update
 }
 
-fn is_inside(state: State) -> bool
-    ensures { result ≡ spec.is_inside state }
-{
-    match state {
-        State::Pending | State::Persistent => true,
-        State::Transient | State::Deleted | State::Detached => false,
-    }
-}
-
 /// What is against a change whose links can change: an identity that would come in twice, and then members that are not known.
 fn coming_fault(
     session: &Session,
@@ -247,7 +251,7 @@ fn coming_fault(
     ensures fault { result ≡ spec.coming_fault session.now owner relation call objects.now }
     ensures own { IfSome result IsOwn }
     ensures free { result ≡ None → MayComeIn session.now.graph objects.now }
-    ensures rooted { length session.now.graph.roots ≡ length session.now.graph.objects }
+    ensures graph { IsGraph session.now.graph.objects session.now.graph.roots }
 {
     if let Some(fault) = conflict_fault(session, objects) {
         return Some(fault);

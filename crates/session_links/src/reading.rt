@@ -1,11 +1,13 @@
 //! What is read of links.
 
-ghost use Rattle.std.specs.Prelude.{◌≡◌, ◌<◌, Err, IfOk, length};
+ghost use Rattle.std.specs.Prelude.{◌≡◌, ◌<◌, Err, IfErr, IfOk, length};
 ghost use Rattle.class_mapping.specs.Mapped.{relations_of};
 ghost use Rattle.object_arena.specs.Graph.{IsObject, object_at};
 ghost use Rattle.programs.specs.Alone.{IsOwn, IsQuiet};
 ghost use Rattle.session_scopes.specs.SessionState.{IsInStep};
 ghost use Rattle.session_calls.specs.Calling.{IsSessionCall};
+ghost use Rattle.session_calls.specs.Refusals.{IsRefused};
+ghost use Rattle.session_calls.specs.Steps.{pending_fault};
 ghost use Rattle.session_links.specs.Reading as spec;
 ghost use Rattle.session_links.specs.Steps as steps;
 
@@ -45,6 +47,8 @@ pub fn read_related<K: Keeper>(
     ensures call { IsSessionCall K.moment (λ related. related)
         (steps.read_related object relation)
         (session.old, keeper.old) result (session.new, keeper.new) }
+    ensures refused { IfErr result (λ e. IsRefused (pending_fault session.old)
+        (spec.related_fault object relation session.old) session.old e session.new) }
     ensures made { IfOk result (spec.AreToldMade session.new.graph) }
 {
     enter(session, keeper)?;

@@ -1,6 +1,11 @@
 use Rattle.relations.specs.Calls.{end_of, is_of_collection}
 use Rattle.session_parts.proofs.ObjectLemmas.{made_still}
+use Rattle.session_calls.specs.Refusals.{IsRefused}
+use Rattle.session_calls.specs.Steps.{pending_fault}
 use Rattle.session_calls.proofs.Joining.{passed_call}
+use Rattle.session_calls.proofs.Refusing.{passed_on, refused_entering}
+use Rattle.session_objects.proofs.Acting.{inside_refused}
+use Rattle.session_links.specs.Linking.{change_fault}
 use Rattle.session_links.proofs.Acting.{changes_link, changes_not, end_still, form_still, place_still}
 use Rattle.session_links.proofs.changing.change_link.Goals as goal
 
@@ -15,8 +20,19 @@ change_inside-requires g c =
       end = end_still c.args.session.now c.enter.new.session (end_of c.args.call) same c.requires.end;
     }
 
-pub returns-in_err-enter : goal.returns-in_err-enter
-returns-in_err-enter g c = passed_call c.from_residual.ensures.1 (changes_not g.K.Keeper.moment c.args.owner c.args.relation c.args.call c.in_err-enter.ensures.call)
+pub returns-in_err-enter-clause-call : goal.returns-in_err-enter-clause-call
+returns-in_err-enter-clause-call g c = passed_call c.from_residual.ensures.1 (changes_not g.K.Keeper.moment c.args.owner c.args.relation c.args.call c.in_err-enter.ensures.call)
 
-pub returns : goal.returns
-returns g c = changes_link g.K.Keeper.moment c.args.owner c.args.relation c.args.call c.in_ok-enter.ensures.call c.change_inside.ensures
+pub returns-clause-call : goal.returns-clause-call
+returns-clause-call g c = changes_link g.K.Keeper.moment c.args.owner c.args.relation c.args.call c.in_ok-enter.ensures.call c.change_inside.ensures.call
+
+pub returns-in_err-enter-clause-refused : goal.returns-in_err-enter-clause-refused
+returns-in_err-enter-clause-refused g c =
+    passed_on (λ e. IsRefused (pending_fault c.args.session.now) (change_fault c.args.owner c.args.relation c.args.call c.args.session.now) c.args.session.now e c.enter.new.session) c.from_residual.result c.from_residual.ensures.1
+    (refused_entering c.in_err-enter.ensures.refused)
+
+pub returns-clause-refused : goal.returns-clause-refused
+unfolding change_fault
+returns-clause-refused g c =
+    inside_refused (change_fault c.args.owner c.args.relation c.args.call) c.args.session.now c.enter.new.session c.change_inside.new.session c.change_inside.result c.in_ok-enter.ensures.entered c.in_ok-enter.ensures.well
+    c.change_inside.ensures.refused

@@ -55,7 +55,7 @@ change_link-requires g c =
     record { in_step = c.requires.in_step; owner = ready.0.0; relation = ready.0.1.0; form = ready.0.1.1; end = ready.1 }
 
 pub returns-in-ChangeLink : goal.returns-in-ChangeLink
-returns-in-ChangeLink g c = at_case g.K.Keeper.moment (rules_of c.args.hooks.now) c.in-ChangeLink.is (performs g.K.Keeper.moment c.nothing_told-in-ChangeLink.ensures c.change_link.ensures)
+returns-in-ChangeLink g c = at_case g.K.Keeper.moment (rules_of c.args.hooks.now) c.in-ChangeLink.is (performs g.K.Keeper.moment c.nothing_told-in-ChangeLink.ensures c.change_link.ensures.call)
 
 pub add-requires : goal.add-requires
 add-requires g c =
@@ -63,7 +63,7 @@ add-requires g c =
     record { in_step = c.requires.in_step; object = ready }
 
 pub returns-in-Add : goal.returns-in-Add
-returns-in-Add g c = at_case g.K.Keeper.moment (rules_of c.args.hooks.now) c.in-Add.is (performs g.K.Keeper.moment c.nothing_told-in-Add.ensures c.add.ensures)
+returns-in-Add g c = at_case g.K.Keeper.moment (rules_of c.args.hooks.now) c.in-Add.is (performs g.K.Keeper.moment c.nothing_told-in-Add.ensures c.add.ensures.call)
 
 pub delete-requires : goal.delete-requires
 delete-requires g c =
