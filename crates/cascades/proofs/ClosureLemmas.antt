@@ -1,9 +1,15 @@
 -- A walk that follows the links of each object to which it came has come to the closure.
-use Rattle.std.proofs.Common.{◌≡◌, ℕ, ◌+◌, ◌<◌, ◌≤◌, Bool, true, false, ◌||◌, List, [], ◌∷◌, ◌++◌, length, cond, drop, get_or, replicate, zero, suc, Result, Ok, Err, IfOk, refl, sym, ap, ◌∙◌, subst, ⊎_elim, arith}
+use Rattle.std.proofs.Common.{◌≡◌, ℕ, ◌+◌, ◌<◌, ◌≤◌, Bool, true, false, ◌||◌, List, [], ◌∷◌, ◌++◌, length, map, cond, drop, get_or, replicate, zero, suc, Result, Ok, Err, IfOk, refl, sym, ap, ◌∙◌, subst, ⊎_elim, arith}
 use Rattle.std.specs.Prelude.{◌==◌}
-use Rattle.std.specs.List.{All, list_all}
+use Rattle.std.specs.Ordering.{eq_by_cmp, nat_cmp}
+use Rattle.std.specs.Cmp.{unsigned_tied}
+use Rattle.std.specs.List.{All, AllByRecursion, list_all}
+use Rattle.std.specs.List.Sorted.{IsStrictlySortedBy}
+use Rattle.std.specs.declared.cmp.Ordering.TheVariants.{Less}
 use Rattle.std.proofs.lemmas.Bool.{and_from, and_parts, cases_Bool, eqb-true, eq-eqb, or_left, or_right}
+use Rattle.std.proofs.lemmas.Bool.Decides.{nat_tests}
 use Rattle.std.proofs.lemmas.List.{drop_more}
+use Rattle.std.proofs.lemmas.Map.Views.{length-le_from_below}
 use Rattle.std.proofs.lemmas.List.Elements.{All-nil, All-cons}
 use Rattle.base_core.specs.declared.ids.ObjId.{ObjId}
 use Rattle.base_core.specs.Ascending.{IsAbove, IsAscending, IsBelow}
@@ -12,7 +18,7 @@ use Rattle.object_arena.specs.Graph.{Graph, IsObject}
 use Rattle.object_arena.specs.Fit.{IsFit}
 use Rattle.cascades.specs.declared.closures.Flag.{Flag}
 use Rattle.cascades.specs.Closures.{IsClosed, IsClosure, is_among, linked_objects}
-use Rattle.cascades.specs.Walks.{Comes, has, id_of_number, marked_from}
+use Rattle.cascades.specs.Walks.{Comes, id_of_number, is_in, is_marked, marked_from}
 use Rattle.cascades.proofs.EndLemmas.{is_is_made, is_made, linked_made, made_is}
 use Rattle.cascades.proofs.WalkLemmas.{among_left, among_one, among_split, clash, or_cases}
 
@@ -44,11 +50,11 @@ from_each inside (other ∷ objects) each =
 
 -- The walk began at the object. All that waits it has come to; the links of what waits no more, but for what is skipped,
 -- lead to where it has come; and it has come to nothing that a closed set with the object lacks.
-pub record IsWalk (flag : Flag) (mapped : Mapped) (graph : Graph) (object : ObjId) (skip : ObjId → Bool) (reached : List Bool) (waiting : List ObjId) : Type 0 where
-  pub began : has reached object.0 ≡ true
-  pub held : (x : ObjId) → is_among waiting x ≡ true → has reached x.0 ≡ true
-  pub done : (x y : ObjId) → has reached x.0 ≡ true → is_among waiting x ≡ false → skip x ≡ false → is_among (linked_objects flag mapped graph x) y ≡ true → has reached y.0 ≡ true
-  pub least : (inside : ObjId → Bool) → inside object ≡ true → IsClosed flag mapped graph inside → (number : ℕ) → has reached number ≡ true → inside (id_of_number number) ≡ true
+pub record IsWalk (flag : Flag) (mapped : Mapped) (graph : Graph) (object : ObjId) (skip : ObjId → Bool) (reached : ℕ → Bool) (waiting : List ObjId) : Type 0 where
+  pub began : reached object.0 ≡ true
+  pub held : (x : ObjId) → is_among waiting x ≡ true → reached x.0 ≡ true
+  pub done : (x y : ObjId) → reached x.0 ≡ true → is_among waiting x ≡ false → skip x ≡ false → is_among (linked_objects flag mapped graph x) y ≡ true → reached y.0 ≡ true
+  pub least : (inside : ObjId → Bool) → inside object ≡ true → IsClosed flag mapped graph inside → (number : ℕ) → reached number ≡ true → inside (id_of_number number) ≡ true
 
 abbrev pub none : ObjId → Bool
 none x = false
@@ -57,22 +63,22 @@ abbrev pub is_it : ObjId → ObjId → Bool
 is_it next x = x.0 == next.0
 
 -- no number has a mark
-pub none_marked : (count number : ℕ) → has (replicate count false) number ≡ false
+pub none_marked : (count number : ℕ) → is_marked (replicate count false) number ≡ false
 none_marked zero number = refl
 none_marked (suc count) zero = refl
 none_marked (suc count) (suc number) = none_marked count number
 
 -- it begins
-pub walk_began : (flag : Flag) (mapped : Mapped) (graph : Graph) (object : ObjId) (count : ℕ) (keys : List Bool) (waiting : List ObjId) → Comes (replicate count false) keys [] waiting (object ∷ []) → IsWalk flag mapped graph object none keys waiting
-walk_began flag mapped graph object count keys waiting comes = record {
+pub walk_began : (flag : Flag) (mapped : Mapped) (graph : Graph) (object : ObjId) (none_yet keys : ℕ → Bool) (waiting : List ObjId) → ((number : ℕ) → none_yet number ≡ false) → Comes none_yet keys [] waiting (object ∷ []) → IsWalk flag mapped graph object none keys waiting
+walk_began flag mapped graph object none_yet keys waiting empty comes = record {
   began = comes.all object (ap (λ (b : Bool). b || false) (eq-eqb object.0 object.0 refl));
   held = λ x among. comes.held x among refl;
-  done = λ x y there idle skip linked_to. clash (is_among waiting x) (comes.waits x.0 there (none_marked count x.0)) idle;
-  least = λ inside begins closed number there. subst (λ (n : ℕ). inside (id_of_number n) ≡ true) (sym (among_one (id_of_number number) object (comes.only number there (none_marked count number)))) begins;
+  done = λ x y there idle skip linked_to. clash (is_among waiting x) (comes.waits x.0 there (empty x.0)) idle;
+  least = λ inside begins closed number there. subst (λ (n : ℕ). inside (id_of_number n) ≡ true) (sym (among_one (id_of_number number) object (comes.only number there (empty number)))) begins;
 }
 
 -- an object is taken out to be followed
-pub walk_taken : (flag : Flag) (mapped : Mapped) (graph : Graph) (object : ObjId) (keys : List Bool) (waiting rest : List ObjId) (next : ObjId) → waiting ≡ rest ++ next ∷ [] → IsWalk flag mapped graph object none keys waiting → IsWalk flag mapped graph object (is_it next) keys rest
+pub walk_taken : (flag : Flag) (mapped : Mapped) (graph : Graph) (object : ObjId) (keys : ℕ → Bool) (waiting rest : List ObjId) (next : ObjId) → waiting ≡ rest ++ next ∷ [] → IsWalk flag mapped graph object none keys waiting → IsWalk flag mapped graph object (is_it next) keys rest
 walk_taken flag mapped graph object keys waiting rest next is walk = record {
   began = walk.began;
   held = λ x among. walk.held x (subst (λ (ws : List ObjId). is_among ws x ≡ true) (sym is) (among_left rest (next ∷ []) x among));
@@ -92,7 +98,7 @@ walk_taken flag mapped graph object keys waiting rest next is walk = record {
         (cases_Bool (is_among (rest ++ next ∷ []) x))
 
 -- the object that was taken out had been reached
-pub taken_reached : (flag : Flag) (mapped : Mapped) (graph : Graph) (object : ObjId) (keys : List Bool) (waiting rest : List ObjId) (next : ObjId) → waiting ≡ rest ++ next ∷ [] → IsWalk flag mapped graph object none keys waiting → has keys next.0 ≡ true
+pub taken_reached : (flag : Flag) (mapped : Mapped) (graph : Graph) (object : ObjId) (keys : ℕ → Bool) (waiting rest : List ObjId) (next : ObjId) → waiting ≡ rest ++ next ∷ [] → IsWalk flag mapped graph object none keys waiting → keys next.0 ≡ true
 taken_reached flag mapped graph object keys waiting rest next is walk =
     walk.held next (subst (λ (ws : List ObjId). is_among ws next ≡ true) (sym is) (last rest))
   where
@@ -105,7 +111,7 @@ taken_reached flag mapped graph object keys waiting rest next is walk =
         more false b h = h
 
 -- its links were followed
-pub walk_more : (flag : Flag) (mapped : Mapped) (graph : Graph) (object : ObjId) (old new : List Bool) (rest waiting : List ObjId) (next : ObjId) → has old next.0 ≡ true → IsWalk flag mapped graph object (is_it next) old rest → Comes old new rest waiting (linked_objects flag mapped graph next) → IsWalk flag mapped graph object none new waiting
+pub walk_more : (flag : Flag) (mapped : Mapped) (graph : Graph) (object : ObjId) (old new : ℕ → Bool) (rest waiting : List ObjId) (next : ObjId) → old next.0 ≡ true → IsWalk flag mapped graph object (is_it next) old rest → Comes old new rest waiting (linked_objects flag mapped graph next) → IsWalk flag mapped graph object none new waiting
 walk_more flag mapped graph object old new rest waiting next reached walk comes = record {
   began = comes.kept object.0 walk.began;
   held = λ x among.
@@ -119,15 +125,15 @@ walk_more flag mapped graph object old new rest waiting next reached walk comes 
       comes.all y (subst (λ (n : ℕ). is_among (linked_objects flag mapped graph (id_of_number n)) y ≡ true) (eqb-true x.0 next.0 same) linked_to))
       (λ (other : (x.0 == next.0) ≡ false).
       ⊎_elim
-      (λ (before : has old x.0 ≡ true). comes.kept y.0 (walk.done x y before (still_out x idle) other linked_to))
-      (λ (now : has old x.0 ≡ false). clash (is_among waiting x) (comes.waits x.0 there now) idle)
-      (cases_Bool (has old x.0)))
+      (λ (before : old x.0 ≡ true). comes.kept y.0 (walk.done x y before (still_out x idle) other linked_to))
+      (λ (now : old x.0 ≡ false). clash (is_among waiting x) (comes.waits x.0 there now) idle)
+      (cases_Bool (old x.0)))
       (cases_Bool (x.0 == next.0));
   least = λ inside begins closed number there.
       ⊎_elim
-      (λ (before : has old number ≡ true). walk.least inside begins closed number before)
-      (λ (now : has old number ≡ false). at_each inside (linked_objects flag mapped graph next) (id_of_number number) (closed next (walk.least inside begins closed next.0 reached)) (comes.only number there now))
-      (cases_Bool (has old number));
+      (λ (before : old number ≡ true). walk.least inside begins closed number before)
+      (λ (now : old number ≡ false). at_each inside (linked_objects flag mapped graph next) (id_of_number number) (closed next (walk.least inside begins closed next.0 reached)) (comes.only number there now))
+      (cases_Bool (old number));
 }
   where
     still_out : (x : ObjId) → is_among waiting x ≡ false → is_among rest x ≡ false
@@ -142,9 +148,44 @@ walk_more flag mapped graph object old new rest waiting next reached walk comes 
 made_closed : (flag : Flag) (mapped : Mapped) (graph : Graph) → IsFit mapped graph → IsClosed flag mapped graph (is_made graph)
 made_closed flag mapped graph fit x made = linked_made flag mapped graph x fit (made_is graph x made)
 
-pub reached_made : (flag : Flag) (mapped : Mapped) (graph : Graph) (object : ObjId) (skip : ObjId → Bool) (keys : List Bool) (waiting : List ObjId) (number : ℕ) → IsFit mapped graph → IsObject graph object → IsWalk flag mapped graph object skip keys waiting → has keys number ≡ true → IsObject graph (id_of_number number)
+pub reached_made : (flag : Flag) (mapped : Mapped) (graph : Graph) (object : ObjId) (skip : ObjId → Bool) (keys : ℕ → Bool) (waiting : List ObjId) (number : ℕ) → IsFit mapped graph → IsObject graph object → IsWalk flag mapped graph object skip keys waiting → keys number ≡ true → IsObject graph (id_of_number number)
 reached_made flag mapped graph object skip keys waiting number fit within walk there =
     made_is graph (id_of_number number) (walk.least (is_made graph) (is_is_made graph object within) (made_closed flag mapped graph fit) number there)
+
+-- ---- a walk that keeps a set of numbers
+
+-- each number of a list is in it
+own_key : (key : ℕ) (keys : List ℕ) → is_in (key ∷ keys) key ≡ true
+own_key key keys = ap (λ (b : Bool). b || is_in keys key) (unsigned_tied key key ∙ eq-eqb key key refl)
+
+below : (count : ℕ) (keys : List ℕ) → ((number : ℕ) → is_in keys number ≡ true → number < count) → All (λ number. number < count) keys
+below count [] each = All-nil (λ number. number < count)
+below count (key ∷ keys) each =
+    All-cons (λ number. number < count) key keys (each key (own_key key keys)) (below count keys (λ number there. each number (or_right _ (is_in keys number) there)))
+
+-- no more than there are objects
+pub reached_few : (flag : Flag) (mapped : Mapped) (graph : Graph) (object : ObjId) (skip : ObjId → Bool) (keys : List ℕ) (waiting : List ObjId) → IsFit mapped graph → IsObject graph object → IsStrictlySortedBy nat_cmp keys → IsWalk flag mapped graph object skip (is_in keys) waiting → length keys ≤ length graph.objects + 1
+reached_few flag mapped graph object skip keys waiting fit within ascending walk =
+    length-le_from_below (length graph.objects + 1) keys ascending
+    (below (length graph.objects + 1) keys (λ number there.
+    let inside : number ≤ length graph.objects = (reached_made flag mapped graph object skip (is_in keys) waiting number fit within walk there).1 in
+    omega arith))
+
+below_all : (key : ℕ) (keys : List ℕ) → AllByRecursion (λ y. nat_cmp key y ≡ Less) keys → IsBelow (id_of_number key) (map id_of_number keys)
+below_all key [] all = tt
+below_all key (next ∷ keys) all = let less : nat_cmp key next ≡ Less = all.0 in (grind (arith, nat_tests), below_all key keys all.1)
+
+pub in_order : (keys : List ℕ) → IsStrictlySortedBy nat_cmp keys → IsAscending (map id_of_number keys)
+unfolding IsStrictlySortedBy
+in_order [] ascending = tt
+in_order (key ∷ keys) ascending = (below_all key keys ascending.0, in_order keys ascending.1)
+
+among_has : (keys : List ℕ) (object : ObjId) → is_among (map id_of_number keys) object ≡ is_in keys object.0
+among_has [] object = refl
+among_has (key ∷ keys) object =
+    ap (λ (b : Bool). b || is_among (map id_of_number keys) object) (sym (unsigned_tied object.0 key)) ∙ ap (λ (b : Bool). eq_by_cmp nat_cmp object.0 key || b) (among_has keys object)
+
+-- ---- a walk that has a mark for each object
 
 -- the objects to which one is linked have marks, each its own
 pub ends_within : (flag : Flag) (mapped : Mapped) (graph : Graph) (object : ObjId) (ends : List ObjId) (marks : List Bool) → IsFit mapped graph → IsObject graph object → ends ≡ linked_objects flag mapped graph object → length marks ≡ length graph.objects + 1
@@ -182,18 +223,18 @@ above_before (x ∷ xs) y ys ascending = (below_one x xs y ys ascending.0, above
 
 -- ---- a loop over the marks
 
-marked_turn : (marks : List Bool) (number : ℕ) → number < length marks → marked_from number (drop number marks) ≡ cond (has marks number) (id_of_number number ∷ []) [] ++ marked_from (number + 1) (drop (number + 1) marks)
-marked_turn marks number less = ap (marked_from number) (drop_more marks number false less) ∙ by (has marks number)
+marked_turn : (marks : List Bool) (number : ℕ) → number < length marks → marked_from number (drop number marks) ≡ cond (is_marked marks number) (id_of_number number ∷ []) [] ++ marked_from (number + 1) (drop (number + 1) marks)
+marked_turn marks number less = ap (marked_from number) (drop_more marks number false less) ∙ by (is_marked marks number)
   where
     by : (b : Bool) → marked_from number (b ∷ drop (number + 1) marks) ≡ cond b (id_of_number number ∷ []) [] ++ marked_from (number + 1) (drop (number + 1) marks)
     by true = refl
     by false = refl
 
-marked_as : (marks : List Bool) (number : ℕ) (b : Bool) → number < length marks → has marks number ≡ b → marked_from number (drop number marks) ≡ cond b (id_of_number number ∷ []) [] ++ marked_from (number + 1) (drop (number + 1) marks)
+marked_as : (marks : List Bool) (number : ℕ) (b : Bool) → number < length marks → is_marked marks number ≡ b → marked_from number (drop number marks) ≡ cond b (id_of_number number ∷ []) [] ++ marked_from (number + 1) (drop (number + 1) marks)
 marked_as marks number b less is = marked_turn marks number less ∙ ap (λ (m : Bool). cond m (id_of_number number ∷ []) [] ++ marked_from (number + 1) (drop (number + 1) marks)) is
 
 -- the next object is above those before it
-pub above_marked : (marks : List Bool) (number : ℕ) (set : List ObjId) → number < length marks → has marks number ≡ true → set ++ marked_from number (drop number marks) ≡ marked_from 0 marks → IsAbove set (id_of_number number)
+pub above_marked : (marks : List Bool) (number : ℕ) (set : List ObjId) → number < length marks → is_marked marks number ≡ true → set ++ marked_from number (drop number marks) ≡ marked_from 0 marks → IsAbove set (id_of_number number)
 above_marked marks number set less mark so_far =
     above_before set (id_of_number number) (marked_from (number + 1) (drop (number + 1) marks))
     (subst IsAscending (sym (ap (λ (rest : List ObjId). set ++ rest) (sym (marked_as marks number true less mark)) ∙ so_far)) (rising_marked 0 marks))
@@ -224,11 +265,10 @@ among_at number (false ∷ marks) object zero is = before_marked (number + 1) ma
 among_at number (false ∷ marks) object (suc place) is = among_at (number + 1) marks object place (omega (arith, is))
 
 -- nothing waits any more
-pub walk_ended : (flag : Flag) (mapped : Mapped) (graph : Graph) (object : ObjId) (keys : List Bool) (waiting : List ObjId) (set : List ObjId) → IsFit mapped graph → IsObject graph object → waiting ≡ [] → set ≡ marked_from 0 keys → IsWalk flag mapped graph object none keys waiting → IsClosure flag mapped graph object set
-walk_ended flag mapped graph object keys waiting set fit within ended is walk =
-    let there : (x : ObjId) → is_among set x ≡ has keys x.0 = λ x. ap (λ (xs : List ObjId). is_among xs x) is ∙ among_at 0 keys x x.0 (omega arith) in
+pub walk_ended : (flag : Flag) (mapped : Mapped) (graph : Graph) (object : ObjId) (keys : ℕ → Bool) (waiting : List ObjId) (set : List ObjId) → IsFit mapped graph → IsObject graph object → IsAscending set → ((x : ObjId) → is_among set x ≡ keys x.0) → waiting ≡ [] → IsWalk flag mapped graph object none keys waiting → IsClosure flag mapped graph object set
+walk_ended flag mapped graph object keys waiting set fit within ascending there ended walk =
     record {
-      ascending = subst IsAscending (sym is) (rising_marked 0 keys);
+      ascending = ascending;
       has = there object ∙ walk.began;
       closed = λ x inside. from_each (is_among set) (linked_objects flag mapped graph x) (λ y linked_to.
           there y ∙ walk.done x y (sym (there x) ∙ inside) (ap (λ (ws : List ObjId). is_among ws x) ended) refl linked_to);
@@ -241,6 +281,18 @@ walk_ended flag mapped graph object keys waiting set fit within ended is walk =
     all_objects (x ∷ objects) each =
         All-cons (IsObject graph) x objects (each x (ap (λ (b : Bool). b || is_among objects x) (eq-eqb x.0 x.0 refl)))
         (all_objects objects (λ y among. each y (or_right (y.0 == x.0) (is_among objects y) among)))
+
+-- the numbers of a set
+pub kept_ended : (flag : Flag) (mapped : Mapped) (graph : Graph) (object : ObjId) (keys : List ℕ) (waiting : List ObjId) (set : List ObjId) → IsFit mapped graph → IsObject graph object → IsStrictlySortedBy nat_cmp keys → waiting ≡ [] → set ≡ map id_of_number keys
+    → IsWalk flag mapped graph object none (is_in keys) waiting → IsClosure flag mapped graph object set
+kept_ended flag mapped graph object keys waiting set fit within sorted ended is walk =
+    walk_ended flag mapped graph object (is_in keys) waiting set fit within (subst IsAscending (sym is) (in_order keys sorted)) (λ x. ap (λ (xs : List ObjId). is_among xs x) is ∙ among_has keys x) ended walk
+
+-- the objects that have marks
+pub marks_ended : (flag : Flag) (mapped : Mapped) (graph : Graph) (object : ObjId) (marks : List Bool) (waiting : List ObjId) (set : List ObjId) → IsFit mapped graph → IsObject graph object → waiting ≡ [] → set ≡ marked_from 0 marks
+    → IsWalk flag mapped graph object none (is_marked marks) waiting → IsClosure flag mapped graph object set
+marks_ended flag mapped graph object marks waiting set fit within ended is walk =
+    walk_ended flag mapped graph object (is_marked marks) waiting set fit within (subst IsAscending (sym is) (rising_marked 0 marks)) (λ x. ap (λ (xs : List ObjId). is_among xs x) is ∙ among_at 0 marks x x.0 (omega arith)) ended walk
 
 -- ---- answers
 

@@ -7,11 +7,15 @@ ghost use Rattle.object_arena.specs.Fit.{IsFit};
 ghost use Rattle.cascades.specs.declared.closures.Flag.TheVariants.{SaveUpdate, RefreshExpire, Expunge, Delete};
 ghost use Rattle.cascades.specs.Closures as spec;
 
+use crate::marks::Marks;
 use crate::walk::Walk;
 use base_core::{ListOf, ObjId, ObjList, ObjSet, Refusal};
 use class_mapping::{Cascade, Mapping, Relation};
 use object_arena::{Arena, Link};
 use std::alloc::Global;
+
+/// In a graph of so many objects a walk has a mark for each.
+const MOST_MARKED: u32 = 8192;
 
 /// The calls that go on along relationships.
 #[derive(Clone, Copy, PartialEq, Eq)]
@@ -102,7 +106,52 @@ fn closure(
     ensures closure { IfOk result (spec.IsClosure flag mapping.now arena.now object) }
     ensures cause { IfErr result (λ e. e ≡ Memory) }
 {
-    let mut walk = Walk::new(alloc, arena.count())?;
+    if arena.count() <= MOST_MARKED {
+        return closure_marked(alloc, arena, mapping, flag, object);
+    }
+    closure_kept(alloc, arena, mapping, flag, object)
+}
+
+/// The least closed set that has an object, by a walk with a mark for each object of the graph: the fastest where there are few.
+fn closure_marked(
+    alloc: Global,
+    arena: &Arena,
+    mapping: &Mapping,
+    flag: Flag,
+    object: ObjId,
+) -> Result<ObjSet, Refusal>
+    requires configured { mapping.now.configured ≡ true }
+    requires fit { IsFit mapping.now arena.now }
+    requires object { IsObject arena.now object }
+    ensures closure { IfOk result (spec.IsClosure flag mapping.now arena.now object) }
+    ensures cause { IfErr result (λ e. e ≡ Memory) }
+{
+    let mut walk = Marks::new(alloc, arena.count())?;
+    let mut ends = ListOf::new(alloc);
+    walk.come_to(object)?;
+    while let Some(next) = walk.waiting.pop() {
+        ends.clear();
+        add_linked(&mut ends, arena, mapping, flag, next)?;
+        walk.come_to_all(ends.as_slice())?;
+    }
+    walk.into_set(alloc)
+}
+
+/// The least closed set that has an object, by a walk whose time grows with that set alone.
+fn closure_kept(
+    alloc: Global,
+    arena: &Arena,
+    mapping: &Mapping,
+    flag: Flag,
+    object: ObjId,
+) -> Result<ObjSet, Refusal>
+    requires configured { mapping.now.configured ≡ true }
+    requires fit { IsFit mapping.now arena.now }
+    requires object { IsObject arena.now object }
+    ensures closure { IfOk result (spec.IsClosure flag mapping.now arena.now object) }
+    ensures cause { IfErr result (λ e. e ≡ Memory) }
+{
+    let mut walk = Walk::new(alloc);
     let mut ends = ListOf::new(alloc);
     walk.come_to(object)?;
     while let Some(next) = walk.waiting.pop() {

@@ -2,6 +2,7 @@
 #![tactic(auto)]
 
 mod closures;
+mod marks;
 mod walk;
 
 pub use closures::{Flag, delete_closure, expire_closure, expunge_closure, save_closure};

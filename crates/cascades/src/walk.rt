@@ -1,57 +1,62 @@
-//! A walk along links.
+//! A walk along links that keeps the numbers of the objects to which it came in a set.
 
-ghost use Rattle.std.specs.Prelude.{◌≡◌, ◌+◌, ◌<◌, ◌≤◌, ◌^◌, [], ◌∷◌, false, length, replicate, IfOk, IfErr, OnOk};
-ghost use Rattle.std.specs.List.{All};
+ghost use Rattle.std.specs.Prelude.{◌≡◌, ◌+◌, [], ◌∷◌, length, map, IfOk, IfErr, OnOk};
+ghost use Rattle.std.specs.Ordering.{nat_cmp};
+ghost use Rattle.std.specs.List.Sorted.{IsStrictlySortedBy};
 ghost use Rattle.base_core.specs.declared.refusal.Refusal.TheVariants.{Memory};
-ghost use Rattle.cascades.specs.Walks.{Comes, marked_from};
+ghost use Rattle.cascades.specs.Walks.{Comes, id_of_number, is_in};
 
 use base_core::{ObjId, ObjSet, Refusal};
 use std::alloc::Global;
+use std::collections::BTreeSet;
 
-/// A mark for each number, on where the walk has come to its object, and the objects whose links it has still to follow.
+/// The numbers of the objects that a walk has come to, and the objects whose links it has still to follow.
 #[derive(Drop)]
 pub(crate) struct Walk {
-    pub(crate) marks: Vec<bool>,
+    pub(crate) reached: BTreeSet<u32>,
     pub(crate) waiting: Vec<ObjId>,
 }
 
 impl Walk {
-    /// A walk among so many objects that has come nowhere yet. The only refusal is `Memory`.
-    pub(crate) fn new(alloc: Global, count: u32) -> Result<Walk, Refusal>
-        ensures marks { IfOk result (λ walk. walk.marks.items ≡ replicate (count + 1) false) }
-        ensures waiting { IfOk result (λ walk. walk.waiting.items ≡ []) }
-        ensures cause { IfErr result (λ e. e ≡ Memory) }
+    /// A walk that has come nowhere yet.
+    pub(crate) fn new(alloc: Global) -> Walk
+        ensures reached { result.reached.keys ≡ [] }
+        ensures waiting { result.waiting.items ≡ [] }
     {
-        let marks = vec![in alloc; false; count as usize + 1]?;
-        Ok(Walk {
-            marks,
+        Walk {
+            reached: BTreeSet::new(alloc),
             waiting: Vec::new(alloc),
-        })
+        }
     }
 
     /// The walk comes to an object. Where it comes there first, its links are to be followed. The only refusal is `Memory`.
     pub(crate) fn come_to(&mut self, object: ObjId) -> Result<(), Refusal>
-        requires { object.0 < length self.old.marks.items }
-        ensures ok { OnOk result
-            (Comes self.old.marks.items self.new.marks.items self.old.waiting.items
-            self.new.waiting.items (object ∷ [])) }
+        ensures ok { OnOk result (Comes (is_in self.old.reached.keys)
+            (is_in self.new.reached.keys) self.old.waiting.items self.new.waiting.items
+            (object ∷ [])) }
+        ensures count { OnOk result
+            (length self.new.reached.keys + length self.old.waiting.items
+            ≡ length self.old.reached.keys + length self.new.waiting.items) }
+        ensures ascending { OnOk result (IsStrictlySortedBy nat_cmp self.new.reached.keys) }
         ensures cause { IfErr result (λ e. e ≡ Memory) }
     {
-        let number = object.0 as usize;
-        if self.marks[number] {
+        if !self.reached.insert(object.0)? {
             return Ok(());
         }
         self.waiting.push(object)?;
-        self.marks[number] = true;
         Ok(())
     }
 
     /// The walk comes to objects, one after another. The only refusal is `Memory`.
     pub(crate) fn come_to_all(&mut self, objects: &[ObjId]) -> Result<(), Refusal>
-        requires { All (λ object. object.0 < length self.old.marks.items) objects.now }
-        ensures ok { OnOk result
-            (Comes self.old.marks.items self.new.marks.items self.old.waiting.items
-            self.new.waiting.items objects.now) }
+        requires { IsStrictlySortedBy nat_cmp self.old.reached.keys }
+        ensures ok { OnOk result (Comes (is_in self.old.reached.keys)
+            (is_in self.new.reached.keys) self.old.waiting.items self.new.waiting.items
+            objects.now) }
+        ensures count { OnOk result
+            (length self.new.reached.keys + length self.old.waiting.items
+            ≡ length self.old.reached.keys + length self.new.waiting.items) }
+        ensures ascending { OnOk result (IsStrictlySortedBy nat_cmp self.new.reached.keys) }
         ensures cause { IfErr result (λ e. e ≡ Memory) }
     {
         for object in objects {
@@ -62,15 +67,13 @@ impl Walk {
 
     /// The objects that the walk has come to. The only refusal is `Memory`.
     pub(crate) fn into_set(self, alloc: Global) -> Result<ObjSet, Refusal>
-        requires { length self.marks.items ≤ 2 ^ 32 }
-        ensures set { IfOk result (λ set. set ≡ marked_from 0 self.marks.items) }
+        requires { IsStrictlySortedBy nat_cmp self.reached.keys }
+        ensures set { IfOk result (λ set. set ≡ map id_of_number self.reached.keys) }
         ensures cause { IfErr result (λ e. e ≡ Memory) }
     {
         let mut set = ObjSet::new(alloc);
-        for number in 0..self.marks.len() {
-            if self.marks[number] {
-                set.push(ObjId(number as u32))?;
-            }
+        for number in self.reached {
+            set.push(ObjId(number))?;
         }
         Ok(set)
     }

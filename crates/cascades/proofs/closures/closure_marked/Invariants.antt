@@ -1,11 +1,11 @@
 use Rattle.std.proofs.Common.{◌≡◌, ◌+◌, length}
-use Rattle.cascades.specs.Walks.{count_left}
+use Rattle.cascades.specs.Walks.{count_left, is_marked}
 use Rattle.cascades.proofs.ClosureLemmas.{IsWalk, none}
-use Rattle.cascades.proofs.closures.closure.Given as goal
+use Rattle.cascades.proofs.closures.closure_marked.Given as goal
 
 abbrev pub invariant-loop-next : goal.invariant-loop-next
 invariant-loop-next l =
-    IsWalk l.flag l.mapping l.arena l.fn.object none l.walk.marks.items l.walk.waiting.items
+    IsWalk l.flag l.mapping l.arena l.fn.object none (is_marked l.walk.marks.items) l.walk.waiting.items
     × (length l.walk.marks.items ≡ length l.arena.objects + 1)
 
 abbrev pub decreases-loop-next : goal.decreases-loop-next
