@@ -7,7 +7,7 @@ use Rattle.base_core.specs.declared.refusal.Refusal.{Refusal}
 use Rattle.base_core.specs.declared.refusal.Refusal.TheVariants.{Memory, KeeperFault}
 use Rattle.base_core.specs.declared.value.Value.{Value}
 use Rattle.schema_core.specs.Catalog.{Catalog}
-use Rattle.schema_core.specs.Tables.{Tables, is_created, rows_in}
+use Rattle.schema_core.specs.Tables.{is_created, rows_in}
 use Rattle.sql_semantics.specs.Created.{bare}
 use Rattle.sql_semantics.specs.Shapes.{AreLegalRows, AreRows}
 use Rattle.programs.specs.declared.sent.Sent.{Sent}
@@ -15,18 +15,18 @@ use Rattle.programs.specs.declared.sent.Sent.TheVariants as sent
 use Rattle.programs.specs.declared.target.Target.{Target}
 use Rattle.programs.specs.declared.target.Target.TheVariants as targets
 use Rattle.programs.specs.Programs.{Run, after_events, ends_early, is_fault, is_of_tables, quiet, give}
-use Rattle.programs.specs.Moment.{AsTold, IsCutOff, IsRun, Keeps, Outcome, Ran, Refused, Runs, Stops, Told, counters}
-use Rattle.programs.specs.Store.{Store, committed_of, with_empty_table, without_table, outermost}
+use Rattle.programs.specs.Moment.{AsTold, IsCutOff, IsRun, Outcome, Ran, Refused, Runs, Stops, Told}
+use Rattle.programs.specs.Store.{Store, committed_of, with_empty_table, without_table}
 use Rattle.programs.proofs.Counts.{no_fault, own_is_no_fault}
 use Rattle.keeper_core.specs.Calls as call
 use Rattle.keeper_core.specs.Calls.{sends}
 use Rattle.keeper_core.specs.Keeping as keeping
-use Rattle.keeper_core.specs.Keeping.{HoldsLegalRows, HoldsRows, IsAttached, IsCall, IsLeft, IsStatement, IsToldAnew, IsUndone, depth_left, new_store}
+use Rattle.keeper_core.specs.Keeping.{HoldsLegalRows, HoldsRows, IsAttached, IsCall, IsLeft, IsStatement, IsToldAnew, IsUndone, new_store}
 use Rattle.statement_log.specs.Logged.{start_of}
-use Rattle.table_store.specs.Written.{given_up}
 use Rattle.keeper_mem.specs.declared.keeper.Attachment.{Attachment}
 use Rattle.keeper_mem.specs.declared.keeper.Attachment.TheVariants.{Fresh, Taken, Untaken}
-use Rattle.keeper_mem.specs.Kept.{Does, IsNumbered, Kept, one_call_more, depth_by, call_ended, call_failed, is_failing, is_faulted, is_taken, moment_of, refused_by, sent_by, target_of, taken_by, told_by, told_of, untaken_by}
+use Rattle.table_log.specs.Marks.{Marks, no_marks, place_dropped}
+use Rattle.keeper_mem.specs.Kept.{Does, IsMarked, IsNumbered, Kept, one_call_more, depth_by, call_ended, call_failed, is_failing, is_taken, moment_of, refused_by, sent_by, target_of, taken_by, told_by, told_of, untaken_by}
 
 -- ---- a keeper that took its target tells what it has
 
@@ -83,12 +83,12 @@ refused_left statement e old own =
 -- ---- one call's program
 
 -- a statement was sent, and answered
-ran_ok : {A : Type 0} (m : Store → Run Store A) (statement : Sent) (after : Store) (x : A) (old : Kept) → is_taken old.attachment ≡ true
-    → m old.store ≡ sends statement after (Ok x) → Runs moment_of (λ y. y) m old (Ok x) (sent_by (one_call_more old) statement after)
+ran_ok : {A : Type 0} (m : Store → Run Store A) (statement : Sent) (after : Store) (marks : Marks) (x : A) (old : Kept) → is_taken old.attachment ≡ true
+    → m old.store ≡ sends statement after (Ok x) → Runs moment_of (λ y. y) m old (Ok x) (sent_by (one_call_more old) statement after marks)
 unfolding after_events
-ran_ok {A = A} m statement after x old taken ran = Ran (record {
-  told = as_told (λ (y : A). y) m old (sent_by (one_call_more old) statement after) (Ok x) taken taken
-      (subst (λ run. IsRun run (told_of old).log (Ok x) (told_of (sent_by (one_call_more old) statement after))) (sym ran) (record { answer = refl; world = refl; log = refl }));
+ran_ok {A = A} m statement after marks x old taken ran = Ran (record {
+  told = as_told (λ (y : A). y) m old (sent_by (one_call_more old) statement after marks) (Ok x) taken taken
+      (subst (λ run. IsRun run (told_of old).log (Ok x) (told_of (sent_by (one_call_more old) statement after marks))) (sym ran) (record { answer = refl; world = refl; log = refl }));
   keeps = record { faults = refl; refusals = omega arith; shown = tt; calm = (refl, refl); target = refl; attached = refl; tells = refl };
 })
 
@@ -151,11 +151,11 @@ ran_ended {A = A} m old taken = Ran (record {
 -- ---- calls that nothing refuses
 
 -- the call's statement was sent
-sent_call : {A : Type 0} (m : Store → Run Store A) (statement : Sent) (after : Store) (scopes : ℕ) (x : A) (old new : Kept) → is_taken old.attachment ≡ true
-    → m old.store ≡ sends statement after (Ok x) → length after.scopes ≡ scopes → new ≡ sent_by (one_call_more old) statement after → IsCall moment_of m scopes old (Ok x) new
-sent_call m statement after scopes x old new taken ran count is = subst (IsCall moment_of m scopes old (Ok x)) (sym is) (record {
-  step = ran_ok m statement after x old taken ran;
-  depth = depth_taken old.attachment (sent_by (one_call_more old) statement after) taken ∙ count;
+sent_call : {A : Type 0} (m : Store → Run Store A) (statement : Sent) (after : Store) (marks : Marks) (scopes : ℕ) (x : A) (old new : Kept) → is_taken old.attachment ≡ true
+    → m old.store ≡ sends statement after (Ok x) → length after.scopes ≡ scopes → new ≡ sent_by (one_call_more old) statement after marks → IsCall moment_of m scopes old (Ok x) new
+sent_call m statement after marks scopes x old new taken ran count is = subst (IsCall moment_of m scopes old (Ok x)) (sym is) (record {
+  step = ran_ok m statement after marks x old taken ran;
+  depth = depth_taken old.attachment (sent_by (one_call_more old) statement after marks) taken ∙ count;
   stops = tt;
   undone = tt;
 })
@@ -190,68 +190,68 @@ ran_out {m = m} {scopes = scopes} {old = old} taken is = subst (IsCall moment_of
   undone = ended_left old;
 })
 
-pub began : (old new : Kept) → is_taken old.attachment ≡ true → depth_by old.attachment old ≡ 0
-    → new ≡ sent_by (one_call_more old) (start_of (length old.store.scopes)) (record { tables = old.store.tables; scopes = old.store.tables ∷ old.store.scopes }) → keeping.IsBegin moment_of old (Ok tt) new
+pub began : (marks : Marks) (old new : Kept) → is_taken old.attachment ≡ true → depth_by old.attachment old ≡ 0
+    → new ≡ sent_by (one_call_more old) (start_of (length old.store.scopes)) (record { tables = old.store.tables; scopes = old.store.tables ∷ old.store.scopes }) marks → keeping.IsBegin moment_of old (Ok tt) new
 unfolding call.begin
-began old new taken outside is =
+began marks old new taken outside is =
     let none : length old.store.scopes ≡ 0 = sym (depth_taken old.attachment old taken) ∙ outside in
     let after : Store = record { tables = old.store.tables; scopes = old.store.tables ∷ old.store.scopes } in
-    sent_call call.begin sent.Begin after 1 tt old new taken refl (ap suc none) (is ∙ ap (λ n. sent_by (one_call_more old) (start_of n) after) none)
+    sent_call call.begin sent.Begin after marks 1 tt old new taken refl (ap suc none) (is ∙ ap (λ n. sent_by (one_call_more old) (start_of n) after marks) none)
 
 start_inside : (n : ℕ) → 1 ≤ n → start_of n ≡ sent.Savepoint n
 start_inside zero some = absurd (omega (arith, some))
 start_inside (suc n) some = refl
 
-pub saved : (old new : Kept) → is_taken old.attachment ≡ true → 1 ≤ depth_by old.attachment old
-    → new ≡ sent_by (one_call_more old) (start_of (length old.store.scopes)) (record { tables = old.store.tables; scopes = old.store.tables ∷ old.store.scopes }) → keeping.IsSavepoint moment_of old (Ok tt) new
+pub saved : (marks : Marks) (old new : Kept) → is_taken old.attachment ≡ true → 1 ≤ depth_by old.attachment old
+    → new ≡ sent_by (one_call_more old) (start_of (length old.store.scopes)) (record { tables = old.store.tables; scopes = old.store.tables ∷ old.store.scopes }) marks → keeping.IsSavepoint moment_of old (Ok tt) new
 unfolding call.savepoint
-saved old new taken inside is =
+saved marks old new taken inside is =
     let some : 1 ≤ length old.store.scopes = subst (λ n. 1 ≤ n) (depth_taken old.attachment old taken) inside in
     let after : Store = record { tables = old.store.tables; scopes = old.store.tables ∷ old.store.scopes } in
-    sent_call call.savepoint (sent.Savepoint (length old.store.scopes)) after (depth_by old.attachment old + 1) tt old new taken refl
-    (omega (arith, depth_taken old.attachment old taken)) (is ∙ ap (λ s. sent_by (one_call_more old) s after) (start_inside (length old.store.scopes) some))
+    sent_call call.savepoint (sent.Savepoint (length old.store.scopes)) after marks (depth_by old.attachment old + 1) tt old new taken refl
+    (omega (arith, depth_taken old.attachment old taken)) (is ∙ ap (λ s. sent_by (one_call_more old) s after marks) (start_inside (length old.store.scopes) some))
 
-pub released : (old new : Kept) → is_taken old.attachment ≡ true → new ≡ sent_by (one_call_more old) (sent.Release (length old.store.scopes - 1)) (record { tables = old.store.tables; scopes = drop 1 old.store.scopes })
+pub released : (marks : Marks) (old new : Kept) → is_taken old.attachment ≡ true → new ≡ sent_by (one_call_more old) (sent.Release (length old.store.scopes - 1)) (record { tables = old.store.tables; scopes = drop 1 old.store.scopes }) marks
     → keeping.IsRelease moment_of old (Ok tt) new
 unfolding call.release
-released old new taken is =
-    sent_call call.release (sent.Release (length old.store.scopes - 1)) (record { tables = old.store.tables; scopes = drop 1 old.store.scopes }) (depth_by old.attachment old - 1) tt old new taken refl
+released marks old new taken is =
+    sent_call call.release (sent.Release (length old.store.scopes - 1)) (record { tables = old.store.tables; scopes = drop 1 old.store.scopes }) marks (depth_by old.attachment old - 1) tt old new taken refl
     (omega (arith, length-drop 1 old.store.scopes, depth_taken old.attachment old taken)) is
 
-went_back : (number : ℕ) (old new : Kept) → is_taken old.attachment ≡ true → number < depth_by old.attachment old
-    → new ≡ sent_by (one_call_more old) (sent.RollbackTo number) (record { tables = slice_index_or old.store.scopes (length old.store.scopes - number - 1) old.store.tables; scopes = drop (length old.store.scopes - number) old.store.scopes })
+went_back : (number : ℕ) (marks : Marks) (old new : Kept) → is_taken old.attachment ≡ true → number < depth_by old.attachment old
+    → new ≡ sent_by (one_call_more old) (sent.RollbackTo number) (record { tables = slice_index_or old.store.scopes (length old.store.scopes - number - 1) old.store.tables; scopes = drop (length old.store.scopes - number) old.store.scopes }) marks
     → keeping.IsRollbackTo moment_of number old (Ok tt) new
 unfolding call.rollback_to
-went_back number old new taken inside is =
+went_back number marks old new taken inside is =
     sent_call (call.rollback_to number) (sent.RollbackTo number)
-    (record { tables = slice_index_or old.store.scopes (length old.store.scopes - number - 1) old.store.tables; scopes = drop (length old.store.scopes - number) old.store.scopes }) number tt old new taken refl
+    (record { tables = slice_index_or old.store.scopes (length old.store.scopes - number - 1) old.store.tables; scopes = drop (length old.store.scopes - number) old.store.scopes }) marks number tt old new taken refl
     (omega (arith, inside, length-drop (length old.store.scopes - number) old.store.scopes, depth_taken old.attachment old taken)) is
 
-pub went_back_from : (number : ℕ) (old mid new : Kept) → is_taken old.attachment ≡ true → number < depth_by old.attachment old → mid ≡ one_call_more old
-    → new ≡ sent_by mid (sent.RollbackTo number) (record { tables = slice_index_or mid.store.scopes (length mid.store.scopes - number - 1) mid.store.tables; scopes = drop (length mid.store.scopes - number) mid.store.scopes })
+pub went_back_from : (number : ℕ) (marks : Marks) (old mid new : Kept) → is_taken old.attachment ≡ true → number < depth_by old.attachment old → mid ≡ one_call_more old
+    → new ≡ sent_by mid (sent.RollbackTo number) (record { tables = slice_index_or mid.store.scopes (length mid.store.scopes - number - 1) mid.store.tables; scopes = drop (length mid.store.scopes - number) mid.store.scopes }) marks
     → keeping.IsRollbackTo moment_of number old (Ok tt) new
-went_back_from number old mid new taken inside same is =
-    went_back number old new taken inside
-    (subst (λ (k : Kept). new ≡ sent_by k (sent.RollbackTo number) (record { tables = slice_index_or k.store.scopes (length k.store.scopes - number - 1) k.store.tables; scopes = drop (length k.store.scopes - number) k.store.scopes })) same is)
+went_back_from number marks old mid new taken inside same is =
+    went_back number marks old new taken inside
+    (subst (λ (k : Kept). new ≡ sent_by k (sent.RollbackTo number) (record { tables = slice_index_or k.store.scopes (length k.store.scopes - number - 1) k.store.tables; scopes = drop (length k.store.scopes - number) k.store.scopes }) marks) same is)
 
-pub rolled_back : (old new : Kept) → is_taken old.attachment ≡ true → new ≡ sent_by (one_call_more old) sent.Rollback (record { tables = committed_of old.store; scopes = [] })
+pub rolled_back : (marks : Marks) (old new : Kept) → is_taken old.attachment ≡ true → new ≡ sent_by (one_call_more old) sent.Rollback (record { tables = committed_of old.store; scopes = [] }) marks
     → keeping.IsRollback moment_of old (Ok tt) new
 unfolding call.rollback
-rolled_back old new taken is = sent_call call.rollback sent.Rollback (record { tables = committed_of old.store; scopes = [] }) 0 tt old new taken refl refl is
+rolled_back marks old new taken is = sent_call call.rollback sent.Rollback (record { tables = committed_of old.store; scopes = [] }) marks 0 tt old new taken refl refl is
 
-pub committed : (old new : Kept) → is_taken old.attachment ≡ true → new ≡ sent_by (one_call_more old) sent.Commit (record { tables = old.store.tables; scopes = [] })
+pub committed : (marks : Marks) (old new : Kept) → is_taken old.attachment ≡ true → new ≡ sent_by (one_call_more old) sent.Commit (record { tables = old.store.tables; scopes = [] }) marks
     → keeping.IsCommit moment_of old (Ok tt) new
 unfolding call.commit
-committed old new taken is = sent_call call.commit sent.Commit (record { tables = old.store.tables; scopes = [] }) 0 tt old new taken refl refl is
+committed marks old new taken is = sent_call call.commit sent.Commit (record { tables = old.store.tables; scopes = [] }) marks 0 tt old new taken refl refl is
 
 outside_none : (old : Kept) → is_taken old.attachment ≡ true → depth_by old.attachment old ≡ 0 → length old.store.scopes ≡ 0
 outside_none old taken outside = sym (depth_taken old.attachment old taken) ∙ outside
 
-pub made : (table : TableId) (old new : Kept) → is_taken old.attachment ≡ true → depth_by old.attachment old ≡ 0 → is_created old.store.tables table ≡ false
-    → new ≡ sent_by (one_call_more old) (sent.Create table) (record { tables = with_empty_table old.store.tables table; scopes = old.store.scopes }) → keeping.IsCreate moment_of table old (Ok true) new
+pub made : (table : TableId) (marks : Marks) (old new : Kept) → is_taken old.attachment ≡ true → depth_by old.attachment old ≡ 0 → is_created old.store.tables table ≡ false
+    → new ≡ sent_by (one_call_more old) (sent.Create table) (record { tables = with_empty_table old.store.tables table; scopes = old.store.scopes }) marks → keeping.IsCreate moment_of table old (Ok true) new
 unfolding call.create
-made table old new taken outside absent is =
-    sent_call (call.create table) (sent.Create table) (record { tables = with_empty_table old.store.tables table; scopes = old.store.scopes }) 0 true old new taken
+made table marks old new taken outside absent is =
+    sent_call (call.create table) (sent.Create table) (record { tables = with_empty_table old.store.tables table; scopes = old.store.scopes }) marks 0 true old new taken
     (ap (λ b. if b then quiet (Ok false) old.store else sends (sent.Create table) (record { tables = with_empty_table old.store.tables table; scopes = old.store.scopes }) (Ok true)) absent) (outside_none old taken outside) is
 
 pub not_made : (table : TableId) (old new : Kept) → is_taken old.attachment ≡ true → depth_by old.attachment old ≡ 0 → is_created old.store.tables table ≡ true → new ≡ one_call_more old
@@ -261,11 +261,11 @@ not_made table old new taken outside there is =
     quiet_call (call.create table) 0 false old new taken
     (ap (λ b. if b then quiet (Ok false) old.store else sends (sent.Create table) (record { tables = with_empty_table old.store.tables table; scopes = old.store.scopes }) (Ok true)) there) outside is
 
-pub removed : (table : TableId) (old new : Kept) → is_taken old.attachment ≡ true → depth_by old.attachment old ≡ 0 → is_created old.store.tables table ≡ true
-    → new ≡ sent_by (one_call_more old) (sent.Drop table) (record { tables = without_table old.store.tables table; scopes = old.store.scopes }) → keeping.IsDrop moment_of table old (Ok true) new
+pub removed : (table : TableId) (marks : Marks) (old new : Kept) → is_taken old.attachment ≡ true → depth_by old.attachment old ≡ 0 → is_created old.store.tables table ≡ true
+    → new ≡ sent_by (one_call_more old) (sent.Drop table) (record { tables = without_table old.store.tables table; scopes = old.store.scopes }) marks → keeping.IsDrop moment_of table old (Ok true) new
 unfolding call.drop_table
-removed table old new taken outside there is =
-    sent_call (call.drop_table table) (sent.Drop table) (record { tables = without_table old.store.tables table; scopes = old.store.scopes }) 0 true old new taken
+removed table marks old new taken outside there is =
+    sent_call (call.drop_table table) (sent.Drop table) (record { tables = without_table old.store.tables table; scopes = old.store.scopes }) marks 0 true old new taken
     (ap (λ b. if b then sends (sent.Drop table) (record { tables = without_table old.store.tables table; scopes = old.store.scopes }) (Ok true) else quiet (Ok false) old.store) there) (outside_none old taken outside) is
 
 pub not_removed : (table : TableId) (old new : Kept) → is_taken old.attachment ≡ true → depth_by old.attachment old ≡ 0 → is_created old.store.tables table ≡ false → new ≡ one_call_more old
@@ -282,11 +282,11 @@ scanned table rows old new taken found is = quiet_call (call.scan table) (depth_
 
 -- ---- statements
 
-statement_done : {A : Type 0} (m : Store → Run Store A) (statement : Sent) (May : Refusal → Type 0) (x : A) (old new : Kept) → is_taken old.attachment ≡ true
-    → Does m statement (one_call_more old) (Ok x) new → IsStatement moment_of m statement May old (Ok x) new
-statement_done m statement May x old new taken did = subst (IsStatement moment_of m statement May old (Ok x)) (sym did.2) (record {
-  step = ran_ok m statement new.store x old taken did.0;
-  depth = depth_same old.attachment old (sent_by (one_call_more old) statement new.store) did.1;
+statement_done : {A : Type 0} (m : Store → Run Store A) (statement : Sent) (count : A → ℕ) (May : Refusal → Type 0) (x : A) (old new : Kept) → is_taken old.attachment ≡ true
+    → Does m statement count (one_call_more old) (Ok x) new → IsStatement moment_of m statement May old (Ok x) new
+statement_done m statement count May x old new taken did = subst (IsStatement moment_of m statement May old (Ok x)) (sym did.2) (record {
+  step = ran_ok m statement new.store new.marks x old taken did.0;
+  depth = depth_same old.attachment old (sent_by (one_call_more old) statement new.store new.marks) did.1;
   refuses = tt;
   left = tt;
 })
@@ -310,9 +310,9 @@ statement_ended m statement May old new taken may is = subst (IsStatement moment
 })
 
 -- the statement was not done
-statement_not_done : {A : Type 0} (m : Store → Run Store A) (statement : Sent) (May : Refusal → Type 0) (e : Refusal) (old new : Kept) → is_taken old.attachment ≡ true → old.refusals < 2 ^ 64
-    → May e → Does m statement (one_call_more old) (Err e) new → IsStatement moment_of m statement May old (Err e) new
-statement_not_done m statement May e old new taken small may did = by (ends_early e) refl did
+statement_not_done : {A : Type 0} (m : Store → Run Store A) (statement : Sent) (count : A → ℕ) (May : Refusal → Type 0) (e : Refusal) (old new : Kept) → is_taken old.attachment ≡ true → old.refusals < 2 ^ 64
+    → May e → Does m statement count (one_call_more old) (Err e) new → IsStatement moment_of m statement May old (Err e) new
+statement_not_done m statement count May e old new taken small may did = by (ends_early e) refl did
   where
     by : (b : Bool) → ends_early e ≡ b → MatchBool b ((e ≡ Memory) × (new ≡ call_ended (one_call_more old))) ((m old.store ≡ sends statement old.store (Err e)) × (new ≡ refused_by (one_call_more old) statement e))
         → IsStatement moment_of m statement May old (Err e) new
@@ -320,13 +320,13 @@ statement_not_done m statement May e old new taken small may did = by (ends_earl
     by false own q = statement_refused m statement May e old new taken small own may q.0 q.1
 
 -- a statement was done after the call was counted, or not
-pub statement_ran : {A : Type 0} (m : Store → Run Store A) (statement : Sent) (May : Refusal → Type 0) (r : Result A Refusal) (old mid new : Kept) → is_taken old.attachment ≡ true → old.refusals < 2 ^ 64
-    → mid ≡ one_call_more old → IfErr r May → Does m statement mid r new → IsStatement moment_of m statement May old r new
-statement_ran {A = A} m statement May r old mid new taken small same may did = by r may (subst (λ (kept : Kept). Does m statement kept r new) same did)
+pub statement_ran : {A : Type 0} (m : Store → Run Store A) (statement : Sent) (count : A → ℕ) (May : Refusal → Type 0) (r : Result A Refusal) (old mid new : Kept) → is_taken old.attachment ≡ true → old.refusals < 2 ^ 64
+    → mid ≡ one_call_more old → IfErr r May → Does m statement count mid r new → IsStatement moment_of m statement May old r new
+statement_ran {A = A} m statement count May r old mid new taken small same may did = by r may (subst (λ (kept : Kept). Does m statement count kept r new) same did)
   where
-    by : (r : Result A Refusal) → IfErr r May → Does m statement (one_call_more old) r new → IsStatement moment_of m statement May old r new
-    by (Ok x) may q = statement_done m statement May x old new taken q
-    by (Err e) may q = statement_not_done m statement May e old new taken small may q
+    by : (r : Result A Refusal) → IfErr r May → Does m statement count (one_call_more old) r new → IsStatement moment_of m statement May old r new
+    by (Ok x) may q = statement_done m statement count May x old new taken q
+    by (Err e) may q = statement_not_done m statement count May e old new taken small may q
 
 -- the statement was ended by a fault
 pub statement_faulted : {A : Type 0} {m : Store → Run Store A} {statement : Sent} {May : Refusal → Type 0} {old new : Kept} → is_taken old.attachment ≡ true → old.faults < 2 ^ 64
@@ -339,10 +339,10 @@ statement_faulted {m = m} {statement = statement} {May = May} {old = old} taken 
 })
 
 -- whatever was done, the call was counted, and it is no fault
-pub statement_numbered : {A : Type 0} (m : Store → Run Store A) (statement : Sent) (r : Result A Refusal) (old mid new : Kept) → is_failing old ≡ false → mid ≡ one_call_more old → Does m statement mid r new → IsNumbered old r new
-statement_numbered {A = A} m statement r old mid new failing same did = by r (subst (λ (kept : Kept). Does m statement kept r new) same did)
+pub statement_numbered : {A : Type 0} (m : Store → Run Store A) (statement : Sent) (count : A → ℕ) (r : Result A Refusal) (old mid new : Kept) → is_failing old ≡ false → mid ≡ one_call_more old → Does m statement count mid r new → IsNumbered old r new
+statement_numbered {A = A} m statement count r old mid new failing same did = by r (subst (λ (kept : Kept). Does m statement count kept r new) same did)
   where
-    by : (r : Result A Refusal) → Does m statement (one_call_more old) r new → IsNumbered old r new
+    by : (r : Result A Refusal) → Does m statement count (one_call_more old) r new → IsNumbered old r new
     by (Ok x) q = (sym failing, ap (λ (kept : Kept). kept.calls) q.2, ap (λ (kept : Kept). kept.failing) q.2)
     by (Err e) q = stop (ends_early e) refl q
       where
@@ -350,6 +350,29 @@ statement_numbered {A = A} m statement r old mid new failing same did = by r (su
             → IsNumbered {A = A} old (Err e) new
         stop true early p = (ap is_fault p.0 ∙ sym failing, ap (λ (kept : Kept). kept.calls) p.1, ap (λ (kept : Kept). kept.failing) p.1)
         stop false own p = (own_is_no_fault e own ∙ sym failing, ap (λ (kept : Kept). kept.calls) p.1, ap (λ (kept : Kept). kept.failing) p.1)
+
+-- an accepted statement was noted, and a refused one was not
+pub statement_marked : {A : Type 0} (m : Store → Run Store A) (statement : Sent) (counts : Kept → A → ℕ) (r : Result A Refusal) (old mid new : Kept) → is_taken old.attachment ≡ true → 1 ≤ depth_by old.attachment old
+    → mid ≡ one_call_more old → counts (one_call_more old) ≡ counts old → Does m statement (counts mid) mid r new → IsMarked (counts old) old r new
+statement_marked {A = A} m statement counts r old mid new taken inside same alike did =
+    subst (λ (count : A → ℕ). IsMarked count old r new) alike (by (counts (one_call_more old)) r (subst (λ (kept : Kept). Does m statement (counts kept) kept r new) same did))
+  where
+    stop : (e : Refusal) (b : Bool) → MatchBool b ((e ≡ Memory) × (new ≡ call_ended (one_call_more old))) ((m old.store ≡ sends {A = A} statement old.store (Err e)) × (new ≡ refused_by (one_call_more old) statement e))
+        → new.marks ≡ (if b then no_marks else old.marks)
+    stop e true p = ap (λ (kept : Kept). kept.marks) p.1
+    stop e false p = ap (λ (kept : Kept). kept.marks) p.1
+
+    by : (count : A → ℕ) (r : Result A Refusal) → Does m statement count (one_call_more old) r new → IsMarked count old r new
+    by count (Ok x) q = q.3.noted (subst (λ n. 1 ≤ n) (depth_taken old.attachment old taken) inside)
+    by count (Err e) q = stop e (ends_early e) q
+
+-- and one that was ended by a fault left no marks
+pub fault_marked : {A : Type 0} (count : A → ℕ) (old new : Kept) → new ≡ call_failed (one_call_more old) → IsMarked {A = A} count old (Err KeeperFault) new
+fault_marked count old new is = ap (λ (kept : Kept). kept.marks) is
+
+pub release_marked : (old mid new : Kept) → is_taken old.attachment ≡ true → 2 ≤ depth_by old.attachment old → mid ≡ one_call_more old → (1 < length mid.store.scopes → new.marks ≡ place_dropped mid.marks) → new.marks ≡ place_dropped old.marks
+release_marked old mid new taken inside same dropped =
+    dropped (subst (λ n. 1 < n) (depth_taken old.attachment old taken ∙ sym (ap (λ (kept : Kept). length kept.store.scopes) same)) (omega (arith, inside))) ∙ ap (λ (kept : Kept). place_dropped kept.marks) same
 
 pub held_rows : (schema : Catalog) (kept : Kept) → is_taken kept.attachment ≡ true → HoldsRows schema (moment_of kept).told → AreRows schema (bare kept.store.tables)
 held_rows schema kept taken h = subst (λ (t : Told Store). AreRows schema (bare t.world.tables)) (sym (told_taken kept.attachment kept taken)) h
@@ -406,7 +429,7 @@ pub ruleset beginning = (began, ends)
 
 pub ruleset saving = (saved, ends)
 
-pub ruleset releasing = (released, ends)
+pub ruleset releasing = (release_marked, released, ends)
 
 pub ruleset going_back = (ends, length-drop)
 
@@ -420,4 +443,4 @@ pub ruleset dropping = (no_scopes, removed, not_removed, ends)
 
 pub ruleset scanning = (scanned, ends)
 
-pub ruleset stating = (statement_ran, statement_faulted, statement_numbered, depth_here, held_rows, held_legal)
+pub ruleset stating = (fault_marked, statement_ran, statement_faulted, statement_numbered, depth_here, held_rows, held_legal)

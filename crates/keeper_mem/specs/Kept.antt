@@ -1,5 +1,5 @@
 -- What a keeper in memory has, what is seen of it, and what its calls make of it.
-use Rattle.std.specs.Prelude.{◌≡◌, ℕ, Bool, true, false, nat_eq, List, [], ◌∷◌, ◌++◌, length, MatchBool, Option, None, Some, Result, Ok, Err, refl}
+use Rattle.std.specs.Prelude.{◌≡◌, ℕ, Bool, true, false, nat_eq, List, [], ◌∷◌, ◌++◌, length, if◌then◌else◌, MatchBool, Option, None, Some, Result, Ok, Err, refl}
 use Rattle.std.specs.List.{list_any}
 use Rattle.base_core.specs.Counts.{one_more}
 use Rattle.base_core.specs.declared.refusal.Refusal.{Refusal}
@@ -12,14 +12,16 @@ use Rattle.programs.specs.Programs.{Run, ends_early, is_fault}
 use Rattle.programs.specs.Store.{Store, committed_of}
 use Rattle.keeper_core.specs.Calls.{sends}
 use Rattle.keeper_core.specs.Keeping.{IsCoherent, IsCoherentTold, new_store}
+use Rattle.table_log.specs.Marks.{HasMore, IsNoted, Marked, Marks, no_marks}
 use Rattle.table_store.specs.Written.{given_up}
 use Rattle.keeper_mem.specs.declared.keeper.Attachment.{Attachment}
 use Rattle.keeper_mem.specs.declared.keeper.Attachment.TheVariants.{Fresh, Taken, Untaken}
 
--- The store, the statements that were sent, the counts of calls, faults and refusals, the last refusal, the target,
--- and the numbers of the calls that are to fail.
+-- The store with the marks by which it goes back, the statements that were sent, the counts of calls, faults and refusals, the last
+-- refusal, the target, and the numbers of the calls that are to fail.
 pub record Kept : Type 0 where
   pub store : Store
+  pub marks : Marks
   pub sent : List Sent
   pub calls : ℕ
   pub faults : ℕ
@@ -34,7 +36,7 @@ empty_store = record { tables = []; scopes = [] }
 
 -- what a keeper begins with
 abbrev pub new_keeper : List ℕ → Kept
-new_keeper failing = record { store = empty_store; sent = []; calls = 0; faults = 0; refusals = 0; last = None; attachment = Fresh; failing = failing }
+new_keeper failing = record { store = empty_store; marks = no_marks; sent = []; calls = 0; faults = 0; refusals = 0; last = None; attachment = Fresh; failing = failing }
 
 -- the store with the statements that were sent
 abbrev pub told_of : Kept → Told Store
@@ -104,15 +106,15 @@ one_call_more kept = record kept { calls = one_more kept.calls }
 
 -- the call was ended by memory that ran out
 abbrev pub call_ended : Kept → Kept
-call_ended kept = record kept { store = given_up kept.store }
+call_ended kept = record kept { store = given_up kept.store; marks = no_marks }
 
 -- the call was ended by a fault
 abbrev pub call_failed : Kept → Kept
-call_failed kept = record kept { store = given_up kept.store; faults = one_more kept.faults }
+call_failed kept = record kept { store = given_up kept.store; marks = no_marks; faults = one_more kept.faults }
 
--- a statement was sent, and left this store
-abbrev pub sent_by : Kept → Sent → Store → Kept
-sent_by kept statement after = record kept { store = after; sent = kept.sent ++ statement ∷ [] }
+-- a statement was sent, and left this store and these marks
+abbrev pub sent_by : Kept → Sent → Store → Marks → Kept
+sent_by kept statement after marks = record kept { store = after; marks = marks; sent = kept.sent ++ statement ∷ [] }
 
 -- a statement was sent, and refused
 abbrev pub refused_by : Kept → Sent → Refusal → Kept
@@ -124,7 +126,7 @@ refused_by kept statement refusal = record kept {
 
 -- the target was given, and taken: a new store begins
 abbrev pub taken_by : Kept → Target → Kept
-taken_by kept target = record kept { store = empty_store; sent = []; attachment = Taken target }
+taken_by kept target = record kept { store = empty_store; marks = no_marks; sent = []; attachment = Taken target }
 
 -- the target was given, and not taken
 abbrev pub untaken_by : Kept → Target → Kept
@@ -132,12 +134,22 @@ untaken_by kept target = record kept { attachment = Untaken target }
 
 -- ---- statements
 
--- What a keeper did with a statement: its program, with the statement sent, or refused; it gave up where memory ran out.
-abbrev pub Does : {A : Type 0} → (Store → Run Store A) → Sent → Kept → Result A Refusal → Kept → Type 0
-Does m statement old (Ok x) new =
-    (m old.store ≡ sends statement new.store (Ok x)) × (new.store.scopes ≡ old.store.scopes) × (new ≡ sent_by old statement new.store)
-Does m statement old (Err e) new =
+-- the store with its marks
+abbrev pub marked_of : Kept → Marked
+marked_of kept = record { seen = kept.store; marks = kept.marks }
+
+-- What a keeper did with a statement: its program, with the statement sent and so many changes noted, or refused; it gave up where memory
+-- ran out.
+abbrev pub Does : {A : Type 0} → (Store → Run Store A) → Sent → (A → ℕ) → Kept → Result A Refusal → Kept → Type 0
+Does m statement count old (Ok x) new =
+    (m old.store ≡ sends statement new.store (Ok x)) × (new.store.scopes ≡ old.store.scopes) × (new ≡ sent_by old statement new.store new.marks) × IsNoted (count x) (marked_of old) (marked_of new)
+Does m statement count old (Err e) new =
     MatchBool (ends_early e) ((e ≡ from.Memory) × (new ≡ call_ended old)) ((m old.store ≡ sends statement old.store (Err e)) × (new ≡ refused_by old statement e))
+
+-- An accepted statement added so many entries to the log, and a refused one none. Where memory ran out or the call failed there is no scope, and no log.
+abbrev pub IsMarked : {A : Type 0} → (A → ℕ) → Kept → Result A Refusal → Kept → Type 0
+IsMarked count old (Ok x) new = HasMore (count x) old.marks new.marks
+IsMarked count old (Err e) new = new.marks ≡ (if ends_early e then no_marks else old.marks)
 
 -- ---- what is told fits the depth and the tables that were committed
 

@@ -12,7 +12,9 @@ ghost use Rattle.keeper_core.specs.declared.keeper.KeeperStop.TheVariants as sto
 ghost use Rattle.keeper_core.specs.Calls.{query_refusal, stop_refusal, write_refusal};
 ghost use Rattle.keeper_core.specs.Keeping as keeping;
 ghost use Rattle.keeper_core.specs.Keeping.{AreRowsOf, HoldsLegalRows, HoldsRows, IsAttached};
-ghost use Rattle.keeper_mem.specs.Kept.{IsCounted, IsNumbered, coherent, is_failing, is_faulted, is_file, moment_of};
+ghost use Rattle.table_log.specs.Marks.{log_cut, no_marks, place_added, place_dropped};
+ghost use Rattle.table_store.specs.Held.{rows_changed};
+ghost use Rattle.keeper_mem.specs.Kept.{IsCounted, IsMarked, IsNumbered, coherent, is_failing, is_faulted, is_file, moment_of};
 
 use crate::MemKeeper;
 use base_core::{KeyList, RowList, TableId};
@@ -105,6 +107,7 @@ impl Keeper for MemKeeper {
         requires outside { (moment_of self.old).depth ≡ 0 }
         ensures call { keeping.IsBegin moment_of self.old
             (as_refusal stop_refusal result) self.new }
+        ensures marks { IfOk result (λ _. self.new.marks ≡ place_added self.old.marks) }
         ensures numbered { IsNumbered self.old (as_refusal stop_refusal result) self.new }
     {
         let Ok(()) = self.count_call() else {
@@ -123,6 +126,7 @@ impl Keeper for MemKeeper {
         requires inside { 1 ≤ (moment_of self.old).depth }
         ensures call { keeping.IsSavepoint moment_of self.old
             (as_refusal stop_refusal result) self.new }
+        ensures marks { IfOk result (λ _. self.new.marks ≡ place_added self.old.marks) }
         ensures numbered { IsNumbered self.old (as_refusal stop_refusal result) self.new }
     {
         let Ok(()) = self.count_call() else {
@@ -141,6 +145,7 @@ impl Keeper for MemKeeper {
         requires inside { 2 ≤ (moment_of self.old).depth }
         ensures call { keeping.IsRelease moment_of self.old
             (as_refusal stop_refusal result) self.new }
+        ensures marks { IfOk result (λ _. self.new.marks ≡ place_dropped self.old.marks) }
         ensures numbered { IsNumbered self.old (as_refusal stop_refusal result) self.new }
         ensures calm { IfErr result (λ e. e ≡ stops.Fault) }
     {
@@ -158,6 +163,7 @@ impl Keeper for MemKeeper {
         requires inside { depth < (moment_of self.old).depth }
         ensures call { keeping.IsRollbackTo moment_of depth self.old
             (as_refusal stop_refusal result) self.new }
+        ensures marks { IfOk result (λ _. self.new.marks ≡ log_cut depth self.old.marks) }
         ensures numbered { IsNumbered self.old (as_refusal stop_refusal result) self.new }
         ensures calm { IfErr result (λ e. e ≡ stops.Fault) }
     {
@@ -174,6 +180,7 @@ impl Keeper for MemKeeper {
         requires inside { 1 ≤ (moment_of self.old).depth }
         ensures call { keeping.IsRollback moment_of self.old
             (as_refusal stop_refusal result) self.new }
+        ensures marks { self.new.marks ≡ no_marks }
         ensures numbered { IsNumbered self.old (as_refusal stop_refusal result) self.new }
         ensures calm { IfErr result (λ e. e ≡ stops.Fault) }
     {
@@ -190,6 +197,7 @@ impl Keeper for MemKeeper {
         requires inside { 1 ≤ (moment_of self.old).depth }
         ensures call { keeping.IsCommit moment_of self.old
             (as_refusal stop_refusal result) self.new }
+        ensures marks { self.new.marks ≡ no_marks }
         ensures numbered { IsNumbered self.old (as_refusal stop_refusal result) self.new }
         ensures calm { IfErr result (λ e. e ≡ stops.Fault) }
     {
@@ -213,6 +221,8 @@ impl Keeper for MemKeeper {
         ensures call { keeping.IsWrite moment_of schema.now statement.now self.old
             (as_refusal (write_refusal (table_of statement.now)) result) self.new }
         ensures keys { IfOk result (λ keys. AreKeysFor schema.now statement.now keys) }
+        ensures marks { IsMarked (λ _. rows_changed self.old.store.tables statement.now) self.old
+            (as_refusal (write_refusal (table_of statement.now)) result) self.new }
         ensures numbered { IsNumbered self.old
             (as_refusal (write_refusal (table_of statement.now)) result) self.new }
     {
@@ -233,6 +243,8 @@ impl Keeper for MemKeeper {
         requires inside { 1 ≤ (moment_of self.old).depth }
         requires plain { IsPlainBulk schema.now statement.now }
         ensures call { keeping.IsBulk moment_of schema.now statement.now self.old
+            (as_refusal (write_refusal (bulk.table_of statement.now)) result) self.new }
+        ensures marks { IsMarked (λ count. count) self.old
             (as_refusal (write_refusal (bulk.table_of statement.now)) result) self.new }
         ensures numbered { IsNumbered self.old
             (as_refusal (write_refusal (bulk.table_of statement.now)) result) self.new }

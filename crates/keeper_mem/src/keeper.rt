@@ -19,8 +19,10 @@ ghost use Rattle.keeper_core.specs.Calls as call;
 ghost use Rattle.keeper_core.specs.Calls.{query_refusal, write_refusal};
 ghost use Rattle.keeper_core.specs.Keeping.{RefusesBulk, RefusesRow, RefusesSelect};
 ghost use Rattle.statement_log.specs.Logged.{start_of};
+ghost use Rattle.table_log.specs.Marks.{log_cut, no_marks, place_added, place_dropped};
+ghost use Rattle.table_log.specs.Undone.{AreMarks};
+ghost use Rattle.table_store.specs.Held.{rows_changed};
 ghost use Rattle.table_store.specs.Written.{given_up};
-ghost use Rattle.keeper_mem.specs.Marks.{ArePlaces, IsLog};
 ghost use Rattle.keeper_mem.specs.Kept.{Does, one_call_more, depth_by, call_ended, call_failed, is_failing, is_listed, is_taken, new_keeper, sent_by, taken_by, untaken_by};
 
 use base_core::{KeyList, Refusal, RowList, TableId};
@@ -64,9 +66,9 @@ impl Model for MemKeeper {
 
     ghost coded = { Prim.hlevel (codes, e.the_row.coded) };
 
-    ghost view = { λ k. record { store = k.store; sent = k.log.sent; calls = k.calls; faults = k.faults; refusals = k.refusals; last = k.log.last; attachment = k.attachment; failing = k.failing.items } };
+    ghost view = { λ k. record { store = k.store.seen; marks = k.store.marks; sent = k.log.sent; calls = k.calls; faults = k.faults; refusals = k.refusals; last = k.log.last; attachment = k.attachment; failing = k.failing.items } };
 
-    ghost invariant = { λ k. k.log.scopes ≡ length k.store.scopes };
+    ghost invariant = { λ k. k.log.scopes ≡ length k.store.seen.scopes };
 }
 
 impl MemKeeper {
@@ -97,14 +99,16 @@ impl MemKeeper {
     /// What was replaced since the transaction started, the oldest first: a table, a key, and the row that stood there before, or
     /// none. Undone from its end back to a scope's place, it leads to the tables at the scope's start.
     pub fn log(&self) -> &[LogEntry]
-        ensures { IsLog self.now.store result.now }
+        ensures log { result.now ≡ self.now.marks.log }
+        ensures marks { AreMarks self.now.store self.now.marks }
     {
         self.store.log().0
     }
 
     /// The first place of each scope in the log, the transaction's first.
     pub fn log_places(&self) -> &[u64]
-        ensures { ArePlaces self.now.store result.now }
+        ensures places { result.now ≡ self.now.marks.places }
+        ensures marks { AreMarks self.now.store self.now.marks }
     {
         self.store.log().1
     }
@@ -188,6 +192,7 @@ impl MemKeeper {
         table_store::rows(alloc, &self.store, table)
     }
 
+    #[tactic(auto, using(crate::proofs::Stored::start_undone))]
     /// Starts a scope, if there is memory for it and for a statement that ends it.
     pub(crate) fn start_scope(&mut self) -> Result<(), AllocError>
         ensures ok { OnOk result (self.new ≡ sent_by
@@ -196,12 +201,12 @@ impl MemKeeper {
               tables = self.old.store.tables;
               scopes = self.old.store.tables
                   ∷ self.old.store.scopes;
-            })) }
+            }) (place_added self.old.marks)) }
         ensures err { IfErr result (λ _. self.new ≡ self.old) }
     {
         self.store.start()?;
         let Ok(()) = self.log.start() else {
-            self.store.end();
+            self.store.undo();
             return Err(AllocError);
         };
         Ok(())
@@ -215,7 +220,7 @@ impl MemKeeper {
             (record {
               tables = with_empty_table self.old.store.tables table;
               scopes = self.old.store.scopes;
-            })) }
+            }) self.old.marks) }
         ensures err { IfErr result (λ _. self.new ≡ self.old) }
     {
         self.log.prepare()?;
@@ -232,7 +237,7 @@ impl MemKeeper {
             (record {
               tables = without_table self.old.store.tables table;
               scopes = self.old.store.scopes;
-            })) }
+            }) self.old.marks) }
         ensures err { IfErr result (λ _. self.new ≡ self.old) }
     {
         self.log.prepare()?;
@@ -244,9 +249,12 @@ impl MemKeeper {
     /// Ends the innermost scope, and keeps its rows.
     pub(crate) fn end_scope(&mut self)
         requires { 0 < length self.old.store.scopes }
-        ensures { self.new ≡ sent_by
+        ensures sent { self.new ≡ sent_by
             self.old (sent.Release (length self.old.store.scopes - 1))
-            (record { tables = self.old.store.tables; scopes = drop 1 self.old.store.scopes }) }
+            (record { tables = self.old.store.tables; scopes = drop 1 self.old.store.scopes })
+            self.new.marks }
+        ensures marks { 1 < length self.old.store.scopes
+            → self.new.marks ≡ place_dropped self.old.marks }
     {
         self.store.end();
         self.log.end();
@@ -261,7 +269,7 @@ impl MemKeeper {
               tables = slice_index_or self.old.store.scopes
                   (length self.old.store.scopes - number - 1) self.old.store.tables;
               scopes = drop (length self.old.store.scopes - number) self.old.store.scopes;
-            }) }
+            }) (log_cut number self.old.marks) }
     {
         self.store.go_back_to(number as usize);
         self.log.end_to(number);
@@ -271,7 +279,8 @@ impl MemKeeper {
     pub(crate) fn undo_all(&mut self)
         requires { 0 < length self.old.store.scopes }
         ensures { self.new ≡ sent_by
-            self.old sent.Rollback (record { tables = committed_of self.old.store; scopes = [] }) }
+            self.old sent.Rollback (record { tables = committed_of self.old.store; scopes = [] })
+            no_marks }
     {
         self.store.go_back();
         self.log.roll_back();
@@ -281,7 +290,7 @@ impl MemKeeper {
     pub(crate) fn keep_all(&mut self)
         requires { 0 < length self.old.store.scopes }
         ensures { self.new ≡ sent_by
-            self.old sent.Commit (record { tables = self.old.store.tables; scopes = [] }) }
+            self.old sent.Commit (record { tables = self.old.store.tables; scopes = [] }) no_marks }
     {
         self.store.keep();
         self.log.commit();
@@ -297,7 +306,7 @@ impl MemKeeper {
         requires fits { IsWellFormed schema.now statement.now }
         requires inside { 0 < length self.old.store.scopes }
         ensures step { Does (call.write schema.now statement.now) (sent.Write statement.now)
-            self.old (as_refusal (write_refusal (table_of statement.now)) result) self.new }
+            (λ _. rows_changed self.old.store.tables statement.now) self.old (as_refusal (write_refusal (table_of statement.now)) result) self.new }
         ensures keys { IfOk result (λ keys. AreKeysFor schema.now statement.now keys) }
         ensures refuses { IfErr
             (as_refusal (write_refusal (table_of statement.now)) result)
@@ -335,8 +344,8 @@ impl MemKeeper {
     ) -> Result<u64, WriteRefusal>
         requires plain { IsPlainBulk schema.now statement.now }
         requires inside { 0 < length self.old.store.scopes }
-        ensures step { Does (call.bulk schema.now statement.now) (sent.Bulk statement.now) self.old
-            (as_refusal (write_refusal (bulk.table_of statement.now)) result) self.new }
+        ensures step { Does (call.bulk schema.now statement.now) (sent.Bulk statement.now)
+            (λ count. count) self.old (as_refusal (write_refusal (bulk.table_of statement.now)) result) self.new }
         ensures refuses { IfErr
             (as_refusal (write_refusal (bulk.table_of statement.now)) result)
             (RefusesBulk schema.now statement.now) }
@@ -372,8 +381,8 @@ impl MemKeeper {
         select: &Select,
     ) -> Result<RowList, QueryRefusal>
         requires plain { IsPlainSelect schema.now select.now }
-        ensures step { Does (call.query schema.now select.now) (sent.Query select.now) self.old
-            (as_refusal query_refusal result) self.new }
+        ensures step { Does (call.query schema.now select.now) (sent.Query select.now) (λ _. 0)
+            self.old (as_refusal query_refusal result) self.new }
         ensures wide { IfOk result (λ rows. AreWide select.now rows) }
         ensures kinds { AreRows schema.now (bare self.old.store.tables)
             → IfOk result (λ rows. AreOfItems schema.now select.now rows) }
@@ -408,7 +417,8 @@ impl MemKeeper {
 
 /// Ends all scopes with no statement, and goes back to the tables at the start of the outermost.
 fn go_back(store: &mut TableLog, log: &mut StatementLog)
-    ensures store { store.new ≡ given_up store.old }
+    ensures store { store.new.seen ≡ given_up store.old.seen }
+    ensures marks { store.new.marks ≡ no_marks }
     ensures log { log.new ≡ record log.old { scopes = 0 } }
 {
     store.go_back();

@@ -152,8 +152,8 @@ fn make_if_there<D: Database>(
     table: TableId,
 ) -> Result<(), Ending>
     requires declared { IsTable schema.now table }
-    requires outside { length store.old.scopes ≡ 0 }
-    ensures { OnOk result (length store.new.scopes ≡ 0) }
+    requires outside { length store.old.seen.scopes ≡ 0 }
+    ensures { OnOk result (length store.new.seen.scopes ≡ 0) }
 {
     if !has_table(database, alloc, &schema.spec(table).name)? {
         return Ok(());

@@ -1,1 +1,2 @@
 mod WayBack
+pub mod Marking

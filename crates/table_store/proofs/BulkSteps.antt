@@ -30,8 +30,9 @@ use Rattle.sql_semantics.specs.Rows.{require_created}
 use Rattle.sql_semantics.specs.Taken.{deleted_from, inserted_row, updated_from}
 use Rattle.keeper_core.specs.declared.keeper.WriteRefusal.{WriteRefusal}
 use Rattle.keeper_core.specs.Calls.{write_refusal}
+use Rattle.table_log.specs.Marks.{IsNoted, Marked, Notes, last_cut, place_added, place_dropped, rows_there}
 use Rattle.table_log.specs.Scopes.{scope_ended, scope_started, scope_undone, with_tables}
-use Rattle.table_rows.specs.Rows.{Places, rows_at, rows_present}
+use Rattle.table_rows.specs.Rows.{AreSorted, Places, rows_at, rows_present}
 use Rattle.table_rows.proofs.Entries.{put_again}
 use Rattle.row_judging.proofs.Gone.{divided_more, lost_among}
 use Rattle.table_rows.proofs.Laws.{absent_kept, rows_found}
@@ -39,10 +40,11 @@ use Rattle.programs.specs.Store.{Store}
 use Rattle.schema_core.proofs.TableOrder.{tables_total}
 use Rattle.row_judging.specs.Lost.{some_lost}
 use Rattle.row_judging.specs.declared.losing.Before.TheVariants as before
-use Rattle.table_store.specs.Held.{IsDivided, Made, put_all, stand, take_all, with_entry, without_key}
+use Rattle.table_store.specs.Held.{AreKeysOf, IsDivided, Made, put_all, stand, take_all, with_entry, without_key}
 use Rattle.table_store.specs.Written.{Leaves, WroteBulk, keys_to_remove, rows_to_write, unwritten_refusal}
 use Rattle.table_store.proofs.Evaluated.{deletes_evaluated, updates_evaluated}
-use Rattle.table_store.proofs.WriteSteps.{changed_tables, kept_scopes, kept_store, left_store, one_inside, put_together, same_scopes, stand_written, still_created}
+use Rattle.table_store.proofs.Noting.{counted, first_key, kept_notes, keys_removed, none_counted, noted_more, notes_either, nothing_noted, some_more, some_noted}
+use Rattle.table_store.proofs.WriteSteps.{changed_tables, kept_scopes, kept_store, left_whole, one_inside, put_together, same_scopes, stand_written, still_created}
 
 -- ---- what is left
 
@@ -122,7 +124,7 @@ pub made_by : (schema : Catalog) (old mid : Store) (table : TableId) (entries : 
 made_by schema old mid table entries (Ok done) some full is same told = (change_made schema old.tables mid.tables table entries some full is told, same)
 made_by schema old mid table entries (Err e) some full is same told = (change_refused schema old.tables mid.tables table entries e some full is told, same)
 
-pub ruleset change_steps = (change_lacks, made_by, all_created)
+pub ruleset change_steps = (change_lacks, made_by, all_created, nothing_noted, notes_either)
 
 pub entry_created : (old new : Tables) (table : TableId) (entry : List Value × List Value) → new ≡ with_entry old table entry → is_some (rows_in new table) ≡ true
 entry_created old new table entry is = still_created old new table (with_row (rows_at old table) entry.0 entry.1) is
@@ -135,7 +137,7 @@ entries_step old new whole table entries place entry inside is changed before =
     drop-cons entries place entry inside ∙ ap (λ e. e ∷ drop (suc place) entries) (sym is) ∙ ap (λ n. entry ∷ drop n entries) (sym (add-one place)) in
     ap (λ ts. put_all ts table (drop (place + 1) entries)) changed ∙ sym (ap (put_all old table) cut) ∙ before
 
-pub ruleset putting = (entry_created)
+pub ruleset putting = (entry_created, none_counted, counted, some_more)
 
 -- ---- rows that are set aside
 
@@ -167,17 +169,35 @@ none_yet rows key = by (is_some (row_under rows key))
 pub key_created : (old new : Tables) (table : TableId) (key : List Value) → new ≡ without_key old table key → is_some (rows_in new table) ≡ true
 key_created old new table key is = still_created old new table (without_row (rows_at old table) key) is
 
+-- a key, and those behind it
+behind_key : (keys : List (List Value)) (place : ℕ) (key : List Value) → place < length keys → key ≡ slice_index_or keys place key → drop place keys ≡ key ∷ drop (place + 1) keys
+behind_key keys place key inside is = drop-cons keys place key inside ∙ ap (λ k. k ∷ drop (suc place) keys) (sym is) ∙ ap (λ n. key ∷ drop n keys) (sym (add-one place))
+
 -- one more row is out
 pub keys_step : (old new whole : Tables) (table : TableId) (keys : List (List Value)) (place : ℕ) (key : List Value) → place < length keys → key ≡ slice_index_or keys place key → new ≡ without_key old table key
     → take_all old table (drop place keys) ≡ whole → take_all new table (drop (place + 1) keys) ≡ whole
 keys_step old new whole table keys place key inside is changed before =
-    let cut : drop place keys ≡ key ∷ drop (place + 1) keys =
-    drop-cons keys place key inside ∙ ap (λ k. k ∷ drop (suc place) keys) (sym is) ∙ ap (λ n. key ∷ drop n keys) (sym (add-one place)) in
-    ap (λ ts. take_all ts table (drop (place + 1) keys)) changed ∙ sym (ap (take_all old table) cut) ∙ before
+    ap (λ ts. take_all ts table (drop (place + 1) keys)) changed ∙ sym (ap (take_all old table) (behind_key keys place key inside is)) ∙ before
 
 pub ruleset taking = (rows_without, divided_at, changed_tables, kept_scopes, same_scopes)
 
-pub ruleset taking_all = (none_yet, key_created)
+one_there : (o : Option (List Value)) → is_some o ≡ true → rows_there o ≡ 1
+one_there None is = cc
+one_there (Some row) is = refl
+
+-- one more key's row was noted, and the keys behind it are those of rows that are left
+pub key_noted : (old mid new : Marked) (table : TableId) (keys : List (List Value)) (place : ℕ) (key : List Value) → place < length keys → key ≡ slice_index_or keys place key → AreSorted mid.seen.tables table → mid.seen.scopes ≡ old.seen.scopes
+    → new.seen.tables ≡ without_key mid.seen.tables table key → AreKeysOf (rows_at mid.seen.tables table) (drop place keys) → IsNoted place old mid → IsNoted (rows_there (row_under (rows_at mid.seen.tables table) key)) mid new
+    → IsNoted (place + 1) old new × AreKeysOf (rows_at new.seen.tables table) (drop (place + 1) keys)
+key_noted old mid new table keys place key inside is sorted same changed are noted one =
+    let rows : Rows = rows_at mid.seen.tables table in
+    let found = first_key rows key (drop (place + 1) keys) sorted.1 (subst (AreKeysOf rows) (behind_key keys place key inside is) are) in
+    let there : rows_at new.seen.tables table ≡ without_row rows key = ap (λ ts. rows_at ts table) changed ∙ rows_found mid.seen.tables table (without_row rows key) in (
+      noted_more place 1 (place + 1) old mid new same refl noted (counted 1 (rows_there (row_under rows key)) mid new one (sym (one_there (row_under rows key) found.0))),
+      subst (λ (rs : Rows). AreKeysOf rs (drop (place + 1) keys)) (sym there) found.1,
+    )
+
+pub ruleset taking_all = (none_yet, key_created, none_counted, counted, some_more)
 
 take_together : (tables : Tables) (table : TableId) (key : List Value) (keys : List (List Value)) → take_all tables table (key ∷ keys) ≡ with_rows tables table (without_all (rows_at tables table) (key ∷ keys))
 take_together tables table key [] = refl
@@ -210,7 +230,7 @@ pub none_lost : (schema : Catalog) (tables after : Tables) (table : TableId) (ke
 none_lost schema tables after table keys aside some created is divided bound =
     remove_done schema tables table (rows_at tables table) keys (sym (aside_lost schema tables after table keys aside some created is divided) ∙ bound) ∙ ap (λ ts. Ok ts) (sym (keys_taken tables after table keys some is))
 
-pub ruleset remove_steps = (all_lost, none_lost)
+pub ruleset remove_steps = (all_lost, none_lost, some_noted)
 
 -- ---- where no row is taken
 
@@ -228,7 +248,7 @@ pub updates_refused : (schema : Catalog) (tables : Tables) (table : TableId) (ro
 updates_refused schema tables table rows [] e r some told is = absurd (some refl)
 updates_refused schema tables table rows (x ∷ xs) e r some told is = left_refused table e r (change_all schema tables table rows (x ∷ xs)) (λ ts. (length (x ∷ xs), ts)) told is
 
-pub ruleset update_steps = (updates_none, updates_some, updates_refused)
+pub ruleset update_steps = (updates_none, updates_some, updates_refused, none_counted, counted)
 
 pub deletes_none : (schema : Catalog) (tables : Tables) (table : TableId) (rows : Rows) (keys : List (List Value)) → length keys ≡ 0 → spec.delete_keys schema tables table rows keys ≡ Ok (0, tables)
 deletes_none schema tables table rows [] is = refl
@@ -244,7 +264,7 @@ pub deletes_refused : (schema : Catalog) (tables : Tables) (table : TableId) (ro
 deletes_refused schema tables table rows [] e r some told is = absurd (some refl)
 deletes_refused schema tables table rows (k ∷ ks) e r some told is = left_refused table e r (remove_all schema tables table rows (k ∷ ks)) (λ ts. (length (k ∷ ks), ts)) told is
 
-pub ruleset delete_steps = (deletes_none, deletes_some, deletes_refused)
+pub ruleset delete_steps = (deletes_none, deletes_some, deletes_refused, none_counted, counted)
 
 -- ---- one row
 
@@ -294,7 +314,7 @@ delete_refused schema tables table filter rows e r told is =
     (subst (Refuses e) (sym (then_next (require_created (bare tables) (spec.named_in [] filter)) (deleted_from (bare tables) filter [] rows) (spec.delete_keys schema tables table rows)))
     (first_refused (keys_to_remove tables filter rows) (spec.delete_keys schema tables table rows) e told))
 
-pub ruleset taking_steps = (updates_evaluated, updated_rows, update_refused, deletes_evaluated, deleted_rows, delete_refused)
+pub ruleset taking_steps = (keys_removed, nothing_noted, updates_evaluated, updated_rows, update_refused, deletes_evaluated, deleted_rows, delete_refused)
 
 -- ---- the statement
 
@@ -347,25 +367,25 @@ pub deletes : (schema : Catalog) (tables : Tables) (table : TableId) (filter : O
 unfolding spec.bulk_outcome
 deletes schema tables table filter created = rw (there tables table created) refl
 
-pub ruleset applied_steps = (one_each, of_table, absent, inserts, updates, deletes)
+pub ruleset applied_steps = (nothing_noted, one_each, of_table, absent, inserts, updates, deletes)
 
 -- whatever the statement left, its scope was ended by what it answered
-pub settled_bulk : (schema : Catalog) (s : Bulk) (old inner mid new : Store) (answer result : Result ℕ WriteRefusal) → result ≡ answer → inner ≡ scope_started old
-    → WroteBulk (spec.table_of s) (spec.bulk_outcome schema inner.tables s) inner answer mid
-    → OnOk answer (new ≡ scope_ended mid) → OnErr answer (new ≡ scope_undone mid)
-    → Leaves (spec.table_of s) (spec.bulk_outcome schema old.tables s) old result new
-settled_bulk schema s old inner mid new answer result same started wrote ok err =
-    subst (λ (r : Result ℕ WriteRefusal). Leaves (spec.table_of s) (spec.bulk_outcome schema old.tables s) old r new) (sym same) (by answer wrote ok err)
+pub settled_bulk : (schema : Catalog) (s : Bulk) (old inner mid new : Marked) (answer result : Result ℕ WriteRefusal) → result ≡ answer → inner.seen ≡ scope_started old.seen → inner.marks ≡ place_added old.marks
+    → WroteBulk (spec.table_of s) (spec.bulk_outcome schema inner.seen.tables s) inner.seen answer mid.seen → Notes (λ count. count) answer inner mid
+    → OnOk answer (new.seen ≡ scope_ended mid.seen) → OnOk answer (1 < length mid.seen.scopes → new.marks ≡ place_dropped mid.marks) → OnErr answer (new.seen ≡ scope_undone mid.seen) → OnErr answer (new.marks ≡ last_cut mid.marks)
+    → Leaves (spec.table_of s) (spec.bulk_outcome schema old.seen.tables s) old result new
+settled_bulk schema s old inner mid new answer result same started added wrote noted ok dropped err undone =
+    subst (λ (r : Result ℕ WriteRefusal). Leaves (spec.table_of s) (spec.bulk_outcome schema old.seen.tables s) old r new) (sym same) (by answer wrote noted ok dropped err undone)
   where
-    by : (answer : Result ℕ WriteRefusal) → WroteBulk (spec.table_of s) (spec.bulk_outcome schema inner.tables s) inner answer mid
-        → OnOk answer (new ≡ scope_ended mid) → OnErr answer (new ≡ scope_undone mid)
-        → Leaves (spec.table_of s) (spec.bulk_outcome schema old.tables s) old answer new
-    by (Ok count) wrote ok err =
-        let kept = kept_store old inner mid new started wrote.1 ok in
-        (ap (λ (store : Store). spec.bulk_outcome schema store.tables s) (sym started) ∙ wrote.0 ∙ ap (λ ts. Ok (count, ts)) (sym kept.0), kept.1)
-    by (Err r) wrote ok err = (
+    by : (answer : Result ℕ WriteRefusal) → WroteBulk (spec.table_of s) (spec.bulk_outcome schema inner.seen.tables s) inner.seen answer mid.seen → Notes (λ count. count) answer inner mid
+        → OnOk answer (new.seen ≡ scope_ended mid.seen) → OnOk answer (1 < length mid.seen.scopes → new.marks ≡ place_dropped mid.marks) → OnErr answer (new.seen ≡ scope_undone mid.seen) → OnErr answer (new.marks ≡ last_cut mid.marks)
+        → Leaves (spec.table_of s) (spec.bulk_outcome schema old.seen.tables s) old answer new
+    by (Ok count) wrote noted ok dropped err undone =
+        let kept = kept_store old.seen inner.seen mid.seen new.seen started wrote.1 ok in
+        (ap (λ (store : Store). spec.bulk_outcome schema store.tables s) (sym started) ∙ wrote.0 ∙ ap (λ ts. Ok (count, ts)) (sym kept.0), kept.1, kept_notes count old inner mid new started added wrote.1 noted dropped)
+    by (Err r) wrote noted ok dropped err undone = (
       subst (λ (store : Store). Refuses (write_refusal (spec.table_of s) r) (spec.bulk_outcome schema store.tables s)) started wrote.0,
-      left_store old inner mid new started wrote.1 err,
+      left_whole old inner mid new started added wrote.1 noted err undone,
     )
 
 -- the scope of the statement is there to be ended

@@ -2,3 +2,4 @@ mod BulkSteps
 mod Evaluated
 mod Stored
 mod WriteSteps
+mod Noting

@@ -1,5 +1,5 @@
 -- Steps of a statement on rows, done on tables that are held.
-use Rattle.std.proofs.Common.{◌≡◌, ◌<◌, Bool, true, false, List, [], ◌∷◌, ◌++◌, length, drop, slice_index_or, Option, None, Some, is_some, Result, Ok, Err, OnOk, OnErr, if◌then◌else◌, refl, sym, ap, subst, ◌∙◌, append-nil, append_assoc, arith}
+use Rattle.std.proofs.Common.{◌≡◌, ℕ, ◌<◌, Bool, true, false, List, [], ◌∷◌, ◌++◌, length, drop, slice_index_or, Option, None, Some, is_some, Result, Ok, Err, OnOk, OnErr, if◌then◌else◌, refl, sym, ap, subst, ◌∙◌, append-nil, append_assoc, arith}
 use Rattle.std.specs.Borrow.{Bor}
 use Rattle.std.specs.List.{list_any}
 use Rattle.std.specs.Option.{unwrap_or}
@@ -13,17 +13,18 @@ use Rattle.schema_core.specs.declared.statement.RowStmt.TheVariants.{Insert, Upd
 use Rattle.schema_core.specs.declared.statement.Unwritten.{Unwritten}
 use Rattle.schema_core.specs.declared.statement.Unwritten.TheVariants.{Violates, Memory}
 use Rattle.schema_core.specs.declared.statement.Violation.TheVariants.{Unique, Foreign, NoTable, NotNull}
-use Rattle.schema_core.specs.declared.table.TableSpec.{TableSpec}
 use Rattle.schema_core.specs.Apply.{Outcome, answer_keys, apply, delete_row, entries_of, entry_of, insert_rows, is_demanded, keys_of_entries, table_of, update_row, with_cells, with_own_key}
 use Rattle.schema_core.specs.Catalog.{Catalog, is_required, spec_of}
 use Rattle.schema_core.specs.Judged.{Judged, and_then, lacks_value, some_loses_row, some_repeats, some_written_dangles, with_all, write_all}
 use Rattle.schema_core.specs.Tables.{Rows, Tables, is_created, row_under, rows_in, with_row, with_rows, without_row}
 use Rattle.schema_core.specs.Told.{Told}
 use Rattle.schema_core.proofs.ApplySteps as steps
+use Rattle.table_log.specs.Marks.{Marked, Notes, NotesSome, last_cut, place_added, place_dropped}
 use Rattle.table_log.specs.Scopes.{scope_ended, scope_started, scope_undone, with_tables}
 use Rattle.table_rows.specs.Rows.{rows_at}
 use Rattle.programs.specs.Store.{Store}
-use Rattle.table_store.specs.Held.{DidOrLeft, Wrote, put_all, put_from, stand, with_entry}
+use Rattle.table_store.specs.Held.{DidOrLeft, Wrote, put_all, put_from, rows_changed, stand, with_entry}
+use Rattle.table_store.proofs.Noting.{absent_counted, kept_notes, left_marks, nothing_noted, none_counted, notes_behind, same_marked, some_more, some_noted}
 use Rattle.table_rows.proofs.Entries.{found_put, put_again}
 use Rattle.table_rows.proofs.Laws.{rows_found}
 use Rattle.row_judging.specs.Lost.{some_lost}
@@ -47,13 +48,13 @@ changed_tables old new tables is = ap (λ (store : Store). store.tables) is
 pub kept_scopes : (old new : Store) (tables : Tables) → new ≡ with_tables old tables → new.scopes ≡ old.scopes
 kept_scopes old new tables is = ap (λ (store : Store). store.scopes) is
 
-pub same_scopes : (old new : Store) → new ≡ old → new.scopes ≡ old.scopes
-same_scopes old new is = ap (λ (store : Store). store.scopes) is
+pub same_scopes : (old new : Marked) → new ≡ old → new.seen.scopes ≡ old.seen.scopes
+same_scopes old new is = ap (λ (store : Marked). store.seen.scopes) is
 
 pub changed_created : (old new : Store) (table : TableId) (rows : Rows) → new ≡ with_tables old (with_rows old.tables table rows) → is_some (rows_in new.tables table) ≡ true
 changed_created old new table rows is = still_created old.tables new.tables table rows (changed_tables old new (with_rows old.tables table rows) is)
 
-pub ruleset changing = (changed_tables, kept_scopes, same_scopes)
+pub ruleset changing = (changed_tables, kept_scopes, same_scopes, some_noted, nothing_noted)
 
 -- ---- written rows stand
 
@@ -145,7 +146,7 @@ put_one schema old mid new table done both rows row more entry answer is_rows is
     by (Ok keys) w = (w.0, w.1 ∙ same)
     by (Err e) w = (w.0, w.1 ∙ same)
 
-pub ruleset put_steps = (put_all_in, put_refused, put_nowhere, put_one, still_created, same_scopes)
+pub ruleset put_steps = (put_all_in, put_refused, put_nowhere, put_one, still_created, same_scopes, none_counted, notes_behind, some_noted, nothing_noted, some_more)
 
 -- ---- an INSERT
 
@@ -210,7 +211,7 @@ pub insert_put : (schema : Catalog) (tables : Tables) (table : TableId) (new : L
     → put_from schema tables table [] new ≡ insert_rows schema tables table (rows_at tables table) new
 insert_put schema tables table new full some = put_whole schema tables table new some ∙ sym (steps.insert_full schema tables table (rows_at tables table) new full)
 
-pub ruleset insert_steps = (insert_put, steps.insert_lacks)
+pub ruleset insert_steps = (insert_put, steps.insert_lacks, nothing_noted)
 
 -- ---- an UPDATE
 
@@ -278,7 +279,7 @@ delete_done schema old new table key row created found is bound =
     ∙ ap (answer_keys (key.now ∷ [])) (steps.remove_done schema old.tables table (rows_at old.tables table) (key.now ∷ []) (sym (row_lost schema old new table key row created found is) ∙ bound))
     ∙ ap (λ ts. Ok (key.now ∷ [], ts)) (sym (ap (λ (store : Store). store.tables) is))
 
-pub ruleset delete_steps = (delete_none, delete_lost, delete_done, changing)
+pub ruleset delete_steps = (absent_counted, delete_none, delete_lost, delete_done, changing)
 
 -- ---- a statement
 
@@ -297,7 +298,7 @@ apply_delete schema tables table key created = steps.apply_delete schema tables 
 pub apply_absent : (schema : Catalog) (tables : Tables) (statement : RowStmt) → is_created tables (table_of statement) ≡ false → apply schema tables statement ≡ Err (NoTable (table_of statement))
 apply_absent schema tables statement absent = steps.apply_nowhere schema tables statement (steps.is_absent (rows_in tables (table_of statement)) absent)
 
-pub ruleset apply_steps = (apply_absent, apply_insert, apply_update, apply_delete)
+pub ruleset apply_steps = (nothing_noted, apply_absent, apply_insert, apply_update, apply_delete)
 
 -- ---- the scope of a statement
 
@@ -309,20 +310,29 @@ pub left_store : (old inner mid new : Store) → inner ≡ scope_started old →
 left_store old inner mid new started same is =
     is ∙ ap (λ scopes. record { tables = slice_index_or scopes 0 mid.tables; scopes = drop 1 scopes }) (same ∙ ap (λ (store : Store). store.scopes) started)
 
--- whatever the statement left, its scope was ended by what it answered
-settled : {A : Type 0} (told inside : Judged (A × Tables)) (old inner mid new : Store) (answer : Result A Unwritten) → inside ≡ told → inner ≡ scope_started old → Wrote inside inner answer mid
-    → OnOk answer (new ≡ scope_ended mid) → OnErr answer (new ≡ scope_undone mid)
-    → DidOrLeft told old answer new
-settled told inside old inner mid new (Ok a) same started wrote ok err =
-    let kept = kept_store old inner mid new started wrote.1 ok in (sym same ∙ wrote.0 ∙ ap (λ ts. Ok (a, ts)) (sym kept.0), kept.1)
-settled {A = A} told inside old inner mid new (Err e) same started wrote ok err = (subst (λ (j : Judged (A × Tables)). Told j (Err e)) same wrote.0, left_store old inner mid new started wrote.1 err)
+-- where the statement was not done, everything is as it was
+pub left_whole : (old inner mid new : Marked) → inner.seen ≡ scope_started old.seen → inner.marks ≡ place_added old.marks → mid.seen.scopes ≡ inner.seen.scopes → NotesSome inner mid
+    → new.seen ≡ scope_undone mid.seen → new.marks ≡ last_cut mid.marks → new ≡ old
+left_whole old inner mid new started added same some undone cut = same_marked old new (left_store old.seen inner.seen mid.seen new.seen started same undone) (left_marks old inner mid new started added some cut)
 
-pub settled_row : (schema : Catalog) (s : RowStmt) (old inner mid new : Store) (answer result : Result (List (List Value)) Unwritten) → result ≡ answer → inner ≡ scope_started old → Wrote (apply schema inner.tables s) inner answer mid
-    → OnOk answer (new ≡ scope_ended mid) → OnErr answer (new ≡ scope_undone mid)
-    → DidOrLeft (apply schema old.tables s) old result new
-settled_row schema s old inner mid new answer result same started wrote ok err =
-    subst (λ (r : Result (List (List Value)) Unwritten). DidOrLeft (apply schema old.tables s) old r new) (sym same)
-    (settled (apply schema old.tables s) (apply schema inner.tables s) old inner mid new answer (ap (λ (store : Store). apply schema store.tables s) started) started wrote ok err)
+-- whatever the statement left, its scope was ended by what it answered
+settled : {A : Type 0} (told inside : Judged (A × Tables)) (count : ℕ) (old inner mid new : Marked) (answer : Result A Unwritten) → inside ≡ told → inner.seen ≡ scope_started old.seen → inner.marks ≡ place_added old.marks
+    → Wrote inside inner.seen answer mid.seen → Notes (λ _. count) answer inner mid → OnOk answer (new.seen ≡ scope_ended mid.seen) → OnOk answer (1 < length mid.seen.scopes → new.marks ≡ place_dropped mid.marks)
+    → OnErr answer (new.seen ≡ scope_undone mid.seen) → OnErr answer (new.marks ≡ last_cut mid.marks) → DidOrLeft told count old answer new
+settled told inside count old inner mid new (Ok a) same started added wrote noted ok dropped err undone =
+    let kept = kept_store old.seen inner.seen mid.seen new.seen started wrote.1 ok in
+    (sym same ∙ wrote.0 ∙ ap (λ ts. Ok (a, ts)) (sym kept.0), kept.1, kept_notes count old inner mid new started added wrote.1 noted dropped)
+settled {A = A} told inside count old inner mid new (Err e) same started added wrote noted ok dropped err undone =
+    (subst (λ (j : Judged (A × Tables)). Told j (Err e)) same wrote.0, left_whole old inner mid new started added wrote.1 noted err undone)
+
+pub settled_row : (schema : Catalog) (s : RowStmt) (old inner mid new : Marked) (answer result : Result (List (List Value)) Unwritten) → result ≡ answer → inner.seen ≡ scope_started old.seen → inner.marks ≡ place_added old.marks
+    → Wrote (apply schema inner.seen.tables s) inner.seen answer mid.seen → Notes (λ _. rows_changed inner.seen.tables s) answer inner mid → OnOk answer (new.seen ≡ scope_ended mid.seen)
+    → OnOk answer (1 < length mid.seen.scopes → new.marks ≡ place_dropped mid.marks) → OnErr answer (new.seen ≡ scope_undone mid.seen) → OnErr answer (new.marks ≡ last_cut mid.marks)
+    → DidOrLeft (apply schema old.seen.tables s) (rows_changed old.seen.tables s) old result new
+settled_row schema s old inner mid new answer result same started added wrote noted ok dropped err undone =
+    subst (λ (r : Result (List (List Value)) Unwritten). DidOrLeft (apply schema old.seen.tables s) (rows_changed old.seen.tables s) old r new) (sym same)
+    (settled (apply schema old.seen.tables s) (apply schema inner.seen.tables s) (rows_changed old.seen.tables s) old inner mid new answer (ap (λ (store : Store). apply schema store.tables s) started) started added wrote
+    (subst (λ n. Notes (λ _. n) answer inner mid) (ap (λ (store : Store). rows_changed store.tables s) started) noted) ok dropped err undone)
 
 -- the scope of the statement is there to be ended
 pub one_inside : (old inner mid : Store) → inner ≡ scope_started old → mid.scopes ≡ inner.scopes → 0 < length mid.scopes

@@ -1,7 +1,9 @@
 -- What a statement on rows did to tables that are held.
-use Rattle.std.specs.Prelude.{◌≡◌, ◌||◌, if◌then◌else◌, is_some, List, [], ◌∷◌, ◌++◌, Result, Ok, Err}
+use Rattle.std.specs.Prelude.{◌≡◌, ℕ, ◌||◌, if◌then◌else◌, Bool, true, false, is_some, length, List, [], ◌∷◌, ◌++◌, Result, Ok, Err}
 use Rattle.base_core.specs.declared.ids.TableId.{TableId}
 use Rattle.base_core.specs.declared.value.Value.{Value}
+use Rattle.schema_core.specs.declared.statement.RowStmt.{RowStmt}
+use Rattle.schema_core.specs.declared.statement.RowStmt.TheVariants.{Insert, Update, Delete}
 use Rattle.schema_core.specs.declared.statement.Unwritten.{Unwritten}
 use Rattle.schema_core.specs.declared.statement.Violation.TheVariants.{Unique, Foreign}
 use Rattle.schema_core.specs.Apply.{Outcome, entry_of, keys_of_entries, with_own_key}
@@ -10,6 +12,7 @@ use Rattle.schema_core.specs.Judged.{Judged, and_then, some_repeats, some_writte
 use Rattle.schema_core.specs.Tables.{Rows, Tables, row_under, with_row, with_rows, without_row}
 use Rattle.schema_core.specs.Told.{Told}
 use Rattle.programs.specs.Store.{Store}
+use Rattle.table_log.specs.Marks.{IsNoted, Marked, rows_there}
 use Rattle.table_rows.specs.Rows.{Places, rows_at, rows_present}
 
 -- written rows may stand: none repeats a unique value of another row or refers to no row
@@ -59,7 +62,26 @@ abbrev pub Made : Judged Tables → Store → Result (Unit {0}) Unwritten → St
 Made told old (Ok done) new = (told ≡ Ok new.tables) × (new.scopes ≡ old.scopes)
 Made told old (Err e) new = Told told (Err e) × (new.scopes ≡ old.scopes)
 
--- the same of one that leaves everything as it was where it is refused, or finds no memory
-abbrev pub DidOrLeft : {A : Type 0} → Judged (A × Tables) → Store → Result A Unwritten → Store → Type 0
-DidOrLeft told old (Ok answer) new = (told ≡ Ok (answer, new.tables)) × (new.scopes ≡ old.scopes)
-DidOrLeft told old (Err e) new = Told told (Err e) × (new ≡ old)
+-- how many rows a statement on rows inserts, updates or deletes
+abbrev pub rows_changed : Tables → RowStmt → ℕ
+rows_changed tables (Insert table rows) = length rows
+rows_changed tables (Update table key cells) = 1
+rows_changed tables (Delete table key) = rows_there (row_under (rows_at tables table) key)
+
+-- The same of one that noted so many changes where it is done, and leaves everything as it was where it is refused, or finds no memory.
+abbrev pub DidOrLeft : {A : Type 0} → Judged (A × Tables) → ℕ → Marked → Result A Unwritten → Marked → Type 0
+DidOrLeft told count old (Ok answer) new = (told ≡ Ok (answer, new.seen.tables)) × (new.seen.scopes ≡ old.seen.scopes) × IsNoted count old new
+DidOrLeft told count old (Err e) new = Told told (Err e) × (new ≡ old)
+
+-- ---- some of the rows
+
+-- the keys of the rows that are chosen
+abbrev pub keys_chosen : List Bool → Rows → List (List Value)
+keys_chosen (true ∷ choice) (row ∷ rows) = row.0 ∷ keys_chosen choice rows
+keys_chosen (false ∷ choice) (row ∷ rows) = keys_chosen choice rows
+keys_chosen choice rows = []
+
+-- the keys of some of these rows, in their order
+pub record AreKeysOf (rows : Rows) (keys : List (List Value)) : Type 0 where
+  pub choice : List Bool
+  pub keys_are : keys ≡ keys_chosen choice rows

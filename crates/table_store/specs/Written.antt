@@ -17,6 +17,7 @@ use Rattle.sql_semantics.specs.Taken.{deleted_from, updated_from}
 use Rattle.programs.specs.declared.sent.Sent.{Sent}
 use Rattle.programs.specs.Programs.{Run, ends_early}
 use Rattle.programs.specs.Store.{Store, committed_of}
+use Rattle.table_log.specs.Marks.{IsNoted, Marked}
 use Rattle.keeper_core.specs.declared.keeper.WriteRefusal.{WriteRefusal}
 use Rattle.keeper_core.specs.declared.keeper.WriteRefusal.TheVariants as writes
 use Rattle.keeper_core.specs.Calls.{refusal_by, sends, write_refusal}
@@ -25,12 +26,12 @@ use Rattle.keeper_core.specs.Calls.{refusal_by, sends, write_refusal}
 abbrev pub given_up : Store → Store
 given_up store = record { tables = committed_of store; scopes = [] }
 
--- What a store did with a statement: its program, in the same scopes, or nothing. Where memory ran out only what it goes back to is
--- as it was.
-abbrev pub Stores : {A : Type 0} → (Store → Run Store A) → Sent → Store → Result A Refusal → Store → Type 0
-Stores m statement old (Ok x) new = (m old ≡ sends statement new (Ok x)) × (new.scopes ≡ old.scopes)
-Stores m statement old (Err e) new =
-    MatchBool (ends_early e) ((e ≡ refusals.Memory) × (given_up new ≡ given_up old)) ((m old ≡ sends statement old (Err e)) × (new ≡ old))
+-- What a store did with a statement: its program, in the same scopes, with so many changes noted, or nothing. Where memory ran out
+-- only what it goes back to is as it was.
+abbrev pub Stores : {A : Type 0} → (Store → Run Store A) → Sent → (A → ℕ) → Marked → Result A Refusal → Marked → Type 0
+Stores m statement count old (Ok x) new = (m old.seen ≡ sends statement new.seen (Ok x)) × (new.seen.scopes ≡ old.seen.scopes) × IsNoted (count x) old new
+Stores m statement count old (Err e) new =
+    MatchBool (ends_early e) ((e ≡ refusals.Memory) × (given_up new.seen ≡ given_up old.seen)) ((m old.seen ≡ sends statement old.seen (Err e)) × (new ≡ old))
 
 -- ---- refusals
 
@@ -52,9 +53,9 @@ abbrev pub WroteBulk : TableId → Checked (ℕ × Tables) → Store → Result 
 WroteBulk table told old (Ok count) new = (told ≡ Ok (count, new.tables)) × (new.scopes ≡ old.scopes)
 WroteBulk table told old (Err r) new = Refuses (write_refusal table r) told × (new.scopes ≡ old.scopes)
 
--- the same of one that leaves everything as it was where it is refused, or finds no memory
-abbrev pub Leaves : TableId → Checked (ℕ × Tables) → Store → Result ℕ WriteRefusal → Store → Type 0
-Leaves table told old (Ok count) new = (told ≡ Ok (count, new.tables)) × (new.scopes ≡ old.scopes)
+-- The same of one that noted each of its rows where it is done, and leaves everything as it was where it is refused, or finds no memory.
+abbrev pub Leaves : TableId → Checked (ℕ × Tables) → Marked → Result ℕ WriteRefusal → Marked → Type 0
+Leaves table told old (Ok count) new = (told ≡ Ok (count, new.seen.tables)) × (new.seen.scopes ≡ old.seen.scopes) × IsNoted count old new
 Leaves table told old (Err r) new = Refuses (write_refusal table r) told × (new ≡ old)
 
 -- ---- the rows of a bulk statement

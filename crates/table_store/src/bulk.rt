@@ -4,12 +4,13 @@ ghost use Rattle.std.specs.Prelude.{◌≡◌, ◌<◌, [], ◌∷◌, true, is_
 ghost use Rattle.schema_core.specs.Apply.{insert_rows};
 ghost use Rattle.schema_core.specs.Catalog.{IsTable};
 ghost use Rattle.schema_core.specs.Judged.{change_all, remove_all, some_lacks};
-ghost use Rattle.schema_core.specs.Tables.{Rows, rows_in, without_row};
+ghost use Rattle.schema_core.specs.Tables.{Rows, row_under, rows_in, without_row};
 ghost use Rattle.sql_semantics.specs.Applied as spec;
 ghost use Rattle.sql_semantics.specs.Checked.{Gives};
 ghost use Rattle.sql_semantics.specs.Plain.{IsPlainBulk};
-ghost use Rattle.table_rows.specs.Rows.{rows_at};
-ghost use Rattle.table_store.specs.Held.{IsDivided, Made, put_all, take_all, without_key};
+ghost use Rattle.table_log.specs.Marks.{Notes, rows_there};
+ghost use Rattle.table_rows.specs.Rows.{AreSorted, rows_at};
+ghost use Rattle.table_store.specs.Held.{AreKeysOf, IsDivided, Made, put_all, take_all, without_key};
 ghost use Rattle.table_store.specs.Written.{Leaves, WroteBulk, keys_to_remove, rows_to_write};
 
 use crate::references::{index_foreigns, make_indexes, some_lost};
@@ -33,10 +34,11 @@ fn put_all(
     table: TableId,
     entries: &[(Key, RowValues)],
 ) -> Result<(), AllocError>
-    requires { is_some (rows_in store.old.tables table) ≡ true }
+    requires { is_some (rows_in store.old.seen.tables table) ≡ true }
     ensures tables { OnOk result
-        (store.new.tables ≡ put_all store.old.tables table entries.now) }
-    ensures scopes { store.new.scopes ≡ store.old.scopes }
+        (store.new.seen.tables ≡ put_all store.old.seen.tables table entries.now) }
+    ensures scopes { store.new.seen.scopes ≡ store.old.seen.scopes }
+    ensures noted { Notes (λ _. length entries.now) result store.old store.new }
 {
     for entry in entries {
         put_copy(store, table, entry)?;
@@ -52,10 +54,10 @@ fn set_aside(
     table: TableId,
     key: &Key,
 ) -> Result<(), AllocError>
-    requires { is_some (rows_in store.now.tables table) ≡ true }
+    requires { is_some (rows_in store.now.seen.tables table) ≡ true }
     ensures { OnOk result ((rows : Rows)
-        → IsDivided rows (rows_at store.now.tables table) aside.old
-        → IsDivided rows (without_row (rows_at store.now.tables table) key.now)
+        → IsDivided rows (rows_at store.now.seen.tables table) aside.old
+        → IsDivided rows (without_row (rows_at store.now.seen.tables table) key.now)
         aside.new) }
 {
     let Some(row) = row_under(store, table, key)? else {
@@ -73,12 +75,15 @@ fn take_aside(
     table: TableId,
     key: &Key,
 ) -> Result<(), AllocError>
-    requires { is_some (rows_in store.old.tables table) ≡ true }
-    ensures tables { OnOk result (store.new.tables ≡ without_key store.old.tables table key.now) }
+    requires { is_some (rows_in store.old.seen.tables table) ≡ true }
+    ensures tables { OnOk result (store.new.seen.tables ≡ without_key store.old.seen.tables table key.now) }
     ensures aside { OnOk result ((rows : Rows)
-        → IsDivided rows (rows_at store.old.tables table) aside.old
-        → IsDivided rows (rows_at store.new.tables table) aside.new) }
-    ensures scopes { store.new.scopes ≡ store.old.scopes }
+        → IsDivided rows (rows_at store.old.seen.tables table) aside.old
+        → IsDivided rows (rows_at store.new.seen.tables table) aside.new) }
+    ensures scopes { store.new.seen.scopes ≡ store.old.seen.scopes }
+    ensures noted { Notes (λ _. rows_there
+        (row_under (rows_at store.old.seen.tables table) key.now)) result store.old store.new }
+    ensures sorted { OnOk result (AreSorted store.old.seen.tables table) }
 {
     set_aside(aside, store, table, key)?;
     store.take(table, key)
@@ -92,11 +97,13 @@ fn take_all(
     table: TableId,
     keys: &[Key],
 ) -> Result<TableRows, AllocError>
-    requires { is_some (rows_in store.old.tables table) ≡ true }
-    ensures tables { OnOk result (store.new.tables ≡ take_all store.old.tables table keys.now) }
+    requires created { is_some (rows_in store.old.seen.tables table) ≡ true }
+    requires there { AreKeysOf (rows_at store.old.seen.tables table) keys.now }
+    ensures tables { OnOk result (store.new.seen.tables ≡ take_all store.old.seen.tables table keys.now) }
     ensures aside { IfOk result
-        (IsDivided (rows_at store.old.tables table) (rows_at store.new.tables table)) }
-    ensures scopes { store.new.scopes ≡ store.old.scopes }
+        (IsDivided (rows_at store.old.seen.tables table) (rows_at store.new.seen.tables table)) }
+    ensures scopes { store.new.seen.scopes ≡ store.old.seen.scopes }
+    ensures noted { Notes (λ _. length keys.now) result store.old store.new }
 {
     let mut aside = TableRows::new(alloc);
     for key in keys {
@@ -125,10 +132,11 @@ fn change_all(
     entries: &[(Key, RowValues)],
 ) -> Result<(), Unwritten>
     requires declared { IsTable schema.now table }
-    requires created { is_some (rows_in store.old.tables table) ≡ true }
+    requires created { is_some (rows_in store.old.seen.tables table) ≡ true }
     requires some { 0 < length entries.now }
-    ensures { Made (change_all schema.now store.old.tables table
-        (rows_at store.old.tables table) entries.now) store.old result store.new }
+    ensures made { Made (change_all schema.now store.old.seen.tables table
+        (rows_at store.old.seen.tables table) entries.now) store.old.seen result store.new.seen }
+    ensures noted { Notes (λ _. length entries.now) result store.old store.new }
 {
     if some_lacks(schema.spec(table), entries) {
         return Err(Unwritten::Violates(Violation::NotNull));
@@ -146,10 +154,12 @@ fn remove_all(
     table: TableId,
     keys: &[Key],
 ) -> Result<(), Unwritten>
-    requires created { is_some (rows_in store.old.tables table) ≡ true }
+    requires created { is_some (rows_in store.old.seen.tables table) ≡ true }
     requires some { 0 < length keys.now }
-    ensures { Made (remove_all schema.now store.old.tables table
-        (rows_at store.old.tables table) keys.now) store.old result store.new }
+    requires there { AreKeysOf (rows_at store.old.seen.tables table) keys.now }
+    ensures made { Made (remove_all schema.now store.old.seen.tables table
+        (rows_at store.old.seen.tables table) keys.now) store.old.seen result store.new.seen }
+    ensures noted { Notes (λ _. length keys.now) result store.old store.new }
 {
     let aside = take_all(alloc, store, table, keys)?;
     if some_lost(alloc, schema, &Before::Rows(table, &aside), store)? {
@@ -168,10 +178,11 @@ fn update_entries(
     entries: &[(Key, RowValues)],
 ) -> Result<u64, WriteRefusal>
     requires declared { IsTable schema.now table }
-    requires created { is_some (rows_in store.old.tables table) ≡ true }
-    ensures { WroteBulk table
-        (spec.update_entries schema.now store.old.tables table
-        (rows_at store.old.tables table) entries.now) store.old result store.new }
+    requires created { is_some (rows_in store.old.seen.tables table) ≡ true }
+    ensures wrote { WroteBulk table
+        (spec.update_entries schema.now store.old.seen.tables table
+        (rows_at store.old.seen.tables table) entries.now) store.old.seen result store.new.seen }
+    ensures noted { Notes (λ count. count) result store.old store.new }
 {
     if entries.len() == 0 {
         return Ok(0);
@@ -191,10 +202,12 @@ fn delete_keys(
     table: TableId,
     keys: &[Key],
 ) -> Result<u64, WriteRefusal>
-    requires created { is_some (rows_in store.old.tables table) ≡ true }
-    ensures { WroteBulk table
-        (spec.delete_keys schema.now store.old.tables table
-        (rows_at store.old.tables table) keys.now) store.old result store.new }
+    requires created { is_some (rows_in store.old.seen.tables table) ≡ true }
+    requires there { AreKeysOf (rows_at store.old.seen.tables table) keys.now }
+    ensures wrote { WroteBulk table
+        (spec.delete_keys schema.now store.old.seen.tables table
+        (rows_at store.old.seen.tables table) keys.now) store.old.seen result store.new.seen }
+    ensures noted { Notes (λ count. count) result store.old store.new }
 {
     if keys.len() == 0 {
         return Ok(0);
@@ -215,10 +228,11 @@ fn insert(
     row: RowValues,
 ) -> Result<u64, WriteRefusal>
     requires declared { IsTable schema.now table }
-    requires created { is_some (rows_in store.old.tables table) ≡ true }
-    ensures { WroteBulk table
-        (spec.of_row table (insert_rows schema.now store.old.tables table
-        (rows_at store.old.tables table) (row ∷ []))) store.old result store.new }
+    requires created { is_some (rows_in store.old.seen.tables table) ≡ true }
+    ensures wrote { WroteBulk table
+        (spec.of_row table (insert_rows schema.now store.old.seen.tables table
+        (rows_at store.old.seen.tables table) (row ∷ []))) store.old.seen result store.new.seen }
+    ensures noted { Notes (λ count. count) result store.old store.new }
 {
     match insert_rows(alloc, schema, store, table, &[row]) {
         Ok(_keys) => Ok(1),
@@ -235,10 +249,10 @@ fn rows_to_write(
     cells: &ListOf<(ColumnNo, Option<Expr>)>,
     filter: &Option<Expr>,
 ) -> Result<ListOf<(Key, RowValues)>, Refusal>
-    requires { is_some (rows_in store.now.tables table) ≡ true }
+    requires { is_some (rows_in store.now.seen.tables table) ≡ true }
     ensures { Gives (λ x. x) result
-        (rows_to_write store.now.tables cells.now filter.now
-        (rows_at store.now.tables table)) }
+        (rows_to_write store.now.seen.tables cells.now filter.now
+        (rows_at store.now.seen.tables table)) }
 {
     let Some(rows) = store.get(table) else {
         return Err(Refusal::Memory);
@@ -256,10 +270,10 @@ fn keys_to_remove(
     table: TableId,
     filter: &Option<Expr>,
 ) -> Result<ListOf<Key>, Refusal>
-    requires { is_some (rows_in store.now.tables table) ≡ true }
+    requires { is_some (rows_in store.now.seen.tables table) ≡ true }
     ensures { Gives (λ x. x) result
-        (keys_to_remove store.now.tables filter.now
-        (rows_at store.now.tables table)) }
+        (keys_to_remove store.now.seen.tables filter.now
+        (rows_at store.now.seen.tables table)) }
 {
     let Some(rows) = store.get(table) else {
         return Err(Refusal::Memory);
@@ -280,10 +294,11 @@ fn update(
     filter: &Option<Expr>,
 ) -> Result<u64, WriteRefusal>
     requires declared { IsTable schema.now table }
-    requires created { is_some (rows_in store.old.tables table) ≡ true }
-    ensures { WroteBulk table
-        (spec.update schema.now store.old.tables table cells.now filter.now
-        (rows_at store.old.tables table)) store.old result store.new }
+    requires created { is_some (rows_in store.old.seen.tables table) ≡ true }
+    ensures wrote { WroteBulk table
+        (spec.update schema.now store.old.seen.tables table cells.now filter.now
+        (rows_at store.old.seen.tables table)) store.old.seen result store.new.seen }
+    ensures noted { Notes (λ count. count) result store.old store.new }
 {
     match rows_to_write(alloc, store, table, cells, filter) {
         Ok(entries) => update_entries(alloc, schema, store, table, entries.as_slice()),
@@ -300,10 +315,11 @@ fn delete(
     table: TableId,
     filter: &Option<Expr>,
 ) -> Result<u64, WriteRefusal>
-    requires created { is_some (rows_in store.old.tables table) ≡ true }
-    ensures { WroteBulk table
-        (spec.delete schema.now store.old.tables table filter.now
-        (rows_at store.old.tables table)) store.old result store.new }
+    requires created { is_some (rows_in store.old.seen.tables table) ≡ true }
+    ensures wrote { WroteBulk table
+        (spec.delete schema.now store.old.seen.tables table filter.now
+        (rows_at store.old.seen.tables table)) store.old.seen result store.new.seen }
+    ensures noted { Notes (λ count. count) result store.old store.new }
 {
     match keys_to_remove(alloc, store, table, filter) {
         Ok(keys) => delete_keys(alloc, schema, store, table, keys.as_slice()),
@@ -320,8 +336,9 @@ fn apply_inside(
     statement: &Bulk,
 ) -> Result<u64, WriteRefusal>
     requires { IsPlainBulk schema.now statement.now }
-    ensures { WroteBulk (spec.table_of statement.now)
-        (spec.bulk_outcome schema.now store.old.tables statement.now) store.old result store.new }
+    ensures wrote { WroteBulk (spec.table_of statement.now)
+        (spec.bulk_outcome schema.now store.old.seen.tables statement.now) store.old.seen result store.new.seen }
+    ensures noted { Notes (λ count. count) result store.old store.new }
 {
     let table = table_of_bulk(statement);
     if !store.has(table) {
@@ -355,7 +372,7 @@ fn apply_in_scope(
 ) -> Result<u64, WriteRefusal>
     requires { IsPlainBulk schema.now statement.now }
     ensures { Leaves (spec.table_of statement.now)
-        (spec.bulk_outcome schema.now store.old.tables statement.now) store.old result store.new }
+        (spec.bulk_outcome schema.now store.old.seen.tables statement.now) store.old result store.new }
 {
     let Ok(()) = store.start() else {
         return Err(WriteRefusal::Memory);
@@ -388,7 +405,7 @@ pub(crate) fn applied(
 ) -> Result<u64, WriteRefusal>
     requires { IsPlainBulk schema.now statement.now }
     ensures { Leaves (spec.table_of statement.now)
-        (spec.bulk_outcome schema.now store.old.tables statement.now) store.old result store.new }
+        (spec.bulk_outcome schema.now store.old.seen.tables statement.now) store.old result store.new }
 {
     let Ok(()) = index_for(alloc, schema, store, statement) else {
         return Err(WriteRefusal::Memory);

@@ -19,7 +19,7 @@ pub(crate) fn some_lost(
     before: &Before,
     left: &TableLog,
 ) -> Result<bool, AllocError>
-    ensures { IfOk result (λ yes. yes ≡ some_lost schema.now before.now left.now.tables) }
+    ensures { IfOk result (λ yes. yes ≡ some_lost schema.now before.now left.now.seen.tables) }
 {
     row_judging::some_lost(alloc, schema, before, left.tables())
 }
@@ -33,7 +33,7 @@ pub(crate) fn some_written_dangles(
     entries: &[(Key, RowValues)],
 ) -> Result<bool, AllocError>
     ensures { IfOk result (λ yes. yes
-        ≡ some_written_dangles schema.now left.now.tables spec.now entries.now) }
+        ≡ some_written_dangles schema.now left.now.seen.tables spec.now entries.now) }
 {
     row_judging::some_written_dangles(alloc, schema, left.tables(), spec, entries)
 }
@@ -46,9 +46,9 @@ pub(crate) fn some_repeats(
     table: TableId,
     entries: &[(Key, RowValues)],
 ) -> Result<bool, AllocError>
-    requires { is_some (rows_in left.now.tables table) ≡ true }
+    requires { is_some (rows_in left.now.seen.tables table) ≡ true }
     ensures { IfOk result (λ yes. yes
-        ≡ some_repeats spec.now (rows_at left.now.tables table) entries.now) }
+        ≡ some_repeats spec.now (rows_at left.now.seen.tables table) entries.now) }
 {
     row_judging::some_repeats(alloc, spec, left.tables(), table, entries)
 }

@@ -14,6 +14,7 @@ ghost use Rattle.programs.specs.Programs.{as_refusal};
 ghost use Rattle.keeper_core.specs.Calls as call;
 ghost use Rattle.keeper_core.specs.Calls.{query_refusal, write_refusal};
 ghost use Rattle.keeper_core.specs.Keeping.{RefusesBulk, RefusesRow, RefusesSelect};
+ghost use Rattle.table_store.specs.Held.{rows_changed};
 ghost use Rattle.table_store.specs.Written.{Stores};
 
 use crate::bulk::applied;
@@ -40,9 +41,9 @@ pub fn write(
     statement: &RowStmt,
 ) -> Result<KeyList, WriteRefusal>
     requires fits { IsWellFormed schema.now statement.now }
-    requires inside { 0 < length store.old.scopes }
+    requires inside { 0 < length store.old.seen.scopes }
     ensures step { Stores (call.write schema.now statement.now) (sent.Write statement.now)
-        store.old (as_refusal (write_refusal (table_of statement.now)) result) store.new }
+        (λ _. rows_changed store.old.seen.tables statement.now) store.old (as_refusal (write_refusal (table_of statement.now)) result) store.new }
     ensures keys { IfOk result (λ keys. AreKeysFor schema.now statement.now keys) }
     ensures refuses { IfErr
         (as_refusal (write_refusal (table_of statement.now)) result)
@@ -75,7 +76,7 @@ pub fn write_bulk(
 ) -> Result<u64, WriteRefusal>
     requires plain { IsPlainBulk schema.now statement.now }
     ensures step { Stores (call.bulk schema.now statement.now) (sent.Bulk statement.now)
-        store.old (as_refusal (write_refusal (bulk.table_of statement.now)) result) store.new }
+        (λ count. count) store.old (as_refusal (write_refusal (bulk.table_of statement.now)) result) store.new }
     ensures refuses { IfErr
         (as_refusal (write_refusal (bulk.table_of statement.now)) result)
         (RefusesBulk schema.now statement.now) }
@@ -96,12 +97,12 @@ pub fn query(
     select: &Select,
 ) -> Result<RowList, QueryRefusal>
     requires plain { IsPlainSelect schema.now select.now }
-    ensures step { Stores (call.query schema.now select.now) (sent.Query select.now) store.now
-        (as_refusal query_refusal result) store.now }
+    ensures step { Stores (call.query schema.now select.now) (sent.Query select.now) (λ _. 0)
+        store.now (as_refusal query_refusal result) store.now }
     ensures wide { IfOk result (λ rows. AreWide select.now rows) }
-    ensures kinds { AreRows schema.now (bare store.now.tables)
+    ensures kinds { AreRows schema.now (bare store.now.seen.tables)
         → IfOk result (λ rows. AreOfItems schema.now select.now rows) }
-    ensures given { AreLegalRows schema.now (bare store.now.tables)
+    ensures given { AreLegalRows schema.now (bare store.now.seen.tables)
         → IfOk result (λ rows. AreGiven schema.now select.now rows) }
     ensures refuses { IfErr
         (as_refusal query_refusal result) (RefusesSelect schema.now select.now) }
@@ -118,7 +119,7 @@ pub fn query(
 /// The rows of a table, ascending by key, or none where it is not created.
 pub fn rows(alloc: Global, store: &TableLog, table: TableId) -> Result<Option<RowList>, AllocError>
     ensures { IfOk result (λ rows. rows
-        ≡ option_map (λ rows. map (λ entry. entry.1) rows) (rows_in store.now.tables table)) }
+        ≡ option_map (λ rows. map (λ entry. entry.1) rows) (rows_in store.now.seen.tables table)) }
 {
     let Some(rows) = store.get(table) else {
         return Ok(None);

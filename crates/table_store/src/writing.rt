@@ -8,8 +8,9 @@ ghost use Rattle.schema_core.specs.Judged.{lacks_value};
 ghost use Rattle.schema_core.specs.Tables.{row_under, rows_in};
 ghost use Rattle.schema_core.specs.Told.{Told};
 ghost use Rattle.schema_core.specs.WellFormed.{IsWellFormed};
+ghost use Rattle.table_log.specs.Marks.{Notes, rows_there};
 ghost use Rattle.table_rows.specs.Rows.{rows_at, rows_present};
-ghost use Rattle.table_store.specs.Held.{DidOrLeft, Wrote, put_from, stand, with_entry};
+ghost use Rattle.table_store.specs.Held.{DidOrLeft, Wrote, put_from, rows_changed, stand, with_entry};
 
 use crate::references::{
     index_foreigns, make_indexes, some_lost, some_repeats, some_written_dangles,
@@ -28,8 +29,8 @@ pub(crate) fn row_under(
     table: TableId,
     key: &Key,
 ) -> Result<Option<RowValues>, AllocError>
-    requires { is_some (rows_in store.now.tables table) ≡ true }
-    ensures { IfOk result (λ row. row ≡ row_under (rows_at store.now.tables table) key.now) }
+    requires { is_some (rows_in store.now.seen.tables table) ≡ true }
+    ensures { IfOk result (λ row. row ≡ row_under (rows_at store.now.seen.tables table) key.now) }
 {
     let Some(rows) = store.get(table) else {
         return Ok(None);
@@ -50,8 +51,8 @@ pub(crate) fn stand(
     entries: &[(Key, RowValues)],
 ) -> Result<(), Unwritten>
     requires declared { IsTable schema.now table }
-    requires created { is_some (rows_in store.now.tables table) ≡ true }
-    ensures { Told (stand schema.now store.now.tables table entries.now) result }
+    requires created { is_some (rows_in store.now.seen.tables table) ≡ true }
+    ensures { Told (stand schema.now store.now.seen.tables table entries.now) result }
 {
     let spec = schema.spec(table);
     if some_repeats(alloc, store, spec, table, entries)? {
@@ -135,9 +136,9 @@ fn new_entry(
     row: &RowValues,
 ) -> Result<(Key, RowValues), Unwritten>
     requires declared { IsTable schema.now table }
-    requires created { is_some (rows_in store.now.tables table) ≡ true }
-    ensures { Told (entry_of (spec_of schema.now table) (rows_at store.now.tables table)
-        (with_own_key (spec_of schema.now table) (rows_at store.now.tables table) row.now)) result }
+    requires created { is_some (rows_in store.now.seen.tables table) ≡ true }
+    ensures { Told (entry_of (spec_of schema.now table) (rows_at store.now.seen.tables table)
+        (with_own_key (spec_of schema.now table) (rows_at store.now.seen.tables table) row.now)) result }
 {
     let Some(rows) = store.get(table) else {
         return Err(Unwritten::Memory);
@@ -173,10 +174,11 @@ pub(crate) fn put_copy(
     table: TableId,
     entry: &(Key, RowValues),
 ) -> Result<(), AllocError>
-    requires { is_some (rows_in store.old.tables table) ≡ true }
+    requires { is_some (rows_in store.old.seen.tables table) ≡ true }
     ensures tables { OnOk result
-        (store.new.tables ≡ with_entry store.old.tables table entry.now) }
-    ensures scopes { store.new.scopes ≡ store.old.scopes }
+        (store.new.seen.tables ≡ with_entry store.old.seen.tables table entry.now) }
+    ensures scopes { store.new.seen.scopes ≡ store.old.seen.scopes }
+    ensures noted { Notes (λ _. 1) result store.old store.new }
 {
     store.put(table, entry.0.copied()?, entry.1.copied()?)
 }
@@ -188,11 +190,12 @@ fn put_entry(
     done: &mut Vec<(Key, RowValues)>,
     entry: (Key, RowValues),
 ) -> Result<(), AllocError>
-    requires { is_some (rows_in store.old.tables table) ≡ true }
+    requires { is_some (rows_in store.old.seen.tables table) ≡ true }
     ensures tables { OnOk result
-        (store.new.tables ≡ with_entry store.old.tables table entry) }
+        (store.new.seen.tables ≡ with_entry store.old.seen.tables table entry) }
     ensures done { OnOk result (done.new.items ≡ done.old.items ++ entry ∷ []) }
-    ensures scopes { store.new.scopes ≡ store.old.scopes }
+    ensures scopes { store.new.seen.scopes ≡ store.old.seen.scopes }
+    ensures noted { Notes (λ _. 1) result store.old store.new }
 {
     put_copy(store, table, &entry)?;
     done.push(entry)?;
@@ -210,9 +213,10 @@ fn put_from(
     new: &[RowValues],
 ) -> Result<KeyList, Unwritten>
     requires declared { IsTable schema.now table }
-    requires created { is_some (rows_in store.old.tables table) ≡ true }
-    ensures { Wrote (put_from schema.now store.old.tables table done.old.items new.now)
-        store.old result store.new }
+    requires created { is_some (rows_in store.old.seen.tables table) ≡ true }
+    ensures wrote { Wrote (put_from schema.now store.old.seen.tables table done.old.items new.now)
+        store.old.seen result store.new.seen }
+    ensures noted { Notes (λ _. length new.now) result store.old store.new }
 {
     let Some((row, more)) = new.split_first() else {
         stand(alloc, schema, store, table, done.as_slice())?;
@@ -247,10 +251,11 @@ pub(crate) fn insert_rows(
     new: &[RowValues],
 ) -> Result<KeyList, Unwritten>
     requires declared { IsTable schema.now table }
-    requires created { is_some (rows_in store.old.tables table) ≡ true }
+    requires created { is_some (rows_in store.old.seen.tables table) ≡ true }
     requires some { 0 < length new.now }
-    ensures { Wrote (insert_rows schema.now store.old.tables table
-        (rows_at store.old.tables table) new.now) store.old result store.new }
+    ensures wrote { Wrote (insert_rows schema.now store.old.seen.tables table
+        (rows_at store.old.seen.tables table) new.now) store.old.seen result store.new.seen }
+    ensures noted { Notes (λ _. length new.now) result store.old store.new }
 {
     if some_lacks_demanded(schema, table, new) {
         return Err(Unwritten::Violates(Violation::NotNull));
@@ -270,9 +275,10 @@ fn update_row(
     cells: &ListOf<(ColumnNo, Value)>,
 ) -> Result<KeyList, Unwritten>
     requires declared { IsTable schema.now table }
-    requires created { is_some (rows_in store.old.tables table) ≡ true }
-    ensures { Wrote (update_row schema.now store.old.tables table
-        (rows_at store.old.tables table) key.now cells.now) store.old result store.new }
+    requires created { is_some (rows_in store.old.seen.tables table) ≡ true }
+    ensures wrote { Wrote (update_row schema.now store.old.seen.tables table
+        (rows_at store.old.seen.tables table) key.now cells.now) store.old.seen result store.new.seen }
+    ensures noted { Notes (λ _. 1) result store.old store.new }
 {
     let keys = one_key(alloc, key)?;
     let Some(row) = row_under(store, table, key)? else {
@@ -296,9 +302,11 @@ fn delete_row(
     table: TableId,
     key: &Key,
 ) -> Result<KeyList, Unwritten>
-    requires created { is_some (rows_in store.old.tables table) ≡ true }
-    ensures { Wrote (delete_row schema.now store.old.tables table
-        (rows_at store.old.tables table) key.now) store.old result store.new }
+    requires created { is_some (rows_in store.old.seen.tables table) ≡ true }
+    ensures wrote { Wrote (delete_row schema.now store.old.seen.tables table
+        (rows_at store.old.seen.tables table) key.now) store.old.seen result store.new.seen }
+    ensures noted { Notes (λ _. rows_there
+        (row_under (rows_at store.old.seen.tables table) key.now)) result store.old store.new }
 {
     let keys = one_key(alloc, key)?;
     let Some(_row) = row_under(store, table, key)? else {
@@ -320,7 +328,9 @@ fn apply_inside(
     statement: &RowStmt,
 ) -> Result<KeyList, Unwritten>
     requires { IsWellFormed schema.now statement.now }
-    ensures { Wrote (apply schema.now store.old.tables statement.now) store.old result store.new }
+    ensures wrote { Wrote (apply schema.now store.old.seen.tables statement.now) store.old.seen result store.new.seen }
+    ensures noted { Notes (λ _. rows_changed store.old.seen.tables statement.now)
+        result store.old store.new }
 {
     let table = statement.table();
     if !store.has(table) {
@@ -342,8 +352,8 @@ fn apply_in_scope(
     statement: &RowStmt,
 ) -> Result<KeyList, Unwritten>
     requires { IsWellFormed schema.now statement.now }
-    ensures { DidOrLeft (apply schema.now store.old.tables statement.now)
-        store.old result store.new }
+    ensures { DidOrLeft (apply schema.now store.old.seen.tables statement.now)
+        (rows_changed store.old.seen.tables statement.now) store.old result store.new }
 {
     store.start()?;
     let answer = apply_inside(alloc, schema, store, statement);
@@ -373,8 +383,8 @@ pub fn apply(
     statement: &RowStmt,
 ) -> Result<KeyList, Unwritten>
     requires { IsWellFormed schema.now statement.now }
-    ensures { DidOrLeft (apply schema.now store.old.tables statement.now)
-        store.old result store.new }
+    ensures { DidOrLeft (apply schema.now store.old.seen.tables statement.now)
+        (rows_changed store.old.seen.tables statement.now) store.old result store.new }
 {
     index_for(alloc, schema, store, statement)?;
     apply_in_scope(alloc, schema, store, statement)

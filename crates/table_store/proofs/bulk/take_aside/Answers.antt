@@ -8,5 +8,5 @@ use Rattle.table_store.proofs.bulk.take_aside.Goals as goal
 pub returns-clause-aside : goal.returns-clause-aside
 returns-clause-aside c =
     on_ok c.take.result
-    (λ is rows divided. divided_at rows (without_row (rows_at c.args.store.now.tables c.args.table) c.args.key.now) (rows_at c.take.new.self.tables c.args.table) c.set_aside.new.aside
-    (rows_without c.args.store.now c.take.new.self c.args.table c.args.key.now is) (c.in_ok-set_aside.ensures rows divided)) c.take.ensures.ok
+    (λ is rows divided. divided_at rows (without_row (rows_at c.args.store.now.seen.tables c.args.table) c.args.key.now) (rows_at c.take.new.self.seen.tables c.args.table) c.set_aside.new.aside
+    (rows_without c.args.store.now.seen c.take.new.self.seen c.args.table c.args.key.now is) (c.in_ok-set_aside.ensures rows divided)) c.take.ensures.ok

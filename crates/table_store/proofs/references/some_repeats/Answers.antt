@@ -1,5 +1,5 @@
 -- The tables that are lent are those of the store.
-use Rattle.std.proofs.Common.{◌≡◌, true, is_some, IfOk, ap, subst, ◌∙◌}
+use Rattle.std.proofs.Common.{◌≡◌, is_some, IfOk, ap, subst, ◌∙◌}
 use Rattle.schema_core.specs.Judged.{some_repeats}
 use Rattle.schema_core.specs.Tables.{Tables, rows_in}
 use Rattle.table_rows.specs.Rows.{rows_at}

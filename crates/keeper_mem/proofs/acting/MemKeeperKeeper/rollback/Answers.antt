@@ -1,6 +1,15 @@
 -- A fault ends the call.
-use Rattle.keeper_mem.proofs.Keeping.{faulted}
+use Rattle.std.proofs.Common.{[], ap, ◌∙◌}
+use Rattle.programs.specs.declared.sent.Sent.TheVariants as sent
+use Rattle.programs.specs.Store.{committed_of}
+use Rattle.table_log.specs.Marks.{no_marks}
+use Rattle.keeper_mem.specs.Kept.{Kept, sent_by}
+use Rattle.keeper_mem.proofs.Keeping.{faulted, rolled_back}
 use Rattle.keeper_mem.proofs.acting.MemKeeperKeeper.rollback.Goals as goal
 
 pub returns-in_default-clause-call : goal.returns-in_default-clause-call
 returns-in_default-clause-call c = faulted c.requires.attached c.count_call.ensures.small.0 c.in_default.ensures.err.2
+
+pub returns-clause-call : goal.returns-clause-call
+returns-clause-call c =
+    rolled_back no_marks c.args.self.now c.undo_all.new.self c.requires.attached (c.undo_all.ensures ∙ ap (λ (k : Kept). sent_by k sent.Rollback (record { tables = committed_of k.store; scopes = [] }) no_marks) c.in-Ok.ensures.ok.1)

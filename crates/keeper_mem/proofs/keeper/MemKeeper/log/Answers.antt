@@ -1,8 +1,8 @@
--- The log that the tables keep.
+-- The log and the places that the tables keep.
 use Rattle.std.proofs.Common.{subst}
+use Rattle.table_log.specs.Undone.{AreMarks}
 use Rattle.keeper_mem.specs.Kept.{Kept}
-use Rattle.keeper_mem.specs.Marks.{IsLog}
 use Rattle.keeper_mem.proofs.keeper.MemKeeper.log.Goals as goal
 
-pub returns : goal.returns
-returns c = subst (λ (kept : Kept). IsLog kept.store c.log.result.0.now) c.self.view_is (c.log.result.1.now, record { scopes = c.log.ensures.scopes; within = c.log.ensures.within })
+pub returns-clause-marks : goal.returns-clause-marks
+returns-clause-marks c = subst (λ (kept : Kept). AreMarks kept.store kept.marks) c.self.view_is c.log.ensures.marks
