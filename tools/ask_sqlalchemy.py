@@ -1,55 +1,52 @@
 #!/usr/bin/env python3
-"""Plays scripts on SQLAlchemy 2.0 over SQLite, and tells where it answers otherwise than the program.
+"""Plays scripts on SQLAlchemy 2.0 and tells where it answers otherwise than the program.
 
-    python3 tools/ask_sqlalchemy.py PROGRAM SCRIPT..      # needs the module sqlalchemy, 2.0 or later
+    python3 tools/ask_sqlalchemy.py PROGRAM SCRIPT..              # over SQLite in memory
+    python3 tools/ask_sqlalchemy.py --url URL PROGRAM SCRIPT..    # over PostgreSQL; its schema `public` is cleared for each script
 
-PROGRAM is asked with the script on its standard input. A line that it refuses for its words, names or kinds is not played: SQLAlchemy has
-no such lines. Every other line is done on one `Session`, and what it answers is compared with what the program answered, one answer after
-another: of errors the class, and the kind where SQLAlchemy tells one; of rows without an order the set. A script is played to its first
-difference, which is told with its line; behind all scripts the differences are counted by the form of the line and the two answers.
+The module sqlalchemy, 2.0 or later, has to be there. PROGRAM is asked with the script on its standard input; behind the script
+every link of every object is shown, and what is pending is committed and dumped, so that the last rows and links are compared.
+PostgreSQL is given functions that make keys as this language does: one more than the greatest of the table.
+A line that the program refuses for its words, names, kinds or forms is not played: SQLAlchemy has no such lines, or does them.
+Every other line is done on one `Session`, and what it answers is compared with what the program answered: of errors the class,
+and the kind where SQLAlchemy tells one; of warnings the class of the object and the link; of rows of a select the set. Texts of
+statements are not compared, nor the answers of those that the store does not take. A script is played to its first difference,
+which is told with its line. Behind all scripts the differences are counted by the form of the line and the two answers.
 """
 
+import argparse
 import collections
 import re
 import subprocess
-import sys
 import warnings
 
 import sqlalchemy as sa
+from mapped_classes import NULL, ClassBlock, Mapped, NotAsked, Refused, TableBlock, Words, is_value, plain, quoted, value
 from sqlalchemy import event, exc, orm
 from sqlalchemy.orm import exc as orm_exc
 from sqlalchemy.pool import StaticPool
 
-TOKEN = re.compile(r"""\s*(x'[0-9A-Fa-f]*'|'(?:[^']|'')*'|"(?:[^"]|"")*"|[A-Za-z_]\w*|-?\d+|==|!=|<=|>=|\|\||.)""")
-OWN = ("ScriptError", "NotBuilt", "TypeMismatch", "ArgumentError", "LimitReached", "CompileError", "ValidationError")
-OWN_KINDS = ("Unknown", "WrongKind", "NotGrouped", "DuplicateFrom", "NotConfigured", "Configured", "InTransaction", "KeyChange", "Discriminator", "BadOwner", "BadMember")
-NULL = "null"
+# Words of selects and conditions that are no names.
+SQL_WORDS = set(
+    "and or not like ilike in between is exists null true false where order group having limit offset join left on from "
+    "as by asc desc distinct count sum min max lower upper length coalesce set values insert update delete".split())
+# Refusals that this language alone has: SQLAlchemy has no such lines, or takes them.
+OWN = ("ScriptError", "NotBuilt", "TypeMismatch", "ArgumentError", "LimitReached", "CompileError")
+OWN_KINDS = ("Unknown", "WrongKind", "NotGrouped", "DuplicateFrom", "NotConfigured", "Configured", "InTransaction",
+             "KeyChange", "Discriminator", "BadOwner", "BadMember")
+MARK = "?"  # A line that no script may have: its refusal tells where the answers of the lines before it end.
 
 
-def words_of(text):
-    return TOKEN.findall(text)
-
-
-def plain(word):
-    """The name that a word says."""
-    return word[1:-1].replace('""', '"') if word.startswith('"') else word
-
-
-def value(word):
-    """The value that a word says."""
-    if word in (NULL, "true", "false"):
-        return {NULL: None, "true": True, "false": False}[word]
-    if word.startswith("x'"):
-        return bytes.fromhex(word[2:-1])
-    return word[1:-1].replace("''", "'") if word.startswith("'") else int(word)
+class Untaken(Exception):
+    """The store does not take a text that this language says."""
 
 
 def told(it):
     """A value as it is written. Booleans are numbers, as SQLite answers them."""
     if it is None:
         return NULL
-    if isinstance(it, bytes):
-        return "x'%s'" % it.hex()
+    if isinstance(it, (bytes, memoryview)):
+        return "x'%s'" % bytes(it).hex()
     if isinstance(it, str):
         return "'%s'" % it.replace("'", "''")
     return str(int(it))
@@ -59,282 +56,314 @@ def row_told(row):
     return "(%s)" % ", ".join(told(it) for it in row)
 
 
-def sql(words):
+# Statements
+
+
+def name_of(word, dialect):
+    """A word of a select as SQL has it: names in quotes, so that their letters stay as they are."""
+    if word.startswith("x'"):
+        return word if dialect == "sqlite" else "'\\x%s'::bytea" % word[2:-1]
+    if re.match(r"[A-Za-z_]", word) and word not in SQL_WORDS:
+        return quoted(word)
+    return {"==": "=", "!=": "<>", "like": "like" if dialect == "sqlite" else "ilike",
+            "ilike": "like" if dialect == "sqlite" else "ilike"}.get(word, word)
+
+
+def sql(words, dialect):
     """Words of a select or of a condition in SQL."""
-    out = []
+    out, open_exists = [], []
     for place, word in enumerate(words):
         behind = words[place + 1] if place + 1 < len(words) else ""
+        before = words[place - 1] if place else ""
+        in_distinct = "is" in words[max(0, place - 3) : place]
         if word in ("==", "!=") and behind == NULL:
             out.append("is" if word == "==" else "is not")
         elif word == "is":
-            out.append("is not" if behind != "not" else "is")
-        elif word == "not" and out and words[place - 1] == "is" or word in ("distinct", "from") and "is" in words[max(0, place - 3) : place]:
+            is_same = behind == "not"
+            names = ("is", "is not") if dialect == "sqlite" else ("is not distinct from", "is distinct from")
+            out.append(names[0] if is_same else names[1])
+        elif word == "not" and before == "is" or word in ("distinct", "from") and in_distinct:
             continue
-        elif word == "(" and place and words[place - 1] == "exists":
+        elif word == "(" and before == "exists":
             out.append("(select 1 from")
+        elif word == ")" and before == "(" and words[place - 2] == "in":
+            out.append(")" if dialect == "sqlite" else "select null where false)")
+        elif "." in (before, behind) and re.match(r"[A-Za-z_]", word):
+            out.append(quoted(word))
         elif word == "offset" and "limit" not in words:
-            out.append("limit -1 offset")
+            out.append("limit -1 offset" if dialect == "sqlite" else "offset")
         else:
-            out.append({"==": "=", "!=": "<>", "ilike": "like"}.get(word, word))
+            out.append(name_of(word, dialect))
     return " ".join(out).replace(" . ", ".").replace(":", "\\:")
 
 
-class Refused(Exception):
-    """A line that SQLAlchemy refuses, as the program writes refusals."""
+# Lines
 
 
 class Player:
     """One script on one session."""
 
-    def __init__(self):
-        self.metadata = sa.MetaData()
-        self.base = orm.declarative_base(metadata=self.metadata)
-        self.tables, self.classes, self.blocks, self.names, self.numbers, self.kept = [], {}, [], {}, {}, []
-        self.block = self.session = self.connection = None
-        self.count = 0
-
-    # Declarations
-
-    def declare(self, words):
-        """A line of a block, or its first one."""
-        if self.block is None:
-            self.block = [words]
-        elif words == ["end"]:
-            (self.table if self.block[0][0] == "table" else self.blocks.append)(self.block)
-            self.block = None
-        else:
-            self.block.append(words)
-
-    def table(self, block):
-        name, parts, keys = plain(block[0][1]), [], [plain(w[0]) for w in block[1:] if "primary" in w]
-        kinds = {"integer": sa.Integer, "varchar": sa.String, "text": sa.Text, "boolean": sa.Boolean, "bytes": sa.LargeBinary}
-        for words in block[1:]:
-            listed = [plain(w) for w in words[words.index("(") + 1 : words.index(")")] if w != ","] if "(" in words else []
-            if words[0] == "unique":
-                parts.append(sa.UniqueConstraint(*listed))
-            elif words[0] == "foreign":
-                parts.append((listed, plain(words[-1])))
-            else:
-                kind = kinds[words[1]]
-                column = sa.Column(plain(words[0]), kind, primary_key="primary" in words, nullable="primary" not in words and "not" not in words)
-                column.autoincrement = "auto" if len(keys) == 1 else False
-                parts.append(column)
-        self.tables.append((name, parts, keys))
+    def __init__(self, url):
+        self.url, self.blocks = url, []
+        self.names, self.numbers, self.kept, self.told_warnings = {}, {}, [], []
+        self.mapped = self.engine = self.session = self.connection = None
 
     def configure(self):
         """Makes the tables and the classes, and opens the session."""
-        made = {}
-        keys_of = {name: keys for name, _, keys in self.tables}
-        for name, parts, _ in self.tables:
-            of = lambda part: sa.ForeignKeyConstraint(part[0], ["%s.%s" % (part[1], key) for key in keys_of[part[1]]])
-            made[name] = sa.Table(name, self.metadata, *[of(part) if isinstance(part, tuple) else part for part in parts])
-        for block in self.blocks:
-            self.class_of(block, made)
-        orm.configure_mappers()
-        self.engine = sa.create_engine("sqlite://", poolclass=StaticPool, connect_args={"check_same_thread": False})
+        of = lambda word, form: [form(block) for block in self.blocks if Words(block[0]).peek() == word]
+        is_file = self.url.startswith("sqlite")
+        self.mapped = Mapped(of("table", TableBlock), of("class", ClassBlock), not is_file)
+        options = {"connect_args": {"check_same_thread": False}} if is_file else {"use_insertmanyvalues": False}
+        self.engine = sa.create_engine(self.url, poolclass=StaticPool, **options)
 
         @event.listens_for(self.engine, "connect")
         def connect(connection, _):
             self.connection = connection
-            connection.isolation_level = None
-            connection.execute("pragma foreign_keys = on")
+            if is_file:
+                connection.isolation_level = None
+                connection.execute("pragma foreign_keys = on")
 
-        event.listen(self.engine, "begin", lambda connection: connection.exec_driver_sql("begin"))
-        self.engine.connect().close()
+        if is_file:
+            event.listen(self.engine, "begin", lambda connection: connection.exec_driver_sql("begin"))
+        with self.engine.connect() as connection:
+            if not is_file:
+                connection.execute(sa.text("drop schema public cascade"))
+                connection.execute(sa.text("create schema public"))
+                for text in self.mapped.key_makers:
+                    connection.exec_driver_sql(text.replace("%", "%%"))
+                connection.commit()
         self.session = orm.Session(self.engine)
 
-    def class_of(self, block, made):
-        head = block[0]
-        after = lambda word: plain(head[head.index(word) + 1])
-        name, members, mapping = plain(head[1]), {}, {}
-        bases = (self.classes[after("extends")],) if "extends" in head else (self.base,)
-        if "table" in head:
-            members["__table__"] = made[after("table")]
-        if "discriminator" in head:
-            mapping["polymorphic_on"] = made[after("table")].c[after("discriminator")]
-        if "identity" in head:
-            mapping["polymorphic_identity"] = value(head[head.index("identity") + 1])
-        members["__mapper_args__"] = mapping
-        for words in block[1:]:
-            if words[0] != "validate":
-                members[plain(words[1])] = self.relation(words, made)
-        self.classes[name] = type(name, bases, members)
+    def end(self):
+        """Lets go of what the script made."""
+        if self.session is not None:
+            self.session.close()
+            self.engine.dispose()
+        orm.clear_mappers()
 
-    def relation(self, words, made):
-        options = {"uselist": words[0] == "many"}
-        for word, key in (("secondary", "secondary"), ("back", "back_populates"), ("backref", "backref")):
-            if word in words:
-                named = plain(words[words.index(word) + 1])
-                options[key] = made[named] if word == "secondary" else named
-        if "cascade" in words:
-            rest = words[words.index("cascade") + 1 :]
-            text = "".join(w for w in rest if w != "post_update")
-            options["cascade"] = text.replace("saveupdate", "save-update")
-        if "post_update" in words:
-            options["post_update"] = True
-        if "using" in words:
-            listed = words[words.index("using") + 2 :]
-            options["using"] = [plain(w) for w in listed[: listed.index(")")] if w != ","]
-            columns = [c for t in self.metadata.sorted_tables for c in t.c if c.name in options["using"] and c.foreign_keys]
-            options["foreign_keys"] = columns
-            del options["using"]
-        return orm.relationship(plain(words[2]), **options)
+    def object(self, words):
+        name = words.name()
+        if words.peek() == "[":
+            raise NotAsked("an index")
+        return self.names[name]
 
-    # Lines
-
-    def object(self, word):
-        return self.names[plain(word)]
+    def member(self, words):
+        owner = self.object(words)
+        words.take()
+        return owner, words.name()
 
     def named(self, it):
         if it is None:
             return NULL
-        if isinstance(it, list) or hasattr(it, "__iter__"):
+        if id(it) in self.numbers:
+            return "%s@%d" % (type(it).__name__, self.numbers[id(it)])
+        if isinstance(it, list):
             return "[%s]" % ", ".join(self.named(one) for one in it)
-        return "%s@%d" % (type(it).__name__, self.numbers[id(it)])
+        raise NotAsked("an object that was loaded")
 
     def make(self, name, words):
-        cells = dict((plain(words[n]), value(words[n + 2])) for n in range(1, len(words), 4))
-        made = self.classes[plain(words[0])](**cells)
-        self.count += 1
-        self.numbers[id(made)] = self.count
+        made_of = self.mapped.classes[words.name()]
+        cells = {}
+        while words.more():
+            attribute = words.name()
+            words.take()
+            cells[attribute] = value(words.take())
+            words.takes(",")
+        made = made_of(**cells)
         self.kept.append(made)
+        self.numbers[id(made)] = len(self.kept)
         self.names[name] = made
-        return []
 
-    def keyless(self):
-        """The objects and attributes of keys that have no value yet."""
-        found = []
-        for made in self.kept:
-            for column in sa.inspect(made).mapper.primary_key:
-                attribute = sa.inspect(made).mapper.get_property_by_column(column).key
-                if made.__dict__.get(attribute) is None:
-                    found.append((made, attribute))
+    def cells(self):
+        """The cells of each object that has no row, by the object's place."""
+        found = {}
+        for place, made in enumerate(self.kept):
+            state = sa.inspect(made)
+            if state.transient or state.pending:
+                names = [attribute.key for attribute in state.mapper.column_attrs]
+                found[place] = {name: made.__dict__.get(name) for name in names}
         return found
 
-    def forget_keys(self, keyless):
-        """A key that a refused flush generated stays in SQLAlchemy's object. In this language it is NULL again."""
-        for made, attribute in keyless:
-            if sa.inspect(made).transient and made.__dict__.get(attribute) is not None:
-                setattr(made, attribute, None)
+    def give_back(self, cells):
+        """Keys that a refused flush gave stay in SQLAlchemy's objects. In this language they are as they were."""
+        for place, before in cells.items():
+            made = self.kept[place]
+            for name, held in before.items():
+                if sa.inspect(made).transient and made.__dict__.get(name) != held:
+                    made.__dict__[name] = held
 
-    def do(self, words):
+    def do(self, line):
         """The lines that one line of the script answers."""
-        if len(words) > 1 and words[1] == "=":
-            name = plain(words[0])
-            if words[2] == "new":
-                return self.make(name, words[3:])
-            if words[2] == "begin_nested":
-                self.names[name] = self.session.begin_nested()
-                return []
-            raise NotImplementedError(words[2])
-        return getattr(self, "do_" + words[0])(words) or []
+        words = Words(line)
+        first = words.take()
+        if words.takes("="):
+            form = words.take()
+            if form == "new":
+                self.make(plain(first), words)
+            elif form == "begin_nested":
+                self.names[plain(first)] = self.session.begin_nested()
+            else:
+                raise NotAsked(form)
+            return []
+        return getattr(self, "do_" + first)(words) or []
 
     def do_create_all(self, _):
-        self.metadata.create_all(self.engine)
+        self.mapped.metadata.create_all(self.engine)
 
     def do_drop_all(self, _):
-        self.metadata.drop_all(self.engine)
+        self.mapped.metadata.drop_all(self.engine)
 
     def do_add(self, words):
-        self.session.add(self.object(words[1]))
+        self.session.add(self.object(words))
 
     def do_delete(self, words):
-        if sa.inspect(self.object(words[1])).detached:
+        it = self.object(words)
+        if sa.inspect(it).detached:
             raise Refused("InvalidRequestError(NotPersistent)")
-        self.session.delete(self.object(words[1]))
+        self.session.delete(it)
 
     def do_set(self, words):
-        owner, member, rest = self.object(words[1]), plain(words[3]), words[5:]
-        is_value = rest[0] in (NULL, "true", "false") or re.match(r"x?'|-?\d", rest[0])
-        setattr(owner, member, value(rest[0]) if is_value else self.object(rest[0]))
+        owner, name = self.member(words)
+        words.take()
+        setattr(owner, name, value(words.take()) if is_value(words.peek()) else self.object(words))
 
     def do_append(self, words):
-        getattr(self.object(words[1]), plain(words[3])).append(self.object(words[4]))
+        owner, name = self.member(words)
+        members, it = getattr(owner, name), self.object(words)
+        if it not in members:
+            members.append(it)
 
     def do_remove(self, words):
-        members = getattr(self.object(words[1]), plain(words[3]))
-        if self.object(words[4]) not in members:
+        owner, name = self.member(words)
+        members, it = getattr(owner, name), self.object(words)
+        if it not in members:
             raise Refused("InvalidRequestError(NotAMember)")
-        members.remove(self.object(words[4]))
+        members.remove(it)
 
     def do_show(self, words):
-        it = self.object(words[1])
-        if len(words) == 2:
+        it = self.object(words)
+        if not words.takes("."):
             return [self.named(it)]
-        got = getattr(it, plain(words[3]))
-        return [told(got) if not isinstance(got, (list, self.base)) else self.named(sorted(got, key=lambda o: self.numbers[id(o)]) if isinstance(got, list) else got)]
+        name = words.name()
+        got = getattr(it, name)
+        return [self.named(got) if name in sa.inspect(it).mapper.relationships else told(got)]
 
     def do_state(self, words):
-        state = sa.inspect(self.object(words[1]))
+        state = sa.inspect(self.object(words))
         return [next(word for word in ("transient", "pending", "persistent", "deleted", "detached") if getattr(state, word))]
 
     def do_is(self, words):
-        return ["true" if self.object(words[1]) is self.object(words[2]) else "false"]
+        return ["true" if self.object(words) is self.object(words) else "false"]
 
     def do_flush(self, _):
         self.session.flush()
 
     def do_commit(self, words):
-        (self.object(words[1]) if len(words) > 1 else self.session).commit()
+        (self.names[words.name()] if words.more() else self.session).commit()
 
     def do_rollback(self, words):
-        (self.object(words[1]) if len(words) > 1 else self.session).rollback()
+        (self.names[words.name()] if words.more() else self.session).rollback()
 
     def do_close(self, _):
         self.session.close()
 
+    def sent(self, text):
+        """What a statement answers. Where it is refused, it fails nothing else."""
+        connection = self.session.connection()
+        connection.exec_driver_sql("savepoint asked")
+        try:
+            answer = connection.execute(sa.text(text))
+        except exc.DBAPIError as fault:
+            connection.exec_driver_sql("rollback to savepoint asked")
+            if isinstance(fault, exc.IntegrityError) or refusal_of(fault, self).startswith("OperationalError("):
+                raise
+            raise Untaken(str(fault)) from fault
+        finally:
+            connection.exec_driver_sql("release savepoint asked")
+        return answer
+
     def do_rows(self, words):
         self.session.flush()
-        rows = [row_told(row) for row in self.session.execute(sa.text("select " + sql(words[1:])))]
+        rows = [row_told(row) for row in self.sent("select " + sql(words.rest(), self.engine.dialect.name))]
         return rows + ["rows %d" % len(rows)]
 
     def do_bulk(self, words):
-        table = plain(words[2])
-        text = {"insert": "insert into ", "update": "update ", "delete": "delete from "}[words[1]] + sql(words[2:])
+        form = words.take()
+        table, text = plain(words.peek()), sql(words.rest(), self.engine.dialect.name)
         self.session.flush()
-        count = self.session.execute(sa.text(text)).rowcount
+        count = self.sent({"insert": "insert into ", "update": "update ", "delete": "delete from "}[form] + text).rowcount
         for it in list(self.session.identity_map.values()):
-            if table in [t.name for t in sa.inspect(type(it)).tables]:
+            if table in [one.name for one in sa.inspect(type(it)).tables]:
                 self.session.expire(it)
         return ["rows %d" % count]
 
+    def read(self, text):
+        """Rows as they are now, by the connection itself: a session would begin a transaction."""
+        cursor = self.connection.cursor()
+        cursor.execute(text)
+        return cursor.fetchall()
+
     def do_dump(self, _):
-        """The rows as they are now, by the connection itself: a session would begin a transaction."""
-        there = {row[0] for row in self.connection.execute("select name from sqlite_master")}
+        is_file = self.engine.dialect.name == "sqlite"
+        was_idle = not is_file and self.connection.get_transaction_status() == 0
+        all_tables = "select name from sqlite_master" if is_file else "select tablename from pg_tables where schemaname = 'public'"
+        there = {row[0] for row in self.read(all_tables)}
         out = []
-        for name, parts, keys in self.tables:
-            if name not in there:
-                continue
-            columns = [part.name for part in parts if isinstance(part, sa.Column)]
-            out.append("table %s (%s)" % (name, ", ".join(columns)))
-            order = ", ".join('"%s"' % key.replace('"', '""') for key in keys)
-            out += ["  " + row_told(row) for row in self.connection.execute('select * from "%s" order by %s' % (name.replace('"', '""'), order))]
+        for block in self.mapped.tables.values():
+            if block.name in there:
+                order = ", ".join(quoted(key) for key in block.keys)
+                rows = self.read("select * from %s order by %s" % (quoted(block.name), order))
+                out.append("table %s (%s)" % (block.name, ", ".join(name for name, _, _ in block.columns)))
+                out += ["  " + row_told(row) for row in rows]
+        if was_idle:
+            self.connection.rollback()
         return out
+
+
+# Refusals
+
+
+def violation(fault, player, table):
+    """The kind of the rule that a statement broke."""
+    text = str(fault.orig)
+    kind = getattr(getattr(fault.orig, "diag", None), "constraint_name", None)
+    if kind or getattr(fault.orig, "pgcode", None):
+        return {"pk": "PrimaryKey", "uq": "Unique", "fk": "Foreign"}.get((kind or "")[:2], "NotNull")
+    if "NOT NULL" in text:
+        return "NotNull"
+    if "FOREIGN" in text:
+        return "Foreign"
+    named = re.search(r"UNIQUE constraint failed: ([^\n]*)", text)
+    columns = [one.split(".")[-1] for one in named[1].split(", ")] if named else []
+    keys = player.mapped.tables[table].keys if table in player.mapped.tables else []
+    return "PrimaryKey" if columns == keys else "Unique"
+
+
+def table_of(fault):
+    """The table that the refused statement names first."""
+    text = getattr(fault, "statement", None) or ""
+    found = re.search(r"\b(?:INTO|UPDATE|FROM|into|update|from) (\"(?:[^\"]|\"\")*\"|\w+)", text)
+    return plain(found[1]) if found else "?"
 
 
 def refusal_of(fault, player):
     """The program's words for what SQLAlchemy raised."""
-    text = str(fault)
-    table = re.search(r"(?:INTO|UPDATE|FROM|into|update|from) (\"(?:[^\"]|\"\")*\"|\w+)", getattr(fault, "statement", None) or "")
-    at = plain(table[1]) if table else "?"
+    if isinstance(fault, Refused):
+        return str(fault)
+    text, table = str(fault), table_of(fault)
     if isinstance(fault, exc.PendingRollbackError):
         return "PendingRollbackError"
     if isinstance(fault, exc.IntegrityError):
-        if "NOT NULL" in text:
-            return "IntegrityError(NotNull, %s)" % at
-        if "FOREIGN" in text:
-            return "IntegrityError(Foreign, %s)" % at
-        named = re.search(r"UNIQUE constraint failed: ([^\n]*)", text)
-        columns = [c.split(".")[-1] for c in re.sub(r"\)$", "", named[1]).split(", ")] if named else []
-        keys = next((keys for name, _, keys in player.tables if name == at), [])
-        return "IntegrityError(%s, %s)" % ("PrimaryKey" if columns == keys else "Unique", at)
+        return "IntegrityError(%s, %s)" % (violation(fault, player, table), table)
     if isinstance(fault, orm_exc.StaleDataError):
-        return "StaleDataError(%s)" % re.search(r"table '(\w+)'", text)[1]
-    if isinstance(fault, exc.OperationalError) and "no such table" in text:
-        return "OperationalError(%s)" % re.search(r"no such table: (?:main\.)?(\w+)", text)[1]
+        return "StaleDataError(%s)" % re.search(r"table '([^']*)'", text)[1]
+    missing = re.search(r"no such table: (?:main\.)?(.*)|relation \"(.*)\" does not exist", text)
+    if missing:
+        return "OperationalError(%s)" % (missing[1] or missing[2])
     if isinstance(fault, exc.ResourceClosedError):
         return "ResourceClosedError"
-    for kind, part in (("NotPersistent", "is not persisted"), ("Deleted", "has been deleted"), ("IdentityConflict", "already present in this session")):
+    for kind, part in (("NotPersistent", "is not persisted"), ("Deleted", "has been deleted"),
+                       ("IdentityConflict", "already present in this session")):
         if isinstance(fault, exc.InvalidRequestError) and part in text:
             return "InvalidRequestError(%s)" % kind
     return type(fault).__name__
@@ -342,86 +371,194 @@ def refusal_of(fault, player):
 
 def bare_refusal(text):
     """A refusal without what SQLAlchemy does not tell."""
-    return re.sub(r"^(CircularDependencyError|DetachedInstanceError|ObjectDeletedError|DataError)\(.*", r"\1", text)
-
-
-def cut(answers, number):
-    """What the program answered to this line: its error, or None."""
-    found = re.match(r"error %d: (.*)" % number, answers[0]) if answers else None
-    return found[1] if found else None
+    return re.sub(r"(CircularDependencyError|DetachedInstanceError|ObjectDeletedError|DataError)\(.*", r"\1", text)
 
 
 def is_own(refusal, form):
     """Whether this language alone has the refusal: SQLAlchemy's session does such lines, or has none."""
-    if refusal == "PendingRollbackError" and form in ("add", "set", "delete", "show", "flush"):
+    if refusal == "PendingRollbackError" and form in ("add", "set", "append", "remove", "delete", "show", "flush"):
         return True
     return refusal.startswith(OWN) or any("InvalidRequestError(%s" % kind in refusal for kind in OWN_KINDS)
 
 
+# Comparison
+
+
+def is_blank(line):
+    return not line.strip() or line.strip().startswith("#")
+
+
+def links_of(lines):
+    """The names of the links of each class, inherited ones and those of `backref` among them."""
+    found, bases, name = {}, {}, None
+    for line in lines:
+        words = Words(line)
+        if words.peek() == "class" and words.peek(1) != "=":
+            words.take()
+            name = words.name()
+            found.setdefault(name, [])
+            if words.takes("extends"):
+                bases[name] = words.name()
+        elif name and words.peek() in ("one", "many"):
+            found[name].append(words.peek(1))
+            if "backref" in words.words:
+                found.setdefault(plain(words.peek(2)), []).append(words.words[words.words.index("backref") + 1])
+        elif words.words == ["end"]:
+            name = None
+    for one, base in bases.items():
+        found[one] = found.get(base, []) + found[one]
+    return found
+
+
+def ending(lines):
+    """What is asked behind a script: every link of every object, and the rows."""
+    links, out = links_of(lines), []
+    for line in lines:
+        words = Words(line)
+        if words.words[1:3] == ["=", "new"] and len(words.words) > 3:
+            out += ["show %s.%s" % (words.words[0], link) for link in links.get(plain(words.words[3]), [])]
+    return list(dict.fromkeys(out)) + ["commit", "dump"]
+
+
+def parts_of(lines):
+    """The script in parts that are asked one by one, each with the number of its first line: blocks, and other lines."""
+    parts, block = [], None
+    for number, line in enumerate(lines, 1):
+        if block is not None:
+            block.append(line)
+            if line.strip() == "end":
+                block = None
+        elif not is_blank(line):
+            parts.append((number, [line]))
+            words = Words(line)
+            if words.peek() in ("table", "class") and words.peek(1) != "=":
+                block = parts[-1][1]
+    return parts
+
+
+def answers_of(program, parts):
+    """What the program answers to each part."""
+    lines, marks = [], []
+    for _, part in parts:
+        lines += part + [MARK]
+        marks.append(len(lines))
+    ran = subprocess.run(program, input="\n".join(lines).encode(), stdout=subprocess.PIPE, timeout=120)
+    answers, out = ran.stdout.decode().split("\n")[:-1], []
+    for number in marks:
+        mark = "error %d: ScriptError(%d, 1)" % (number, number)
+        if mark not in answers:
+            raise NotAsked("a block without an end, or a run that ended early")
+        place = answers.index(mark)
+        out.append([re.sub(r"^(error|warning) \d+: ", r"\1: ", one) for one in answers[:place]])
+        answers = answers[place + 1 :]
+    return out
+
+
 def shape(answer, form):
     """An answer as it is compared."""
+    if answer.startswith("warning: "):
+        return re.sub(r"@\d+ is not in the session, (.*) skipped", r" \1", answer)
     if form in ("rows", "dump", "show"):
         answer = re.sub(r"\btrue\b", "1", re.sub(r"\bfalse\b", "0", answer))
-    return bare_refusal(re.sub(r"error \d+: ", "", answer))
+    return bare_refusal(answer)
 
 
-def play(program, script):
-    """The first difference: the line's number, the line, what the program answers, and what SQLAlchemy does; or None."""
-    ran = subprocess.run([program], input=script.encode(), stdout=subprocess.PIPE, timeout=60)
-    answers = ran.stdout.decode().split("\n")[:-1]
-    player = Player()
-    lines = script.split("\n")
-    refused = {int(m[1]): m[2] for a in answers if (m := re.match(r"error (\d+): (.*)", a))}
-    if any(is_own(text, "") and lines[n - 1].split()[:1] in (["end"], ["configure"]) for n, text in refused.items()):
-        return None
-    for number, line in enumerate(lines, 1):
-        words = words_of(line.strip())
-        if not words or words[0].startswith("#"):
-            continue
-        refusal = cut(answers, number)
-        if refusal and is_own(refusal, words[0]):
-            answers.pop(0)
-            continue
-        if player.session is None and words != ["configure"]:
-            player.declare(words)
-            continue
-        keyless = player.keyless()
+def shapes(answers, line):
+    """Answers as they are compared: rows of a select in no order, and warnings first, but for a line that is refused."""
+    form = Words(line).peek()
+    out = [shape(one, form) for one in answers]
+    notes = sorted({one for one in out if one.startswith("warning: ")})
+    rest = [one for one in out if not one.startswith("warning: ")]
+    if rest[-1:] and rest[-1].startswith("error: "):
+        return rest
+    if form == "rows":
+        rest = sorted(rest) if not re.search(r"\b(limit|offset)\b", line) else rest[-1:]
+    return notes + rest
+
+
+def warned(caught, player):
+    """The warnings of objects outside the session, as they are compared. Of members that leave only those of pairs count."""
+    out = []
+    for one in caught:
+        found = re.match(r"Object of type <(.*)> not in session, (.*) operation along '(.*)\.(.*)' w", str(one.message))
+        if found and (found[2] == "add" or any(
+                (link.owner, link.name) == found.group(3, 4) and link.secondary for link in player.mapped.links)):
+            out.append("warning: %s %s.%s" % found.group(1, 3, 4))
+    return out
+
+
+def played(player, line):
+    """What SQLAlchemy answers to a line, or none where the store does not take a statement that the line says."""
+    before = player.cells() if player.session else {}
+    with warnings.catch_warnings(record=True) as caught:
+        warnings.simplefilter("always")
         try:
-            got = player.configure() or [] if words == ["configure"] else player.do(words)
-        except NotImplementedError:
-            return None
-        except Refused as fault:
-            got = ["error %d: %s" % (number, fault)]
-        except Exception as fault:
-            got = ["error %d: %s" % (number, refusal_of(fault, player))]
-            player.forget_keys(keyless)
-        want, answers = answers[: len(got)], answers[len(got) :]
-        if refusal and not got:
-            want, answers = answers[:1], answers[1:]
-        ours, theirs = [shape(a, words[0]) for a in want], [shape(a, words[0]) for a in got]
-        if words[0] == "rows" and "order" not in words:
-            ours, theirs = sorted(ours), sorted(theirs)
-        if ours != theirs:
-            pairs = [(a, b) for a, b in zip(ours + [""] * len(theirs), theirs + [""] * len(ours)) if a != b]
-            return number, line, pairs[0][0], pairs[0][1]
+            got = (player.configure() or []) if line.strip() == "configure" else player.do(line)
+        except (NotAsked, Untaken):
+            raise
+        except Exception as fault:  # Whatever it refuses is its answer.
+            got = ["error: " + refusal_of(fault, player)]
+            if player.session:
+                player.give_back(before)
+    return warned(caught, player) + got
+
+
+def first_difference(program, url, script):
+    """The number and text of the first line at which the two part, with both answers; or None."""
+    lines = script.split("\n")
+    parts = parts_of(lines + ending(lines))
+    player = Player(url)
+    try:
+        for (number, part), ours in zip(parts, answers_of(program, parts)):
+            refusal = next((one[7:] for one in ours if one.startswith("error: ")), "")
+            line = part[0]
+            form = Words(line).peek()
+            if refusal and is_own(refusal, form) or form == "compile":
+                continue
+            if refusal.startswith("DataError(") and form in ("rows", "bulk"):
+                line, ours = "flush", []  # The text alone was refused, behind the flush.
+            if player.session is None and len(part) > 1:
+                player.blocks.append(part)
+                continue
+            try:
+                mine, theirs = shapes(ours, line), shapes(played(player, line), line)
+            except Untaken:
+                continue
+            if mine != theirs:
+                pairs = zip(mine + [""] * len(theirs), theirs + [""] * len(mine))
+                return (number, line.strip(), *next(pair for pair in pairs if pair[0] != pair[1]))
+    finally:
+        player.end()
     return None
 
 
 def main():
-    warnings.simplefilter("ignore")
-    program, *paths = sys.argv[1:]
-    kinds = collections.Counter()
-    for path in paths:
-        found = play(program, open(path).read())
-        orm.clear_mappers()
+    words = argparse.ArgumentParser(description=__doc__, formatter_class=argparse.RawDescriptionHelpFormatter)
+    words.add_argument("--url", default="sqlite://")
+    words.add_argument("program")
+    words.add_argument("scripts", nargs="+")
+    asked = words.parse_args()
+    kinds, left_out = collections.Counter(), collections.Counter()
+    for path in asked.scripts:
+        try:
+            with open(path, encoding="utf-8") as script:
+                found = first_difference([asked.program], asked.url, script.read())
+        except (NotAsked, UnicodeDecodeError) as why:
+            left_out[str(why)[:60]] += 1
+            continue
         if found:
             number, line, ours, theirs = found
-            print("%s:%d: %s: program %s, SQLAlchemy %s" % (path, number, line.strip(), ours or "nothing", theirs or "nothing"))
-            form = words_of(line.strip())
-            kinds[(form[2] if form[1:2] == ["="] else form[0], re.sub(r"\d+|'[^']*'", "..", ours), re.sub(r"\d+|'[^']*'", "..", theirs))] += 1
-    print("%d scripts, %d with a difference" % (len(paths), sum(kinds.values())))
-    for (form, ours, theirs), count in kinds.most_common():
-        print("%4d  %s: program %s, SQLAlchemy %s" % (count, form, ours or "nothing", theirs or "nothing"))
+            print("%s:%d: %s: program %s, SQLAlchemy %s" % (path, number, line, ours or "nothing", theirs or "nothing"), flush=True)
+            form = Words(line)
+            about = form.peek(2) if form.peek(1) == "=" else form.peek()
+            kinds[(about, re.sub(r"\d+|'[^']*'", "..", ours), re.sub(r"\d+|'[^']*'", "..", theirs))] += 1
+    count = len(asked.scripts) - sum(left_out.values())
+    print("%d scripts asked, %d left out, %d with a difference" % (count, sum(left_out.values()), sum(kinds.values())))
+    for (form, ours, theirs), times in kinds.most_common():
+        print("%4d  %s: program %s, SQLAlchemy %s" % (times, form, ours or "nothing", theirs or "nothing"))
+    for why, times in left_out.most_common():
+        print("%4d  left out: %s" % (times, why))
 
 
-main()
+if __name__ == "__main__":
+    main()
