@@ -71,7 +71,7 @@ def name_of(word, dialect):
 
 def sql(words, dialect):
     """Words of a select or of a condition in SQL."""
-    out, open_exists = [], []
+    out = []
     for place, word in enumerate(words):
         behind = words[place + 1] if place + 1 < len(words) else ""
         before = words[place - 1] if place else ""
@@ -105,7 +105,7 @@ class Player:
 
     def __init__(self, url):
         self.url, self.blocks = url, []
-        self.names, self.numbers, self.kept, self.told_warnings = {}, {}, [], []
+        self.names, self.numbers, self.kept = {}, {}, []
         self.mapped = self.engine = self.session = self.connection = None
 
     def configure(self):
@@ -488,7 +488,7 @@ def warned(caught, player):
 
 
 def played(player, line):
-    """What SQLAlchemy answers to a line, or none where the store does not take a statement that the line says."""
+    """What SQLAlchemy answers to a line. Untaken where the store does not take the text of a statement that the line says."""
     before = player.cells() if player.session else {}
     with warnings.catch_warnings(record=True) as caught:
         warnings.simplefilter("always")
