@@ -7,11 +7,12 @@ use Rattle.base_core.specs.declared.value.Value.{Value}
 use Rattle.base_core.specs.declared.refusal.Refusal.{Refusal}
 use Rattle.class_types.specs.Rules.{Rules}
 use Rattle.class_mapping.specs.Mapped.{Mapped}
-use Rattle.object_arena.specs.Graph.{either_fault, object_at}
+use Rattle.object_arena.specs.Graph.{either_fault, object_at, value_fault}
 use Rattle.programs.specs.Programs.{Run, ◌>>=◌, quiet}
 use Rattle.session_scopes.specs.Making.{object_made}
 use Rattle.session_scopes.specs.SessionState.{SessionState}
 use Rattle.session_calls.specs.Parts.{World, checked}
+use Rattle.session_calls.specs.Refusals.{kept_fault}
 use Rattle.session_calls.specs.Steps as calls
 use Rattle.session_values.specs.Judging.{discriminator_fault, discriminator_if, first_invalid, invalid_fault, is_discriminator}
 
@@ -49,3 +50,10 @@ set_judged object attr value = calls.enter >>= λ u. set_inside object attr valu
 -- a cell of an object gets a value that its validators take
 unfoldable pub set_valid : Rules → ObjId → AttrNo → Value → World → Run World (Unit {0})
 set_valid rules object attr value = checked (value_invalid rules object attr value) >>= λ u. set_judged object attr value
+
+-- ---- why a cell is not set
+
+-- in the transaction: it is the discriminator's, the value is of another kind, or it is of a kept key
+abbrev pub judged_fault : ObjId → AttrNo → Value → SessionState → Option Refusal
+judged_fault object attr value session =
+    either_fault (cell_kept object attr session) (either_fault (value_fault session.mapping (object_at session.graph object) attr value) (kept_fault object attr session))

@@ -4,11 +4,13 @@ ghost use Rattle.std.specs.Prelude.{◌≡◌, IfErr, IfOk, IfSome, OnErr, OnOk,
 ghost use Rattle.std.specs.List.{All};
 ghost use Rattle.class_types.specs.Shown.{rules_of};
 ghost use Rattle.class_mapping.specs.Mapped.{IsAttribute, IsClass};
-ghost use Rattle.object_arena.specs.Graph.{IsObject, object_at};
+ghost use Rattle.object_arena.specs.Graph.{IsObject, either_fault, object_at};
 ghost use Rattle.base_core.specs.declared.refusal.Refusal.TheVariants.{Memory};
 ghost use Rattle.programs.specs.Alone.{IsOwn, IsQuiet};
 ghost use Rattle.session_scopes.specs.SessionState.{AreThereStill, IsInStep, IsMadeOf};
 ghost use Rattle.session_calls.specs.Calling.{IsSessionCall};
+ghost use Rattle.session_calls.specs.Refusals.{IsRefused, kept_fault, set_fault};
+ghost use Rattle.session_calls.specs.Steps.{pending_fault};
 ghost use Rattle.session_values.specs.Steps as steps;
 
 use crate::judging::{discriminator_if, given_fault, invalid_fault, is_discriminator};
@@ -71,6 +73,10 @@ pub fn set_valid<K: Keeper>(
     ensures call { IsSessionCall K.moment (λ u. u)
         (steps.set_valid (rules_of hooks.now) object attr value)
         (session.old, keeper.old) result (session.new, keeper.new) }
+    ensures refused { IfErr result (λ e. IsRefused
+        (either_fault (steps.value_invalid (rules_of hooks.now) object attr value session.old)
+        (pending_fault session.old))
+        (steps.judged_fault object attr value session.old) session.old e session.new) }
     ensures valid { OnOk result (steps.value_invalid
         (rules_of hooks.now) object attr value session.old ≡ None) }
 {
@@ -113,8 +119,10 @@ fn set_judged<K: Keeper>(
     requires attr { IsAttribute session.old.mapping
         (object_at session.old.graph object).class attr }
     requires in_step { IsInStep session.old (K.moment keeper.old) }
-    ensures { IsSessionCall K.moment (λ u. u) (steps.set_judged object attr value)
+    ensures call { IsSessionCall K.moment (λ u. u) (steps.set_judged object attr value)
         (session.old, keeper.old) result (session.new, keeper.new) }
+    ensures refused { IfErr result (λ e. IsRefused (pending_fault session.old)
+        (steps.judged_fault object attr value session.old) session.old e session.new) }
 {
     enter(session, keeper)?;
     set_inside(session, keeper, object, attr, value)
@@ -132,8 +140,12 @@ fn set_inside<K: Keeper>(
     requires attr { IsAttribute session.old.mapping
         (object_at session.old.graph object).class attr }
     requires in_step { IsInStep session.old (K.moment keeper.old) }
-    ensures { IsSessionCall K.moment (λ u. u) (steps.set_inside object attr value)
+    ensures call { IsSessionCall K.moment (λ u. u) (steps.set_inside object attr value)
         (session.old, keeper.old) result (session.new, keeper.new) }
+    ensures refused { IfErr result (λ e. IsRefused
+        (either_fault (steps.cell_kept object attr session.old)
+        (set_fault object attr value session.old))
+        (kept_fault object attr session.old) session.old e session.new) }
 {
     match cell_kept(session, object, attr) {
         None => set_cell(session, keeper, object, attr, value),
