@@ -1,5 +1,5 @@
--- The reading of a one-to-many collection, put together of its parts.
-use Rattle.std.proofs.Common.{◌≡◌, ℕ, ◌+◌, ◌-◌, ◌<◌, ◌≤◌, true, List, arith, get_or, length-append, map, length, None, Some, Result, Ok, Err, IfErr, IfOk, OnOk, sym, ap, subst, ◌∙◌}
+-- The reading of a collection, put together of its parts.
+use Rattle.std.proofs.Common.{refl, ◌≡◌, ℕ, ◌+◌, ◌-◌, ◌<◌, ◌≤◌, true, List, arith, get_or, length-append, map, length, [], ◌∷◌, Option, None, Some, Result, Ok, Err, IfErr, IfOk, OnOk, sym, ap, subst, ◌∙◌}
 use Rattle.std.proofs.lemmas.Option.{slice_get-get_or}
 use Rattle.std.specs.List.{AllByRecursion}
 use Rattle.std.proofs.lemmas.List.{get_or_append_left, get_or-map, length-map}
@@ -16,7 +16,8 @@ use Rattle.sql_semantics.specs.Plain.{IsPlainSelect}
 use Rattle.sql_semantics.specs.Shapes.{AreGiven, AreOfItems}
 use Rattle.class_types.specs.declared.mapped.Relation.{Relation}
 use Rattle.class_layouts.specs.Columns.{own_table}
-use Rattle.class_mapping.specs.Mapped.{IsClass, Mapped, relations_of, root_of, root_spec, table_or_none}
+use Rattle.class_sides.specs.Keys.{TableKey}
+use Rattle.class_mapping.specs.Mapped.{IsClass, Mapped, relations_of, root_of, root_spec, table_or_none, tables_of}
 use Rattle.class_mapping.specs.Paired.{IsAt, IsBack, is_at_or_under}
 use Rattle.class_mapping.specs.Related.{AreRelated, IsRelated}
 use Rattle.object_arena.specs.declared.object.Object.{Object}
@@ -37,11 +38,11 @@ use Rattle.programs.proofs.Sequence.{then_err, then_ok}
 use Rattle.keeper_core.specs.declared.notes.Note.{Note}
 use Rattle.mapping_laws.specs.Hierarchies.{HasHierarchies}
 use Rattle.mapping_laws.proofs.Ties.{class_tables}
-use Rattle.collection_selects.specs.Collections.{members_by, members_select, owner_columns}
+use Rattle.collection_selects.specs.Collections.{members_by, members_select, owner_columns, pair_columns}
 use Rattle.load_columns.specs.Conditions.{has_values}
-use Rattle.load_laws.proofs.MemberLemmas.{members_are_plain}
+use Rattle.load_laws.proofs.PairLemmas.{members_are_plain, pairs_sources, second}
 use Rattle.key_laws.proofs.KeyKinds.{keys_alike}
-use Rattle.row_laws.proofs.RowKeys.{are_rows}
+use Rattle.row_laws.proofs.RowKeys.{ReadsClass, are_read, reads_rows}
 use Rattle.load_rows.specs.Loading.{Loading, loading}
 use Rattle.load_rows.specs.Reading.{IsRowOf, identity_key}
 use Rattle.load_calls.specs.Reading.{read}
@@ -87,8 +88,8 @@ select_is mapped graph owner relation key (Err e) named made = tt
 -- it is plain
 pub members_plain : (mapped : Mapped) (graph : Graph) (owner : ObjId) (place : RelNo) (relation : Relation) (key : List Value) (own : Object) (r : Result Select Refusal) → HasHierarchies mapped → AreRelated mapped → ObjectFits mapped own
     → own ≡ object_at graph owner → (object_at graph owner).state ≡ Persistent → is_identified own ≡ true → key ≡ identity_key graph owner → place.0 < length (relations_of mapped (object_at graph owner).class)
-    → relation ≡ relation_of mapped (object_at graph owner).class place → relation.many ≡ true → relation.far ≡ None → IfOk r (λ s. s ≡ members_select mapped relation key) → IfOk r (IsPlainSelect mapped.schema)
-members_plain mapped graph owner place relation key own (Ok s) has related fits is persistent identity named within which many far made =
+    → relation ≡ relation_of mapped (object_at graph owner).class place → relation.many ≡ true → IfOk r (λ s. s ≡ members_select mapped relation key) → IfOk r (IsPlainSelect mapped.schema)
+members_plain mapped graph owner place relation key own (Ok s) has related fits is persistent identity named within which many made =
     let class : ClassId = (object_at graph owner).class in
     let less : IsClass mapped class = subst (λ (o : Object). IsClass mapped o.class) is fits.class in
     let own_fits : key_fits mapped class key ≡ true =
@@ -96,26 +97,34 @@ members_plain mapped graph owner place relation key own (Ok s) has related fits 
     let there : IsRelated mapped (relation_of mapped class place) = related_at mapped class place related less within in
     let keyed : is_key (root_spec mapped relation.class) key ≡ true =
     ap (λ (one : Relation). is_key (root_spec mapped one.class) key) which ∙ owner_key mapped class place key has less within there own_fits in
-    subst (IsPlainSelect mapped.schema) (sym made) (members_are_plain mapped relation key has (subst (IsRelated mapped) (sym which) there) many far keyed)
-members_plain mapped graph owner place relation key own (Err e) has related fits is persistent identity named within which many far made = tt
+    subst (IsPlainSelect mapped.schema) (sym made) (members_are_plain mapped relation key has (subst (IsRelated mapped) (sym which) there) many keyed)
+members_plain mapped graph owner place relation key own (Err e) has related fits is persistent identity named within which many made = tt
 
--- its target is declared
-pub target_declared : (mapped : Mapped) (graph : Graph) (owner : ObjId) (place : RelNo) (relation : Relation) (own : Object) → AreRelated mapped → ObjectFits mapped own → own ≡ object_at graph owner
-    → place.0 < length (relations_of mapped (object_at graph owner).class) → relation ≡ relation_of mapped (object_at graph owner).class place → IsClass mapped relation.target
-target_declared mapped graph owner place relation own related fits is within which =
+-- it is related
+pub owned_related : (mapped : Mapped) (graph : Graph) (owner : ObjId) (place : RelNo) (relation : Relation) (own : Object) → AreRelated mapped → ObjectFits mapped own → own ≡ object_at graph owner
+    → place.0 < length (relations_of mapped (object_at graph owner).class) → relation ≡ relation_of mapped (object_at graph owner).class place → IsRelated mapped relation
+owned_related mapped graph owner place relation own related fits is within which =
     let class : ClassId = (object_at graph owner).class in
     let less : IsClass mapped class = subst (λ (o : Object). IsClass mapped o.class) is fits.class in
-    subst (λ (one : Relation). IsClass mapped one.target) (sym which) (related_at mapped class place related less within).target
+    subst (IsRelated mapped) (sym which) (related_at mapped class place related less within)
 
 -- what is answered to it are rows of the target
-pub members_rows : (mapped : Mapped) (relation : Relation) (key : List Value) (select : Select) (r : Result Rows Refusal) → HasHierarchies mapped → IsClass mapped relation.target → relation.far ≡ None → select ≡ members_select mapped relation key
+reads_members : (mapped : Mapped) (relation : Relation) (key : List Value) (end : Option TableKey) → HasHierarchies mapped → IsRelated mapped relation → relation.far ≡ end → ReadsClass mapped relation.target (members_by mapped relation key end)
+reads_members mapped relation key None has related is = reads_rows mapped relation.target (has_values (owner_columns mapped relation) key) has related.target
+reads_members mapped relation key (Some far) has related is = record {
+  more = second mapped relation far has related is ∷ [];
+  items = refl;
+  sources = pairs_sources mapped relation far has related is (has_values (pair_columns mapped relation (length (tables_of mapped relation.target))) key);
+}
+
+pub members_rows : (mapped : Mapped) (relation : Relation) (key : List Value) (select : Select) (r : Result Rows Refusal) → HasHierarchies mapped → IsRelated mapped relation → select ≡ members_select mapped relation key
     → IfOk r (λ rows. AreOfItems mapped.schema select rows) → IfOk r (λ rows. AreGiven mapped.schema select rows) → IfOk r (AllByRecursion (IsRowOf mapped relation.target))
 unfolding members_select
-members_rows mapped relation key select (Ok rows) has less far is kinds given =
-    let referring : select ≡ members_by mapped relation key None = is ∙ ap (members_by mapped relation key) far in
-    are_rows mapped relation.target (has_values (owner_columns mapped relation) key) rows has less
-    (subst (λ (s : Select). AreOfItems mapped.schema s rows) referring kinds) (subst (λ (s : Select). AreGiven mapped.schema s rows) referring given)
-members_rows mapped relation key select (Err e) has less far is kinds given = tt
+members_rows mapped relation key select (Ok rows) has related is kinds given =
+    let made : Select = members_by mapped relation key relation.far in
+    are_read mapped relation.target made rows has related.target (reads_members mapped relation key relation.far has related refl)
+    (subst (λ (s : Select). AreOfItems mapped.schema s rows) is kinds) (subst (λ (s : Select). AreGiven mapped.schema s rows) is given)
+members_rows mapped relation key select (Err e) has related is kinds given = tt
 
 -- ---- the programs
 
@@ -180,10 +189,10 @@ pub members_refused : {K : Type 0} (moment : K → Moment Store) (mapped : Mappe
 members_refused moment mapped relation which owner place {own = own} {now = now} {old = old} {new = new} e same p =
     subst (λ (one : Relation). Runs (moment_beside moment) (λ (u : Unit {0}). u) (load_collection mapped one owner place) (own, old) (Err e) (now, new)) same (select_refused moment mapped relation owner place p)
 
-pub target_told : {A : Type 0} (mapped : Mapped) (graph : Graph) (owner : ObjId) (place : RelNo) (relation : Relation) (own : Object) (r : Result A Refusal) → AreRelated mapped → ObjectFits mapped own → own ≡ object_at graph owner
-    → place.0 < length (relations_of mapped (object_at graph owner).class) → relation ≡ relation_of mapped (object_at graph owner).class place → IfOk r (λ _. IsClass mapped relation.target)
-target_told mapped graph owner place relation own (Ok x) related fits is within which = target_declared mapped graph owner place relation own related fits is within which
-target_told mapped graph owner place relation own (Err e) related fits is within which = tt
+pub related_told : {A : Type 0} (mapped : Mapped) (graph : Graph) (owner : ObjId) (place : RelNo) (relation : Relation) (own : Object) (r : Result A Refusal) → AreRelated mapped → ObjectFits mapped own → own ≡ object_at graph owner
+    → place.0 < length (relations_of mapped (object_at graph owner).class) → relation ≡ relation_of mapped (object_at graph owner).class place → IfOk r (λ _. IsRelated mapped relation)
+related_told mapped graph owner place relation own (Ok x) related fits is within which = owned_related mapped graph owner place relation own related fits is within which
+related_told mapped graph owner place relation own (Err e) related fits is within which = tt
 
 pub has_told : {A : Type 0} (mapped : Mapped) (r : Result A Refusal) → HasHierarchies mapped → IfOk r (λ _. HasHierarchies mapped)
 has_told mapped (Ok x) has = has

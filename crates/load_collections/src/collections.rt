@@ -1,9 +1,10 @@
-//! The reading of a one-to-many collection.
+//! The reading of a collection.
 
-ghost use Rattle.std.specs.Prelude.{◌≡◌, ◌<◌, None, true, length, IfErr, IfOk};
+ghost use Rattle.std.specs.Prelude.{◌≡◌, ◌<◌, true, length, IfErr, IfOk};
 ghost use Rattle.std.specs.List.{AllByRecursion};
 ghost use Rattle.base_core.specs.declared.refusal.Refusal.TheVariants.{Memory};
 ghost use Rattle.class_mapping.specs.Mapped.{IsClass, relations_of};
+ghost use Rattle.class_mapping.specs.Related.{IsRelated};
 ghost use Rattle.object_arena.specs.declared.object.State.TheVariants.{Persistent};
 ghost use Rattle.object_arena.specs.Fit.{IsFit, relation_of};
 ghost use Rattle.object_arena.specs.Graph.{IsObject, object_at};
@@ -47,11 +48,10 @@ fn select_of_members(
     requires relation { relation.now
         ≡ relation_of mapping.now (object_at arena.now owner).class place }
     requires many { relation.now.many ≡ true }
-    requires far { relation.now.far ≡ None }
     ensures select { IfOk result (λ s. s ≡ members_select mapping.now relation.now
         (identity_key arena.now owner)) }
     ensures plain { IfOk result (IsPlainSelect mapping.now.schema) }
-    ensures target { IfOk result (λ _. IsClass mapping.now relation.now.target) }
+    ensures related { IfOk result (λ _. IsRelated mapping.now relation.now) }
     ensures hierarchies { IfOk result (λ _. HasHierarchies mapping.now) }
     ensures cause { IfErr result (λ e. e ≡ Memory) }
 {
@@ -80,7 +80,6 @@ fn read_members<K: Keeper>(
     requires relation { relation.now
         ≡ relation_of mapping.now (object_at arena.now owner).class place }
     requires many { relation.now.many ≡ true }
-    requires far { relation.now.far ≡ None }
     requires ready { IsReady mapping.now.schema (K.moment keeper.old) }
     ensures step { Runs (moment_beside K.moment) (λ rows. rows)
         (spec.read_members mapping.now relation.now owner)
@@ -94,13 +93,13 @@ fn read_members<K: Keeper>(
     read(alloc, mapping, keeper, &wanted, notes)
 }
 
-/// Reads the collection of a persistent object at the place of a one-to-many relationship, by one select; where it is unloaded, it
-/// holds the members in the order of their keys then, with the changes that were kept for it, and the object is noted. Each
-/// member is noted of which a cell was filled.
+/// Reads the collection of a persistent object at the place of a relationship, with or without a secondary table, by one select;
+/// where it is unloaded, it holds the members in the order of their keys then, with the changes that were kept for it, and the
+/// object is noted. Each member is noted of which a cell was filled.
 ///
 /// # Errors
-/// `OperationalError` where a table of the target was not created, `KeeperFault`, `InvalidRequestError(NoSuchIdentity)`,
-/// `LimitReached(Objects)`, `Memory`. The members of the rows before the refusal stay, and the collection is as it was.
+/// `OperationalError` where a table of the target or the secondary one was not created, `KeeperFault`,
+/// `InvalidRequestError(NoSuchIdentity)`, `LimitReached(Objects)`, `Memory`. The members of the rows before the refusal stay, and the collection is as it was.
 #[tactic(auto, unfolding(crate::specs::Collections::load_collection))]
 pub fn load_collection<K: Keeper>(
     alloc: Global,
@@ -117,7 +116,6 @@ pub fn load_collection<K: Keeper>(
     requires persistent { (object_at arena.old owner).state ≡ Persistent }
     requires place { place.0 < length (relations_of mapping.now (object_at arena.old owner).class) }
     requires many { (relation_of mapping.now (object_at arena.old owner).class place).many ≡ true }
-    requires far { (relation_of mapping.now (object_at arena.old owner).class place).far ≡ None }
     requires ready { IsReady mapping.now.schema (K.moment keeper.old) }
     ensures step { Runs (moment_beside K.moment) (λ u. u) (spec.load_collection mapping.now
         (relation_of mapping.now (object_at arena.old owner).class place) owner place)

@@ -1,53 +1,37 @@
 -- The selects of a class's rows, from its root's table on, are plain.
-use Rattle.std.proofs.Common.{◌≡◌, inl, inr, ℕ, zero, suc, ◌+◌, ◌-◌, ◌<◌, ◌≤◌, Bool, true, false, not, ◌&&◌, ◌==◌, nat_lt, List, [], ◌∷◌, ◌++◌, map, filter, length, get_or, Option, Some, is_some, refl, sym, ap, subst, ◌∙◌, if◌then◌else◌, arith, zero-add, append_assoc, length-append}
-use Rattle.std.specs.Prelude.{slice_get, unwrap_or}
-use Rattle.std.specs.Option.{option_and_then}
-use Rattle.std.specs.List.{All, AllByRecursion, enumerate_from, flat_map, list_all, position}
-use Rattle.std.proofs.lemmas.Bool.{eq-eqb, eqb-true, lt-ltb, ltb-true}
+use Rattle.std.proofs.Common.{◌≡◌, ℕ, zero, suc, ◌+◌, ◌-◌, ◌<◌, ◌≤◌, Bool, true, false, ◌&&◌, nat_lt, List, [], ◌∷◌, ◌++◌, map, length, get_or, Option, Some, refl, sym, ap, subst, ◌∙◌, if◌then◌else◌, arith, zero-add, append_assoc, length-append}
+use Rattle.std.specs.Prelude.{slice_get}
+use Rattle.std.specs.List.{All, AllByRecursion, enumerate_from, flat_map, list_all}
+use Rattle.std.proofs.lemmas.Bool.{lt-ltb, ltb-true}
 use Rattle.std.proofs.lemmas.List.Elements.{recursion_from_All}
 use Rattle.std.proofs.lemmas.Option.{slice_get-get_or}
 use Rattle.base_core.proofs.Lists.{every_append, get_after, get_before, get_last}
 use Rattle.base_core.specs.declared.ids.AttrNo.{AttrNo}
 use Rattle.base_core.specs.declared.ids.ClassId.{ClassId}
-use Rattle.base_core.specs.declared.ids.ColumnNo.{ColumnNo}
 use Rattle.base_core.specs.declared.ids.TableId.{TableId}
-use Rattle.base_core.specs.declared.value.Kind.{Kind}
 use Rattle.base_core.specs.declared.value.Value.{Value}
-use Rattle.base_core.specs.declared.value.Value.TheVariants as value
-use Rattle.schema_core.specs.declared.table.ColumnSpec.{ColumnSpec}
-use Rattle.schema_core.specs.Catalog.{Catalog, IsTable, key_columns, kind_of, spec_of}
-use Rattle.schema_core.specs.Tables.{kind_of_value}
+use Rattle.schema_core.specs.Catalog.{Catalog, IsTable, key_columns, spec_of}
 use Rattle.schema_core.specs.WellFormed.{is_key}
 use Rattle.expr_types.specs.declared.expr.Expr.{Expr}
 use Rattle.expr_types.specs.declared.expr.Origin.{Origin}
 use Rattle.expr_types.specs.declared.select.Joined.{Joined}
 use Rattle.expr_types.specs.declared.select.Select.{Select}
 use Rattle.sql_semantics.specs.Plain.{IsPlainSelect, are_distinct, is_declared, name_of, sources_of}
-use Rattle.class_types.specs.declared.mapped.Attribute.{Attribute}
-use Rattle.class_layouts.specs.Columns.{attribute_at, columns_in, is_attribute, table_attributes}
-use Rattle.class_layouts.specs.Faults.{has_kind}
-use Rattle.class_layouts.specs.Hierarchy.{line_of}
-use Rattle.class_mapping.specs.Mapped.{IsAttribute, IsClass, Mapped, attribute_of, attributes_of, class_spec, no_attribute, no_table_id, root_spec, root_table, table_or_none, tables_of}
-use Rattle.class_mapping.specs.Paired.{is_at_or_under}
-use Rattle.class_mapping.proofs.Having.{Has, all_from, any_has, found_of, from_filter, from_flat, from_map, from_numbered, has_at}
-use Rattle.class_mapping.proofs.LineLemmas.{line_within}
-use Rattle.class_mapping.proofs.Lists.{and_right}
-use Rattle.class_mapping.proofs.RelatedLemmas.{has_class_from, own_line}
+use Rattle.class_mapping.specs.Mapped.{IsAttribute, IsClass, Mapped, attribute_of, attributes_of, no_attribute, no_table_id, root_spec, root_table, table_or_none, tables_of}
+use Rattle.class_mapping.proofs.Having.{has_at}
 use Rattle.load_columns.specs.declared.placing.SourceColumn.{SourceColumn}
-use Rattle.load_columns.specs.Placing.{attribute_column, attribute_columns, columns_at, from_root, key_at_rank, key_numbers, place_at_rank, place_of_table, rank_of, root_key, table_at_rank}
-use Rattle.load_columns.specs.Conditions.{column_of, equal_columns, has_one_of, has_values}
+use Rattle.load_columns.specs.Placing.{attribute_columns, columns_at, from_root, key_at_rank, key_numbers, place_at_rank, root_key, table_at_rank}
+use Rattle.load_columns.specs.Conditions.{equal_columns, has_one_of, has_values}
 use Rattle.load_selects.specs.declared.sources.Further.{Further}
-use Rattle.load_selects.specs.Branches.{branch, class_ids, discriminator_of, identities, is_of_branch, discriminator_column, is_under, names_branch}
+use Rattle.load_selects.specs.Branches.{is_of_branch}
 use Rattle.load_selects.specs.Sources.{keyed_source, other_tables, rank_tied, ranked_source}
 use Rattle.load_selects.specs.Selects.{cell_column, cells_select, class_rows, class_select, inner_joined, key_select, origin_of, targets_select}
-use Rattle.mapping_laws.specs.Hierarchies.{HasHierarchies, HasTables, TellsApart, kinds_of, name_in}
-use Rattle.mapping_laws.proofs.Attributes.{numbered_there}
-use Rattle.mapping_laws.proofs.Tables.{from_filter_map, not_zero, tables_declared}
+use Rattle.mapping_laws.specs.Hierarchies.{HasHierarchies, HasTables, kinds_of, name_in}
+use Rattle.mapping_laws.proofs.Tables.{not_zero, tables_declared}
 use Rattle.mapping_laws.proofs.Ties.{class_tables, table_faultless}
-use Rattle.mapping_laws.proofs.Told.{place_of_found, tells_apart}
-use Rattle.load_laws.proofs.Keys.{IsAt, column_there, key_fits, key_typed, keys_some}
+use Rattle.load_laws.proofs.Keys.{IsAt, key_fits, key_typed, keys_some}
+use Rattle.load_laws.proofs.Placed.{StandsAt, at_more, attribute_there, attributes_there, branch_parts}
 use Rattle.load_laws.proofs.Plain.{AreTied, IsColumn, IsPart, select_is_plain}
-use Rattle.load_laws.proofs.Standing.{IsThere, column_stands, in_stands, in_whole, is_of}
 use Rattle.load_laws.proofs.Typed.{AreTyped, equal_some, equal_stand, fit_kinds, one_of_stands, values_stand}
 
 -- ---- places
@@ -87,7 +71,7 @@ keys_equal mapped sources p q one other at far alike =
 
 -- ---- the tables of a class as sources
 
-tables_back : (tables : List TableId) → map (λ (origin : Origin). origin.table) (sources_by tables) ≡ tables
+pub tables_back : (tables : List TableId) → map (λ (origin : Origin). origin.table) (sources_by tables) ≡ tables
 tables_back [] = refl
 tables_back (table ∷ tables) = ap (λ (more : List TableId). table ∷ more) (tables_back tables)
 
@@ -98,32 +82,16 @@ sources_more : (before : List TableId) (table : TableId) → sources_by (before 
 sources_more [] table = refl
 sources_more (one ∷ before) table = ap (λ (more : List Origin). origin_of one ∷ more) (sources_more before table)
 
-names_back : (mapped : Mapped) (tables : List TableId) → map (name_of mapped.schema) (sources_by tables) ≡ map (name_in mapped) tables
+pub names_back : (mapped : Mapped) (tables : List TableId) → map (name_of mapped.schema) (sources_by tables) ≡ map (name_in mapped) tables
 names_back mapped [] = refl
 names_back mapped (table ∷ tables) = ap (λ (names : List (List ℕ)). name_in mapped table ∷ names) (names_back mapped tables)
 
-declared_by : (schema : Catalog) (tables : List TableId) → AllByRecursion (IsTable schema) tables → list_all (is_declared schema) (sources_by tables) ≡ true
+pub declared_by : (schema : Catalog) (tables : List TableId) → AllByRecursion (IsTable schema) tables → list_all (is_declared schema) (sources_by tables) ≡ true
 declared_by schema [] h = refl
 declared_by schema (table ∷ tables) h = ap (λ (b : Bool). b && list_all (is_declared schema) (sources_by tables)) (lt-ltb table.0 (length schema.tables) h.0) ∙ declared_by schema tables h.1
 
--- a table that is there stands at its rank
-pub rank_finds : (own : List TableId) (table : TableId) → Has own table → slice_get own (unwrap_or (position (λ other. other.0 == table.0) own) 0) ≡ Some table
-rank_finds own table has =
-    let test : TableId → Bool = λ other. other.0 == table.0 in
-    let found = found_of test own (any_has test own table has (eq-eqb table.0 table.0 refl)) in
-    let same : found.0 ≡ table = ap (λ (n : ℕ). let one : TableId = record { 0 = n } in one) (eqb-true found.0.0 table.0 found.3) in
-    place_of_found test own found.0 found.1 ∙ ap (λ (one : TableId). Some one) same
-
 abbrev IsRootKey : Mapped → ClassId → List Value → Type 0
 IsRootKey mapped class key = is_key (root_spec mapped class) key ≡ true
-
--- a value that the discriminator takes is given, and of its kind
-value_fits : (v : Value) (kind : Kind) → has_kind (option_and_then kind_of_value (Some v)) kind ≡ true → is_of kind v ≡ true
-value_fits value.Null kind h = absurd cc
-value_fits (value.Bool b) kind h = h
-value_fits (value.Int n) kind h = h
-value_fits (value.Text s) kind h = h
-value_fits (value.Bytes s) kind h = h
 
 module _ (mapped : Mapped) (class : ClassId) (has : HasHierarchies mapped) (less : IsClass mapped class) (known : HasTables mapped class) where
   abbrev own : List TableId
@@ -205,7 +173,7 @@ module _ (mapped : Mapped) (class : ClassId) (has : HasHierarchies mapped) (less
   abbrev root : TableId
   root = root_table mapped class
 
-  all_tied : AreTied mapped.schema (origin_of root ∷ []) (other_tables mapped class (from_root 0))
+  pub all_tied : AreTied mapped.schema (origin_of root ∷ []) (other_tables mapped class (from_root 0))
   all_tied = subst (AreTied mapped.schema (origin_of root ∷ [])) (sym others_are) (tied_from known.rest (root ∷ []) 1 0 refl refl known.first)
 
   abbrev made : List SourceColumn → List Expr → Select
@@ -233,40 +201,20 @@ module _ (mapped : Mapped) (class : ClassId) (has : HasHierarchies mapped) (less
 
   -- ---- its attributes
 
-  -- the column of an attribute is there, and of the attribute's kind
-  pub attribute_typed : (attribute : Attribute) → Has (attributes_of mapped class) attribute
-      → IsThere mapped.schema sources (place_of_table mapped class (from_root 0) attribute.table) attribute.column attribute.kind
-  attribute_typed attribute there =
-      let line : List ClassId = line_of mapped.classes class.0 in
-      let found = from_flat (table_attributes mapped.schema.tables mapped.classes line) (enumerate_from 0 own) attribute there in
-      let ranked = found.0 in
-      let table : TableId = ranked.1 in
-      let numbered = from_numbered 0 own ranked found.1 in
-      let columns : List ColumnSpec = columns_in mapped.schema.tables table in
-      let shown = from_map (attribute_at table) (filter (λ placed. is_attribute mapped.schema.tables mapped.classes line ranked.0 table placed.1) (enumerate_from 0 columns)) attribute found.2 in
-      let placed : ℕ × ColumnSpec = shown.0 in
-      let kept = from_filter (λ (one : ℕ × ColumnSpec). is_attribute mapped.schema.tables mapped.classes line ranked.0 table one.1) (enumerate_from 0 columns) placed shown.1 in
-      let column : ColumnNo = record { 0 = placed.0 } in
-      let stands : slice_get own (place_of_table mapped class (from_root 0) table) ≡ Some table =
-      ap (slice_get own) (rank_is (rank_of mapped class table)) ∙ rank_finds own table (has_at own numbered.0 table numbered.2) in
-      subst (λ (one : Attribute). IsThere mapped.schema sources (place_of_table mapped class (from_root 0) one.table) one.column one.kind) shown.2
-      (column_there mapped.schema sources (place_of_table mapped class (from_root 0) table) table column placed.1 (at_sources own (place_of_table mapped class (from_root 0) table) table stands)
-      (numbered_there columns placed kept.0))
+  -- the tables stand from the root's on, also with further sources behind
+  pub placed_before : (more : List Origin) → StandsAt mapped class (from_root 0) (sources ++ more)
+  placed_before more rank table e =
+      ap (λ (n : ℕ). slice_get (map (λ (origin : Origin). origin.table) (sources ++ more)) n) (rank_is rank) ∙ at_more sources more rank table (at_sources own rank table e)
 
-  attribute_there : (attribute : Attribute) → Has (attributes_of mapped class) attribute → IsColumn mapped.schema sources (attribute_column mapped class (from_root 0) attribute)
-  attribute_there attribute there = (attribute.kind, attribute_typed attribute there)
-
-  attributes_there : AllByRecursion (IsColumn mapped.schema sources) (attribute_columns mapped class (from_root 0))
-  attributes_there =
-      all_from (IsColumn mapped.schema sources) (attribute_columns mapped class (from_root 0)) (λ column there.
-      let found = from_map (attribute_column mapped class (from_root 0)) (attributes_of mapped class) column there in
-      subst (IsColumn mapped.schema sources) found.2 (attribute_there found.0 found.1))
+  pub root_placed : StandsAt mapped class (from_root 0) sources
+  root_placed rank table e = ap (λ (n : ℕ). slice_get (map (λ (origin : Origin). origin.table) sources) n) (rank_is rank) ∙ at_sources own rank table e
 
   cells_there : (attrs : List AttrNo) → AllByRecursion (IsAttribute mapped class) attrs → AllByRecursion (IsColumn mapped.schema sources) (map (cell_column mapped class) attrs)
   unfolding cell_column
   cells_there [] h = tt
   cells_there (attr ∷ attrs) h = (
-    attribute_there (attribute_of mapped class attr) (has_at (attributes_of mapped class) attr.0 (attribute_of mapped class attr) (slice_get-get_or (attributes_of mapped class) attr.0 no_attribute h.0)),
+    attribute_there mapped class has less known (from_root 0) sources root_placed (attribute_of mapped class attr)
+        (has_at (attributes_of mapped class) attr.0 (attribute_of mapped class attr) (slice_get-get_or (attributes_of mapped class) attr.0 no_attribute h.0)),
     cells_there attrs h.1,
   )
 
@@ -294,47 +242,11 @@ module _ (mapped : Mapped) (class : ClassId) (has : HasHierarchies mapped) (less
       let keyed = (table_faultless mapped root has (tables_declared mapped class root first)).keyed in
       one_of_stands mapped.schema sources root_columns (kinds_of (key_columns (root_spec mapped class))) keys (keys_some mapped sources 0 root root_at keyed) some root_typed (all_fit keys h)
 
-  pub branch_under : (other : ClassId) → Has (branch mapped class) other → is_at_or_under mapped other class ≡ true
-  branch_under other (inl e) = ap (λ (one : ClassId). is_at_or_under mapped one class) (sym e) ∙ has_class_from (line_of mapped.classes class.0) class class.0 (own_line mapped has.lined has.lines class less) refl
-  branch_under other (inr h) = and_right (not (other.0 == class.0)) (is_at_or_under mapped other class) (from_filter (is_under mapped class) (class_ids mapped) other h).1
-
-  identities_fit : (name : List ℕ) (tells : TellsApart mapped class name) → AllByRecursion (λ v. is_of (kind_of tells.column.kind) v ≡ true) (identities mapped class)
-  identities_fit name tells =
-      all_from (λ (v : Value). is_of (kind_of tells.column.kind) v ≡ true) (identities mapped class) (λ v there.
-      let found = from_filter_map (λ (other : ClassId). (class_spec mapped other).identity) (branch mapped class) v there in
-      let under = branch_under found.0 found.1 in
-      let within : found.0.0 < length mapped.classes.lines = line_within mapped.classes.lines found.0.0 class.0 (slice_get mapped.classes.lines found.0.0) refl under in
-      let declared : IsClass mapped found.0 = subst (λ (n : ℕ). found.0.0 < n) has.lined within in
-      value_fits v (kind_of tells.column.kind) (ap (λ (identity : Option Value). has_kind (option_and_then kind_of_value identity) (kind_of tells.column.kind)) (sym found.2) ∙ tells.takes found.0 declared under))
-
-  names_part : (name : List ℕ) → TellsApart mapped class name → AllByRecursion (IsPart mapped.schema sources) (names_branch mapped class (from_root 0) (Some name))
-  names_part name tells =
-      let column : SourceColumn = discriminator_column mapped class (from_root 0) name in
-      let kind : Kind = kind_of tells.column.kind in (
-        record {
-          stands =
-              in_stands mapped.schema sources kind (column_of column) (identities mapped class)
-              (column_stands mapped.schema sources 0 column.column kind (column_there mapped.schema sources 0 root column.column tells.column root_at tells.there)) (identities_fit name tells);
-          whole = in_whole (column_of column) (identities mapped class);
-        },
-        tt,
-      )
-
-  branch_by : (b : Bool) → is_some (class_spec mapped class).table ≡ b
-      → AllByRecursion (IsPart mapped.schema sources) (if b then [] else names_branch mapped class (from_root 0) (discriminator_of mapped class))
-  branch_by true e = tt
-  branch_by false e =
-      let tells = tells_apart mapped class has less e in
-      subst (λ (name : Option (List ℕ)). AllByRecursion (IsPart mapped.schema sources) (names_branch mapped class (from_root 0) name)) (sym tells.1.is) (names_part tells.0 tells.1)
-
-  branch_parts : AllByRecursion (IsPart mapped.schema sources) (is_of_branch mapped class (from_root 0))
-  branch_parts = branch_by (is_some (class_spec mapped class).table) refl
-
   -- the rows of a class for which conditions hold
   pub rows_plain : (conditions : List Expr) → AllByRecursion (IsPart mapped.schema sources) conditions → IsPlainSelect mapped.schema (class_rows mapped class conditions)
   rows_plain conditions stand =
-      class_plain (attribute_columns mapped class (from_root 0)) (conditions ++ is_of_branch mapped class (from_root 0)) attributes_there
-      (every_append (IsPart mapped.schema sources) conditions (is_of_branch mapped class (from_root 0)) stand branch_parts)
+      class_plain (attribute_columns mapped class (from_root 0)) (conditions ++ is_of_branch mapped class (from_root 0)) (attributes_there mapped class has less known (from_root 0) sources root_placed)
+      (every_append (IsPart mapped.schema sources) conditions (is_of_branch mapped class (from_root 0)) stand (branch_parts mapped class has less known (from_root 0) sources root_placed))
 
 pub key_is_plain : (mapped : Mapped) (class : ClassId) (key : List Value) → HasHierarchies mapped → IsClass mapped class → is_key (root_spec mapped class) key ≡ true → IsPlainSelect mapped.schema (key_select mapped class key)
 unfolding key_select

@@ -1,5 +1,5 @@
 -- The columns of a table among the sources of a select, those of its key, and the values that these take.
-use Rattle.std.proofs.Common.{◌≡◌, ℕ, ◌+◌, ◌<◌, Bool, true, false, not, ◌&&◌, ◌||◌, cond, List, [], ◌∷◌, map, filter, length, Option, Some, refl, sym, ap, subst, arith, ◌∙◌}
+use Rattle.std.proofs.Common.{◌≡◌, ℕ, ◌<◌, Bool, true, false, not, ◌&&◌, ◌||◌, List, [], ◌∷◌, map, filter, length, Option, Some, refl, sym, ap, subst, arith, ◌∙◌}
 use Rattle.std.specs.Prelude.{slice_get}
 use Rattle.std.specs.List.{AllByRecursion, enumerate_from, list_any}
 use Rattle.std.specs.Option.{option_and_then}
@@ -18,7 +18,7 @@ use Rattle.schema_core.specs.Tables.{fits}
 use Rattle.schema_core.specs.WellFormed.{is_key}
 use Rattle.expr_types.specs.declared.expr.Origin.{Origin}
 use Rattle.class_mapping.specs.Mapped.{Mapped}
-use Rattle.class_mapping.proofs.Having.{Has, all_from, from_filter, from_numbered, has_filter, some_of}
+use Rattle.class_mapping.proofs.Having.{Has, all_from, from_filter, has_filter, some_of}
 use Rattle.load_columns.specs.Placing.{columns_at, key_numbers, number_at}
 use Rattle.mapping_laws.specs.Hierarchies.{kinds_of}
 use Rattle.mapping_laws.proofs.Attributes.{numbered_there}

@@ -25,21 +25,23 @@ use Rattle.class_layouts.specs.Columns.{is_table}
 use Rattle.class_layouts.specs.Faults.{foreigns_of}
 use Rattle.class_sides.specs.Keys.{TableKey, columns_at as names_in, foreign_at, names_of, refers_to}
 use Rattle.class_sides.specs.Sides.{has_attribute}
-use Rattle.class_mapping.specs.Mapped.{IsClass, Mapped, layout_of, root_spec, root_table, tables_of}
+use Rattle.class_mapping.specs.Mapped.{IsClass, Mapped, layout_of, root_spec, root_table, table_or_none, tables_of}
 use Rattle.class_mapping.specs.Related.{IsRelated, has_keys}
 use Rattle.class_mapping.specs.Valid.{is_among, joins, refers_by}
 use Rattle.class_mapping.proofs.Having.{Has, all_of, any_has, found_of, has_at, one_of_name, some_of}
 use Rattle.class_mapping.proofs.PlainLemmas.{two_named}
+use Rattle.class_mapping.proofs.RelatedKeys.{table_found}
 use Rattle.load_columns.specs.declared.placing.SourceColumn.{SourceColumn}
 use Rattle.load_columns.specs.Conditions.{has_one_of, has_values}
-use Rattle.load_columns.specs.Placing.{column_named, columns_at, from_root, place_of_table, rank_of}
-use Rattle.collection_selects.specs.Collections.{batch_by, batch_select, members_by, members_select, owner_columns}
+use Rattle.load_columns.specs.Placing.{column_named, columns_at, foreign_numbers, from_root, place_of_table, rank_of, referred_table, target_in}
+use Rattle.collection_selects.specs.Collections.{batch_by, batch_select, owner_columns, referring_members}
 use Rattle.mapping_laws.specs.Hierarchies.{HasHierarchies, HasTables, kinds_of}
 use Rattle.mapping_laws.proofs.Tables.{tables_declared}
 use Rattle.mapping_laws.proofs.Ties.{class_tables, table_faultless, target_by}
 use Rattle.mapping_laws.proofs.Told.{place_of_found}
-use Rattle.load_laws.proofs.ClassLemmas.{at_sources, rank_finds, rank_is, rows_plain, sources_by}
+use Rattle.load_laws.proofs.ClassLemmas.{root_placed, rows_plain, sources_by}
 use Rattle.load_laws.proofs.Keys.{IsAt, column_there, key_fits, key_some}
+use Rattle.load_laws.proofs.Placed.{rank_finds}
 use Rattle.load_laws.proofs.Standing.{IsThere}
 use Rattle.load_laws.proofs.Typed.{AreTyped, fit_kinds, one_of_stands, typed_long, values_stand}
 
@@ -123,33 +125,56 @@ among_has tables table h =
     let same : found.0 ≡ table = ap (λ (n : ℕ). let one : TableId = record { 0 = n } in one) (eqb-true found.0.0 table.0 found.2) in
     subst (Has tables) same found.1
 
+-- the table of a foreign key is declared
+within_by : (tables : List TableSpec) (place n : ℕ) (foreign : ForeignSpec) (found : Option TableSpec) → slice_get tables place ≡ found → slice_get (foreigns_of found) n ≡ Some foreign → place < length tables
+within_by tables place n foreign None e h = absurd cc
+within_by tables place n foreign (Some spec) e h = slice_get_within tables place spec e
+
+pub referring_within : (mapped : Mapped) (key : TableKey) (class : ClassId) → RefersTo mapped key class → key.0.0 < length mapped.schema.tables
+referring_within mapped key class to = within_by mapped.schema.tables key.0.0 key.1 to.foreign (slice_get mapped.schema.tables key.0.0) refl to.is
+
+-- the table to which it refers
+pub referred_is : (mapped : Mapped) (key : TableKey) (class : ClassId) (to : RefersTo mapped key class) → referred_table mapped key ≡ to.table
+referred_is mapped key class to =
+    ap (target_in mapped.schema.tables) to.is ∙ ap table_or_none (table_found (find_table mapped.schema.tables to.foreign.target) to.table to.target)
+
+-- its columns have the kinds of the key to which it refers, wherever its table stands
+pub foreign_typed : (mapped : Mapped) (sources : List Origin) (place : ℕ) (key : TableKey) (class : ClassId) → HasHierarchies mapped → (to : RefersTo mapped key class) → IsAt sources place key.0
+    → AreTyped mapped.schema sources (columns_at place (foreign_numbers mapped key)) (kinds_of (key_columns (spec_of mapped.schema to.table)))
+foreign_typed mapped sources place key class has to at =
+    let declared = referring_within mapped key class to in
+    let targets : List ColumnSpec = key_columns (spec_of mapped.schema to.table) in
+    subst (λ (found : Option ForeignSpec). AreTyped mapped.schema sources (columns_at place (map (column_named mapped key.0) (names_in found))) (kinds_of targets)) (sym to.is)
+    (names_typed mapped sources place key.0 to.foreign.columns targets at (table_faultless mapped key.0 has declared).apart (foreign_kinds mapped key class has declared to))
+
+-- the key of the root of the class to which it refers has the same kinds
+pub owned_kinds : (mapped : Mapped) (key : TableKey) (class : ClassId) → HasTables mapped class → (to : RefersTo mapped key class)
+    → kinds_of (key_columns (root_spec mapped class)) ≡ kinds_of (key_columns (spec_of mapped.schema to.table))
+owned_kinds mapped key class known to = let spot = place_in (tables_of mapped class) to.table to.inside in kinds_along mapped class known spot.0 to.table spot.1
+
 -- what the owner's columns of a one-to-many relationship have
 pub record AreOwners (mapped : Mapped) (relation : Relation) : Type 0 where
   pub kinds : List Kind
   pub typed : AreTyped mapped.schema (sources_by (tables_of mapped relation.target)) (owner_columns mapped relation) kinds
   pub owned : kinds_of (key_columns (root_spec mapped relation.class)) ≡ kinds
 
-owners_by : (mapped : Mapped) (relation : Relation) → HasHierarchies mapped → IsClass mapped relation.class
+owners_by : (mapped : Mapped) (relation : Relation) → HasHierarchies mapped → IsClass mapped relation.class → IsClass mapped relation.target
     → joins mapped.schema.tables (Some (layout_of mapped relation.target)) (Some (layout_of mapped relation.class)) relation.foreign ≡ true → AreOwners mapped relation
-owners_by mapped relation has less h =
+owners_by mapped relation has less target h =
     let tables : List TableSpec = mapped.schema.tables in
     let key : TableKey = relation.foreign in
     let own : List TableId = tables_of mapped relation.target in
     let split = and_parts (is_among own key.0 && list_all (has_attribute (layout_of mapped relation.target).attributes key.0) (names_of tables key)) (refers_by tables (tables_of mapped relation.class) (foreign_at tables key)) h in
     let first = and_parts (is_among own key.0) (list_all (has_attribute (layout_of mapped relation.target).attributes key.0) (names_of tables key)) split.0 in
     let inside : Has own key.0 = among_has own key.0 first.0 in
-    let declared : key.0.0 < length tables = tables_declared mapped relation.target key.0 inside in
     let to = referred mapped key relation.class (foreign_at tables key) refl split.1 in
-    let place : ℕ = place_of_table mapped relation.target (from_root 0) key.0 in
-    let stands : slice_get own place ≡ Some key.0 = ap (slice_get own) (rank_is (rank_of mapped relation.target key.0)) ∙ rank_finds own key.0 inside in
-    let at : IsAt (sources_by own) place key.0 = at_sources own place key.0 stands in
-    let spot = place_in (tables_of mapped relation.class) to.table to.inside in
+    let known = class_tables mapped relation.target has target in
+    let at : IsAt (sources_by own) (place_of_table mapped relation.target (from_root 0) key.0) key.0 =
+    root_placed mapped relation.target has target known (rank_of mapped relation.target key.0) key.0 (rank_finds own key.0 inside) in
     record {
       kinds = kinds_of (key_columns (spec_of mapped.schema to.table));
-      typed =
-          subst (λ (found : Option ForeignSpec). AreTyped mapped.schema (sources_by own) (columns_at place (map (column_named mapped key.0) (names_in found))) (kinds_of (key_columns (spec_of mapped.schema to.table)))) (sym to.is)
-          (names_typed mapped (sources_by own) place key.0 to.foreign.columns (key_columns (spec_of mapped.schema to.table)) at (table_faultless mapped key.0 has declared).apart (foreign_kinds mapped key relation.class has declared to));
-      owned = kinds_along mapped relation.class (class_tables mapped relation.class has less) spot.0 to.table spot.1;
+      typed = foreign_typed mapped (sources_by own) (place_of_table mapped relation.target (from_root 0) key.0) key relation.class has to at;
+      owned = owned_kinds mapped key relation.class (class_tables mapped relation.class has less) to;
     }
 
 -- ---- the selects
@@ -157,19 +182,17 @@ owners_by mapped relation has less h =
 owners_of : (mapped : Mapped) (relation : Relation) → HasHierarchies mapped → IsRelated mapped relation → relation.many ≡ true → relation.far ≡ None → AreOwners mapped relation
 owners_of mapped relation has related many far =
     let keys : has_keys mapped relation None ≡ true = ap (has_keys mapped relation) (sym far) ∙ related.keys in
-    owners_by mapped relation has related.class
+    owners_by mapped relation has related.class related.target
     (ap (λ (b : Bool). joins mapped.schema.tables (Some (layout_of mapped (if b then relation.target else relation.class))) (Some (layout_of mapped (if b then relation.class else relation.target))) relation.foreign) (sym many) ∙ keys)
 
-pub members_are_plain : (mapped : Mapped) (relation : Relation) (key : List Value) → HasHierarchies mapped → IsRelated mapped relation → relation.many ≡ true → relation.far ≡ None
-    → is_key (root_spec mapped relation.class) key ≡ true → IsPlainSelect mapped.schema (members_select mapped relation key)
-unfolding members_select
-members_are_plain mapped relation key has related many far h =
+pub referring_are_plain : (mapped : Mapped) (relation : Relation) (key : List Value) → HasHierarchies mapped → IsRelated mapped relation → relation.many ≡ true → relation.far ≡ None
+    → is_key (root_spec mapped relation.class) key ≡ true → IsPlainSelect mapped.schema (referring_members mapped relation key)
+referring_are_plain mapped relation key has related many far h =
     let known = class_tables mapped relation.target has related.target in
     let owners = owners_of mapped relation has related many far in
     let fit : fit_kinds owners.kinds key ≡ true = ap (λ (kinds : List Kind). fit_kinds kinds key) (sym owners.owned) ∙ key_fits mapped (root_table mapped relation.class) key h in
-    subst (λ (end : Option TableKey). IsPlainSelect mapped.schema (members_by mapped relation key end)) (sym far)
-    (rows_plain mapped relation.target has related.target known (has_values (owner_columns mapped relation) key)
-    (values_stand mapped.schema (sources_by (tables_of mapped relation.target)) (owner_columns mapped relation) owners.kinds key owners.typed fit))
+    rows_plain mapped relation.target has related.target known (has_values (owner_columns mapped relation) key)
+    (values_stand mapped.schema (sources_by (tables_of mapped relation.target)) (owner_columns mapped relation) owners.kinds key owners.typed fit)
 
 all_fit : (mapped : Mapped) (class : ClassId) (kinds : List Kind) (keys : List (List Value)) → kinds_of (key_columns (root_spec mapped class)) ≡ kinds → AllByRecursion (λ key. is_key (root_spec mapped class) key ≡ true) keys
     → AllByRecursion (λ key. fit_kinds kinds key ≡ true) keys

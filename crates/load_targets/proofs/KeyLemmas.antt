@@ -1,5 +1,5 @@
 -- A foreign key whose cells have no NULL is a key of the target of its relationship.
-use Rattle.std.proofs.Common.{◌≡◌, ℕ, ◌<◌, Bool, true, false, ◌&&◌, ◌||◌, ◌==◌, List, [], ◌∷◌, map, filter, length, get_or, Option, None, Some, if◌then◌else◌, refl, sym, ap, subst, ◌∙◌, arith}
+use Rattle.std.proofs.Common.{◌≡◌, ℕ, ◌<◌, Bool, true, false, ◌&&◌, ◌==◌, List, [], ◌∷◌, map, length, get_or, Option, None, Some, if◌then◌else◌, refl, sym, ap, subst, ◌∙◌, arith}
 use Rattle.std.specs.Prelude.{slice_get, unwrap_or, is_some}
 use Rattle.std.specs.Option.{option_and_then}
 use Rattle.std.specs.List.{enumerate_from, list_all, position}
@@ -7,7 +7,6 @@ use Rattle.std.specs.Cmp.Lexicographic.{pointwise}
 use Rattle.std.proofs.lemmas.Bool.{and_parts, eqb-true}
 use Rattle.std.proofs.lemmas.List.Quantifiers.{position-Some}
 use Rattle.std.proofs.lemmas.Option.{get_or_from_slice_get, slice_get-get_or, slice_get_within}
-use Rattle.base_core.specs.declared.ids.AttrNo.{AttrNo}
 use Rattle.base_core.specs.declared.ids.ClassId.{ClassId}
 use Rattle.base_core.specs.declared.ids.TableId.{TableId}
 use Rattle.base_core.specs.declared.value.Kind.{Kind}
@@ -28,7 +27,7 @@ use Rattle.class_layouts.specs.Hierarchy.{line_of}
 use Rattle.class_sides.specs.Keys.{TableKey, columns_at as names_in, foreign_at, names_of}
 use Rattle.class_sides.specs.Pairs.{differ}
 use Rattle.class_sides.specs.Sides.{has_attribute}
-use Rattle.class_mapping.specs.Mapped.{IsClass, Mapped, attributes_of, layout_of, no_attribute, relations_of, root_spec, tables_of}
+use Rattle.class_mapping.specs.Mapped.{Mapped, attributes_of, layout_of, no_attribute, root_spec, tables_of}
 use Rattle.class_mapping.specs.Paired.{IsAt, IsBack}
 use Rattle.class_mapping.specs.Related.{IsRelated, has_keys}
 use Rattle.class_mapping.specs.Valid.{is_among, joins, refers_by}
@@ -49,7 +48,7 @@ use Rattle.load_laws.proofs.Standing.{is_of}
 use Rattle.load_laws.proofs.Typed.{fit_kinds}
 use Rattle.key_laws.proofs.KeyKinds.{keys_alike}
 use Rattle.load_links.proofs.LinkLemmas.{pointwise_at}
-use Rattle.load_targets.specs.ForeignKeys.{attr_named, foreign_attrs, foreign_key, value_at, value_of}
+use Rattle.load_targets.specs.ForeignKeys.{attr_named, foreign_attrs, foreign_key, value_at}
 
 -- ---- values
 

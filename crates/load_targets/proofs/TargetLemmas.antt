@@ -1,5 +1,5 @@
 -- The reading of a many-to-one link, put together of its parts.
-use Rattle.std.proofs.Common.{◌≡◌, ◌<◌, Bool, true, false, List, length, None, Option, Some, Result, Ok, Err, IfErr, IfOk, OnOk, if◌then◌else◌, refl, sym, ap, subst, ◌∙◌}
+use Rattle.std.proofs.Common.{◌≡◌, ◌<◌, Bool, true, false, List, length, Option, Some, Result, Ok, Err, IfErr, IfOk, OnOk, if◌then◌else◌, refl, sym, ap, subst, ◌∙◌}
 use Rattle.std.proofs.lemmas.Option.{slice_get-get_or}
 use Rattle.base_core.specs.declared.ids.AttrNo.{AttrNo}
 use Rattle.base_core.specs.declared.ids.ClassId.{ClassId}
@@ -18,7 +18,6 @@ use Rattle.object_arena.specs.Fit.{ObjectFits, key_fits, no_relation, relation_o
 use Rattle.object_arena.specs.Graph.{Graph, object_at}
 use Rattle.programs.specs.Beside.{changes, moment_beside}
 use Rattle.programs.specs.Moment.{Moment, Runs}
-use Rattle.programs.specs.Programs.{Run}
 use Rattle.programs.specs.Store.{Store}
 use Rattle.programs.proofs.Lifting.{chosen, then_ends}
 use Rattle.programs.proofs.Sequence.{done, then_err, then_ok}
@@ -28,7 +27,6 @@ use Rattle.load_filling.specs.Growing.{Grows}
 use Rattle.load_filling.proofs.LoadedLemmas.{grows_same}
 use Rattle.load_rows.specs.Loading.{Loading, loading}
 use Rattle.load_links.specs.Links.{end_filled}
-use Rattle.load_calls.specs.Reading.{World}
 use Rattle.load_calls.specs.Refreshing.{refresh}
 use Rattle.load_collections.specs.Collections.{load_collection}
 use Rattle.load_collections.proofs.CollectionLemmas.{related_at}

@@ -11,7 +11,6 @@ use Rattle.class_types.specs.declared.mapped.Attribute.{Attribute}
 use Rattle.class_types.specs.declared.mapped.Relation.{Relation}
 use Rattle.class_sides.specs.Keys.{names_of}
 use Rattle.class_mapping.specs.Mapped.{Mapped, attributes_of}
-use Rattle.object_arena.specs.declared.object.Cell.{Cell}
 use Rattle.object_arena.specs.declared.object.Object.{Object}
 use Rattle.relations.specs.Parents.{is_column}
 

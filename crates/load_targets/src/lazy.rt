@@ -1,6 +1,6 @@
 //! The reading of any link.
 
-ghost use Rattle.std.specs.Prelude.{◌≡◌, ◌<◌, None, true, length};
+ghost use Rattle.std.specs.Prelude.{◌≡◌, ◌<◌, true, length};
 ghost use Rattle.class_mapping.specs.Mapped.{relations_of};
 ghost use Rattle.object_arena.specs.declared.object.State.TheVariants.{Persistent};
 ghost use Rattle.object_arena.specs.Fit.{IsFit, relation_of};
@@ -21,8 +21,8 @@ use load_links::relation_at;
 use object_arena::Arena;
 use std::alloc::Global;
 
-/// Loads the link of a persistent object at a place, one without a secondary table: its members or its end are read where that is
-/// needed, and it is filled where it is unloaded.
+/// Loads the link of a persistent object at a place: its members or its end are read where that is needed, and it is filled where
+/// it is unloaded.
 ///
 /// # Errors
 /// As `load_collection` and `load_target`.
@@ -41,8 +41,6 @@ pub fn load_lazy<K: Keeper>(
     requires object { IsObject arena.old object }
     requires persistent { (object_at arena.old object).state ≡ Persistent }
     requires place { place.0 < length (relations_of mapping.now (object_at arena.old object).class) }
-    requires far { (relation_of mapping.now (object_at arena.old object).class place).many ≡ true
-        → (relation_of mapping.now (object_at arena.old object).class place).far ≡ None }
     requires ready { IsReady mapping.now.schema (K.moment keeper.old) }
     ensures step { Runs (moment_beside K.moment) (λ u. u)
         (spec.load_lazy mapping.now object place)

@@ -1,5 +1,5 @@
 -- A row of a class has a key of the class that it names.
-use Rattle.std.proofs.Common.{◌≡◌, ◌⊎◌, inl, inr, ℕ, zero, suc, ◌+◌, ◌<◌, Bool, true, false, not, ◌&&◌, ◌==◌, nat_lt, cond, List, [], ◌∷◌, ◌++◌, map, filter, length, Option, None, Some, Ok, refl, sym, ap, subst, ◌∙◌}
+use Rattle.std.proofs.Common.{append-nil, ◌≡◌, ◌⊎◌, inl, inr, ℕ, zero, suc, ◌+◌, ◌<◌, Bool, true, false, not, ◌&&◌, ◌==◌, nat_lt, cond, List, [], ◌∷◌, ◌++◌, map, filter, length, Option, None, Some, Ok, refl, sym, ap, subst, ◌∙◌}
 use Rattle.std.specs.Option.{option_and_then}
 use Rattle.std.specs.Prelude.{find, slice_get, unwrap_or}
 use Rattle.std.specs.List.{AllByRecursion, enumerate_from, flat_map, position, position_or_len}
@@ -46,7 +46,8 @@ use Rattle.load_rows.specs.Reading.{IsRowOf}
 use Rattle.row_laws.specs.Cells.{AreCellsOf}
 use Rattle.load_laws.proofs.Keys.{turned_kind}
 use Rattle.load_laws.proofs.Standing.{column_stands}
-use Rattle.load_laws.proofs.ClassLemmas.{attribute_typed, at_sources, branch_under, rank_is, sources_are, sources_by}
+use Rattle.load_laws.proofs.ClassLemmas.{at_sources, placed_before, rank_is, root_placed, sources_are, sources_by}
+use Rattle.load_laws.proofs.Placed.{at_more, attribute_typed, branch_under}
 use Rattle.key_laws.proofs.KeyKinds.{attributes_split, is_just, key_by_column, keys_alike, no_later_key, numbered_at}
 
 -- ---- the values of a row
@@ -139,29 +140,36 @@ each_passes test f (x ∷ xs) h = ap (λ (b : Bool). b && pointwise test xs (map
 
 -- ---- the rows of a class
 
-module _ (mapped : Mapped) (class : ClassId) (has : HasHierarchies mapped) (less : IsClass mapped class) (known : HasTables mapped class) (conditions : List Expr) where
-  abbrev s : Select
-  s = class_rows mapped class conditions
+-- a select of a class's attributes, over its tables from the root's on and maybe further sources behind them
+pub record ReadsClass (mapped : Mapped) (class : ClassId) (s : Select) : Type 0 where
+  pub more : List Origin
+  pub items : s.items ≡ map item_of (attribute_columns mapped class (from_root 0))
+  pub sources : sources_of s ≡ sources_by (tables_of mapped class) ++ more
 
+abbrev Items : Type 0
+Items = List (Expr × Option (List ℕ))
+
+module _ (mapped : Mapped) (class : ClassId) (has : HasHierarchies mapped) (less : IsClass mapped class) (known : HasTables mapped class) (s : Select) (reads : ReadsClass mapped class s) where
   abbrev column : Attribute → SourceColumn
   column a = attribute_column mapped class (from_root 0) a
 
-  sources : sources_of s ≡ sources_by (tables_of mapped class)
-  sources = sources_are mapped class has less known (attribute_columns mapped class (from_root 0)) (conditions ++ is_of_branch mapped class (from_root 0))
+  abbrev under : List Origin
+  under = sources_by (tables_of mapped class) ++ reads.more
 
   abbrev tables_in : List Origin → List TableId
   tables_in origins = map (λ (origin : Origin). origin.table) origins
 
   item_typed : (a : Attribute) → Has (attributes_of mapped class) a → expression_kind mapped.schema (column_of (column a)) (scope_of s) ≡ Ok a.kind
   item_typed a there =
-      ap (λ (origins : List Origin). expression_kind mapped.schema (column_of (column a)) (tables_in origins)) sources
-      ∙ (column_stands mapped.schema (sources_by (tables_of mapped class)) (column a).source (column a).column a.kind (attribute_typed mapped class has less known a there)).typed
+      ap (λ (origins : List Origin). expression_kind mapped.schema (column_of (column a)) (tables_in origins)) reads.sources
+      ∙ (column_stands mapped.schema under (column a).source (column a).column a.kind (attribute_typed mapped class has less known (from_root 0) under (placed_before mapped class has less known reads.more) a there)).typed
 
   -- the value of an attribute is NULL or of its kind
   pub value_of_kind : (row : List Value) (i : ℕ) (a : Attribute) → EachItem (IsOfItsKind mapped.schema (scope_of s)) s.items row → slice_get (attributes_of mapped class) i ≡ Some a
       → (v : Value) × (slice_get row i ≡ Some v) × (is_of_kind a.kind v ≡ true)
   value_of_kind row i a h at =
-      let found = item_at (IsOfItsKind mapped.schema (scope_of s)) (attribute_column mapped class (from_root 0)) (attributes_of mapped class) row i a h at in
+      let found = item_at (IsOfItsKind mapped.schema (scope_of s)) (attribute_column mapped class (from_root 0)) (attributes_of mapped class) row i a
+      (subst (λ (items : Items). EachItem (IsOfItsKind mapped.schema (scope_of s)) items row) reads.items h) at in
       (found.0, found.1, found.2 a.kind (item_typed a (has_at (attributes_of mapped class) i a at)))
 
   key_never_null : (attr : AttrNo) (of : IsOfKey mapped class attr) → is_never_null mapped.schema s (column_of (column of.attribute)) ≡ true
@@ -169,11 +177,11 @@ module _ (mapped : Mapped) (class : ClassId) (has : HasHierarchies mapped) (less
       let placed : ℕ × ColumnSpec = of.of.placed in
       let number : ColumnNo = record { 0 = placed.0 } in
       let root : TableId = root_table mapped class in
-      let at = at_sources (tables_of mapped class) 0 root (ap (λ (own : List TableId). slice_get own 0) known.first) in
+      let at = at_more (sources_by (tables_of mapped class)) reads.more 0 root (at_sources (tables_of mapped class) 0 root (ap (λ (own : List TableId). slice_get own 0) known.first)) in
       ap (λ (a : Attribute). is_never_null mapped.schema s (column_of (column a))) (sym of.of.is)
       ∙ ap (λ (n : ℕ). is_never_null mapped.schema s (expr.Column n number)) (root_place mapped class known)
       ∙ column_never_null mapped s 0 number
-      ∙ ap (λ (origins : List Origin). takes_no_null (column_in mapped.schema (tables_in origins) 0 number)) sources
+      ∙ ap (λ (origins : List Origin). takes_no_null (column_in mapped.schema (tables_in origins) 0 number)) reads.sources
       ∙ ap (λ (found : Option TableId). takes_no_null (option_and_then (λ t. slice_get (spec_of mapped.schema t).columns number.0) found)) at
       ∙ ap takes_no_null of.of.there
       ∙ required_by placed.1 of.key
@@ -183,7 +191,8 @@ module _ (mapped : Mapped) (class : ClassId) (has : HasHierarchies mapped) (less
   key_value row attr kinds given there =
       let of : IsOfKey mapped class attr = of_key mapped class attr known there in
       let found = value_of_kind row attr.0 of.attribute kinds of.at in
-      let held = item_at (IsGiven mapped.schema s) (attribute_column mapped class (from_root 0)) (attributes_of mapped class) row attr.0 of.attribute given of.at in
+      let held = item_at (IsGiven mapped.schema s) (attribute_column mapped class (from_root 0)) (attributes_of mapped class) row attr.0 of.attribute
+      (subst (λ (items : Items). EachItem (IsGiven mapped.schema s) items row) reads.items given) of.at in
       let same : held.0 ≡ found.0 = same_Some held.0 found.0 (sym held.1 ∙ found.1) in
       let none : is_null found.0 ≡ false = ap is_null (sym same) ∙ held.2 (key_never_null attr of) in
       let named : attribute_of mapped class attr ≡ of.attribute = get_or_from_slice_get (attributes_of mapped class) attr.0 of.attribute no_attribute of.at in
@@ -233,24 +242,37 @@ abbrev IsRead : Mapped → Select → List Value → Type 0
 IsRead mapped s row = EachItem (IsOfItsKind mapped.schema (scope_of s)) s.items row × EachItem (IsGiven mapped.schema s) s.items row
 
 -- a row of a class has a key of the class that it names
-has_key_of : (mapped : Mapped) (class : ClassId) (conditions : List Expr) (row : List Value) → HasHierarchies mapped → IsClass mapped class → IsRead mapped (class_rows mapped class conditions) row → HasKeyOf mapped class row
+has_key_of : (mapped : Mapped) (class : ClassId) (s : Select) (row : List Value) → HasHierarchies mapped → IsClass mapped class → ReadsClass mapped class s → IsRead mapped s row → HasKeyOf mapped class row
 unfolding class_named
-has_key_of mapped class conditions row has less read =
-    named_fits mapped class row (row_key mapped class row) (discriminator_of mapped class) has less (row_key_fits mapped class has less (class_tables mapped class has less) conditions row read.0 read.1)
+has_key_of mapped class s row has less reads read =
+    named_fits mapped class row (row_key mapped class row) (discriminator_of mapped class) has less (row_key_fits mapped class has less (class_tables mapped class has less) s reads row read.0 read.1)
 
-is_row : (mapped : Mapped) (class : ClassId) (conditions : List Expr) (row : List Value) → HasHierarchies mapped → IsClass mapped class → IsRead mapped (class_rows mapped class conditions) row → IsRowOf mapped class row
-is_row mapped class conditions row has less read = record {
+is_row : (mapped : Mapped) (class : ClassId) (s : Select) (row : List Value) → HasHierarchies mapped → IsClass mapped class → ReadsClass mapped class s → IsRead mapped s row → IsRowOf mapped class row
+is_row mapped class s row has less reads read = record {
   kinds = λ place attribute at.
-      let found = value_of_kind mapped class has less (class_tables mapped class has less) conditions row place attribute read.0 at in
+      let found = value_of_kind mapped class has less (class_tables mapped class has less) s reads row place attribute read.0 at in
       ap (value_fits attribute) found.1 ∙ read_fits attribute found.0 found.2;
-  key = has_key_of mapped class conditions row has less read;
+  key = has_key_of mapped class s row has less reads read;
 }
 
 -- the rows that are read of a class are such rows
+pub are_read : (mapped : Mapped) (class : ClassId) (s : Select) (rows : List (List Value)) → HasHierarchies mapped → IsClass mapped class → ReadsClass mapped class s → AreOfItems mapped.schema s rows → AreGiven mapped.schema s rows
+    → AllByRecursion (IsRowOf mapped class) rows
+are_read mapped class s [] has less reads kinds given = tt
+are_read mapped class s (row ∷ rows) has less reads kinds given = (is_row mapped class s row has less reads (kinds.0, given.0), are_read mapped class s rows has less reads kinds.1 given.1)
+
+pub reads_rows : (mapped : Mapped) (class : ClassId) (conditions : List Expr) → HasHierarchies mapped → IsClass mapped class → ReadsClass mapped class (class_rows mapped class conditions)
+reads_rows mapped class conditions has less = record {
+  more = [];
+  items = refl;
+  sources =
+      sources_are mapped class has less (class_tables mapped class has less) (attribute_columns mapped class (from_root 0)) (conditions ++ is_of_branch mapped class (from_root 0))
+      ∙ sym (append-nil (sources_by (tables_of mapped class)));
+}
+
 pub are_rows : (mapped : Mapped) (class : ClassId) (conditions : List Expr) (rows : List (List Value)) → HasHierarchies mapped → IsClass mapped class
     → AreOfItems mapped.schema (class_rows mapped class conditions) rows → AreGiven mapped.schema (class_rows mapped class conditions) rows → AllByRecursion (IsRowOf mapped class) rows
-are_rows mapped class conditions [] has less kinds given = tt
-are_rows mapped class conditions (row ∷ rows) has less kinds given = (is_row mapped class conditions row has less (kinds.0, given.0), are_rows mapped class conditions rows has less kinds.1 given.1)
+are_rows mapped class conditions rows has less kinds given = are_read mapped class (class_rows mapped class conditions) rows has less (reads_rows mapped class conditions has less) kinds given
 
 -- ---- the cells of an object
 
@@ -267,7 +289,7 @@ cell_fits mapped class attrs key row has less there kinds place attr at =
     let typed : expression_kind mapped.schema (column_of (cell_column mapped class attr)) (scope_of s) ≡ Ok attribute.kind =
     ap (λ (origins : List Origin). expression_kind mapped.schema (column_of (attribute_column mapped class (from_root 0) attribute)) (map (λ (origin : Origin). origin.table) origins))
     (sources_are mapped class has less known (map (cell_column mapped class) attrs) (has_values (root_key mapped class (from_root 0)) key))
-    ∙ (column_stands mapped.schema (sources_by (tables_of mapped class)) (attribute_column mapped class (from_root 0) attribute).source attribute.column attribute.kind (attribute_typed mapped class has less known attribute stands)).typed in
+    ∙ (column_stands mapped.schema (sources_by (tables_of mapped class)) (attribute_column mapped class (from_root 0) attribute).source attribute.column attribute.kind (attribute_typed mapped class has less known (from_root 0) (sources_by (tables_of mapped class)) (root_placed mapped class has less known) attribute stands)).typed in
     ap (value_fits attribute) found.1 ∙ read_fits attribute found.0 (found.2 attribute.kind typed)
   where
     all_at : {A : Type 0} (P : A → Type 0) (xs : List A) (x : A) → AllByRecursion P xs → Has xs x → P x

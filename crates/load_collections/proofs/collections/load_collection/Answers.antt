@@ -27,9 +27,6 @@ read_members-requires-clause-relation g c = c.relation_at-relation.ensures ∙ a
 pub read_members-requires-clause-many : goal.read_members-requires-clause-many
 read_members-requires-clause-many g c = ap (λ (r : Relation). r.many) (read_members-requires-clause-relation g c) ∙ c.requires.many
 
-pub read_members-requires-clause-far : goal.read_members-requires-clause-far
-read_members-requires-clause-far g c = ap (λ (r : Relation). r.far) (read_members-requires-clause-relation g c) ∙ c.requires.far
-
 pub returns-in_err-rows-clause-step : goal.returns-in_err-rows-clause-step
 returns-in_err-rows-clause-step g c =
     passed_on c.from_residual.ensures.1

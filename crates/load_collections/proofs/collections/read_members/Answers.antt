@@ -17,8 +17,8 @@ returns-clause-step g c =
 
 pub returns-clause-rows : goal.returns-clause-rows
 returns-clause-rows g c =
-    members_rows c.args.mapping.now c.args.relation.now (identity_key c.args.arena.now c.args.owner) c.in_ok-wanted.wanted c.read.result c.in_ok-wanted.ensures.hierarchies c.in_ok-wanted.ensures.target c.requires.far
+    members_rows c.args.mapping.now c.args.relation.now (identity_key c.args.arena.now c.args.owner) c.in_ok-wanted.wanted c.read.result c.in_ok-wanted.ensures.hierarchies c.in_ok-wanted.ensures.related
     c.in_ok-wanted.ensures.select c.read.ensures.kinds c.read.ensures.given
 
 pub returns-clause-target : goal.returns-clause-target
-returns-clause-target g c = declared_told c.args.mapping.now c.args.relation.now.target c.read.result c.in_ok-wanted.ensures.target
+returns-clause-target g c = declared_told c.args.mapping.now c.args.relation.now.target c.read.result c.in_ok-wanted.ensures.related.target

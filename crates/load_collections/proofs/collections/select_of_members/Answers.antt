@@ -1,4 +1,4 @@
-use Rattle.load_collections.proofs.CollectionLemmas.{has_told, members_plain, select_is, target_declared, target_told}
+use Rattle.load_collections.proofs.CollectionLemmas.{has_told, members_plain, owned_related, related_told, select_is}
 use Rattle.load_collections.proofs.collections.select_of_members.Goals as goal
 
 pub returns-clause-select : goal.returns-clause-select
@@ -8,12 +8,12 @@ pub returns-clause-plain : goal.returns-clause-plain
 returns-clause-plain c =
     members_plain c.args.mapping.now c.args.arena.now c.args.owner c.args.place c.args.relation.now c.in_ok-key.key c.object.result.now c.members_select.result
     (c.has_hierarchies.ensures.hierarchies c.requires.configured) (c.is_configured.ensures.related c.requires.configured)
-    (c.object.ensures.fits c.args.mapping.now c.requires.fit) c.object.ensures.is c.requires.persistent c.object.ensures.identified c.in_ok-key.ensures.key c.requires.place c.requires.relation c.requires.many c.requires.far
+    (c.object.ensures.fits c.args.mapping.now c.requires.fit) c.object.ensures.is c.requires.persistent c.object.ensures.identified c.in_ok-key.ensures.key c.requires.place c.requires.relation c.requires.many
     c.members_select.ensures.select
 
-pub returns-clause-target : goal.returns-clause-target
-returns-clause-target c =
-    target_told c.args.mapping.now c.args.arena.now c.args.owner c.args.place c.args.relation.now c.object.result.now c.members_select.result (c.is_configured.ensures.related c.requires.configured)
+pub returns-clause-related : goal.returns-clause-related
+returns-clause-related c =
+    related_told c.args.mapping.now c.args.arena.now c.args.owner c.args.place c.args.relation.now c.object.result.now c.members_select.result (c.is_configured.ensures.related c.requires.configured)
     (c.object.ensures.fits c.args.mapping.now c.requires.fit) c.object.ensures.is c.requires.place c.requires.relation
 
 pub returns-clause-hierarchies : goal.returns-clause-hierarchies
@@ -21,5 +21,5 @@ returns-clause-hierarchies c = has_told c.args.mapping.now c.members_select.resu
 
 pub members_select-requires-clause-target : goal.members_select-requires-clause-target
 members_select-requires-clause-target c =
-    target_declared c.args.mapping.now c.args.arena.now c.args.owner c.args.place c.args.relation.now c.object.result.now (c.is_configured.ensures.related c.requires.configured)
-    (c.object.ensures.fits c.args.mapping.now c.requires.fit) c.object.ensures.is c.requires.place c.requires.relation
+    (owned_related c.args.mapping.now c.args.arena.now c.args.owner c.args.place c.args.relation.now c.object.result.now (c.is_configured.ensures.related c.requires.configured)
+    (c.object.ensures.fits c.args.mapping.now c.requires.fit) c.object.ensures.is c.requires.place c.requires.relation).target

@@ -1,4 +1,4 @@
-use Rattle.std.proofs.Common.{◌≡◌, refl, rules}
+use Rattle.std.proofs.Common.{refl, rules}
 use Rattle.programs.proofs.Sequence.{each_end, each_err, each_turn, passed_on}
 use Rattle.class_mapping.specs.Mapped.{root_of}
 use Rattle.load_filling.proofs.LoadedLemmas.{grows_same}

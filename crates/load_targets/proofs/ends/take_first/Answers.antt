@@ -1,4 +1,4 @@
-use Rattle.std.proofs.Common.{◌≡◌, ◌∙◌, ap, sym, refl, List, Some}
+use Rattle.std.proofs.Common.{◌∙◌, ap, sym, refl, List, Some}
 use Rattle.std.specs.Option.{option_copied}
 use Rattle.base_core.specs.declared.value.Value.{Value}
 use Rattle.class_mapping.specs.Mapped.{root_of}

@@ -1,4 +1,4 @@
-use Rattle.std.proofs.Common.{◌≡◌, ◌∙◌, ◌<◌, ap, sym, subst, length}
+use Rattle.std.proofs.Common.{◌∙◌, ◌<◌, ap, sym, subst, length}
 use Rattle.class_types.specs.declared.mapped.Relation.{Relation}
 use Rattle.class_mapping.specs.Mapped.{relations_of}
 use Rattle.object_arena.specs.declared.object.Object.{Object}

@@ -1,4 +1,4 @@
-use Rattle.load_collections.proofs.CollectionLemmas.{target_told}
+use Rattle.load_collections.proofs.CollectionLemmas.{declared_told, owned_related}
 use Rattle.load_targets.proofs.TargetLemmas.{key_is, key_told}
 use Rattle.load_targets.proofs.targets.target_key.Goals as goal
 
@@ -12,8 +12,9 @@ returns-clause-key c =
 
 pub returns-clause-target : goal.returns-clause-target
 returns-clause-target c =
-    target_told c.args.mapping.now c.args.arena.now c.args.child c.args.place c.args.relation.now c.object-record.result.now c.values_at.result (c.is_configured.ensures.related c.requires.configured)
-    (c.object-record.ensures.fits c.args.mapping.now c.requires.fit) c.object-record.ensures.is c.requires.place c.requires.relation
+    declared_told c.args.mapping.now c.args.relation.now.target c.values_at.result
+    (owned_related c.args.mapping.now c.args.arena.now c.args.child c.args.place c.args.relation.now c.object-record.result.now (c.is_configured.ensures.related c.requires.configured)
+    (c.object-record.ensures.fits c.args.mapping.now c.requires.fit) c.object-record.ensures.is c.requires.place c.requires.relation).target
 
 pub returns-clause-fits : goal.returns-clause-fits
 returns-clause-fits c =
