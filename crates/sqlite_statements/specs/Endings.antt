@@ -1,4 +1,4 @@
--- Which rules may refuse a statement, and what the answers of statements are to be.
+-- Which rules may refuse a statement, and which keys are for a row.
 use Rattle.std.specs.Prelude.{◌≡◌, true, List}
 use Rattle.base_core.specs.declared.refusal.Refusal.TheVariants.{OperationalError}
 use Rattle.base_core.specs.declared.value.Value.{Value}
@@ -11,7 +11,6 @@ use Rattle.schema_core.specs.WellFormed.{IsDrawnFor, is_key}
 use Rattle.expr_types.specs.declared.select.Bulk.{Bulk}
 use Rattle.expr_types.specs.declared.select.Select.{Select}
 use Rattle.sql_semantics.specs.Applied.{table_of}
-use Rattle.sql_semantics.specs.Shapes.{AreGiven, AreOfItems, AreWide}
 use Rattle.keeper_core.specs.Calls.{refusal_by, write_refusal}
 use Rattle.keeper_core.specs.Keeping.{RefusesBulk, RefusesSelect}
 use Rattle.sqlite_database.specs.declared.ending.Ending.{Ending}
@@ -36,9 +35,3 @@ MayRefuseSelect schema s violation = ⊥
 -- the key fits its columns, and has the values that the row gives for it
 abbrev pub IsKeyFor : TableSpec → List Value → List Value → Type 0
 IsKeyFor spec row key = (is_key spec key ≡ true) × IsDrawnFor (key_of spec row) key
-
--- ---- rows
-
--- each row of the select has one value for each item, NULL or of its kind, and not NULL where the item never is
-abbrev pub AreAnswers : Catalog → Select → List (List Value) → Type 0
-AreAnswers schema s rows = AreWide s rows × AreOfItems schema s rows × AreGiven schema s rows

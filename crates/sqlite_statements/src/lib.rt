@@ -6,5 +6,4 @@ pub mod bulks;
 pub mod rows;
 pub mod scopes;
 pub mod selects;
-mod shapes;
 pub mod tables;

@@ -2,45 +2,19 @@
 
 ghost use Rattle.std.specs.Prelude.{IfErr, IfOk};
 ghost use Rattle.sql_semantics.specs.Plain.{IsPlainSelect};
-ghost use Rattle.sqlite_statements.specs.Endings.{AreAnswers, IfRefused, MayRefuseSelect};
+ghost use Rattle.sqlite_selects.specs.ItemShapes.{AreAnswers};
+ghost use Rattle.sqlite_statements.specs.Endings.{IfRefused, MayRefuseSelect};
 
 use crate::asking::text_of;
-use crate::shapes::{ItemShape, all_fit, item_shapes};
 use crate::tables::store_without_rows;
-use base_core::{Kind, Refusal, RowList, Value};
-use expr_types::{CopiedIn, Expr, Select, Statement};
+use base_core::RowList;
+use expr_types::Select;
 use keeper_core::QueryRefusal;
 use schema_core::{Schema, Violation};
 use sqlite_database::{Database, Ending};
-use std::alloc::{AllocError, Global};
+use sqlite_selects::{ItemShape, answers, item_shapes, kinds_of, statement_of};
+use std::alloc::Global;
 use table_log::TableLog;
-
-/// Gives a select a number for its item where it has none, since SQLite wants one.
-fn give_item(statement: &mut Statement) -> Result<(), Refusal> {
-    if let Statement::Select(select) = statement {
-        if select.items.is_empty() {
-            select.items.push((Expr::Lit(Value::Int(1)), None))?;
-        }
-    }
-    Ok(())
-}
-
-/// The select as SQLite takes it.
-fn statement_of(alloc: Global, select: &Select) -> Result<Box<Statement>, Ending> {
-    let copy = Statement::Select(select.copied_in(alloc)?);
-    let mut statement = Box::new(alloc, copy)?;
-    give_item(&mut statement)?;
-    Ok(statement)
-}
-
-/// The kinds of the items.
-fn kinds_of(alloc: Global, shapes: &[ItemShape]) -> Result<Vec<Kind>, AllocError> {
-    let mut kinds = Vec::with_capacity(alloc, shapes.len())?;
-    for item in shapes {
-        kinds.push(item.kind)?;
-    }
-    Ok(kinds)
-}
 
 /// The rows that SQLite answers.
 fn ask_rows<D: Database>(
@@ -62,7 +36,6 @@ fn ask_rows<D: Database>(
 }
 
 /// The rows of a select. A value of another kind than its item's, or NULL where the item never is, is a fault.
-#[tactic(auto, using(crate::proofs::Items::rows_answer))]
 fn rows_that_fit<D: Database>(
     database: &mut D,
     alloc: Global,
@@ -73,10 +46,7 @@ fn rows_that_fit<D: Database>(
 {
     let shapes = item_shapes(alloc, schema, select)?;
     let rows = ask_rows(database, alloc, schema, select, shapes.as_slice())?;
-    if !all_fit(shapes.as_slice(), rows.as_slice()) {
-        return Err(Ending::Fault);
-    }
-    Ok(rows)
+    answers(schema, select, shapes.as_slice(), rows)
 }
 
 /// The first table of a select's text that a store has not, as a refusal; else it is a fault.

@@ -5,12 +5,12 @@ ghost use Rattle.schema_core.specs.Catalog.{IsTable};
 ghost use Rattle.keeper_core.specs.Keeping.{AreRowsOf};
 
 use crate::asking::{ask_compiled, ask_integer, run_text};
-use crate::shapes::legal_rows;
 use base_core::{Kind, Name, Refusal, RowList, TableId, Text, Value};
 use dialect_sqlite::{ddl, drop_text};
 use schema_core::{ColumnSpec, Schema, TableSpec, kind_of};
 use sql_text::{Compiled, Quoting, Writer};
 use sqlite_database::{Database, Ending};
+use sqlite_selects::legal_rows;
 use std::alloc::{AllocError, Global};
 use table_log::TableLog;
 

@@ -20,9 +20,8 @@ use Rattle.expr_types.specs.declared.select.Select.{Select}
 use Rattle.sql_semantics.specs.Plain.{is_of_kind}
 use Rattle.sql_semantics.specs.Shapes.{AreGiven, AreOfItems, AreWide, EachItem, IsGiven, IsOfItsKind, scope_of}
 use Rattle.keeper_core.specs.Keeping.{AreRowsOf}
-use Rattle.sqlite_statements.specs.declared.shapes.ItemShape.{ItemShape}
-use Rattle.sqlite_statements.specs.Endings.{AreAnswers}
-use Rattle.sqlite_statements.specs.ItemShapes.{fits, kind_or_integer, shape_of_item}
+use Rattle.sqlite_selects.specs.declared.shapes.ItemShape.{ItemShape}
+use Rattle.sqlite_selects.specs.ItemShapes.{AreAnswers, fits, kind_or_integer, shape_of_item}
 
 -- ---- values
 

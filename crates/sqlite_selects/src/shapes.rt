@@ -8,7 +8,8 @@ ghost use Rattle.schema_core.specs.Tables.{is_legal_row};
 ghost use Rattle.sql_semantics.specs.Kinds.{column_in};
 ghost use Rattle.sql_semantics.specs.Shapes as answers;
 ghost use Rattle.keeper_core.specs.Keeping.{AreRowsOf};
-ghost use Rattle.sqlite_statements.specs.ItemShapes as spec;
+ghost use Rattle.sqlite_selects.specs.ItemShapes as spec;
+ghost use Rattle.sqlite_selects.specs.ItemShapes.{AreAnswers};
 
 use base_core::{ColumnNo, Kind, RowList, RowValues, TableId, Value};
 use expr_types::{Expr, Select};
@@ -20,10 +21,10 @@ use std::alloc::{AllocError, Global};
 
 /// What the values of an item are to be.
 #[derive(Clone, Copy)]
-pub(crate) struct ItemShape {
-    pub(crate) kind: Kind,
+pub struct ItemShape {
+    pub kind: Kind,
     /// Whether they are never NULL.
-    pub(crate) never_null: bool,
+    pub never_null: bool,
 }
 
 impl ItemShape {
@@ -111,7 +112,7 @@ fn shape_of_item(
 
 /// What the values of each item are to be.
 #[tactic(auto, using(crate::proofs::Items::map_more))]
-pub(crate) fn item_shapes(
+pub fn item_shapes(
     alloc: Global,
     schema: &Schema,
     select: &Select,
@@ -141,10 +142,37 @@ fn row_fits(shapes: &[ItemShape], row: &[Value]) -> bool
 }
 
 /// Whether each row has one value for each item, and each is as it is to be.
-pub(crate) fn all_fit(shapes: &[ItemShape], rows: &[RowValues]) -> bool
+fn all_fit(shapes: &[ItemShape], rows: &[RowValues]) -> bool
     ensures { result ≡ list_all (λ row. pointwise spec.fits shapes.now row) rows.now }
 {
     rows.iter().all(|row| row_fits(shapes, row.as_slice()))
+}
+
+/// The rows of a select whose items' values are to be so. A value of another kind than its item's, or NULL where the item never is,
+/// is a fault.
+pub fn answers(
+    schema: &Schema,
+    select: &Select,
+    shapes: &[ItemShape],
+    rows: RowList,
+) -> Result<RowList, Ending>
+    requires { shapes.now ≡ map
+        (λ item. spec.shape_of_item schema.now select.now item.0) select.now.items }
+    ensures { IfOk result (AreAnswers schema.now select.now) }
+{
+    if !all_fit(shapes, rows.as_slice()) {
+        return Err(Ending::Fault);
+    }
+    Ok(rows)
+}
+
+/// The kinds of the items.
+pub fn kinds_of(alloc: Global, shapes: &[ItemShape]) -> Result<Vec<Kind>, AllocError> {
+    let mut kinds = Vec::with_capacity(alloc, shapes.len())?;
+    for item in shapes {
+        kinds.push(item.kind)?;
+    }
+    Ok(kinds)
 }
 
 // ---- rows of a table
@@ -159,7 +187,7 @@ fn all_legal(schema: &Schema, table: TableId, rows: &[RowValues]) -> bool
 
 /// The rows, where each has one value for each column of its table, of the column's kind or NULL where that may be.
 #[tactic(auto, using(crate::proofs::Items::rows_of_table))]
-pub(crate) fn legal_rows(schema: &Schema, table: TableId, rows: RowList) -> Result<RowList, Ending>
+pub fn legal_rows(schema: &Schema, table: TableId, rows: RowList) -> Result<RowList, Ending>
     requires { IsTable schema.now table }
     ensures { IfOk result (AreRowsOf schema.now table) }
 {

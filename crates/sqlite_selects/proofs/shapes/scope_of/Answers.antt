@@ -1,6 +1,6 @@
 use Rattle.std.proofs.Common.{◌∷◌, length, ap, ◌∙◌, arith}
-use Rattle.sqlite_statements.proofs.Items.{scope_end}
-use Rattle.sqlite_statements.proofs.shapes.scope_of.Goals as goal
+use Rattle.sqlite_selects.proofs.Items.{scope_end}
+use Rattle.sqlite_selects.proofs.shapes.scope_of.Goals as goal
 
 pub returns : goal.returns
 returns c =

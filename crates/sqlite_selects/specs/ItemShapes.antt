@@ -1,5 +1,5 @@
 -- What the values of a select's items are to be.
-use Rattle.std.specs.Prelude.{Bool, not, Option, None, Some, Result, Ok, Err}
+use Rattle.std.specs.Prelude.{Bool, not, List, Option, None, Some, Result, Ok, Err}
 use Rattle.base_core.specs.declared.refusal.Refusal.{Refusal}
 use Rattle.base_core.specs.declared.value.Kind.{Kind}
 use Rattle.base_core.specs.declared.value.Kind.TheVariants.{Integer}
@@ -9,8 +9,8 @@ use Rattle.schema_core.specs.Tables.{kind_of_value}
 use Rattle.expr_types.specs.declared.expr.Expr.{Expr}
 use Rattle.expr_types.specs.declared.select.Select.{Select}
 use Rattle.sql_semantics.specs.Kinds.{expression_kind}
-use Rattle.sql_semantics.specs.Shapes.{is_never_null, scope_of}
-use Rattle.sqlite_statements.specs.declared.shapes.ItemShape.{ItemShape}
+use Rattle.sql_semantics.specs.Shapes.{AreGiven, AreOfItems, AreWide, is_never_null, scope_of}
+use Rattle.sqlite_selects.specs.declared.shapes.ItemShape.{ItemShape}
 
 -- the kind, or integer where there is none
 abbrev pub kind_or_integer : Result Kind Refusal → Kind
@@ -28,3 +28,7 @@ fits_kind shape (Some kind) = same_kind kind shape.kind
 -- the value is of the kind, or NULL where that may be
 abbrev pub fits : ItemShape → Value → Bool
 fits shape v = fits_kind shape (kind_of_value v)
+
+-- each row of the select has one value for each item, NULL or of its kind, and not NULL where the item never is
+abbrev pub AreAnswers : Catalog → Select → List (List Value) → Type 0
+AreAnswers schema s rows = AreWide s rows × AreOfItems schema s rows × AreGiven schema s rows

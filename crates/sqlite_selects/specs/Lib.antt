@@ -1,0 +1,2 @@
+pub mod ItemShapes
+pub mod Varying

@@ -1,0 +1,9 @@
+//! Selects as SQLite takes them, and what the rows are to be that it answers.
+#![tactic(auto)]
+
+mod shapes;
+mod taken;
+mod varying;
+
+pub use shapes::{ItemShape, answers, item_shapes, kinds_of, legal_rows};
+pub use taken::statement_of;
