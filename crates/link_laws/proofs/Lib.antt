@@ -5,3 +5,4 @@ pub mod MirrorLemmas
 pub mod MemberLemmas
 pub mod RepeatLemmas
 pub mod HasLemmas
+pub mod ChangeLemmas
