@@ -1,0 +1,51 @@
+-- When a flush answers, and the calls that flush, for objects of plain classes.
+use Rattle.std.specs.Prelude.{◌≡◌, ◌<◌, ℕ, false, List, length, None, Some, Ok}
+use Rattle.schema_core.specs.Tables.{Legal, Tables}
+use Rattle.class_mapping.specs.Mapped.{Mapped}
+use Rattle.object_arena.specs.Graph.{Graph}
+use Rattle.flush_order.specs.Orders.{delete_order, gone_rows, insert_order}
+use Rattle.flush_plan.specs.Flushing.{Sofar}
+use Rattle.flush_plan.specs.Stating.{all_placed, guess, stated_tables}
+use Rattle.plan_laws.specs.Premises.{IsClear}
+use Rattle.row_project.specs.Switch.{project}
+use Rattle.savepoints.specs.Scopes.{scope_limit}
+use Rattle.session_calls.specs.Parts.{World}
+use Rattle.session_flush.specs.Flush.{prepared_of}
+use Rattle.session_acts.specs.Steps.{begin_nested, commit, flush_now, orphan_fault}
+use Rattle.health_laws.specs.Health.{IsHealthy, IsWhole}
+
+-- What the objects state can be written: the new rows have an order, and the deleted ones, so there is no cycle; their keys can be
+-- generated; tables are stated, and are legal; no unique value of an old row is held by another row then; and no foreign key that
+-- is given as a value equals the key of a new row that is not known before it is drawn.
+pub record IsWritable (mapped : Mapped) (graph : Graph) (old after : Tables) : Type 0 where
+  pub order : List ℕ
+  pub ordered : insert_order mapped.schema (project mapped graph (prepared_of graph)) ≡ Ok order
+  pub gone : List ℕ
+  pub gone_ordered : delete_order mapped.schema (project mapped graph (prepared_of graph)) (gone_rows mapped.schema (project mapped graph (prepared_of graph))) ≡ Ok gone
+  pub placed : Sofar
+  pub keys : all_placed mapped.schema (project mapped graph (prepared_of graph)) old order ≡ Some placed
+  pub states : stated_tables mapped.schema old (project mapped graph (prepared_of graph)) order ≡ Some after
+  pub legal : Legal mapped.schema after
+  pub clear : IsClear mapped.schema old after
+  pub no_guess : guess mapped.schema old (project mapped graph (prepared_of graph)) order placed.keys ≡ false
+
+-- a healthy session in which no rollback is awaited and no orphan waits, and whose objects state tables that can be written
+pub record MayBeWritten (world : World) (after : Tables) : Type 0 where
+  pub healthy : IsHealthy world
+  pub whole : IsWhole world
+  pub well : world.own.failed ≡ false
+  pub no_orphan : orphan_fault world.own ≡ None
+  pub writable : IsWritable world.own.mapping world.own.graph world.store.tables after
+
+-- then a flush answers and leaves the stated tables
+abbrev pub FlushAnswers : Type 0
+FlushAnswers = (world : World) (after : Tables) → MayBeWritten world after → ((flush_now world).answer ≡ Ok tt) × ((flush_now world).after.store.tables ≡ after)
+
+-- and so does a commit
+abbrev pub CommitAnswers : Type 0
+CommitAnswers = (world : World) (after : Tables) → MayBeWritten world after → ((commit world).answer ≡ Ok tt) × ((commit world).after.store.tables ≡ after)
+
+-- and the beginning of a savepoint, where fewer than 64 are open
+abbrev pub BeginAnswers : Type 0
+BeginAnswers =
+    (world : World) (after : Tables) → MayBeWritten world after → length world.own.frames.scopes < scope_limit → (handle : ℕ) × ((begin_nested world).answer ≡ Ok handle) × ((begin_nested world).after.store.tables ≡ after)

@@ -1,0 +1,11 @@
+use Rattle.health_laws.proofs.Acts.{commit_healthy, flush_now_healthy, nested_healthy}
+use Rattle.health_laws.proofs.flushing_calls_keep_health.Goals as goal
+
+pub returns-clause-flush : goal.returns-clause-flush
+returns-clause-flush c = flush_now_healthy c.a_flush_keeps_sound.ensures c.an_answered_flush_leaves_sound.ensures
+
+pub returns-clause-commit : goal.returns-clause-commit
+returns-clause-commit c = commit_healthy c.a_flush_keeps_sound.ensures c.an_answered_flush_leaves_sound.ensures
+
+pub returns-clause-nested : goal.returns-clause-nested
+returns-clause-nested c = nested_healthy c.a_flush_keeps_sound.ensures c.an_answered_flush_leaves_sound.ensures

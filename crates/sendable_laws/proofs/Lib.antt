@@ -1,0 +1,4 @@
+mod Inserting
+mod Writing
+mod Planned
+pub mod Plain
