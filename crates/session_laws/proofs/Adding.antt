@@ -128,16 +128,16 @@ one_taken object own store made free opened sound =
     (taken_right o.state number o refl (object_of IsMarkedRight own.graph object made sound.marked))
     (record { graph = sound.graph; legal = sound.legal; fresh = sound.fresh; marked = sound.marked; scopes = sound.scopes; rest = sound.rest })
 
-still_open : (graph : Graph) (own : SessionState) → has_scope own.frames.scopes ≡ true → has_scope (with_graph graph own).frames.scopes ≡ true
+pub still_open : (graph : Graph) (own : SessionState) → has_scope own.frames.scopes ≡ true → has_scope (with_graph graph own).frames.scopes ≡ true
 still_open graph own opened = ap has_scope (between_scopes own.graph graph own.frames) ∙ opened
 
 -- what is kept while objects come in
-record IsJoined (own now : SessionState) (store : Store) : Type 0 where
-  opened : has_scope now.frames.scopes ≡ true
-  long : length now.graph.objects ≡ length own.graph.objects
-  sound : IsSound (record { own = now; store = store })
+pub record IsJoined (own now : SessionState) (store : Store) : Type 0 where
+  pub opened : has_scope now.frames.scopes ≡ true
+  pub long : length now.graph.objects ≡ length own.graph.objects
+  pub sound : IsSound (record { own = now; store = store })
 
-all_joined : (objects : List ObjId) (own : SessionState) (store : Store) → MayJoin own objects → has_scope own.frames.scopes ≡ true → IsSound (record { own = own; store = store }) → IsJoined own (session_joined objects own) store
+pub all_joined : (objects : List ObjId) (own : SessionState) (store : Store) → MayJoin own objects → has_scope own.frames.scopes ≡ true → IsSound (record { own = own; store = store }) → IsJoined own (session_joined objects own) store
 all_joined [] own store may opened sound = record { opened = opened; long = refl; sound = sound }
 all_joined (object ∷ objects) own store may opened sound =
     let o : Object = object_at own.graph object in
