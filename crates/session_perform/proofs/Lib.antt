@@ -1,2 +1,3 @@
 mod Performed
 mod Sendable
+pub mod Refusing

@@ -1,13 +1,16 @@
 //! The cases that begin and end scopes, and those that send statements.
 
-ghost use Rattle.std.specs.Prelude.{◌≡◌};
+ghost use Rattle.std.specs.Prelude.{◌≡◌, IfErr};
+ghost use Rattle.class_types.specs.Rules.{Rules};
 ghost use Rattle.sql_semantics.specs.Plain.{IsPlainSelect};
 ghost use Rattle.command_resolve.specs.declared.answer.Answer.TheVariants as answer;
 ghost use Rattle.session_acts.specs.Steps as acts;
 ghost use Rattle.session_dump.specs.Dump as dump;
 ghost use Rattle.session_scopes.specs.SessionState.{IsInStep};
 ghost use Rattle.session_calls.specs.Calling.{IsSessionCall};
+ghost use Rattle.command_resolve.specs.declared.resolved.Resolved.TheVariants as resolved;
 ghost use Rattle.session_perform.specs.Performing as spec;
+ghost use Rattle.session_perform.specs.Refused.{IsRefusedLine};
 
 use base_core::{Name, Refusal};
 use command_resolve::Answer;
@@ -38,8 +41,10 @@ pub(crate) fn commit<K: Keeper>(
     handle: Option<u32>,
 ) -> Result<(), Refusal>
     requires in_step { IsInStep session.old (K.moment keeper.old) }
-    ensures { IsSessionCall K.moment (λ u. u) (spec.commit handle)
+    ensures call { IsSessionCall K.moment (λ u. u) (spec.commit handle)
         (session.old, keeper.old) result (session.new, keeper.new) }
+    ensures refused { (rules : Rules) → IfErr result (λ e. IsRefusedLine rules (resolved.Commit handle)
+        session.old (K.moment keeper.old) e session.new (K.moment keeper.new)) }
 {
     match handle {
         None => session_acts::commit(session, keeper),
@@ -57,8 +62,10 @@ pub(crate) fn roll_back<K: Keeper>(
     handle: Option<u32>,
 ) -> Result<(), Refusal>
     requires in_step { IsInStep session.old (K.moment keeper.old) }
-    ensures { IsSessionCall K.moment (λ u. u) (spec.roll_back handle)
+    ensures call { IsSessionCall K.moment (λ u. u) (spec.roll_back handle)
         (session.old, keeper.old) result (session.new, keeper.new) }
+    ensures refused { (rules : Rules) → IfErr result (λ e. IsRefusedLine rules (resolved.Rollback handle)
+        session.old (K.moment keeper.old) e session.new (K.moment keeper.new)) }
 {
     match handle {
         None => rollback(session, keeper),
@@ -76,8 +83,10 @@ pub(crate) fn begin_nested<K: Keeper>(
     name: Name,
 ) -> Result<Answer, Refusal>
     requires in_step { IsInStep session.old (K.moment keeper.old) }
-    ensures { spec.IsPerformed K.moment (spec.begin_nested name)
+    ensures performed { spec.IsPerformed K.moment (spec.begin_nested name)
         (session.old, keeper.old) result (session.new, keeper.new) }
+    ensures refused { (rules : Rules) → IfErr result (λ e. IsRefusedLine rules (resolved.BeginNested name)
+        session.old (K.moment keeper.old) e session.new (K.moment keeper.new)) }
 {
     let handle = session_acts::begin_nested(session, keeper)?;
     Ok(Answer::Bind(name, Bound::Saved(handle)))
@@ -89,8 +98,10 @@ pub(crate) fn begin_nested<K: Keeper>(
 /// `KeeperFault` and `Memory` alone.
 pub(crate) fn tables<K: Keeper>(session: &Session, keeper: &mut K) -> Result<Answer, Refusal>
     requires in_step { IsInStep session.now (K.moment keeper.old) }
-    ensures { spec.IsPerformed K.moment (spec.telling answer.Tables dump.scan_tables)
+    ensures performed { spec.IsPerformed K.moment (spec.telling answer.Tables dump.scan_tables)
         (session.now, keeper.old) result (session.now, keeper.new) }
+    ensures refused { (rules : Rules) → IfErr result (λ e. IsRefusedLine rules resolved.Dump
+        session.now (K.moment keeper.old) e session.now (K.moment keeper.new)) }
 {
     let tables = scan_tables(session, keeper)?;
     Ok(Answer::Tables(tables))
@@ -107,8 +118,10 @@ pub(crate) fn rows<K: Keeper>(
 ) -> Result<Answer, Refusal>
     requires in_step { IsInStep session.old (K.moment keeper.old) }
     requires plain { IsPlainSelect session.old.mapping.schema select.now }
-    ensures { spec.IsPerformed K.moment (spec.telling answer.Rows (acts.rows select.now))
+    ensures performed { spec.IsPerformed K.moment (spec.telling answer.Rows (acts.rows select.now))
         (session.old, keeper.old) result (session.new, keeper.new) }
+    ensures refused { (rules : Rules) → IfErr result (λ e. IsRefusedLine rules (resolved.Rows select.now)
+        session.old (K.moment keeper.old) e session.new (K.moment keeper.new)) }
 {
     let rows = session_acts::rows(session, keeper, select)?;
     Ok(Answer::Rows(rows))
@@ -125,8 +138,10 @@ pub(crate) fn bulk<K: Keeper>(
 ) -> Result<Answer, Refusal>
     requires in_step { IsInStep session.old (K.moment keeper.old) }
     requires plain { acts.IsPlainButForKeys session.old.mapping.schema statement.now }
-    ensures { spec.IsPerformed K.moment (spec.telling answer.Count (acts.bulk statement.now))
+    ensures performed { spec.IsPerformed K.moment (spec.telling answer.Count (acts.bulk statement.now))
         (session.old, keeper.old) result (session.new, keeper.new) }
+    ensures refused { (rules : Rules) → IfErr result (λ e. IsRefusedLine rules (resolved.Bulk statement.now)
+        session.old (K.moment keeper.old) e session.new (K.moment keeper.new)) }
 {
     let count = session_acts::bulk(session, keeper, statement)?;
     Ok(Answer::Count(count))

@@ -3,13 +3,16 @@
 ghost use Rattle.std.specs.Prelude.{◌≡◌, ◌<◌, length, map, IfErr, IfOk};
 ghost use Rattle.std.specs.List.{All};
 ghost use Rattle.base_core.specs.declared.refusal.Refusal.TheVariants.{Memory};
+ghost use Rattle.class_types.specs.Rules.{Rules};
 ghost use Rattle.class_mapping.specs.Mapped.{IsClass, relations_of};
 ghost use Rattle.object_arena.specs.Graph.{IsObject, object_at};
 ghost use Rattle.command_resolve.specs.declared.answer.Answer.TheVariants as answer;
+ghost use Rattle.command_resolve.specs.declared.resolved.Resolved.TheVariants as resolved;
 ghost use Rattle.command_resolve.specs.Standing.{IsAnswer};
 ghost use Rattle.session_links.specs.Reading.{AreToldMade};
 ghost use Rattle.session_scopes.specs.SessionState.{IsInStep, IsMadeOf};
 ghost use Rattle.session_perform.specs.Performing as spec;
+ghost use Rattle.session_perform.specs.Refused.{IsRefusedLine};
 
 use base_core::{ClassId, ListOf, ObjId, Refusal, RelNo};
 use command_resolve::Answer;
@@ -32,8 +35,10 @@ pub(crate) fn read_link<K: Keeper>(
     requires object { IsObject session.old.graph object }
     requires relation { relation.0
         < length (relations_of session.old.mapping (object_at session.old.graph object).class) }
-    ensures { spec.IsPerformed K.moment (spec.read_link object relation)
+    ensures performed { spec.IsPerformed K.moment (spec.read_link object relation)
         (session.old, keeper.old) result (session.new, keeper.new) }
+    ensures refused { (rules : Rules) → IfErr result (λ e. IsRefusedLine rules (resolved.ShowLink object relation)
+        session.old (K.moment keeper.old) e session.new (K.moment keeper.new)) }
 {
     let related = read_related(session, keeper, object, relation)?;
     link_told(session, related)

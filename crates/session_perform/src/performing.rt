@@ -1,8 +1,10 @@
 //! What each case of a resolved line does.
 
+ghost use Rattle.std.specs.Prelude.{IfErr};
 ghost use Rattle.class_types.specs.Shown.{rules_of};
 ghost use Rattle.session_scopes.specs.SessionState.{IsInStep};
 ghost use Rattle.session_perform.specs.Performing.{IsPerformed, IsReady, program_of_resolved};
+ghost use Rattle.session_perform.specs.Refused.{IsRefusedLine};
 
 use crate::acting::{begin_nested, bulk, commit, nothing_told, roll_back, rows, tables};
 use crate::links::read_link;
@@ -24,8 +26,8 @@ use session_values::set_valid;
 ///
 /// # Errors
 /// What needs no statement is told first; then a transaction begins, where the line begins one, and what is to be written is written,
-/// where the line asks for that; then comes what the store refuses. Each call that a case makes says its own refusals and what they
-/// leave.
+/// where the line asks for that; then comes what the store refuses. `refused` says for each case when it is refused and with what, and
+/// what that leaves; each call that a case makes says it in words.
 pub fn perform<K: Keeper>(
     session: &mut Session,
     keeper: &mut K,
@@ -34,8 +36,10 @@ pub fn perform<K: Keeper>(
 ) -> Result<Answer, Refusal>
     requires in_step { IsInStep session.old (K.moment keeper.old) }
     requires ready { IsReady session.old resolved }
-    ensures { IsPerformed K.moment (program_of_resolved (rules_of hooks.now) resolved)
+    ensures performed { IsPerformed K.moment (program_of_resolved (rules_of hooks.now) resolved)
         (session.old, keeper.old) result (session.new, keeper.new) }
+    ensures refused { IfErr result (λ e. IsRefusedLine (rules_of hooks.now) resolved
+        session.old (K.moment keeper.old) e session.new (K.moment keeper.new)) }
 {
     match resolved {
         Resolved::CreateAll => nothing_told(create_all(session, keeper)),

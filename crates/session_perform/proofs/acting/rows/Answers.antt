@@ -1,9 +1,16 @@
+use Rattle.session_calls.proofs.Refusing.{passed_on}
+use Rattle.command_resolve.specs.declared.resolved.Resolved.TheVariants as resolved
+use Rattle.session_perform.specs.Refused.{IsRefusedLine}
 use Rattle.command_resolve.specs.declared.answer.Answer.TheVariants as answer
 use Rattle.session_perform.proofs.Performed.{passed, told, untold}
 use Rattle.session_perform.proofs.acting.rows.Goals as goal
 
-pub returns-in_err-rows : goal.returns-in_err-rows
-returns-in_err-rows g c = passed g.K.Keeper.moment c.from_residual.ensures.1 (untold g.K.Keeper.moment answer.Rows c.in_err-rows.ensures.call)
+pub returns-in_err-rows-clause-performed : goal.returns-in_err-rows-clause-performed
+returns-in_err-rows-clause-performed g c = passed g.K.Keeper.moment c.from_residual.ensures.1 (untold g.K.Keeper.moment answer.Rows c.in_err-rows.ensures.call)
 
-pub returns : goal.returns
-returns g c = told g.K.Keeper.moment answer.Rows tt c.in_ok-rows.ensures.call
+pub returns-clause-performed : goal.returns-clause-performed
+returns-clause-performed g c = told g.K.Keeper.moment answer.Rows tt c.in_ok-rows.ensures.call
+
+pub returns-in_err-rows-clause-refused : goal.returns-in_err-rows-clause-refused
+returns-in_err-rows-clause-refused g c = λ rules.
+    passed_on (λ e. IsRefusedLine rules (resolved.Rows c.args.select.now) c.args.session.now (g.K.Keeper.moment c.args.keeper.now) e c.rows.new.session (g.K.Keeper.moment c.rows.new.keeper)) c.from_residual.result c.from_residual.ensures.1 c.in_err-rows.ensures.refused

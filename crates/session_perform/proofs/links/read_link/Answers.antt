@@ -1,12 +1,26 @@
+use Rattle.session_calls.specs.Steps.{pending_fault}
+use Rattle.session_links.specs.Reading.{related_fault}
+use Rattle.session_perform.proofs.Refusing.{full_refused}
+use Rattle.session_calls.proofs.Refusing.{passed_on}
+use Rattle.command_resolve.specs.declared.resolved.Resolved.TheVariants as resolved
+use Rattle.session_perform.specs.Refused.{IsRefusedLine}
 use Rattle.command_resolve.specs.declared.answer.Answer.TheVariants as answer
 use Rattle.session_perform.specs.Performing.{link_shown}
 use Rattle.session_perform.proofs.Performed.{passed, tells_then, untold_then}
 use Rattle.session_perform.proofs.links.read_link.Goals as goal
 
-pub returns-in_err-related : goal.returns-in_err-related
-returns-in_err-related g c =
+pub returns-in_err-related-clause-performed : goal.returns-in_err-related-clause-performed
+returns-in_err-related-clause-performed g c =
     passed g.K.Keeper.moment c.from_residual.ensures.1 (untold_then g.K.Keeper.moment (λ related session. answer.Thing (link_shown session.graph related)) c.in_err-related.ensures.call)
 
-pub returns : goal.returns
-returns g c =
+pub returns-clause-performed : goal.returns-clause-performed
+returns-clause-performed g c =
     tells_then g.K.Keeper.moment (λ related session. answer.Thing (link_shown session.graph related)) c.link_told.result c.link_told.ensures.told c.link_told.ensures.there c.link_told.ensures.cause c.in_ok-related.ensures.call
+
+pub returns-in_err-related-clause-refused : goal.returns-in_err-related-clause-refused
+returns-in_err-related-clause-refused g c = λ rules.
+    passed_on (λ e. IsRefusedLine rules (resolved.ShowLink c.args.object c.args.relation) c.args.session.now (g.K.Keeper.moment c.args.keeper.now) e c.read_related.new.session (g.K.Keeper.moment c.read_related.new.keeper)) c.from_residual.result c.from_residual.ensures.1 c.in_err-related.ensures.refused
+
+pub returns-clause-refused : goal.returns-clause-refused
+returns-clause-refused g c = λ rules.
+    full_refused (pending_fault c.args.session.now) (related_fault c.args.object c.args.relation c.args.session.now) c.args.session.now c.read_related.new.session c.link_told.result c.link_told.ensures.cause

@@ -18,4 +18,4 @@ perform-requires-clause-ready g c =
 pub returns : goal.returns
 returns g c =
     performs_line g.K.Keeper.moment (rules_of c.args.hooks.now) c.args.dialect c.args.names.now c.args.command.now c.mapping.result.now c.args.session.now c.perform.new.session c.args.keeper.now c.perform.new.keeper c.in_ok-resolved.resolved c.perform.result
-    c.mapping.ensures.mapping c.in_ok-resolved.ensures.line c.perform.ensures
+    c.mapping.ensures.mapping c.in_ok-resolved.ensures.line c.perform.ensures.performed

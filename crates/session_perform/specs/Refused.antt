@@ -1,0 +1,52 @@
+-- Why a line is refused, and what that leaves of the session, by cases of the line.
+use Rattle.std.specs.Prelude.{◌≡◌, true, None, Some}
+use Rattle.base_core.specs.declared.refusal.Refusal.{Refusal}
+use Rattle.class_types.specs.Rules.{Rules}
+use Rattle.keeper_core.specs.Keeping.{RefusesBulk, RefusesSelect}
+use Rattle.object_arena.specs.Graph.{either_fault}
+use Rattle.programs.specs.Store.{Store}
+use Rattle.programs.specs.Programs.{ends_early}
+use Rattle.programs.specs.Moment.{Moment}
+use Rattle.programs.specs.declared.sent.Sent.TheVariants as sent
+use Rattle.session_scopes.specs.SessionState.{SessionState}
+use Rattle.session_calls.specs.Refusals.{IsRefused, entered, fault_in, mark_fault, read_fault}
+use Rattle.session_calls.specs.Steps.{pending_fault}
+use Rattle.session_tables.specs.Steps.{transaction_fault}
+use Rattle.session_savepoints.specs.Steps.{handle_fault, limit_fault}
+use Rattle.session_statements.specs.Steps.{update_fault}
+use Rattle.session_objects.specs.Conflicts.{add_fault}
+use Rattle.session_values.specs.Steps.{judged_fault, valid_made, value_invalid}
+use Rattle.session_links.specs.Linking.{change_fault}
+use Rattle.session_links.specs.Reading.{related_fault}
+use Rattle.session_acts.specs.Refusals.{IsRefusedFlushing, IsRefusedSending}
+use Rattle.command_resolve.specs.declared.resolved.Resolved.{Resolved}
+use Rattle.command_resolve.specs.declared.resolved.Resolved.TheVariants as resolved
+
+-- What needs no statement is asked first, and nothing has happened then; then what is asked in the transaction, which has begun then;
+-- then a flush may fail, and at last the statement. Lines that only tell are never refused.
+abbrev pub IsRefusedLine : Rules → Resolved → SessionState → Moment Store → Refusal → SessionState → Moment Store → Type 0
+IsRefusedLine rules resolved.CreateAll old was e new now = IsRefused (transaction_fault old) None old e new
+IsRefusedLine rules resolved.DropAll old was e new now = IsRefused (transaction_fault old) None old e new
+IsRefusedLine rules resolved.Dump old was e new now = ends_early e ≡ true
+IsRefusedLine rules (resolved.New name class cells) old was e new now = IsRefused (fault_in (valid_made rules class cells old).answer) None old e new
+IsRefusedLine rules (resolved.BeginNested name) old was e new now = IsRefusedFlushing (pending_fault old) (limit_fault (entered old)) old was e new now
+IsRefusedLine rules (resolved.SetCell object attr value) old was e new now =
+    IsRefused (either_fault (value_invalid rules object attr value old) (pending_fault old)) (judged_fault object attr value old) old e new
+IsRefusedLine rules (resolved.ChangeLink owner relation call) old was e new now = IsRefused (pending_fault old) (change_fault owner relation call old) old e new
+IsRefusedLine rules (resolved.Add object) old was e new now = IsRefused (pending_fault old) (add_fault object old) old e new
+IsRefusedLine rules (resolved.Delete object) old was e new now = IsRefused (pending_fault old) (mark_fault object old) old e new
+IsRefusedLine rules (resolved.Show thing) old was e new now = ⊥
+IsRefusedLine rules (resolved.ShowCell object attr) old was e new now = IsRefused (pending_fault old) (read_fault object attr old) old e new
+IsRefusedLine rules (resolved.ShowLink object relation) old was e new now = IsRefused (pending_fault old) (related_fault object relation old) old e new
+IsRefusedLine rules (resolved.State object) old was e new now = ⊥
+IsRefusedLine rules (resolved.Same object other) old was e new now = ⊥
+IsRefusedLine rules resolved.Flush old was e new now = IsRefusedFlushing (pending_fault old) None old was e new now
+IsRefusedLine rules (resolved.Commit None) old was e new now = IsRefusedFlushing (pending_fault old) None old was e new now
+IsRefusedLine rules (resolved.Commit (Some handle)) old was e new now = IsRefusedFlushing (either_fault (pending_fault old) (handle_fault handle old)) None old was e new now
+IsRefusedLine rules (resolved.Rollback None) old was e new now = ends_early e ≡ true
+IsRefusedLine rules (resolved.Rollback (Some handle)) old was e new now = IsRefused (handle_fault handle old) None old e new
+IsRefusedLine rules resolved.Close old was e new now = ends_early e ≡ true
+IsRefusedLine rules (resolved.Rows select) old was e new now =
+    IsRefusedSending (pending_fault old) None (sent.Query select) (RefusesSelect old.mapping.schema select) old was e new now
+IsRefusedLine rules (resolved.Bulk statement) old was e new now =
+    IsRefusedSending (pending_fault old) (update_fault statement old) (sent.Bulk statement) (RefusesBulk old.mapping.schema statement) old was e new now
