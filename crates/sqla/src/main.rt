@@ -9,15 +9,24 @@ use class_types::{Hooks, Rule, Validator, has_at, is_nonempty, is_positive, is_s
 use keeper_core::Keeper;
 use keeper_shelf::Shelf;
 use sqla_shell::{Status, refuse_words, run};
-use sqlite_database::{Database, Sqlite};
+use sqlite_database::{Database, OverDatabases, over_sqlite};
 use std::alloc::Global;
 use std::io::writer;
 use std::process::ExitCode;
 use std::rt::Env;
 use std::{env, io};
 
+/// The program, over databases of any type.
+struct Program;
+
+impl OverDatabases for Program {
+    fn run<D: Database + Drop>(rt: HostRuntime) -> u8 {
+        status_of::<D>(rt).code()
+    }
+}
+
 fn main(rt: HostRuntime) -> ExitCode {
-    ExitCode::from(status_of::<Sqlite>(rt).code())
+    ExitCode::from(over_sqlite::<Program>(rt))
 }
 
 /// The words after the program's name.
