@@ -1,11 +1,10 @@
 #!/usr/bin/env python3
-"""Asks SQLite for the values and rows that the tables of crates/expr_tests want, and tells each that differs.
+"""Asks SQLite for the values and rows that the lines of crates/expr_tests want, and tells each that differs.
 
     python3 tools/ask_sqlite.py            # at the top of the repository; the module sqlite3 has the store
 
-The tables write an operator behind its operands; here each becomes a text of SQL. What SQLite answers otherwise stands in tables of its own
-there and is not asked: results outside 64 bits, and the order of groups. A select without an order is compared without one, and so are the
-rows of an UPDATE.
+The lines write an operator behind its operands; here each becomes a text of SQL. What SQLite answers otherwise is not asked: refusals, as of
+results outside 64 bits. A select without an order is compared without one, and so are the rows of an UPDATE.
 """
 
 import pathlib
@@ -13,7 +12,7 @@ import re
 import sqlite3
 import sys
 
-FOLDER = pathlib.Path(__file__).resolve().parent.parent / "crates" / "expr_tests" / "src"
+FOLDER = pathlib.Path(__file__).resolve().parent.parent / "crates" / "expr_tests"
 COMPARE = {"=": "=", "!=": "<>", "<": "<", "<=": "<=", ">": ">", ">=": ">=", "+": "+", "-": "-", "*": "*", "||": "||", "and": "and", "or": "or"}
 CALLS = {"count": 1, "sum": 1, "min": 1, "max": 1, "lower": 1, "upper": 1, "length": 1, "coalesce": 2}
 
@@ -37,8 +36,8 @@ def sql(text, depth=0):
             stack.append(f"(not {stack.pop()})")
         elif name == "neg":
             stack.append(f"(- {stack.pop()})")
-        elif name in ("is-null", "is-not-null"):
-            stack.append(f"({stack.pop()} {name.replace('-', ' ')})")
+        elif name == "is-null":
+            stack.append(f"({stack.pop()} is {no}null)")
         elif name in ("like", "ilike"):
             b, a = stack.pop(), stack.pop()
             stack.append(f"({a} {no}like {b})" if name == "like" else f"(lower({a}) {no}like lower({b}))")
@@ -65,16 +64,6 @@ def literal(word):
     return {"null": None, "true": 1, "false": 0}.get(word, word[1:-1] if word.startswith("'") else word if not re.fullmatch(r"-?\d+", word) else int(word))
 
 
-def table(text, name):
-    """The strings of each entry of a table."""
-    body = re.search(rf"const {name}: [^=]*= &?\[(.*?)\n\];", text, re.S).group(1)
-    return [re.findall(r'"((?:[^"\\]|\\.)*)"', entry) for entry in re.findall(r'\(\s*("(?:[^"\\]|\\.)*"(?:,\s*"(?:[^"\\]|\\.)*")*),?\s*\)', body)]
-
-
-def constant(text, name):
-    return re.search(rf'const {name}: &str =\s*"((?:[^"\\]|\\.)*)";', text).group(1)
-
-
 def create(store, name, rows):
     store.execute(f"create table {name} ({', '.join(f'c{i}' for i in range(len(rows[0])))})")
     for row in rows:
@@ -87,17 +76,17 @@ def lines(text):
 
 def query(text):
     """The select in SQL, and whether it has an order."""
-    items, source, where, groups, having, order, first, cut = [], "", "", [], "", [], 0, {}
+    items, source, where, groups, having, order, cut = [], "", "", [], "", [], {}
     sources = 1 + len(re.findall(r"\b(?:join|left) ", text))
     distinct = ""
-    for clause in text.split(";")[:-1]:
+    head, *clauses = text.split(";")[:-1]
+    first = int(head.split()[1])
+    for clause in clauses:
         word, _, rest = clause.strip().partition(" ")
         if word == "distinct":
             distinct = "distinct "
-        elif word == "from":
-            first = int(rest)
         elif word in ("join", "left"):
-            number, _, on = rest.partition(":")
+            number, _, on = rest.partition(" ")
             place = 1 + source.count(" join ")
             source += f" {'left join' if word == 'left' else 'inner join'} t{number} as s{place} on {sql(on, sources)}"
         elif word in ("up", "down"):
@@ -121,47 +110,74 @@ def query(text):
     return whole, bool(order)
 
 
-def updated(store, rows, written, condition):
+def updated(rows, text):
     """The rows of a table of these that an UPDATE of the second column takes, as it leaves them."""
+    store = sqlite3.connect(":memory:")
     create(store, "t0", rows)
-    where = f" where {sql(condition)}" if condition else ""
-    found = store.execute(f"update t0 as s0 set c1 = {sql(written)}{where} returning c0, c1").fetchall()
-    return sorted(found)
+    written = re.search(r" set:1 ([^;]*);", text).group(1)
+    condition = re.search(r" where ([^;]*);", text)
+    where = f" where {sql(condition.group(1))}" if condition else ""
+    return sorted(store.execute(f"update t0 as s0 set c1 = {sql(written)}{where} returning c0, c1").fetchall())
 
 
-def main():
-    differ = 0
-    expressions = (FOLDER / "expressions.rt").read_text()
-    row = [literal(word) for word in constant(expressions, "ROW").split()]
+def rows_of(answer):
+    """The rows of an answer, each in parentheses; those of an UPDATE stand behind their keys."""
+    rows = re.findall(r"(-> )?\(([^)]*)\)", answer)
+    wanted = [row for arrow, row in rows if arrow] if "->" in answer else [row for _, row in rows]
+    return [tuple(literal(word) for word in row.split(", ")) for row in wanted]
+
+
+def value(row, text):
+    """The value of an expression over a row, of which the cells from the fifth on are those of a second source."""
     store = sqlite3.connect(":memory:")
     create(store, "t0", [row[:4]])
     create(store, "t1", [row[4:]])
-    values = table(expressions, "VALUES")
-    for text, wanted in values:
-        (found,) = store.execute(f"select {sql(text)} from t0 as s0, t1 as s1").fetchone()
-        if found != literal(wanted):
-            differ += 1
-            print(f"{text}: SQLite has {found!r}, the table {wanted}")
-    selects = (FOLDER / "selects.rt").read_text()
+    return store.execute(f"select {sql(text)} from t0 as s0, t1 as s1").fetchone()
+
+
+def select(tables, text):
+    """The rows of a select over tables, and whether it has an order."""
     store = sqlite3.connect(":memory:")
-    create(store, "t0", lines(constant(selects, "PEOPLE")))
-    create(store, "t1", lines(constant(selects, "TEAMS")))
-    cases = table(selects, "SELECTS")
-    for shows, text, wanted in cases:
-        asked, ordered = query(text)
-        found = store.execute(asked).fetchall()
-        same = found == lines(wanted) if ordered else sorted(map(repr, found)) == sorted(map(repr, lines(wanted)))
+    for number, rows in enumerate(tables):
+        create(store, f"t{number}", rows)
+    asked, ordered = query(text)
+    return store.execute(asked).fetchall(), ordered
+
+
+def main():
+    asked = (FOLDER / "stdin").read_text().splitlines()
+    answers = iter((FOLDER / "stdout").read_text().splitlines())
+    row, tables, keyed = [], [], []
+    counts = dict.fromkeys(("value", "select", "update"), 0)
+    differ = 0
+    for line in asked:
+        word, _, text = line.partition(" ")
+        if word == "row":
+            row = [literal(it) for it in text.split()]
+        elif word == "tables":
+            tables = [lines(part) for part in text.split("|")]
+        elif word == "keyed":
+            keyed = lines(text)
+        if word in ("row", "tables", "keyed", "table"):
+            continue
+        wanted = next(answers)
+        if word not in counts or "Error" in wanted:
+            continue
+        counts[word] += 1
+        if word == "value":
+            found = value(row, text)
+            same = found == (literal(wanted),)
+        elif word == "select":
+            found, ordered = select(tables, line)
+            rows = rows_of(wanted)
+            same = found == rows if ordered else sorted(map(repr, found)) == sorted(map(repr, rows))
+        else:
+            found = updated(keyed, line)
+            same = found == rows_of(wanted)
         if not same:
             differ += 1
-            print(f"{shows}: SQLite has {found}, the table {wanted}")
-    bulk = (FOLDER / "bulk.rt").read_text()
-    updates = table(bulk, "UPDATES")
-    for written, condition, wanted in updates:
-        found = updated(sqlite3.connect(":memory:"), lines(constant(bulk, "ROWS")), written, condition)
-        if found != lines(wanted):
-            differ += 1
-            print(f"{written} where {condition}: SQLite has {found}, the table {wanted}")
-    print(f"{len(values)} values, {len(cases)} selects, {len(updates)} updates, {differ} differ (SQLite {sqlite3.sqlite_version})")
+            print(f"{line}: SQLite has {found!r}, the answer is {wanted}")
+    print(f"{counts['value']} values, {counts['select']} selects, {counts['update']} updates, {differ} differ (SQLite {sqlite3.sqlite_version})")
     return 1 if differ else 0
 
 

@@ -8,12 +8,16 @@ pub fn number(word: &str) -> u32 {
     word.parse().unwrap_or(0)
 }
 
-/// The name that a word is.
+/// The name that a word is, with a blank for each `~`.
 ///
 /// # Errors
 /// Memory ran out.
 pub fn name(alloc: Global, word: &str) -> Result<Name, AllocError> {
-    Ok(Name::new(String::from_str(alloc, word)?))
+    let mut name = String::new(alloc);
+    for letter in word.chars() {
+        name.push(if letter == '~' { ' ' } else { letter })?;
+    }
+    Ok(Name::new(name))
 }
 
 /// The name that a word is, none where it is empty.

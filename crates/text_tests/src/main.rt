@@ -1,27 +1,21 @@
 //! Builds tables and statements from lines of a simple notation, and writes their texts in the three dialects.
 //!
-//! A line is words with a space between each two; a word is an operation, and behind a colon what it takes. `'` begins a
-//! name. The operations of an expression stand behind their operands, as in `col:0:1 int:5 =`.
+//! A line is `table` with a table, as `notations` reads it; `ddl` with a table's number and those of the foreign keys that come
+//! later, with commas between them; or a statement, as `statement_notations` reads it.
 #![tactic(auto)]
 
-mod exprs;
 mod lines;
 mod show;
-mod tables;
 
-use lines::Reader;
+use lines::Tables;
+use notations::answers;
 use std::io;
 
 fn main(rt: HostRuntime) -> io::Result<()> {
     let alloc = rt.alloc();
     let text = io::read_to_string(alloc, rt.reader())?;
-    let mut reader = Reader::new(alloc);
-    for line in text.lines() {
-        let shown = reader.answer(alloc, line);
-        match shown {
-            Ok(shown) => rt.print(shown)?,
-            Err(_) => rt.println("refused")?,
-        }
+    match answers(alloc, &mut Tables::new(alloc), &text) {
+        Ok(shown) => rt.print(shown),
+        Err(_) => rt.println("refused"),
     }
-    Ok(())
 }
