@@ -425,7 +425,7 @@ def parts_of(lines):
     parts, block = [], None
     for number, line in enumerate(lines, 1):
         if block is not None:
-            block.append(line)
+            block += [] if is_blank(line) else [line]
             if line.strip() == "end":
                 block = None
         elif not is_blank(line):
@@ -516,7 +516,7 @@ def first_difference(program, url, script):
             if refusal and is_own(refusal, form) or form == "compile":
                 continue
             if refusal.startswith("DataError(") and form in ("rows", "bulk"):
-                line, ours = "flush", []  # The text alone was refused, behind the flush.
+                line, ours = "flush", ours[:-1]  # The text alone was refused, behind the flush.
             if player.session is None and len(part) > 1:
                 player.blocks.append(part)
                 continue
