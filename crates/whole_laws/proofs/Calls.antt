@@ -1,0 +1,95 @@
+-- Every call of a session keeps it whole.
+use Rattle.std.proofs.Common.{List, [], ◌∷◌, refl}
+use Rattle.std.proofs.lemmas.List.Elements.{All-nil}
+use Rattle.class_types.specs.Rules.{Rules}
+use Rattle.class_mapping.specs.Mapped.{Mapped}
+use Rattle.flush_sound_laws.specs.Laws.{AnsweredFlushIsSound, FlushKeepsSound}
+use Rattle.object_arena.specs.Graph.{empty_graph}
+use Rattle.object_arena.proofs.FitLemmas.{fit_empty}
+use Rattle.savepoints.specs.Scopes.{HasKeys}
+use Rattle.session_calls.specs.Parts.{World}
+use Rattle.health_laws.specs.Calls.{Call, MayCall, after_call, after_calls}
+use Rattle.health_laws.specs.Health.{HasPlainClasses, IsWhole}
+use Rattle.health_laws.proofs.Calls.{call_healthy, new_healthy}
+use Rattle.whole_laws.specs.Whole.{AreCallsOf, CallsKeepWhole, IsCallOf, IsHale, SessionsHaveOneForEachKey, new_world}
+use Rattle.whole_laws.proofs.Handled as handled
+use Rattle.whole_laws.proofs.Handled.{Handled}
+use Rattle.whole_laws.proofs.Programs as keyed
+use Rattle.whole_laws.proofs.Programs.{HasKeyed}
+
+may_call : (call : Call) (w : World) → IsCallOf call w → MayCall call w
+may_call (Call.Make class given) w of = tt
+may_call (Call.Add object) w of = of
+may_call (Call.Set object attr value) w of = of.0
+may_call (Call.Read object attr) w of = of
+may_call (Call.Delete object) w of = of
+may_call Call.Flush w of = tt
+may_call Call.Commit w of = tt
+may_call Call.Rollback w of = tt
+may_call Call.Close w of = tt
+may_call Call.BeginNested w of = tt
+may_call (Call.CommitHandle handle) w of = tt
+may_call (Call.RollbackHandle handle) w of = tt
+may_call (Call.ChangeTables change) w of = tt
+may_call (Call.Rows select) w of = tt
+may_call (Call.Write statement) w of = of
+
+module _ (rules : Rules) where
+  call_keyed : (call : Call) (w : World) → IsCallOf call w → HasKeyed w → HasKeyed (after_call rules call w)
+  call_keyed (Call.Make class given) w of has = keyed.make_keyed rules class given w of.0 of.1 has
+  call_keyed (Call.Add object) w of has = (keyed.add_keyed object).kept w has
+  call_keyed (Call.Set object attr value) w of has = keyed.set_keyed object attr value rules w of.1 has
+  call_keyed (Call.Read object attr) w of has = (keyed.read_keyed object attr).kept w has
+  call_keyed (Call.Delete object) w of has = (keyed.delete_keyed object).kept w has
+  call_keyed Call.Flush w of has = keyed.flush_keyed.kept w has
+  call_keyed Call.Commit w of has = keyed.commit_keyed.kept w has
+  call_keyed Call.Rollback w of has = keyed.rollback_keyed.kept w has
+  call_keyed Call.Close w of has = keyed.close_keyed.kept w has
+  call_keyed Call.BeginNested w of has = keyed.nested_begun.kept w has
+  call_keyed (Call.CommitHandle handle) w of has = (keyed.handle_committed handle).kept w has
+  call_keyed (Call.RollbackHandle handle) w of has = (keyed.handle_keyed handle).kept w has
+  call_keyed (Call.ChangeTables change) w of has = (keyed.tables_keyed change).kept w has
+  call_keyed (Call.Rows select) w of has = (keyed.rows_asked select).kept w has
+  call_keyed (Call.Write statement) w of has = (keyed.bulk_sent statement).kept w has
+
+  call_handled : (call : Call) (w : World) → Handled w → Handled (after_call rules call w)
+  call_handled (Call.Make class given) w has = handled.make_handled rules class given w has
+  call_handled (Call.Add object) w has = (handled.add_handled object).kept w has
+  call_handled (Call.Set object attr value) w has = (handled.set_handled rules object attr value).kept w has
+  call_handled (Call.Read object attr) w has = (handled.read_handled object attr).kept w has
+  call_handled (Call.Delete object) w has = (handled.delete_handled object).kept w has
+  call_handled Call.Flush w has = handled.flush_handled w has
+  call_handled Call.Commit w has = handled.commit_handled w has
+  call_handled Call.Rollback w has = handled.rollback_handled w has
+  call_handled Call.Close w has = handled.close_handled.kept w has
+  call_handled Call.BeginNested w has = handled.nested_handled w has
+  call_handled (Call.CommitHandle handle) w has = handled.handle_committed handle w has
+  call_handled (Call.RollbackHandle handle) w has = handled.handle_handled handle w has
+  call_handled (Call.ChangeTables change) w has = (handled.tables_handled change).kept w has
+  call_handled (Call.Rows select) w has = handled.rows_handled select w has
+  call_handled (Call.Write statement) w has = handled.bulk_handled statement w has
+
+module _ (keeps : FlushKeepsSound) (answers : AnsweredFlushIsSound) (rules : Rules) where
+  call_hale : (call : Call) (w : World) → IsCallOf call w → IsHale w → IsHale (after_call rules call w)
+  call_hale call w of hale =
+      let whole : IsWhole w = record { fit = hale.keyed.fit; handled = hale.handled } in
+      record {
+        healthy = call_healthy keeps answers rules call w whole (may_call call w of) hale.healthy;
+        keyed = call_keyed rules call w of hale.keyed;
+        handled = call_handled rules call w hale.handled;
+      }
+
+  calls_hale : (calls : List Call) (w : World) → IsHale w → AreCallsOf rules calls w → IsHale (after_calls rules calls w)
+  calls_hale [] w hale of = hale
+  calls_hale (call ∷ calls) w hale of = calls_hale calls (after_call rules call w) (call_hale call w of.0 hale) of.1
+
+-- ---- a new session
+
+pub new_whole : (mapping : Mapped) → HasPlainClasses mapping → IsHale (new_world mapping)
+new_whole mapping plain = record { healthy = new_healthy mapping plain; keyed = record { plain = plain; fit = fit_empty mapping; keys = All-nil (HasKeys mapping empty_graph) }; handled = refl }
+
+pub whole_law : FlushKeepsSound → AnsweredFlushIsSound → CallsKeepWhole
+whole_law keeps answers rules calls w hale of = calls_hale keeps answers rules calls w hale of
+
+pub one_law : CallsKeepWhole → SessionsHaveOneForEachKey
+one_law law mapping rules calls plain of = (law rules calls (new_world mapping) (new_whole mapping plain) of).healthy.sound.graph.one

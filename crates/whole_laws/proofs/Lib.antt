@@ -1,0 +1,6 @@
+pub mod Refit
+pub mod Keyed
+pub mod Keeping
+pub mod Programs
+pub mod Handled
+pub mod Calls
