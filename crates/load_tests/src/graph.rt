@@ -1,0 +1,148 @@
+//! Objects as acts put them.
+
+ghost use Rattle.std.specs.Prelude.{◌≡◌, true};
+ghost use Rattle.object_arena.specs.Fit.{IsFit};
+ghost use Rattle.object_arena.specs.Graph.{IsObject};
+
+use base_core::{AttrNo, ClassId, ListOf, ObjId, ObjList, Refusal, RelNo};
+use class_mapping::Mapping;
+use graph_fits::{cell_fits, key_fits, link_fits};
+use load_filling::load_object;
+use notations::{number, row, value};
+use object_arena::{Arena, Cell, Link};
+use std::alloc::Global;
+
+/// What stands before the first blank, and behind it.
+pub(crate) fn first_word(words: &str) -> (&str, &str) {
+    words.split_once(' ').unwrap_or((words, ""))
+}
+
+/// Whether an object has been made.
+pub(crate) fn is_made(arena: &Arena, object: ObjId) -> bool
+    ensures { result ≡ true → IsObject arena.now object }
+{
+    0 < object.0 && object.0 <= arena.count()
+}
+
+/// A persistent object of a class under a key that no other has: its cells are expired, and its links unloaded.
+fn hold(alloc: Global, mapping: &Mapping, arena: &mut Arena, words: &str) -> Result<(), Refusal>
+    requires configured { mapping.now.configured ≡ true }
+    requires fit { IsFit mapping.now arena.old }
+    ensures { IsFit mapping.now arena.new }
+{
+    let (class, key) = first_word(words);
+    let class = ClassId(number(class));
+    let key = row(alloc, key)?;
+    if class.0 >= mapping.count() || !key_fits(mapping, class, &key) {
+        return Err(Refusal::NotBuilt);
+    }
+    if arena.find_identity(mapping.root_of(class), &key).is_some() {
+        return Err(Refusal::NotBuilt);
+    }
+    let _object = load_object(arena, mapping, class, key)?;
+    Ok(())
+}
+
+/// A cell that holds a value, as it was written or not.
+fn cell_of(alloc: Global, words: &str, is_written: bool) -> Result<Cell, Refusal> {
+    let held = value(alloc, words)?;
+    if !is_written {
+        return Ok(Cell {
+            value: Some(held),
+            base: None,
+        });
+    }
+    let base = value(alloc, words)?;
+    Ok(Cell {
+        value: Some(held),
+        base: Some(base),
+    })
+}
+
+/// A cell of an object holds a value.
+fn set(
+    alloc: Global,
+    mapping: &Mapping,
+    arena: &mut Arena,
+    words: &str,
+    is_written: bool,
+) -> Result<(), Refusal>
+    requires configured { mapping.now.configured ≡ true }
+    requires fit { IsFit mapping.now arena.old }
+    ensures { IsFit mapping.now arena.new }
+{
+    let (object, words) = first_word(words);
+    let (attr, words) = first_word(words);
+    let object = ObjId(number(object));
+    let attr = AttrNo(number(attr));
+    let cell = cell_of(alloc, words, is_written)?;
+    if !is_made(arena, object) {
+        return Err(Refusal::NotBuilt);
+    }
+    let attributes = mapping.attributes(arena.object(object).class);
+    if attr.0 as usize >= attributes.len() || !cell_fits(&attributes[attr.0 as usize], &cell) {
+        return Err(Refusal::NotBuilt);
+    }
+    arena.put_cell(object, attr, cell)
+}
+
+/// Objects with commas between them; there may be none.
+fn objects_of(alloc: Global, words: &str) -> Result<ObjList, Refusal> {
+    let mut objects = ListOf::new(alloc);
+    for word in words.split(',') {
+        if !word.is_empty() {
+            objects.push(ObjId(number(word)))?;
+        }
+    }
+    Ok(objects)
+}
+
+/// An unloaded link with the kept adds and removes.
+fn link_of(alloc: Global, words: &str) -> Result<Link, Refusal> {
+    let (added, removed) = words.split_once('/').unwrap_or((words, ""));
+    Ok(Link::Unloaded {
+        added: objects_of(alloc, added)?,
+        removed: objects_of(alloc, removed)?,
+    })
+}
+
+/// An unloaded collection of an object keeps changes.
+fn keep(alloc: Global, mapping: &Mapping, arena: &mut Arena, words: &str) -> Result<(), Refusal>
+    requires configured { mapping.now.configured ≡ true }
+    requires fit { IsFit mapping.now arena.old }
+    ensures { IsFit mapping.now arena.new }
+{
+    let (object, words) = first_word(words);
+    let (place, words) = first_word(words);
+    let object = ObjId(number(object));
+    let place = RelNo(number(place));
+    let link = link_of(alloc, words)?;
+    if !is_made(arena, object) {
+        return Err(Refusal::NotBuilt);
+    }
+    let relations = mapping.relations(arena.object(object).class);
+    let at = place.0 as usize;
+    if at >= relations.len() || !link_fits(arena, mapping, &relations[at], &link) {
+        return Err(Refusal::NotBuilt);
+    }
+    arena.put_link(object, place, link)
+}
+
+/// Puts objects as an act says.
+pub(crate) fn put(
+    alloc: Global,
+    mapping: &Mapping,
+    arena: &mut Arena,
+    letter: &str,
+    words: &str,
+) -> Result<(), Refusal>
+    requires configured { mapping.now.configured ≡ true }
+    requires fit { IsFit mapping.now arena.old }
+    ensures { IsFit mapping.now arena.new }
+{
+    match letter {
+        "h" => hold(alloc, mapping, arena, words),
+        "k" => keep(alloc, mapping, arena, words),
+        _ => set(alloc, mapping, arena, words, letter == "s"),
+    }
+}

@@ -1,0 +1,223 @@
+//! Plays lines.
+
+ghost use Rattle.std.specs.Prelude.{◌≡◌, None, true, false, IfErr, OnOk};
+ghost use Rattle.object_arena.specs.declared.object.State.TheVariants.{Persistent};
+ghost use Rattle.object_arena.specs.Fit.{IsFit};
+ghost use Rattle.object_arena.specs.Graph.{IsObject, object_at};
+ghost use Rattle.programs.specs.Programs.{ends_early};
+ghost use Rattle.load_calls.specs.Reading.{IsReady, StaysReady};
+
+use crate::declared::declare_all;
+use crate::graph::{first_word, is_made, put};
+use crate::store::fill;
+use crate::told::{tell_load, tell_objects};
+use base_core::{ListOf, ObjId, Refusal, RelNo};
+use class_mapping::Mapping;
+use class_types::Hooks;
+use keeper_core::{Keeper, Notes, calls};
+use keeper_mem::MemKeeper;
+use load_calls::refresh;
+use load_targets::load_lazy;
+use notations::{Reader, number};
+use object_arena::{Arena, State};
+use std::alloc::{AllocError, Global};
+use std::mem::{self, drop};
+
+/// The mapping that was declared last.
+#[derive(Drop)]
+pub(crate) struct Player {
+    hooks: Hooks,
+    mapping: Box<Mapping>,
+}
+
+fn is_persistent(arena: &Arena, object: ObjId) -> bool
+    requires { IsObject arena.now object }
+    ensures { result ≡ true → (object_at arena.now object).state ≡ Persistent }
+{
+    match arena.state_of(object) {
+        State::Persistent => true,
+        _ => false,
+    }
+}
+
+/// Loads the link of an object at a place.
+fn load_link<K: Keeper>(
+    alloc: Global,
+    object: ObjId,
+    place: RelNo,
+    arena: &mut Arena,
+    mapping: &Mapping,
+    keeper: &mut K,
+    notes: &mut Notes,
+) -> Result<(), Refusal>
+    requires configured { mapping.now.configured ≡ true }
+    requires fit { IsFit mapping.now arena.old }
+    requires object { IsObject arena.old object }
+    requires persistent { (object_at arena.old object).state ≡ Persistent }
+    requires ready { IsReady mapping.now.schema (K.moment keeper.old) }
+    ensures stays { StaysReady mapping.now.schema result (K.moment keeper.new) }
+    ensures fits { IsFit mapping.now arena.new }
+{
+    let relations = mapping.relations(arena.object(object).class);
+    if place.0 as usize >= relations.len() {
+        return Err(Refusal::NotBuilt);
+    }
+    load_lazy(alloc, arena, mapping, keeper, object, place, notes)
+}
+
+/// Loads what an act asks for of a persistent object.
+fn load<K: Keeper>(
+    alloc: Global,
+    arena: &mut Arena,
+    mapping: &Mapping,
+    keeper: &mut K,
+    letter: &str,
+    words: &str,
+    notes: &mut Notes,
+) -> Result<(), Refusal>
+    requires configured { mapping.now.configured ≡ true }
+    requires fit { IsFit mapping.now arena.old }
+    requires ready { IsReady mapping.now.schema (K.moment keeper.old) }
+    ensures stays { StaysReady mapping.now.schema result (K.moment keeper.new) }
+    ensures fits { IsFit mapping.now arena.new }
+{
+    let (object, place) = first_word(words);
+    let object = ObjId(number(object));
+    if !is_made(arena, object) || !is_persistent(arena, object) {
+        return Err(Refusal::NotBuilt);
+    }
+    if letter == "r" {
+        return refresh(alloc, arena, mapping, keeper, object, notes);
+    }
+    let place = RelNo(number(place));
+    load_link(alloc, object, place, arena, mapping, keeper, notes)
+}
+
+fn is_ended(answer: &Result<(), Refusal>) -> bool
+    ensures { result ≡ false → IfErr answer.now (λ e. ends_early e ≡ false) }
+{
+    match answer {
+        Ok(()) => false,
+        Err(refusal) => calls::ends_early(refusal),
+    }
+}
+
+/// Does an act that loads, and tells of it.
+fn tell<K: Keeper>(
+    alloc: Global,
+    arena: &mut Arena,
+    mapping: &Mapping,
+    keeper: &mut K,
+    act: &str,
+    shown: &mut String,
+) -> Result<(), Refusal>
+    requires configured { mapping.now.configured ≡ true }
+    requires fit { IsFit mapping.now arena.old }
+    requires ready { IsReady mapping.now.schema (K.moment keeper.old) }
+    ensures stays { OnOk result (IsReady mapping.now.schema (K.moment keeper.new)) }
+    ensures fits { IsFit mapping.now arena.new }
+{
+    let (letter, words) = first_word(act);
+    let mut notes = ListOf::new(alloc);
+    let answer = load(alloc, arena, mapping, keeper, letter, words, &mut notes);
+    if is_ended(&answer) {
+        return Err(Refusal::Memory);
+    }
+    tell_load(alloc, mapping, act, &answer, &notes, shown)
+}
+
+/// Does an act.
+fn step<K: Keeper>(
+    alloc: Global,
+    arena: &mut Arena,
+    mapping: &Mapping,
+    keeper: &mut K,
+    act: &str,
+    shown: &mut String,
+) -> Result<(), Refusal>
+    requires configured { mapping.now.configured ≡ true }
+    requires fit { IsFit mapping.now arena.old }
+    requires ready { IsReady mapping.now.schema (K.moment keeper.old) }
+    ensures stays { OnOk result (IsReady mapping.now.schema (K.moment keeper.new)) }
+    ensures fits { IsFit mapping.now arena.new }
+{
+    let (letter, words) = first_word(act);
+    match letter {
+        "h" | "k" | "s" | "c" => put(alloc, mapping, arena, letter, words),
+        _ => tell(alloc, arena, mapping, keeper, act, shown),
+    }
+}
+
+/// Does the acts of a line one after the other, and tells the objects then.
+fn play<K: Keeper>(
+    alloc: Global,
+    mapping: &Mapping,
+    arena: &mut Arena,
+    keeper: &mut K,
+    acts: &str,
+    shown: &mut String,
+) -> Result<(), Refusal>
+    requires configured { mapping.now.configured ≡ true }
+    requires fit { IsFit mapping.now arena.old }
+    requires ready { IsReady mapping.now.schema (K.moment keeper.old) }
+{
+    for act in acts.split(';') {
+        step(alloc, arena, mapping, keeper, act, shown)?;
+    }
+    tell_objects(alloc, arena, shown)?;
+    Ok(())
+}
+
+/// Plays the acts of a line over a keeper that has its rows.
+fn play_over<K: Keeper>(
+    alloc: Global,
+    mapping: &Mapping,
+    keeper: &mut K,
+    line: &str,
+    shown: &mut String,
+) -> Result<(), Refusal>
+    requires configured { mapping.now.configured ≡ true }
+    requires fresh { (K.moment keeper.old).target ≡ None }
+{
+    let (rows, acts) = line.split_once('#').unwrap_or((line, ""));
+    fill(alloc, keeper, mapping.schema(), rows)?;
+    let mut arena = Arena::new(alloc);
+    play(alloc, mapping, &mut arena, keeper, acts, shown)
+}
+
+/// Plays a line over a keeper in memory.
+fn play_line(
+    alloc: Global,
+    mapping: &Mapping,
+    line: &str,
+    shown: &mut String,
+) -> Result<(), Refusal> {
+    if !mapping.is_configured() {
+        return Err(Refusal::NotBuilt);
+    }
+    let mut keeper = MemKeeper::new(alloc, &[])?;
+    play_over(alloc, mapping, &mut keeper, line, shown)
+}
+
+impl Player {
+    /// Nothing is declared.
+    pub(crate) fn new(alloc: Global) -> Result<Player, AllocError> {
+        Ok(Player {
+            hooks: Hooks::new(alloc),
+            mapping: Box::new(alloc, Mapping::new(alloc))?,
+        })
+    }
+}
+
+impl Reader for Player {
+    fn answer(&mut self, alloc: Global, line: &str, shown: &mut String) -> Result<(), Refusal> {
+        if let Some(lines) = line.strip_prefix('=') {
+            let mapping = Box::new(alloc, Mapping::new(alloc))?;
+            drop(mem::replace(&mut self.mapping, mapping));
+            return declare_all(alloc, &self.hooks, &mut *self.mapping, lines);
+        }
+        play_line(alloc, &*self.mapping, line, shown)?;
+        shown.push('\n')?;
+        Ok(())
+    }
+}
