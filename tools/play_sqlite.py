@@ -1,17 +1,18 @@
 #!/usr/bin/env python3
-"""Plays the bulk statements of crates/keeper_tests on SQLite, and tells each whose answer differs from the table's.
+"""Plays the statements on many rows of crates/keeper_tests on SQLite, and tells each whose answer differs from the expected one.
 
     python3 tools/play_sqlite.py           # at the top of the repository; the module sqlite3 has the store
 
-The table BULKS is played call by call. What SQLite does otherwise stands in a table of its own there (JUDGED), and is not asked.
+The lines of stdin behind the heading "Statements on many rows" are played call by call, up to the next heading. What SQLite does
+otherwise stands behind a heading of its own there, and is not asked.
 """
 
 import pathlib
-import re
 import sqlite3
 import sys
 
-TESTS = pathlib.Path(__file__).resolve().parent.parent / "crates" / "keeper_tests" / "src" / "tests.rt"
+FOLDER = pathlib.Path(__file__).resolve().parent.parent / "crates" / "keeper_tests"
+HEADING = "# Statements on many rows"
 NAMES = {"0": "a", "1": "b"}
 TABLES = {
     "0": "create table a (id integer not null primary key, n integer not null unique)",
@@ -28,26 +29,28 @@ REFUSALS = [
 ]
 
 
-def value(text):
-    """A cell: `Some(5)` is 5, `None` is NULL."""
-    return "null" if text == "None" else re.fullmatch(r"Some\((-?\d+)\)", text)[1]
+def value(word):
+    return "null" if word == "_" else str(int(word))
 
 
-def above(bound):
-    return "" if bound == "None" else f" where n > {value(bound)}"
+def above(words):
+    """The rows above a bound, all where there is none."""
+    return f" where n > {int(words[0])}" if words else ""
 
 
-def sql(table, other, kind, words):
+def sql(kind, table, words):
     """The statement in SQL."""
-    if kind == "Put":
-        return f"insert into {table} (id, n) values ({value(words[0])}, {value(words[1])})"
-    if kind == "Raise":
-        return f"update {table} set n = n + {words[0]}{above(words[1])}"
-    if kind == "Assign":
-        return f"update {table} set n = {value(words[0])}{above(words[1])}"
-    if kind == "Clear":
-        return f"delete from {table}{above(words[0])}"
-    return f"delete from {table} where exists (select 1 from {other} where {other}.n = {table}.id)"
+    name = NAMES[table]
+    if kind == "put":
+        return f"insert into {name} (id, n) values ({value(words[0])}, {value(words[1])})"
+    if kind == "raise":
+        return f"update {name} set n = n + {int(words[0])}{above(words[1:])}"
+    if kind == "assign":
+        return f"update {name} set n = {value(words[0])}{above(words[1:])}"
+    if kind == "clear":
+        return f"delete from {name}{above(words)}"
+    other = NAMES[words[0]]
+    return f"delete from {name} where exists (select 1 from {other} where {other}.n = {name}.id)"
 
 
 def sent(store, text):
@@ -58,43 +61,48 @@ def sent(store, text):
         return next((letter for said, letter in REFUSALS if said in str(error)), str(error))
 
 
-def answer(store, depth, call, words):
+def answer(store, depth, word, words):
     """What SQLite answers to a call at this depth, and the depth then."""
-    if call == "Create":
-        store.execute(TABLES[words])
+    if word == "keeper":
+        return ".", depth
+    if word == "create":
+        store.execute(TABLES[words[0]])
         return "y", depth
-    if call == "Count":
-        return str(store.execute(f"select count(*) from {NAMES[words]}").fetchone()[0]), depth
-    if call == "Savepoint":
+    if word == "count":
+        return str(store.execute(f"select count(*) from {NAMES[words[0]]}").fetchone()[0]), depth
+    if word == "savepoint":
         store.execute(f"savepoint s{depth}")
         return ".", depth + 1
-    if call == "RollbackTo":
-        store.execute(f"rollback to s{words}")
-        store.execute(f"release s{words}")
-        return ".", int(words)
-    if call in ("Begin", "Commit", "Rollback"):
-        store.execute(call)
-        return ".", int(call == "Begin")
-    if depth == 0:
-        return "?", depth
-    table, other, kind, _, arguments = re.fullmatch(r"(\d), (\d), Many::(\w+)(\((.*)\))?", words).groups()
-    return sent(store, sql(NAMES[table], NAMES[other], kind, (arguments or "").split(", "))), depth
+    if word == "rollback-to":
+        store.execute(f"rollback to s{words[0]}")
+        store.execute(f"release s{words[0]}")
+        return ".", int(words[0])
+    if word in ("begin", "commit", "rollback"):
+        store.execute(word)
+        return ".", int(word == "begin")
+    return ("?" if depth == 0 else sent(store, sql(word, words[0], words[1:]))), depth
+
+
+def calls():
+    """The calls behind the heading, each with its expected answer."""
+    lines = (FOLDER / "stdin").read_text(encoding="utf-8").splitlines()
+    wanted = (FOLDER / "stdout").read_text(encoding="utf-8").splitlines()
+    begin = next(place for place, line in enumerate(lines) if line.startswith(HEADING)) + 1
+    end = next(place for place in range(begin, len(lines)) if lines[place].startswith("#"))
+    return list(zip(lines[begin:end], wanted[begin:end]))
 
 
 def main():
-    text = " ".join(TESTS.read_text(encoding="utf-8").split())
-    begin = text.index("static BULKS")
-    entries = text[begin : text.index("];", begin)].split("Call::")[1:]
-    calls = [re.match(r"(\w+)(?:\((.*)\))?, b'(.)'", entry).groups() for entry in entries]
     store = sqlite3.connect(":memory:", isolation_level=None)
     store.execute("pragma foreign_keys = on")
-    depth, wrong = 0, 0
-    for place, (call, words, wanted) in enumerate(calls):
-        found, depth = answer(store, depth, call, words)
+    depth, wrong, played = 0, 0, calls()
+    for line, wanted in played:
+        word, *words = line.split()
+        found, depth = answer(store, depth, word, words)
         if found != wanted:
             wrong += 1
-            print(f"call {place}, {call}({words}): SQLite answers {found}, the table has {wanted}")
-    print(f"{len(calls)} calls, {wrong} differ")
+            print(f"{line}: SQLite answers {found}, the table has {wanted}")
+    print(f"{len(played)} calls, {wrong} differ")
     return 1 if wrong else 0
 
 
