@@ -2,8 +2,9 @@
 """kill_runs.py [RUNS]: runs a script over a store in a file, kills it at random moments, and asks sqlite3 whether the file is whole.
 
 After each kill the file has to pass SQLite's own check, and its rows have to be those of a beginning of the script's commits: a commit
-is there with all its rows or with none. Every other run goes on over the file that the last one left. Run it at the top of the
-repository, where `./sqla` has been built. It ends with status 1 where a file was not whole. It is no part of the gate.
+is there with all its rows or with none. A file that was being made has none, and is taken by `sqla` alone. Every other run goes on
+over the file that the last one left. Run it at the top of the repository, where `./sqla` has been built. It ends with status 1 where a
+file was not whole. It is no part of the gate.
 """
 import os
 import random
@@ -37,9 +38,15 @@ def script(start):
     return ''.join(lines).encode()
 
 
+def is_in_the_making(path):
+    """Whether the file was being made: its first byte is written last, and no commit is in it."""
+    with open(path, 'rb') as store:
+        return store.read(16) == b'\0QLite format 3\0'
+
+
 def commits_in(path):
     """How many commits the file has; None where it is not whole or has half of one."""
-    if not os.path.exists(path):
+    if not os.path.exists(path) or is_in_the_making(path):
         return 0
     with sqlite3.connect(path) as store:
         if store.execute('pragma integrity_check').fetchall() != [('ok',)]:
