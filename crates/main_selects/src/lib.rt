@@ -1,0 +1,8 @@
+//! The main select of a query for objects, with the sources and columns of its joined options.
+#![tactic(auto)]
+
+mod options;
+mod queries;
+mod shifted;
+
+pub use queries::main_select;
