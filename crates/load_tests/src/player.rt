@@ -26,7 +26,6 @@ use std::mem::{self, drop};
 /// The mapping that was declared last.
 #[derive(Drop)]
 pub(crate) struct Player {
-    hooks: Hooks,
     mapping: Box<Mapping>,
 }
 
@@ -203,7 +202,6 @@ impl Player {
     /// Nothing is declared.
     pub(crate) fn new(alloc: Global) -> Result<Player, AllocError> {
         Ok(Player {
-            hooks: Hooks::new(alloc),
             mapping: Box::new(alloc, Mapping::new(alloc))?,
         })
     }
@@ -214,7 +212,8 @@ impl Reader for Player {
         if let Some(lines) = line.strip_prefix('=') {
             let mapping = Box::new(alloc, Mapping::new(alloc))?;
             drop(mem::replace(&mut self.mapping, mapping));
-            return declare_all(alloc, &self.hooks, &mut *self.mapping, lines);
+            let hooks = Hooks::new(alloc);
+            return declare_all(alloc, &hooks, &mut *self.mapping, lines);
         }
         play_line(alloc, &*self.mapping, line, shown)?;
         shown.push('\n')?;
