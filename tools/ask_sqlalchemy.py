@@ -3,6 +3,7 @@
 
     python3 tools/ask_sqlalchemy.py PROGRAM SCRIPT..              # over SQLite in memory
     python3 tools/ask_sqlalchemy.py --url URL PROGRAM SCRIPT..    # over PostgreSQL; its schema `public` is cleared for each script
+    python3 tools/ask_sqlalchemy.py PROGRAM scripts/*.txt         # the script of each case; its answers are not read
 
 The module sqlalchemy, 2.0 or later, has to be there. PROGRAM is asked with the script on its standard input; behind the script
 every link of every object is shown, and what is pending is committed and dumped, so that the last rows and links are compared.
@@ -16,6 +17,8 @@ which is told with its line. Behind all scripts the differences are counted by t
 
 import argparse
 import collections
+import itertools
+import os
 import re
 import subprocess
 import warnings
@@ -360,8 +363,8 @@ def refusal_of(fault, player):
     missing = re.search(r"no such table: (?:main\.)?(.*)|relation \"(.*)\" does not exist", text)
     if missing:
         return "OperationalError(%s)" % (missing[1] or missing[2])
-    if isinstance(fault, exc.ResourceClosedError):
-        return "ResourceClosedError"
+    if isinstance(fault, (exc.ResourceClosedError, orm_exc.ObjectDeletedError)):
+        return type(fault).__name__
     for kind, part in (("NotPersistent", "is not persisted"), ("Deleted", "has been deleted"),
                        ("IdentityConflict", "already present in this session")):
         if isinstance(fault, exc.InvalidRequestError) and part in text:
@@ -503,8 +506,8 @@ def played(player, line):
     return warned(caught, player) + got
 
 
-def first_difference(program, url, script):
-    """The number and text of the first line at which the two part, with both answers; or None."""
+def differences(program, url, script):
+    """The lines at which the two part: each line's number and text, with both answers."""
     lines = script.split("\n")
     parts = parts_of(lines + ending(lines))
     player = Player(url)
@@ -526,34 +529,53 @@ def first_difference(program, url, script):
                 continue
             if mine != theirs:
                 pairs = zip(mine + [""] * len(theirs), theirs + [""] * len(mine))
-                return (number, line.strip(), *next(pair for pair in pairs if pair[0] != pair[1]))
+                yield (number, line.strip(), *next(pair for pair in pairs if pair[0] != pair[1]))
     finally:
         player.end()
-    return None
+
+
+def scripts_of(path):
+    """The scripts of a file, each with what it is called: of a file of cases those of its cases, else the file itself."""
+    with open(path, encoding="utf-8") as file:
+        text = file.read()
+    if not path.endswith(".txt"):
+        return [(path, text)]
+    found, folder = [], os.path.dirname(path)
+    for line in text.split("\n"):
+        if line.startswith("== "):
+            found.append(["%s (%s)" % (path, line[3:]), ""])
+        elif line.startswith("< "):
+            with open(os.path.join(folder, line[2:] + ".sqla"), encoding="utf-8") as part:
+                found[-1][1] += part.read()
+        elif line.startswith(">"):
+            found[-1][1] += line[2:] + "\n"
+    return found
 
 
 def main():
     words = argparse.ArgumentParser(description=__doc__, formatter_class=argparse.RawDescriptionHelpFormatter)
     words.add_argument("--url", default="sqlite://")
+    words.add_argument("--on", action="store_true", help="go on behind a difference")
     words.add_argument("program")
     words.add_argument("scripts", nargs="+")
     asked = words.parse_args()
-    kinds, left_out = collections.Counter(), collections.Counter()
-    for path in asked.scripts:
+    kinds, left_out, count, parted = collections.Counter(), collections.Counter(), 0, 0
+    for name, script in (one for path in asked.scripts for one in scripts_of(path)):
         try:
-            with open(path, encoding="utf-8") as script:
-                found = first_difference([asked.program], asked.url, script.read())
-        except (NotAsked, UnicodeDecodeError) as why:
+            every = differences([asked.program], asked.url, script)
+            found = list(every if asked.on else itertools.islice(every, 1))
+            every.close()
+        except NotAsked as why:
             left_out[str(why)[:60]] += 1
             continue
-        if found:
-            number, line, ours, theirs = found
-            print("%s:%d: %s: program %s, SQLAlchemy %s" % (path, number, line, ours or "nothing", theirs or "nothing"), flush=True)
+        count += 1
+        parted += bool(found)
+        for number, line, ours, theirs in found:
+            print("%s:%d: %s: program %s, SQLAlchemy %s" % (name, number, line, ours or "nothing", theirs or "nothing"), flush=True)
             form = Words(line)
             about = form.peek(2) if form.peek(1) == "=" else form.peek()
             kinds[(about, re.sub(r"\d+|'[^']*'", "..", ours), re.sub(r"\d+|'[^']*'", "..", theirs))] += 1
-    count = len(asked.scripts) - sum(left_out.values())
-    print("%d scripts asked, %d left out, %d with a difference" % (count, sum(left_out.values()), sum(kinds.values())))
+    print("%d scripts asked, %d left out, %d with a difference" % (count, sum(left_out.values()), parted))
     for (form, ours, theirs), times in kinds.most_common():
         print("%4d  %s: program %s, SQLAlchemy %s" % (times, form, ours or "nothing", theirs or "nothing"))
     for why, times in left_out.most_common():
