@@ -55,44 +55,75 @@ fn add_set(alloc: Global, clauses: &mut Clauses, column: &str, text: &str) -> Re
     clauses.sets.push((column, Some(e.into_inner())))
 }
 
+fn put(items: &mut Items<Expr>, e: Boxed<Expr>) -> Result<(), Refusal> {
+    Ok(items.push(e.into_inner())?)
+}
+
+fn put_order(clauses: &mut Clauses, e: Boxed<Expr>, down: bool) -> Result<(), Refusal> {
+    clauses.order.push((e.into_inner(), down))
+}
+
 fn add_expression(clauses: &mut Clauses, word: &str, e: Boxed<Expr>) -> Result<(), Refusal> {
     match word {
-        "where" => clauses.filters.push(e.into_inner())?,
-        "group" => clauses.groups.push(e.into_inner())?,
-        "having" => clauses.havings.push(e.into_inner())?,
-        "up" => clauses.order.push((e.into_inner(), false))?,
-        _ => clauses.order.push((e.into_inner(), true))?,
+        "where" => put(&mut clauses.filters, e),
+        "group" => put(&mut clauses.groups, e),
+        "having" => put(&mut clauses.havings, e),
+        "up" => put_order(clauses, e, false),
+        _ => put_order(clauses, e, true),
     }
-    Ok(())
+}
+
+/// A bound of the rows that are taken, or that each row is told once.
+fn set_bound(clauses: &mut Clauses, word: &str, text: &str) {
+    match word {
+        "limit" => clauses.limit = text.parse::<u64>().ok(),
+        "offset" => clauses.offset = text.parse::<u64>().ok(),
+        _ => clauses.distinct = true,
+    }
+}
+
+fn add_word(
+    alloc: Global,
+    clauses: &mut Clauses,
+    word: &str,
+    of: &str,
+    text: &str,
+) -> Result<(), Refusal> {
+    match word {
+        "item" => add_item(alloc, clauses, of, text),
+        "join" => add_join(alloc, clauses, false, text),
+        "left" => add_join(alloc, clauses, true, text),
+        "set" => add_set(alloc, clauses, of, text),
+        "null" => clauses.sets.push((ColumnNo(number(text)), None)),
+        _ => add_expression(clauses, word, expression(alloc, text)?),
+    }
 }
 
 fn add_clause(alloc: Global, clauses: &mut Clauses, clause: &str) -> Result<(), Refusal> {
     let (head, text) = clause.split_once(' ').unwrap_or((clause, ""));
     let (word, of) = head.split_once(':').unwrap_or((head, ""));
     match word {
-        "distinct" => clauses.distinct = true,
-        "limit" => clauses.limit = text.parse::<u64>().ok(),
-        "offset" => clauses.offset = text.parse::<u64>().ok(),
-        "item" => add_item(alloc, clauses, of, text)?,
-        "join" => add_join(alloc, clauses, false, text)?,
-        "left" => add_join(alloc, clauses, true, text)?,
-        "set" => add_set(alloc, clauses, of, text)?,
-        "null" => clauses.sets.push((ColumnNo(number(text)), None))?,
-        _ => add_expression(clauses, word, expression(alloc, text)?)?,
+        "" => Ok(()),
+        "distinct" | "limit" | "offset" => {
+            set_bound(clauses, word, text);
+            Ok(())
+        }
+        _ => add_word(alloc, clauses, word, of, text),
+    }
+}
+
+fn add_clauses(alloc: Global, clauses: &mut Clauses, text: &str) -> Result<(), Refusal> {
+    for clause in text.split(';') {
+        add_clause(alloc, clauses, clause.trim())?;
     }
     Ok(())
 }
 
 /// The clauses of a text, each ended by a semicolon.
-pub(crate) fn clauses_of(alloc: Global, text: &str) -> Result<Boxed<Clauses>, Refusal> {
-    let mut clauses = no_clauses(alloc);
-    for clause in text.split(';') {
-        let clause = clause.trim();
-        if !clause.is_empty() {
-            add_clause(alloc, &mut clauses, clause)?;
-        }
-    }
-    Ok(Boxed::new(alloc, clauses)?)
+pub(crate) fn clauses_of(alloc: Global, text: &str) -> Result<Box<Clauses>, Refusal> {
+    let mut clauses = Box::new(alloc, no_clauses(alloc))?;
+    add_clauses(alloc, &mut *clauses, text)?;
+    Ok(clauses)
 }
 
 pub(crate) fn select_of(first: Origin, clauses: Clauses) -> Select {

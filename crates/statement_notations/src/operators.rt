@@ -5,6 +5,7 @@ use expr_types::{CompareOp, Expr, Func, Origin};
 use notations::{named, number, row, value};
 use sqlite_items::{Boxed, Items};
 use std::alloc::{AllocError, Global};
+use std::mem::drop;
 
 /// The operands so far, the last one on top.
 type Stack = Vec<Boxed<Expr>>;
@@ -53,7 +54,13 @@ pub fn answer_expression<A: AnswersExpressions>(
 
 /// What stands at the head of an expression, of the heads that normal forms are told by; the expression is dropped here.
 pub fn head_of(e: Expr) -> &'static str {
-    match &e {
+    let head = head_in(&e);
+    drop(e);
+    head
+}
+
+fn head_in(e: &Expr) -> &'static str {
+    match e {
         Expr::Compare(CompareOp::Less, _, _) => "<",
         Expr::Compare(CompareOp::GreaterEqual, _, _) => ">=",
         Expr::And(parts) if parts.len() == 3 => "and of three",

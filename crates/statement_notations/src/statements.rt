@@ -21,19 +21,19 @@ fn boxed(alloc: Global, statement: Statement) -> Result<Boxed<Statement>, Refusa
 fn select(alloc: Global, source: &str, text: &str) -> Result<Boxed<Statement>, Refusal> {
     let clauses = clauses_of(alloc, text)?;
     let first = origin(alloc, source)?;
-    let select = select_of(first, clauses.into_inner());
+    let select = select_of(first, Box::into_inner(clauses));
     boxed(alloc, Statement::Select(select))
 }
 
 fn update(alloc: Global, table: TableId, text: &str) -> Result<Boxed<Statement>, Refusal> {
     let clauses = clauses_of(alloc, text)?;
-    let update = update_of(table, clauses.into_inner());
+    let update = update_of(table, Box::into_inner(clauses));
     boxed(alloc, Statement::Bulk(update))
 }
 
 fn delete(alloc: Global, table: TableId, text: &str) -> Result<Boxed<Statement>, Refusal> {
     let clauses = clauses_of(alloc, text)?;
-    let delete = delete_of(table, clauses.into_inner());
+    let delete = delete_of(table, Box::into_inner(clauses));
     boxed(alloc, Statement::Bulk(delete))
 }
 
@@ -57,18 +57,23 @@ fn insert(alloc: Global, table: TableId, text: &str) -> Result<Boxed<Statement>,
     boxed(alloc, Statement::Bulk(insert))
 }
 
-fn cell(alloc: Global, text: &str) -> Result<(ColumnNo, Value), Refusal> {
+fn push_cell(
+    alloc: Global,
+    cells: &mut ListOf<(ColumnNo, Value)>,
+    text: &str,
+) -> Result<(), Refusal> {
+    if text.is_empty() {
+        return Ok(());
+    }
     let (column, word) = text.split_once(' ').unwrap_or((text, ""));
-    Ok((ColumnNo(number(column)), value(alloc, word)?))
+    let value = value(alloc, word)?;
+    cells.push((ColumnNo(number(column)), value))
 }
 
 fn cells_of(alloc: Global, text: &str) -> Result<ListOf<(ColumnNo, Value)>, Refusal> {
     let mut cells = ListOf::new(alloc);
     for words in text.split(';') {
-        let words = words.trim();
-        if !words.is_empty() {
-            cells.push(cell(alloc, words)?)?;
-        }
+        push_cell(alloc, &mut cells, words.trim())?;
     }
     Ok(cells)
 }
