@@ -124,7 +124,12 @@ def main(words):
     if not words or "--" in words[:1] or len(words) > 1 and (words[1] != "--" or len(words) < 3):
         sys.exit(__doc__)
     status = run(words[0], words[2:]) if len(words) > 1 else 0
-    table(words[0])
+    try:
+        table(words[0])
+        sys.stdout.flush()
+    except BrokenPipeError:
+        # (who reads the table, as head, may stop before its end)
+        os.dup2(os.open(os.devnull, os.O_WRONLY), sys.stdout.fileno())
     return status
 
 
