@@ -2,9 +2,9 @@
 """kill_runs.py [RUNS]: runs a script over a store in a file, kills it at random moments, and asks sqlite3 whether the file is whole.
 
 After each kill the file has to pass SQLite's own check, and its rows have to be those of a beginning of the script's commits: a commit
-is there with all its rows or with none. A file that was being made has none, and is taken by `sqla` alone. Every other run goes on
-over the file that the last one left. Run it at the top of the repository, where `./sqla` has been built. It ends with status 1 where a
-file was not whole. It is no part of the gate.
+is there with all its rows or with none. Every other run goes on over the file that the last one left; the others begin with no file or
+with one without bytes, and half of them are killed within 20 milliseconds, while the file is made. Run it at the top of the repository,
+where `./sqla` has been built. It ends with status 1 where a file was not whole. It is no part of the gate.
 """
 import os
 import random
@@ -38,15 +38,9 @@ def script(start):
     return ''.join(lines).encode()
 
 
-def is_in_the_making(path):
-    """Whether the file was being made: its first byte is written last, and no commit is in it."""
-    with open(path, 'rb') as store:
-        return store.read(16) == b'\0QLite format 3\0'
-
-
 def commits_in(path):
     """How many commits the file has; None where it is not whole or has half of one."""
-    if not os.path.exists(path) or is_in_the_making(path):
+    if not os.path.exists(path):
         return 0
     with sqlite3.connect(path) as store:
         if store.execute('pragma integrity_check').fetchall() != [('ok',)]:
@@ -56,6 +50,15 @@ def commits_in(path):
         rows = store.execute('select id, name from users order by id').fetchall()
     whole = [(n + 1, f'c{n // ROWS}r{n % ROWS}') for n in range(len(rows))]
     return len(rows) // ROWS if rows == whole and len(rows) % ROWS == 0 else None
+
+
+def begin_anew(path, without_bytes):
+    """Takes the file and those beside it away, and leaves a file without bytes where that is asked for."""
+    for end in ('', '-wal', '-shm', '-journal'):
+        if os.path.exists(path + end):
+            os.remove(path + end)
+    if without_bytes:
+        open(path, 'wb').close()
 
 
 def run_and_kill(program, path, start, seconds):
@@ -81,12 +84,12 @@ def main():
     with tempfile.TemporaryDirectory() as folder:
         path = os.path.join(folder, 'kept.db')
         for number in range(runs):
+            longest = 0.4
             if number % 2 == 0:
-                for end in ('', '-wal', '-shm', '-journal'):
-                    if os.path.exists(path + end):
-                        os.remove(path + end)
+                begin_anew(path, number % 8 == 0)
+                longest = 0.02 if number % 4 == 0 else 0.4
             before = commits_in(path)
-            killed += run_and_kill(program, path, before, random.uniform(0.001, 0.4))
+            killed += run_and_kill(program, path, before, random.uniform(0.0005, longest))
             now = commits_in(path)
             if now is None or now < before:
                 sys.exit(f'run {number}: the file has {now} whole commits, {before} before')

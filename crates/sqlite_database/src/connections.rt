@@ -2,6 +2,7 @@
 
 use crate::database::Database;
 use crate::ending::Ending;
+use crate::new_files::begin_file;
 use crate::values::{parameters_of, rows_of};
 use base_core::{Kind, RowList, Value};
 use sqlite::{Alter, Connection, Error, File, FileStore, MemStore};
@@ -40,7 +41,10 @@ impl Opens for FileStore<File> {
         name: Option<&str>,
     ) -> Result<Connection<FileStore<File>>, Ending> {
         match name {
-            Some(name) => connection_or_ending(Connection::open(&rt, name)),
+            Some(name) => {
+                begin_file(&rt, name)?;
+                connection_or_ending(Connection::open(&rt, name))
+            }
             None => Err(Ending::Fault),
         }
     }

@@ -4,6 +4,7 @@ use base_core::Refusal;
 use schema_core::Violation;
 use sqlite::{Constraint, Error, ErrorCode};
 use std::alloc::{AllocError, AllocFailed};
+use std::io;
 
 /// Why something was not done: the store failed, memory ran out, or the tables refuse it.
 #[derive(Clone, Copy)]
@@ -22,6 +23,15 @@ impl From<AllocError> for Ending {
 impl<T: Drop> From<AllocFailed<T>> for Ending {
     fn from(_e: AllocFailed<T>) -> Ending {
         Ending::Memory
+    }
+}
+
+impl From<io::Error> for Ending {
+    fn from(error: io::Error) -> Ending {
+        match error.kind() {
+            io::ErrorKind::OutOfMemory => Ending::Memory,
+            _ => Ending::Fault,
+        }
     }
 }
 

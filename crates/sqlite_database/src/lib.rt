@@ -5,6 +5,7 @@ mod connections;
 mod database;
 mod ending;
 mod link;
+mod new_files;
 mod over;
 mod values;
 
