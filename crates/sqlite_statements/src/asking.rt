@@ -70,7 +70,7 @@ pub(crate) fn ask_compiled<D: Database>(
 }
 
 /// The integer that is the first value of the first row, or none where it is NULL. Another answer is a fault.
-fn integer_of(rows: &RowList) -> Result<Option<i64>, Ending> {
+pub(crate) fn integer_of(rows: &RowList) -> Result<Option<i64>, Ending> {
     let Some(row) = rows.get(0) else {
         return Err(Ending::Fault);
     };

@@ -7,10 +7,10 @@ ghost use Rattle.schema_core.specs.WellFormed.{AreKeysFor, AreKeysOf, IsDrawnFor
 ghost use Rattle.std.specs.List.{list_all};
 ghost use Rattle.sqlite_statements.specs.Endings.{IfRefused, IsKeyFor};
 
-use crate::asking::{ask_integer, run_statement};
-use crate::tables::has_table;
+use crate::asking::{ask_compiled, ask_integer, integer_of, run_statement};
+use crate::tables::{has_table, put_names};
 use base_core::{
-    ColumnNo, Copied, Key, KeyList, ListOf, Refusal, RowList, RowValues, TableId, Value,
+    ColumnNo, Copied, Key, KeyList, Kind, ListOf, Refusal, RowList, RowValues, TableId, Value,
 };
 use expr_types::Statement;
 use row_cells::{key_of, lacks_given, with_key};
@@ -114,16 +114,13 @@ fn rows_with_keys(
     Ok((ListOf::from_vec(filled), ListOf::from_vec(keys)))
 }
 
-/// Writes the select of a table's greatest key.
+/// Writes the select of a table's greatest key, for which SQLite reads the last row alone.
 fn put_greatest_key(writer: &mut Writer, spec: &TableSpec) -> Result<(), Refusal> {
-    writer.put_words("SELECT max(")?;
-    for column in spec.columns.as_slice() {
-        if column.key {
-            writer.put_name(&column.name)?;
-        }
-    }
-    writer.put_words(") FROM ")?;
-    writer.put_name(&spec.name)
+    put_names(writer, "SELECT ", spec.columns.as_slice(), true)?;
+    writer.put_words(" FROM ")?;
+    writer.put_name(&spec.name)?;
+    put_names(writer, " ORDER BY ", spec.columns.as_slice(), true)?;
+    writer.put_words(" DESC LIMIT 1")
 }
 
 /// The greatest key of a table, none where it is empty.
@@ -134,7 +131,11 @@ fn greatest_key<D: Database>(
 ) -> Result<Option<i64>, Ending> {
     let mut writer = Writer::new(alloc, Quoting::Sqlite);
     put_greatest_key(&mut writer, spec)?;
-    ask_integer(database, alloc, writer)
+    let rows = ask_compiled(database, alloc, Ok(writer.finish()), &[Kind::Integer])?;
+    if rows.is_empty() {
+        return Ok(None);
+    }
+    integer_of(&rows)
 }
 
 /// Whether a row leaves its key open.

@@ -79,7 +79,7 @@ fn lead(first: bool, word: &'static str) -> &'static str {
 }
 
 /// The names of columns behind a word; of the key alone, where that is asked for.
-fn put_names(
+pub(crate) fn put_names(
     writer: &mut Writer,
     word: &'static str,
     columns: &[ColumnSpec],
