@@ -69,7 +69,7 @@ declared_above mapped class place has within related =
     ap (is_at_or_under mapped class) (sym partner.1.target) ∙ back.1
 
 -- a key of the class is one of the table of that one's root
-owner_key : (mapped : Mapped) (class : ClassId) (place : RelNo) (key : List Value) → HasHierarchies mapped → IsClass mapped class → place.0 < length (relations_of mapped class) → IsRelated mapped (relation_of mapped class place)
+pub owner_key : (mapped : Mapped) (class : ClassId) (place : RelNo) (key : List Value) → HasHierarchies mapped → IsClass mapped class → place.0 < length (relations_of mapped class) → IsRelated mapped (relation_of mapped class place)
     → key_fits mapped class key ≡ true → is_key (root_spec mapped (relation_of mapped class place).class) key ≡ true
 owner_key mapped class place key has less within related fits =
     let relation : Relation = relation_of mapped class place in

@@ -18,6 +18,7 @@ ghost use Rattle.load_rows.specs.Loading.{loading};
 ghost use Rattle.load_rows.specs.Reading.{IsRowOf, identity_key};
 ghost use Rattle.load_calls.specs.Reading.{IsReady, StaysReady};
 ghost use Rattle.load_collections.specs.Collections as spec;
+ghost use Rattle.load_collections.specs.Refusals.{CanRefuseRows};
 
 use crate::rows::take_rows;
 use base_core::{ObjId, Refusal, RelNo, RowList};
@@ -88,6 +89,7 @@ fn read_members<K: Keeper>(
     ensures stays { StaysReady mapping.now.schema result (K.moment keeper.new) }
     ensures target { IfOk result (λ _. IsClass mapping.now relation.now.target) }
     ensures rows { IfOk result (AllByRecursion (IsRowOf mapping.now relation.now.target)) }
+    ensures refuses { IfErr result (CanRefuseRows mapping.now) }
 {
     let wanted = select_of_members(alloc, arena, mapping, relation, owner, place)?;
     read(alloc, mapping, keeper, &wanted, notes)
@@ -124,6 +126,7 @@ pub fn load_collection<K: Keeper>(
     ensures stays { StaysReady mapping.now.schema result (K.moment keeper.new) }
     ensures grows { Grows arena.old arena.new }
     ensures fits { IsFit mapping.now arena.new }
+    ensures refuses { IfErr result (CanRefuseRows mapping.now) }
 {
     let relation = relation_at(mapping, arena.object(owner).class, place);
     let rows = read_members(

@@ -1,6 +1,6 @@
 //! The objects of rows.
 
-ghost use Rattle.std.specs.Prelude.{◌≡◌, true, IfOk, OnOk};
+ghost use Rattle.std.specs.Prelude.{◌≡◌, true, IfErr, IfOk, OnOk};
 ghost use Rattle.std.specs.List.{All, AllByRecursion};
 ghost use Rattle.class_mapping.specs.Mapped.{IsClass, root_of};
 ghost use Rattle.object_arena.specs.Fit.{IsFit, is_of_root};
@@ -10,6 +10,7 @@ ghost use Rattle.load_filling.specs.Growing.{Grows};
 ghost use Rattle.load_rows.specs.Loading.{loading};
 ghost use Rattle.load_rows.specs.Reading.{IsRowOf};
 ghost use Rattle.load_collections.specs.Collections as spec;
+ghost use Rattle.load_collections.specs.Refusals.{CanRefuseRow};
 
 use base_core::{ClassId, ListOf, ObjList, Refusal, RowValues, Value};
 use class_mapping::Mapping;
@@ -41,6 +42,7 @@ fn take_next(
         objects.new) }
     ensures grows { Grows arena.old arena.new }
     ensures fits { IsFit mapping.now arena.new }
+    ensures refuses { IfErr result CanRefuseRow }
 {
     let object = take_row(alloc, arena, mapping, class, values, notes)?;
     objects.push(object)
@@ -69,6 +71,7 @@ pub fn take_rows(
         (λ object. is_of_root arena.new.roots (root_of mapping.now class) object ≡ true)) }
     ensures grows { Grows arena.old arena.new }
     ensures fits { IsFit mapping.now arena.new }
+    ensures refuses { IfErr result CanRefuseRow }
 {
     let mut objects = ListOf::new(alloc);
     for row in rows {

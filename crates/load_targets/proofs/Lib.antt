@@ -1,3 +1,3 @@
-mod KeyLemmas
-mod EndLemmas
-mod TargetLemmas
+pub mod KeyLemmas
+pub mod EndLemmas
+pub mod TargetLemmas

@@ -17,6 +17,7 @@ ghost use Rattle.load_filling.specs.Growing.{Grows};
 ghost use Rattle.load_rows.specs.Loading.{loading};
 ghost use Rattle.load_rows.specs.Reading.{IsRowOf};
 ghost use Rattle.load_calls.specs.Reading.{IsReady, StaysReady, read};
+ghost use Rattle.load_collections.specs.Refusals.{CanRefuseRow, CanRefuseRows};
 ghost use Rattle.load_targets.specs.Targets as spec;
 
 use base_core::{ClassId, Key, ObjId, Refusal, RowList, Value};
@@ -70,6 +71,7 @@ fn read_key<K: Keeper>(
         (loading arena.now notes.new, keeper.new) }
     ensures stays { StaysReady mapping.now.schema result (K.moment keeper.new) }
     ensures rows { IfOk result (AllByRecursion (IsRowOf mapping.now class)) }
+    ensures refuses { IfErr result (CanRefuseRows mapping.now) }
 {
     let _ = arena.count();
     let wanted = select_of_key(alloc, mapping, class, key)?;
@@ -95,6 +97,7 @@ fn take_first(
         (λ end. end_fits arena.new.roots (root_of mapping.now class) end ≡ true) }
     ensures grows { Grows arena.old arena.new }
     ensures fits { IsFit mapping.now arena.new }
+    ensures refuses { IfErr result CanRefuseRow }
 {
     match rows.get(0) {
         Some(row) => {
@@ -134,6 +137,7 @@ pub fn load_key<K: Keeper>(
         (λ end. end_fits arena.new.roots (root_of mapping.now class) end ≡ true) }
     ensures grows { Grows arena.old arena.new }
     ensures fits { IsFit mapping.now arena.new }
+    ensures refuses { IfErr result (CanRefuseRows mapping.now) }
 {
     let rows = read_key(alloc, &*arena, mapping, keeper, class, key, notes)?;
     take_first(alloc, arena, mapping, class, &rows, notes)
@@ -145,14 +149,15 @@ fn is_null(value: &Value) -> bool
     matches!(value, Value::Null)
 }
 
-fn has_null(key: &[Value]) -> bool
+/// Whether a key has a NULL.
+pub fn has_null(key: &[Value]) -> bool
     ensures { result ≡ has_null key.now }
 {
     key.iter().any(|value| is_null(value))
 }
 
 /// The object, where it is of a class at or under the class.
-fn if_of(arena: &Arena, mapping: &Mapping, class: ClassId, object: ObjId) -> Option<ObjId>
+pub fn if_of(arena: &Arena, mapping: &Mapping, class: ClassId, object: ObjId) -> Option<ObjId>
     requires { IsObject arena.now object }
     ensures { result ≡ spec.if_of arena.now mapping.now class object }
 {
@@ -191,6 +196,7 @@ pub fn find_or_load<K: Keeper>(
         (λ end. end_fits arena.new.roots (root_of mapping.now class) end ≡ true) }
     ensures grows { Grows arena.old arena.new }
     ensures fits { IsFit mapping.now arena.new }
+    ensures refuses { IfErr result (CanRefuseRows mapping.now) }
 {
     if has_null(key.as_slice()) {
         return Ok(None);

@@ -1,6 +1,6 @@
 //! The reading of any link.
 
-ghost use Rattle.std.specs.Prelude.{◌≡◌, ◌<◌, true, length};
+ghost use Rattle.std.specs.Prelude.{◌≡◌, ◌<◌, true, length, IfErr};
 ghost use Rattle.class_mapping.specs.Mapped.{relations_of};
 ghost use Rattle.object_arena.specs.declared.object.State.TheVariants.{Persistent};
 ghost use Rattle.object_arena.specs.Fit.{IsFit, relation_of};
@@ -10,6 +10,7 @@ ghost use Rattle.programs.specs.Moment.{Runs};
 ghost use Rattle.load_filling.specs.Growing.{Grows};
 ghost use Rattle.load_rows.specs.Loading.{loading};
 ghost use Rattle.load_calls.specs.Reading.{IsReady, StaysReady};
+ghost use Rattle.load_collections.specs.Refusals.{CanRefuseLoad};
 ghost use Rattle.load_targets.specs.Targets as spec;
 
 use crate::targets::load_target;
@@ -49,6 +50,7 @@ pub fn load_lazy<K: Keeper>(
     ensures stays { StaysReady mapping.now.schema result (K.moment keeper.new) }
     ensures grows { Grows arena.old arena.new }
     ensures fits { IsFit mapping.now arena.new }
+    ensures refuses { IfErr result (CanRefuseLoad mapping.now object) }
 {
     let relation = relation_at(mapping, arena.object(object).class, place);
     if relation.many {

@@ -6,7 +6,7 @@ mod keys;
 mod lazy;
 mod targets;
 
-pub use ends::{find_or_load, load_key};
+pub use ends::{find_or_load, has_null, if_of, load_key};
 pub use keys::{foreign_attrs, values_at};
 pub use lazy::load_lazy;
-pub use targets::load_target;
+pub use targets::{load_target, target_key};

@@ -13,6 +13,8 @@ ghost use Rattle.programs.specs.Moment.{Runs};
 ghost use Rattle.load_filling.specs.Growing.{Grows};
 ghost use Rattle.load_rows.specs.Loading.{loading};
 ghost use Rattle.load_calls.specs.Reading.{IsReady, StaysReady};
+ghost use Rattle.load_calls.specs.Refreshing.{CanRefuse};
+ghost use Rattle.load_collections.specs.Refusals.{CanRefuseLoad, CanRefuseRows};
 ghost use Rattle.load_targets.specs.ForeignKeys.{foreign_key};
 ghost use Rattle.load_targets.specs.Targets as spec;
 
@@ -50,6 +52,7 @@ fn refresh_key<K: Keeper>(
     ensures stays { StaysReady mapping.now.schema result (K.moment keeper.new) }
     ensures fits { IsFit mapping.now arena.new }
     ensures classes { classes_of arena.new ≡ classes_of arena.old }
+    ensures refuses { IfErr result (CanRefuse mapping.now child) }
 {
     let record = arena.object(child);
     let attrs = foreign_attrs(alloc, mapping, record.class, relation)?;
@@ -59,8 +62,9 @@ fn refresh_key<K: Keeper>(
     refresh(alloc, arena, mapping, keeper, child, notes)
 }
 
-/// What the cells of the foreign key of a many-to-one relationship hold: a key of its target, unless it has a NULL.
-fn target_key(
+/// What the cells of the foreign key of a many-to-one relationship hold, NULL in the place of one that is expired: a key of its target,
+/// unless it has a NULL. The only refusal is `Memory`.
+pub fn target_key(
     alloc: Global,
     arena: &Arena,
     mapping: &Mapping,
@@ -116,6 +120,7 @@ fn read_target<K: Keeper>(
         (root_of mapping.now relation.now.target) end ≡ true) }
     ensures grows { Grows arena.old arena.new }
     ensures fits { IsFit mapping.now arena.new }
+    ensures refuses { IfErr result (CanRefuseRows mapping.now) }
 {
     let key = target_key(alloc, &*arena, mapping, relation, child, place)?;
     find_or_load(alloc, arena, mapping, keeper, relation.target, &key, notes)
@@ -152,6 +157,7 @@ pub fn load_target<K: Keeper>(
     ensures stays { StaysReady mapping.now.schema result (K.moment keeper.new) }
     ensures grows { Grows arena.old arena.new }
     ensures fits { IsFit mapping.now arena.new }
+    ensures refuses { IfErr result (CanRefuseLoad mapping.now child) }
 {
     let relation = relation_at(mapping, arena.object(child).class, place);
     refresh_key(alloc, arena, mapping, keeper, relation, child, notes)?;

@@ -11,7 +11,9 @@ use Rattle.programs.proofs.Sequence.{passed_on}
 use Rattle.load_filling.proofs.LoadedLemmas.{grows_same}
 use Rattle.load_rows.proofs.TakenLemmas.{grows_filled}
 use Rattle.load_rows.specs.Reading.{IsRowOf}
-use Rattle.load_calls.proofs.ReadLemmas.{ready_stays}
+use Rattle.load_calls.proofs.ReadLemmas.{passed_refusal, ready_stays}
+use Rattle.load_collections.specs.Refusals.{CanRefuseRows}
+use Rattle.load_collections.proofs.RefusalLemmas.{lost_alone_refuses, of_row}
 use Rattle.load_collections.proofs.CollectionLemmas.{class_there, collection_loaded, members_refused, owner_there, rows_refused, same_relation}
 use Rattle.load_collections.proofs.collections.load_collection.Goals as goal
 
@@ -80,3 +82,13 @@ returns-clause-grows g c = grows_filled c.args.arena.now c.take_rows.new.arena c
 
 pub returns-in_err-rows-clause-grows : goal.returns-in_err-rows-clause-grows
 returns-in_err-rows-clause-grows g c = grows_same c.args.arena.now c.args.arena.now refl
+
+pub returns-in_err-members-clause-refuses : goal.returns-in_err-members-clause-refuses
+returns-in_err-members-clause-refuses g c =
+    passed_refusal (CanRefuseRows c.args.mapping.now) _ c.from_residual-in_err-members.result c.from_residual-in_err-members.ensures.1 (of_row c.args.mapping.now _ c.in_err-members.ensures.refuses)
+
+pub returns-clause-refuses : goal.returns-clause-refuses
+returns-clause-refuses g c = lost_alone_refuses (CanRefuseRows c.args.mapping.now) c.fill_collection.result c.fill_collection.ensures.cause tt
+
+pub returns-in_err-rows-clause-refuses : goal.returns-in_err-rows-clause-refuses
+returns-in_err-rows-clause-refuses g c = passed_refusal (CanRefuseRows c.args.mapping.now) _ c.from_residual.result c.from_residual.ensures.1 c.in_err-rows.ensures.refuses

@@ -1,7 +1,9 @@
 use Rattle.programs.proofs.Lifting.{no_room}
 use Rattle.programs.proofs.Sequence.{passed_on}
 use Rattle.load_rows.specs.Reading.{identity_key}
-use Rattle.load_calls.proofs.ReadLemmas.{passed_stays}
+use Rattle.load_calls.proofs.ReadLemmas.{passed_memory, passed_stays}
+use Rattle.load_collections.specs.Refusals.{CanRefuseRows}
+use Rattle.load_collections.proofs.RefusalLemmas.{refused_select}
 use Rattle.load_collections.proofs.CollectionLemmas.{declared_told, members_read, members_rows}
 use Rattle.load_collections.proofs.collections.read_members.Goals as goal
 
@@ -22,3 +24,9 @@ returns-clause-rows g c =
 
 pub returns-clause-target : goal.returns-clause-target
 returns-clause-target g c = declared_told c.args.mapping.now c.args.relation.now.target c.read.result c.in_ok-wanted.ensures.related.target
+
+pub returns-in_err-wanted-clause-refuses : goal.returns-in_err-wanted-clause-refuses
+returns-in_err-wanted-clause-refuses g c = passed_memory (CanRefuseRows c.args.mapping.now) _ c.from_residual.result c.from_residual.ensures.1 c.in_err-wanted.ensures.cause tt
+
+pub returns-clause-refuses : goal.returns-clause-refuses
+returns-clause-refuses g c = refused_select c.args.mapping.now c.in_ok-wanted.wanted c.read.result c.read.ensures.refuses

@@ -5,6 +5,8 @@ use Rattle.load_filling.proofs.LoadedLemmas.{grows_same}
 use Rattle.load_rows.specs.Loading.{loading}
 use Rattle.load_collections.specs.Collections.{take_next}
 use Rattle.load_collections.proofs.RowsLemmas.{grows_then, none_of, rows_start}
+use Rattle.load_collections.specs.Refusals.{CanRefuseRow}
+use Rattle.load_calls.proofs.ReadLemmas.{passed_refusal}
 use Rattle.load_collections.proofs.rows.take_rows.Goals as goal
 
 pub loop-row-init : goal.loop-row-init
@@ -33,3 +35,6 @@ loop-row-preserved c = record {
 
 pub returns-clause-step : goal.returns-clause-step
 returns-clause-step c = each_end (take_next c.args.mapping.now c.args.class) c.args.rows.now c.loop-row.row-index c.loop-row.invariant.step c.loop-row-test.false refl
+
+pub returns-in_err-take_next-clause-refuses : goal.returns-in_err-take_next-clause-refuses
+returns-in_err-take_next-clause-refuses c = passed_refusal CanRefuseRow _ c.from_residual.result c.from_residual.ensures.1 c.in_err-take_next.ensures.refuses

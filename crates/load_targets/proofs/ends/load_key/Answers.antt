@@ -1,8 +1,10 @@
 use Rattle.std.proofs.Common.{refl}
 use Rattle.programs.proofs.Sequence.{passed_on}
 use Rattle.load_filling.proofs.LoadedLemmas.{grows_same}
-use Rattle.load_calls.proofs.ReadLemmas.{ready_stays}
+use Rattle.load_calls.proofs.ReadLemmas.{passed_refusal, ready_stays}
+use Rattle.load_collections.proofs.RefusalLemmas.{refused_rows}
 use Rattle.load_targets.proofs.EndLemmas.{key_loaded, key_refused}
+use Rattle.load_collections.specs.Refusals.{CanRefuseRows}
 use Rattle.load_targets.proofs.ends.load_key.Goals as goal
 
 pub returns-in_err-rows-clause-step : goal.returns-in_err-rows-clause-step
@@ -16,3 +18,9 @@ returns-clause-step g c = key_loaded g.K.Keeper.moment c.args.mapping.now c.args
 
 pub returns-clause-stays : goal.returns-clause-stays
 returns-clause-stays g c = ready_stays c.args.mapping.now.schema (g.K.Keeper.moment c.read_key.new.keeper) c.take_first.result c.in_ok-rows.ensures.stays
+
+pub returns-clause-refuses : goal.returns-clause-refuses
+returns-clause-refuses g c = refused_rows c.args.mapping.now c.take_first.result c.take_first.ensures.refuses
+
+pub returns-in_err-rows-clause-refuses : goal.returns-in_err-rows-clause-refuses
+returns-in_err-rows-clause-refuses g c = passed_refusal (CanRefuseRows c.args.mapping.now) _ c.from_residual.result c.from_residual.ensures.1 c.in_err-rows.ensures.refuses

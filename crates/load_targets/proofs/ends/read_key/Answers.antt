@@ -7,7 +7,9 @@ use Rattle.programs.specs.Beside.{moment_beside}
 use Rattle.programs.specs.Moment.{Runs}
 use Rattle.load_rows.specs.Loading.{loading}
 use Rattle.load_calls.specs.Reading.{read}
-use Rattle.load_calls.proofs.ReadLemmas.{passed_stays}
+use Rattle.load_calls.proofs.ReadLemmas.{passed_memory, passed_stays}
+use Rattle.load_collections.specs.Refusals.{CanRefuseRows}
+use Rattle.load_collections.proofs.RefusalLemmas.{refused_select}
 use Rattle.load_targets.proofs.EndLemmas.{key_rows}
 use Rattle.load_targets.proofs.ends.read_key.Goals as goal
 
@@ -25,3 +27,9 @@ returns-clause-step g c =
 pub returns-clause-rows : goal.returns-clause-rows
 returns-clause-rows g c =
     key_rows c.args.mapping.now c.args.class c.args.key.now c.in_ok-wanted.wanted c.read.result c.in_ok-wanted.ensures.hierarchies c.requires.class c.in_ok-wanted.ensures.select c.read.ensures.kinds c.read.ensures.given
+
+pub returns-in_err-wanted-clause-refuses : goal.returns-in_err-wanted-clause-refuses
+returns-in_err-wanted-clause-refuses g c = passed_memory (CanRefuseRows c.args.mapping.now) _ c.from_residual.result c.from_residual.ensures.1 c.in_err-wanted.ensures.cause tt
+
+pub returns-clause-refuses : goal.returns-clause-refuses
+returns-clause-refuses g c = refused_select c.args.mapping.now c.in_ok-wanted.wanted c.read.result c.read.ensures.refuses

@@ -5,6 +5,9 @@ use Rattle.class_mapping.specs.Mapped.{root_of}
 use Rattle.programs.proofs.Sequence.{passed_on}
 use Rattle.load_filling.proofs.LoadedLemmas.{grows_same}
 use Rattle.load_rows.specs.Loading.{loading}
+use Rattle.load_calls.proofs.ReadLemmas.{passed_refusal}
+use Rattle.load_collections.specs.Refusals.{CanRefuseRow}
+use Rattle.load_collections.proofs.RefusalLemmas.{row_refuses}
 use Rattle.load_collections.proofs.RowsLemmas.{object_of}
 use Rattle.load_targets.proofs.EndLemmas.{first_refused, first_taken, none_first}
 use Rattle.load_targets.proofs.ends.take_first.Goals as goal
@@ -29,3 +32,8 @@ returns-in-None-clause-step c = none_first c.args.mapping.now c.args.class c.arg
 
 pub returns-in-None-clause-grows : goal.returns-in-None-clause-grows
 returns-in-None-clause-grows c = grows_same c.args.arena.now c.args.arena.now refl
+
+pub returns-in_err-object-in-Some-clause-refuses : goal.returns-in_err-object-in-Some-clause-refuses
+returns-in_err-object-in-Some-clause-refuses c =
+    passed_refusal CanRefuseRow _ c.from_residual.result c.from_residual.ensures.1
+    (row_refuses c.args.mapping.now c.args.class c.as_slice.result.now (loading c.args.arena.now c.args.notes.now) (loading c.take_row.new.arena c.take_row.new.notes) _ c.in_err-object-in-Some.ensures.step)

@@ -3,6 +3,7 @@ use Rattle.class_types.specs.declared.mapped.Relation.{Relation}
 use Rattle.class_mapping.specs.Mapped.{relations_of}
 use Rattle.object_arena.specs.declared.object.Object.{Object}
 use Rattle.object_arena.specs.Fit.{relation_of}
+use Rattle.load_collections.proofs.RefusalLemmas.{refused_load}
 use Rattle.load_targets.proofs.TargetLemmas.{collection_chosen, end_chosen}
 use Rattle.load_targets.proofs.lazy.load_lazy.Goals as goal
 
@@ -21,3 +22,6 @@ pub returns-clause-step : goal.returns-clause-step
 returns-clause-step g c =
     end_chosen g.K.Keeper.moment c.args.mapping.now c.args.arena.now c.args.object c.args.place
     (ap (λ (r : Relation). r.many) (sym (c.relation_at-relation.ensures ∙ ap (λ (o : Object). relation_of c.args.mapping.now o.class c.args.place) c.object.ensures.is)) ∙ c.if-relation.false) c.load_target.ensures.step
+
+pub returns-then-relation-clause-refuses : goal.returns-then-relation-clause-refuses
+returns-then-relation-clause-refuses g c = refused_load c.args.mapping.now c.args.object c.load_collection.result c.load_collection.ensures.refuses

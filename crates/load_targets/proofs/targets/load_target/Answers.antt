@@ -6,7 +6,9 @@ use Rattle.object_arena.specs.declared.object.Object.{Object}
 use Rattle.object_arena.specs.Fit.{end_fits, relation_of}
 use Rattle.object_arena.specs.Graph.{object_at}
 use Rattle.programs.proofs.Sequence.{passed_on}
-use Rattle.load_calls.proofs.ReadLemmas.{ready_stays}
+use Rattle.load_calls.proofs.ReadLemmas.{passed_refusal, ready_stays}
+use Rattle.load_collections.specs.Refusals.{CanRefuseLoad}
+use Rattle.load_collections.proofs.RefusalLemmas.{lost_alone_refuses, of_refresh, of_rows}
 use Rattle.load_collections.proofs.CollectionLemmas.{class_there, owner_there, same_relation}
 use Rattle.load_collections.proofs.RowsLemmas.{grows_then}
 use Rattle.load_targets.proofs.TargetLemmas.{refresh_refused, same_grow, target_loaded, target_refused}
@@ -77,3 +79,14 @@ returns-clause-stays g c = ready_stays c.args.mapping.now.schema (g.K.Keeper.mom
 
 pub returns-clause-grows : goal.returns-clause-grows
 returns-clause-grows g c = grows_then c.args.arena.now c.read_target.new.arena c.fill_end.new.arena (grows_then c.args.arena.now c.refresh_key.new.arena c.read_target.new.arena (same_grow c.args.arena.now c.refresh_key.new.arena c.in_ok-refresh_key.ensures.classes) c.in_ok-end.ensures.grows) (same_grow c.read_target.new.arena c.fill_end.new.arena c.fill_end.ensures.classes)
+
+pub returns-in_err-refresh_key-clause-refuses : goal.returns-in_err-refresh_key-clause-refuses
+returns-in_err-refresh_key-clause-refuses g c =
+    passed_refusal (CanRefuseLoad c.args.mapping.now c.args.child) _ c.from_residual.result c.from_residual.ensures.1 (of_refresh c.args.mapping.now c.args.child _ c.in_err-refresh_key.ensures.refuses)
+
+pub returns-in_err-end-clause-refuses : goal.returns-in_err-end-clause-refuses
+returns-in_err-end-clause-refuses g c =
+    passed_refusal (CanRefuseLoad c.args.mapping.now c.args.child) _ c.from_residual-in_err-end.result c.from_residual-in_err-end.ensures.1 (of_rows c.args.mapping.now c.args.child _ c.in_err-end.ensures.refuses)
+
+pub returns-clause-refuses : goal.returns-clause-refuses
+returns-clause-refuses g c = lost_alone_refuses (CanRefuseLoad c.args.mapping.now c.args.child) c.fill_end.result c.fill_end.ensures.cause tt

@@ -2,7 +2,8 @@ use Rattle.std.proofs.Common.{refl}
 use Rattle.programs.proofs.Lifting.{no_room}
 use Rattle.programs.proofs.Sequence.{passed_on}
 use Rattle.load_filling.proofs.LoadedLemmas.{grows_same}
-use Rattle.load_calls.proofs.ReadLemmas.{passed_stays}
+use Rattle.load_calls.proofs.ReadLemmas.{passed_memory, passed_stays}
+use Rattle.load_collections.specs.Refusals.{CanRefuseRows}
 use Rattle.load_targets.proofs.TargetLemmas.{target_read}
 use Rattle.load_targets.proofs.targets.read_target.Goals as goal
 
@@ -17,3 +18,6 @@ returns-in_err-key-clause-grows g c = grows_same c.args.arena.now c.args.arena.n
 
 pub returns-clause-step : goal.returns-clause-step
 returns-clause-step g c = target_read g.K.Keeper.moment c.args.mapping.now c.args.relation.now c.args.child c.args.arena.now c.in_ok-key.key c.in_ok-key.ensures.key c.find_or_load.ensures.step
+
+pub returns-in_err-key-clause-refuses : goal.returns-in_err-key-clause-refuses
+returns-in_err-key-clause-refuses g c = passed_memory (CanRefuseRows c.args.mapping.now) _ c.from_residual.result c.from_residual.ensures.1 c.in_err-key.ensures.cause tt

@@ -1,6 +1,8 @@
 use Rattle.std.proofs.Common.{◌∙◌}
 use Rattle.programs.proofs.Lifting.{no_room}
 use Rattle.programs.proofs.Sequence.{passed_on}
+use Rattle.load_calls.specs.Refreshing.{CanRefuse}
+use Rattle.load_calls.proofs.ReadLemmas.{passed_memory}
 use Rattle.load_targets.proofs.TargetLemmas.{asked_by, expired_is, key_held, key_refreshed}
 use Rattle.load_targets.proofs.targets.refresh_key.Goals as goal
 
@@ -21,3 +23,6 @@ returns-clause-step g c =
     (asked_by c.as_slice.result.now c.in_ok-attrs.attrs c.object-record.result.now c.is_expired_among.result c.as_slice.ensures c.is_expired_among.ensures)
     ∙ c.if-not-is_expired_among.false)
     c.refresh.ensures.step
+
+pub returns-in_err-attrs-clause-refuses : goal.returns-in_err-attrs-clause-refuses
+returns-in_err-attrs-clause-refuses g c = passed_memory (CanRefuse c.args.mapping.now c.args.child) _ c.from_residual.result c.from_residual.ensures.1 c.in_err-attrs.ensures.cause tt
