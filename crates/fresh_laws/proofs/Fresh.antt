@@ -1,23 +1,19 @@
 -- After a flush that was accepted the cells of every persistent object hold what its row holds.
-use Rattle.std.proofs.Common.{◌≡◌, ℕ, ◌+◌, ◌-◌, ◌<◌, Bool, true, false, T, not, ◌&&◌, ◌||◌, if◌then◌else◌, List, [], ◌∷◌, length, map, get_or, Option, None, Some, is_some, Result, Ok, Err, refl, sym, ap, ◌∙◌, subst, arith}
+use Rattle.std.proofs.Common.{◌≡◌, ℕ, ◌+◌, ◌-◌, ◌<◌, Bool, true, false, T, ◌&&◌, ◌||◌, if◌then◌else◌, List, [], ◌∷◌, length, map, get_or, Option, None, Some, Ok, refl, sym, ap, ◌∙◌, subst, arith}
 use Rattle.std.specs.FinMap.Entries.{below_all, is_sorted}
 use Rattle.std.specs.List.{AllByRecursion, range_with_len}
 use Rattle.std.specs.List.Sorted.{IsStrictlySortedBy}
 use Rattle.std.specs.Map.{keys_of}
-use Rattle.std.specs.Option.{option_and_then}
 use Rattle.std.specs.Ordering.{is_lt}
 use Rattle.std.specs.declared.cmp.Ordering.{Ordering}
 use Rattle.std.specs.declared.cmp.Ordering.TheVariants.{Less}
-use Rattle.base_core.specs.declared.ids.ColumnNo.{ColumnNo}
 use Rattle.base_core.specs.declared.ids.ObjId.{ObjId}
 use Rattle.base_core.specs.declared.ids.TableId.{TableId}
 use Rattle.base_core.specs.declared.value.Value.{Value}
 use Rattle.schema_core.specs.declared.changes.ChangedRow.{ChangedRow}
 use Rattle.schema_core.specs.declared.changes.Planned.{Planned}
-use Rattle.schema_core.specs.declared.changes.RowCell.{RowCell}
-use Rattle.schema_core.specs.declared.changes.RowChanges.{RowChanges}
-use Rattle.schema_core.specs.Catalog.{Catalog, IsTable}
-use Rattle.schema_core.specs.Tables.{AreAscending, Rows, Tables, is_created, row_under, rows_in, table_cmp}
+use Rattle.schema_core.specs.Catalog.{IsTable}
+use Rattle.schema_core.specs.Tables.{AreAscending, Rows, Tables, is_created, table_cmp}
 use Rattle.base_core.specs.Order.{values_cmp}
 use Rattle.class_mapping.specs.Mapped.{Mapped, root_table}
 use Rattle.class_mapping.proofs.Having.{all_from, from_filter}
@@ -27,15 +23,13 @@ use Rattle.object_arena.specs.declared.object.State.TheVariants.{Transient, Pend
 use Rattle.object_arena.specs.Graph as graphs
 use Rattle.object_arena.specs.Graph.{Graph, IsObject, is_persistent, no_object, object_at, place_of}
 use Rattle.object_arena.specs.Identity.{id_of_place}
-use Rattle.flush_order.specs.Orders.{insert_order, place_of_gone}
+use Rattle.flush_order.specs.Orders.{place_of_gone}
 use Rattle.flush_order.specs.Ready.{IsInTable}
-use Rattle.flush_order.specs.Sorted.{Place}
 use Rattle.flush_plan.specs.Flushing.{Keys, Sofar, key_of_new, send_all}
-use Rattle.flush_plan.specs.Planning.{place_of_changed, plan, unless_new_cycle, writes_some}
+use Rattle.flush_plan.specs.Planning.{place_of_changed, plan, writes_some}
 use Rattle.flush_plan.specs.Stating.{row_at}
 use Rattle.object_rows.specs.declared.prepared.Prepared.{Prepared}
 use Rattle.object_rows.specs.Rows.{has_cells}
-use Rattle.object_arena.specs.Fit.{is_empty}
 use Rattle.plan_laws.specs.Laws.{before}
 use Rattle.plan_laws.specs.Premises.{IsSorted}
 use Rattle.plan_laws.proofs.FlushLaw.{accepted_stated as plan_stated}
@@ -54,6 +48,7 @@ use Rattle.graph_flushed.proofs.ObjectSteps.{flushed_at}
 use Rattle.fresh_laws.specs.Laws.{AreSteady, FlushedObjectsHoldTheirRows, HoldsItsRow, IsKept}
 use Rattle.fresh_laws.proofs.After.{ArePlaced, all_are_placed}
 use Rattle.fresh_laws.proofs.Done.{IsDone}
+use Rattle.fresh_laws.proofs.Planned.{or_here, or_true, order_made, row_created, some_written}
 use Rattle.fresh_laws.proofs.Pending.{new_holds, written}
 use Rattle.fresh_laws.proofs.Rows.{IsGoneRow, IsSwitchedRow, gone_own, switched_rows}
 use Rattle.fresh_laws.proofs.Staying.{staying_holds}
@@ -83,40 +78,6 @@ ascending_sorted tables up = record {
   outer = entries_sorted table_cmp tables up.numbers;
   inner = each_to (λ (created : TableId × Rows). IsStrictlySortedBy values_cmp (keys_of created.1)) (λ (created : TableId × Rows). T (is_sorted values_cmp created.1)) (λ created rises. entries_sorted values_cmp created.1 rises) tables up.keys;
 }
-
--- ---- the order of the new rows
-
-order_made : (schema : Catalog) (changes : RowChanges) (statements : List Planned) → plan schema changes ≡ Ok statements → (order : List ℕ) × (insert_order schema changes ≡ Ok order)
-unfolding plan
-order_made schema changes statements e = by (insert_order schema changes) refl e
-  where
-    by : (found : Result (List ℕ) (List ℕ)) → insert_order schema changes ≡ found → unless_new_cycle schema changes found ≡ Ok statements → (order : List ℕ) × (insert_order schema changes ≡ Ok order)
-    by (Ok order) is e = (order, is)
-    by (Err rows) is e = absurd cc
-
--- ---- a changed row without cells is of a created table
-
-row_created : (tables : Tables) (q : Place) (row : List Value) → row_at tables q ≡ Some row → is_created tables q.0 ≡ true
-row_created tables q row at = by (rows_in tables q.0) refl at
-  where
-    by : (found : Option Rows) → rows_in tables q.0 ≡ found → option_and_then (λ rows. row_under rows q.1) found ≡ Some row → is_some (rows_in tables q.0) ≡ true
-    by None e at = absurd cc
-    by (Some rows) e at = ap is_some e
-
-or_true : (a b : Bool) → b ≡ true → (a || b) ≡ true
-or_true true b h = refl
-or_true false b h = h
-
-or_here : (a b : Bool) → a ≡ true → (a || b) ≡ true
-or_here true b h = refl
-or_here false b h = absurd (true_false (sym h))
-
-some_written : (row : ChangedRow) → has_cells row ≡ true → writes_some row.cells ≡ true
-some_written row has = by row.cells has
-  where
-    by : (cells : List (ColumnNo × RowCell)) → not (is_empty cells) ≡ true → writes_some cells ≡ true
-    by [] h = absurd (true_false (sym h))
-    by (cell ∷ cells) h = refl
 
 -- ---- a flush
 

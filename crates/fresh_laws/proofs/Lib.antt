@@ -1,10 +1,11 @@
-mod After
-mod Columns
-mod Done
+pub mod After
+pub mod Columns
+pub mod Done
 pub mod Fresh
 pub mod One
-mod Pending
+pub mod Pending
+pub mod Planned
 pub mod Plain
 pub mod Rows
-mod Staying
+pub mod Staying
 pub mod Told

@@ -1,6 +1,6 @@
 -- After success of a flush one object stands for each key still: who is persistent under a key is the new object that has it, or where
 -- there is none the one that had it before.
-use Rattle.std.proofs.Common.{◌≡◌, ◌⊎◌, inl, inr, ℕ, ◌+◌, ◌-◌, ◌<◌, ◌≤◌, Bool, true, false, cond, not, ◌&&◌, ◌==◌, if◌then◌else◌, List, length, map, get_or, Option, None, Some, is_some, refl, sym, ap, ◌∙◌, subst, arith}
+use Rattle.std.proofs.Common.{◌≡◌, ◌⊎◌, inl, inr, ℕ, ◌+◌, ◌-◌, ◌<◌, ◌≤◌, Bool, true, false, cond, not, ◌&&◌, ◌==◌, if◌then◌else◌, List, length, get_or, Option, None, Some, is_some, refl, sym, ap, ◌∙◌, subst, arith}
 use Rattle.std.specs.Prelude.{nat_lt}
 use Rattle.std.specs.Cmp.{Equal-is}
 use Rattle.std.specs.List.{position, position_or_len, zip}
@@ -19,11 +19,11 @@ use Rattle.schema_core.specs.Tables.{same_values}
 use Rattle.object_arena.specs.declared.object.Object.{Object}
 use Rattle.object_arena.specs.declared.object.State.{State}
 use Rattle.object_arena.specs.declared.object.State.TheVariants.{Transient, Pending, Persistent, Deleted, Detached}
-use Rattle.object_arena.specs.Graph.{Graph, has_identity, is_among, is_persistent, no_class_id, no_object, root_at}
+use Rattle.object_arena.specs.Graph.{has_identity, is_among, is_persistent, no_class_id, no_object, root_at}
 use Rattle.object_arena.specs.Identity.{IsGraph, has_key, holds, holds_at, id_of_place, is_identified, is_other}
-use Rattle.object_arena.proofs.GraphLemmas.{held_inside, same_equiv}
+use Rattle.object_arena.proofs.GraphLemmas.{held_inside}
 use Rattle.plan_laws.proofs.Facts.{true_false}
-use Rattle.graph_flushed.specs.Flushed.{Written, deleted_object, graph_written, key_of, new_object, object_flushed, object_in, other_object, staying_object, state_under, state_unless}
+use Rattle.graph_flushed.specs.Flushed.{Written, deleted_object, graph_written, key_of, new_object, object_in, staying_object, state_under, state_unless}
 use Rattle.graph_flushed.specs.Keys.{is_given, new_holder}
 use Rattle.graph_flushed.proofs.ObjectSteps.{flushed_at, flushed_long}
 use Rattle.fresh_laws.proofs.Told.{keyed_there}

@@ -45,7 +45,7 @@ map_same f g [] same = refl
 map_same f g (x ∷ xs) same = ap (λ y. y ∷ map f xs) (same x) ∙ ap (λ ys. g x ∷ ys) (map_same f g xs same)
 
 -- one choice after another
-filter_twice : {A B C : Type 0} (f : A → Option B) (g : B → Option C) (xs : List A) → filter_map g (filter_map f xs) ≡ filter_map (λ x. option_and_then g (f x)) xs
+pub filter_twice : {A B C : Type 0} (f : A → Option B) (g : B → Option C) (xs : List A) → filter_map g (filter_map f xs) ≡ filter_map (λ x. option_and_then g (f x)) xs
 filter_twice f g [] = refl
 filter_twice {B = B} {C = C} f g (x ∷ xs) = step (f x) ∙ ap (cons_option (option_and_then g (f x))) (filter_twice f g xs)
   where

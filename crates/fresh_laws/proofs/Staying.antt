@@ -62,7 +62,7 @@ use Rattle.fresh_laws.proofs.Told.{all_keyed, deleted_is, deleted_made, key_read
 
 -- ---- lists
 
-has_chosen : {A B : Type 0} (f : A → Option B) (xs : List A) (x : A) (y : B) → Has xs x → f x ≡ Some y → Has (filter_map f xs) y
+pub has_chosen : {A B : Type 0} (f : A → Option B) (xs : List A) (x : A) (y : B) → Has xs x → f x ≡ Some y → Has (filter_map f xs) y
 has_chosen f [] x y has e = absurd has
 has_chosen {B = B} f (z ∷ xs) x y (inl same) e = subst (λ (found : Option B). Has (cons_option found (filter_map f xs)) y) (sym (ap f same ∙ e)) (inl refl)
 has_chosen {B = B} f (z ∷ xs) x y (inr more) e = by (f z) (has_chosen f xs x y more e)
@@ -71,7 +71,7 @@ has_chosen {B = B} f (z ∷ xs) x y (inr more) e = by (f z) (has_chosen f xs x y
     by None has = has
     by (Some first) has = inr has
 
-has_range : (n count k : ℕ) → n ≤ k → k < n + count → Has (range_with_len n count) k
+pub has_range : (n count k : ℕ) → n ≤ k → k < n + count → Has (range_with_len n count) k
 has_range n zero k low high = absurd (omega (arith, low, high))
 has_range n (suc count) k low high = by (k - n) (let e : n + (k - n) ≡ k = omega (arith, low) in e) (λ above. has_range (n + 1) count k above (omega (arith, high)))
   where
@@ -79,11 +79,11 @@ has_range n (suc count) k low high = by (k - n) (let e : n + (k - n) ≡ k = ome
     by zero e later = inl (let at : n ≡ n + 0 = omega arith in at ∙ e)
     by (suc d) e later = inr (later (omega (arith, e)))
 
-some_cells : (cells : List (ColumnNo × RowCell)) (cell : ColumnNo × RowCell) → Has cells cell → (not (is_empty cells) ≡ true) × (writes_some cells ≡ true)
+pub some_cells : (cells : List (ColumnNo × RowCell)) (cell : ColumnNo × RowCell) → Has cells cell → (not (is_empty cells) ≡ true) × (writes_some cells ≡ true)
 some_cells [] cell has = absurd has
 some_cells (first ∷ cells) cell has = (refl, refl)
 
-chosen_from : {A B : Type 0} (g : A → Option B) (found : Option A) (y : B) → option_and_then g found ≡ Some y → (x : A) × (found ≡ Some x) × (g x ≡ Some y)
+pub chosen_from : {A B : Type 0} (g : A → Option B) (found : Option A) (y : B) → option_and_then g found ≡ Some y → (x : A) × (found ≡ Some x) × (g x ≡ Some y)
 chosen_from g None y e = absurd cc
 chosen_from g (Some x) y e = (x, refl, e)
 

@@ -1,0 +1,12 @@
+pub mod Attributes
+pub mod Done
+pub mod Given
+pub mod Held
+pub mod Keys
+pub mod Linked
+pub mod Names
+pub mod New
+pub mod Once
+pub mod Put
+pub mod Rooted
+pub mod Stays
