@@ -1,0 +1,48 @@
+use Rattle.std.proofs.Common.{◌≡◌, ◌∙◌, ap, map, refl, List}
+use Rattle.base_core.specs.declared.ids.AttrNo.{AttrNo}
+use Rattle.class_mapping.specs.Mapped.{root_of}
+use Rattle.programs.proofs.Lifting.{no_room}
+use Rattle.programs.proofs.Sequence.{passed_on}
+use Rattle.load_filling.proofs.LoadedLemmas.{grows_same}
+use Rattle.load_filling.specs.Rows.{value_in}
+use Rattle.load_rows.specs.Loading.{loading}
+use Rattle.load_calls.proofs.ReadLemmas.{passed_memory, passed_refusal}
+use Rattle.load_collections.specs.Refusals.{CanRefuseRow}
+use Rattle.load_collections.proofs.RefusalLemmas.{lost_alone_refuses, row_refuses}
+use Rattle.load_collections.proofs.RowsLemmas.{more_of}
+use Rattle.load_batches.specs.Batches.{objects_in}
+use Rattle.load_batches.proofs.MemberSteps.{member_refused, member_taken, objects_pushed}
+use Rattle.load_batches.proofs.members.take_member.Goals as goal
+
+pub returns-in_err-owner-clause-step : goal.returns-in_err-owner-clause-step
+returns-in_err-owner-clause-step c = passed_on c.from_residual.ensures.1 (no_room c.in_err-owner.ensures.cause)
+
+pub returns-in_err-owner-clause-grows : goal.returns-in_err-owner-clause-grows
+returns-in_err-owner-clause-grows c = grows_same c.args.arena.now c.args.arena.now refl
+
+pub returns-in_err-object-clause-step : goal.returns-in_err-object-clause-step
+returns-in_err-object-clause-step c =
+    passed_on c.from_residual-in_err-object.ensures.1
+    (member_refused (λ (u : Unit {0}). c.args.members.now) c.args.mapping.now c.args.relation.now c.args.row.now c.args.members.now (loading c.args.arena.now c.args.notes.now) (loading c.take_row.new.arena c.take_row.new.notes) _ c.in_err-object.ensures.step)
+
+pub returns-clause-step : goal.returns-clause-step
+returns-clause-step c =
+    member_taken c.args.mapping.now c.args.relation.now c.args.row.now c.args.members.now c.push.new.self (loading c.args.arena.now c.args.notes.now) (loading c.take_row.new.arena c.take_row.new.notes) c.in_ok-object.object c.in_ok-owner.owner c.push.result
+    (c.in_ok-owner.ensures.values ∙ ap (λ (attrs : List AttrNo). map (value_in c.args.row.now) attrs) c.requires.attrs) c.in_ok-object.ensures.step c.push.ensures.ok c.push.ensures.cause
+
+pub returns-clause-of : goal.returns-clause-of
+returns-clause-of c = λ all.
+    more_of c.args.mapping.now c.args.arena.now c.take_row.new.arena (root_of c.args.mapping.now c.args.relation.now.target) (objects_in c.args.members.now) (objects_in c.push.new.self) c.in_ok-object.object c.push.result
+    c.in_ok-object.ensures.grows c.in_ok-object.ensures.fits c.in_ok-object.ensures.exists c.in_ok-object.ensures.rooted
+    (objects_pushed c.args.members.now c.push.new.self c.in_ok-owner.owner c.in_ok-object.object c.push.result c.push.ensures.ok) all
+
+pub returns-in_err-owner-clause-refuses : goal.returns-in_err-owner-clause-refuses
+returns-in_err-owner-clause-refuses c = passed_memory CanRefuseRow _ c.from_residual.result c.from_residual.ensures.1 c.in_err-owner.ensures.cause tt
+
+pub returns-in_err-object-clause-refuses : goal.returns-in_err-object-clause-refuses
+returns-in_err-object-clause-refuses c =
+    passed_refusal CanRefuseRow _ c.from_residual-in_err-object.result c.from_residual-in_err-object.ensures.1
+    (row_refuses c.args.mapping.now c.args.relation.now.target c.args.row.now (loading c.args.arena.now c.args.notes.now) (loading c.take_row.new.arena c.take_row.new.notes) _ c.in_err-object.ensures.step)
+
+pub returns-clause-refuses : goal.returns-clause-refuses
+returns-clause-refuses c = lost_alone_refuses CanRefuseRow c.push.result c.push.ensures.cause tt

@@ -1,0 +1,14 @@
+//! The reading of the one-to-many collections of several owners over any keeper, by one select for each 500 keys.
+#![tactic(auto)]
+
+mod batches;
+mod cuts;
+mod filling;
+mod groups;
+mod members;
+mod owners;
+
+pub use batches::load_members;
+pub use cuts::{batch_at, batch_starts};
+pub use members::Member;
+pub use owners::{Owner, is_unloaded};

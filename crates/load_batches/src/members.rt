@@ -1,0 +1,129 @@
+//! Members with the keys of their owners.
+
+ghost use Rattle.std.specs.Prelude.{◌≡◌, true, map, IfErr, IfOk, OnOk};
+ghost use Rattle.std.specs.List.{All, AllByRecursion};
+ghost use Rattle.base_core.specs.declared.refusal.Refusal.TheVariants.{Memory};
+ghost use Rattle.class_mapping.specs.Mapped.{IsClass, root_of};
+ghost use Rattle.object_arena.specs.Fit.{IsFit, is_of_root};
+ghost use Rattle.programs.specs.Alone.{alone};
+ghost use Rattle.programs.specs.Moment.{Runs};
+ghost use Rattle.load_filling.specs.Growing.{Grows};
+ghost use Rattle.load_filling.specs.Rows.{value_in};
+ghost use Rattle.load_rows.specs.Loading.{loading};
+ghost use Rattle.load_rows.specs.Reading.{IsRowOf};
+ghost use Rattle.load_collections.specs.Refusals.{CanRefuseRow};
+ghost use Rattle.load_targets.specs.ForeignKeys.{foreign_attrs};
+ghost use Rattle.load_batches.specs.Batches as spec;
+
+use base_core::{AttrNo, Copied, Key, ListOf, ObjId, Refusal, RowValues, Value};
+use class_mapping::{Mapping, Relation};
+use keeper_core::Notes;
+use load_rows::take_row;
+use load_targets::foreign_attrs;
+use object_arena::Arena;
+use std::alloc::Global;
+
+/// An object that a row gave, and the key of its owner.
+#[derive(Drop)]
+pub struct Member {
+    pub owner: Key,
+    pub object: ObjId,
+}
+
+/// What a row has at the place of an attribute; where there is nothing, NULL.
+fn value_in(row: &[Value], attr: AttrNo) -> Result<Value, Refusal>
+    ensures value { IfOk result (λ value. value ≡ value_in row.now attr) }
+    ensures cause { IfErr result (λ e. e ≡ Memory) }
+{
+    match row.get(attr.0 as usize) {
+        Some(value) => Ok(value.copied()?),
+        None => Ok(Value::Null),
+    }
+}
+
+/// What a row has for attributes.
+fn values_in(alloc: Global, attrs: &[AttrNo], row: &[Value]) -> Result<Key, Refusal>
+    ensures values { IfOk result (λ values. values ≡ map (value_in row.now) attrs.now) }
+    ensures cause { IfErr result (λ e. e ≡ Memory) }
+{
+    let mut values = ListOf::new(alloc);
+    for attr in attrs {
+        values.push(value_in(row, *attr)?)?;
+    }
+    Ok(values)
+}
+
+/// The object of a row goes behind those of the rows before, with the key of its owner.
+fn take_member(
+    alloc: Global,
+    arena: &mut Arena,
+    mapping: &Mapping,
+    relation: &Relation,
+    attrs: &[AttrNo],
+    row: &[Value],
+    members: &mut ListOf<Member>,
+    notes: &mut Notes,
+) -> Result<(), Refusal>
+    requires target { IsClass mapping.now relation.now.target }
+    requires configured { mapping.now.configured ≡ true }
+    requires fit { IsFit mapping.now arena.old }
+    requires row { IsRowOf mapping.now relation.now.target row.now }
+    requires attrs { attrs.now ≡ foreign_attrs mapping.now relation.now.target relation.now }
+    ensures step { Runs alone (λ _. members.new)
+        (spec.take_member mapping.now relation.now row.now members.old)
+        (loading arena.old notes.old) result (loading arena.new notes.new) }
+    ensures of { All (λ object. is_of_root arena.old.roots
+        (root_of mapping.now relation.now.target) object ≡ true) (spec.objects_in members.old)
+        → OnOk result (All (λ object. is_of_root arena.new.roots
+        (root_of mapping.now relation.now.target) object ≡ true) (spec.objects_in members.new)) }
+    ensures grows { Grows arena.old arena.new }
+    ensures fits { IsFit mapping.now arena.new }
+    ensures refuses { IfErr result CanRefuseRow }
+{
+    let owner = values_in(alloc, attrs, row)?;
+    let object = take_row(alloc, arena, mapping, relation.target, row, notes)?;
+    members.push(Member { owner, object })
+}
+
+/// The objects of rows of a relationship's target, in order and each filled by its row, with the keys of their owners.
+///
+/// # Errors
+/// `InvalidRequestError(NoSuchIdentity)`, `LimitReached(Objects)`, `Memory`. The objects of the rows before stay.
+#[tactic(auto, unfolding(crate::specs::Batches::take_members))]
+pub(crate) fn take_members(
+    alloc: Global,
+    arena: &mut Arena,
+    mapping: &Mapping,
+    relation: &Relation,
+    rows: &[RowValues],
+    notes: &mut Notes,
+) -> Result<ListOf<Member>, Refusal>
+    requires target { IsClass mapping.now relation.now.target }
+    requires configured { mapping.now.configured ≡ true }
+    requires fit { IsFit mapping.now arena.old }
+    requires rows { AllByRecursion (IsRowOf mapping.now relation.now.target) rows.now }
+    ensures step { Runs alone (λ members. members)
+        (spec.take_members mapping.now relation.now rows.now)
+        (loading arena.old notes.old) result (loading arena.new notes.new) }
+    ensures of { IfOk result (λ members. All (λ object. is_of_root arena.new.roots
+        (root_of mapping.now relation.now.target) object ≡ true) (spec.objects_in members)) }
+    ensures grows { Grows arena.old arena.new }
+    ensures fits { IsFit mapping.now arena.new }
+    ensures refuses { IfErr result CanRefuseRow }
+{
+    let attrs = foreign_attrs(alloc, mapping, relation.target, relation)?;
+    let mut members = ListOf::new(alloc);
+    for row in rows {
+        take_member(
+            alloc,
+            arena,
+            mapping,
+            relation,
+            attrs.as_slice(),
+            row.as_slice(),
+            &mut members,
+            notes,
+        )?;
+    }
+    Ok(members)
+}
