@@ -5,10 +5,11 @@ ghost use Rattle.std.specs.List.{All};
 ghost use Rattle.object_arena.specs.Fit.{IsFit};
 ghost use Rattle.object_arena.specs.Graph.{IsObject};
 
-use crate::words::{known, objects, parted, small, values};
-use base_core::{AttrNo, ClassId, ObjId, Refusal, RelNo};
+use crate::words::{known, objects, parted};
+use base_core::{AttrNo, ClassId, ObjId, Refusal, RelNo, both};
 use class_mapping::Mapping;
 use graph_fits::{cell_fits, key_fits, link_fits};
+use notations::{number, row};
 use object_arena::{Arena, Cell, Link, State};
 use object_rows::Prepared;
 use std::alloc::Global;
@@ -56,7 +57,7 @@ fn register(
     if !is_made(arena, object) {
         return Err(Refusal::NotBuilt);
     }
-    let key = values(alloc, words)?;
+    let key = row(alloc, words)?;
     if !key_fits(mapping, arena.object(object).class, &key) {
         return Err(Refusal::NotBuilt);
     }
@@ -99,6 +100,13 @@ fn put_state(
     }
 }
 
+/// A value and its base, with a colon between them.
+fn cell_of(alloc: Global, words: &str) -> Result<Cell, Refusal> {
+    let (value, base) = parted(words);
+    let (value, base) = both(known(alloc, value), known(alloc, base))?;
+    Ok(Cell { value, base })
+}
+
 /// A cell and its base.
 fn put_cell(
     alloc: Global,
@@ -112,17 +120,16 @@ fn put_cell(
     ensures { IsFit mapping.now arena.new }
 {
     let (place, words) = parted(words);
-    let (value, base) = parted(words);
-    let attr = AttrNo(small(place));
-    let cell = Cell {
-        value: known(alloc, value)?,
-        base: known(alloc, base)?,
-    };
+    let attr = AttrNo(number(place));
     if !is_made(arena, object) {
         return Err(Refusal::NotBuilt);
     }
     let attributes = mapping.attributes(arena.object(object).class);
-    if attr.0 as usize >= attributes.len() || !cell_fits(&attributes[attr.0 as usize], &cell) {
+    if attr.0 as usize >= attributes.len() {
+        return Err(Refusal::NotBuilt);
+    }
+    let cell = cell_of(alloc, words)?;
+    if !cell_fits(&attributes[attr.0 as usize], &cell) {
         return Err(Refusal::NotBuilt);
     }
     arena.put_cell(object, attr, cell)
@@ -133,7 +140,7 @@ fn link_of(alloc: Global, kind: &str, words: &str) -> Result<Link, Refusal> {
     let (first, second) = parted(words);
     match kind {
         "e" => {
-            let end = ObjId(small(first));
+            let end = ObjId(number(first));
             Ok(Link::One {
                 end: if end.0 == 0 { None } else { Some(end) },
                 changed: second == "1",
@@ -190,18 +197,18 @@ pub(crate) fn put(
     ensures { IsFit mapping.now arena.new }
 {
     let (word, words) = parted(words);
-    let object = ObjId(small(word));
+    let object = ObjId(number(word));
     match kind {
-        "n" => make(mapping, arena, ClassId(small(word))),
+        "n" => make(mapping, arena, ClassId(number(word))),
         "k" => register(alloc, mapping, arena, object, words),
-        "p" => put_pending(arena, mapping, object, small(words)),
+        "p" => put_pending(arena, mapping, object, number(words)),
         "g" => put_state(arena, mapping, object, State::Deleted),
         "d" => put_state(arena, mapping, object, State::Detached),
         "c" => put_cell(alloc, arena, mapping, object, words),
         _ => {
             let (place, words) = parted(words);
             let link = link_of(alloc, kind, words)?;
-            put_link(arena, mapping, object, RelNo(small(place)), link)
+            put_link(arena, mapping, object, RelNo(number(place)), link)
         }
     }
 }
@@ -209,10 +216,10 @@ pub(crate) fn put(
 /// What a word says of the preparation.
 pub(crate) fn prepare(prepared: &mut Prepared, kind: &str, words: &str) -> Result<(), Refusal> {
     let (word, place) = parted(words);
-    let object = ObjId(small(word));
+    let object = ObjId(number(word));
     match kind {
         "D" => prepared.deleted.push(object),
         "T" => prepared.transient.push(object),
-        _ => prepared.cleared.push((object, RelNo(small(place)))),
+        _ => prepared.cleared.push((object, RelNo(number(place)))),
     }
 }

@@ -1,8 +1,8 @@
 //! Tells what a flush of small graphs changes, as lines of the standard input make them. What is expected was made by another
 //! program of the same rules.
 //!
-//! `#` begins a line that is written as it stands. A line that begins with `=` declares tables and classes anew: each
-//! declaration's line has `;` behind it. Every other line makes a graph, word by word, and its parts stand between colons.
+//! A line that begins with `=` declares tables and classes anew: each declaration's line has `;` behind it. Of the lines behind
+//! it `#` begins one that is written as it stands. Every other one makes a graph, word by word, and its parts stand between colons.
 //! `n:CLASS` makes an object; `k:OBJECT:KEY` makes it persistent under a key, `p:OBJECT:ADDED` pending with an add number, and
 //! `g:OBJECT` deleted and `d:OBJECT` detached where it was persistent. `c:OBJECT:ATTRIBUTE:VALUE:BASE` is a cell, `x` for what
 //! is not known. `e:OBJECT:RELATION:END:CHANGED` is a many-to-one link (0 for none, 1 for a changed one),
@@ -15,25 +15,17 @@
 #![tactic(auto)]
 
 mod acts;
-mod blocks;
 mod player;
 mod told;
 mod words;
 
-use player::Player;
-use std::alloc::{AllocError, Global};
+use player::groups_told;
 use std::io;
-
-/// The answers to lines.
-fn answered(alloc: Global, text: &str) -> Result<String, AllocError> {
-    let mut player = Player::new(alloc)?;
-    notations::answers(alloc, &mut player, text)
-}
 
 fn main(rt: HostRuntime) -> io::Result<()> {
     let alloc = rt.alloc();
     let text = io::read_to_string(alloc, rt.reader())?;
-    match answered(alloc, &text) {
+    match groups_told(alloc, &text) {
         Ok(shown) => rt.print(shown),
         Err(_) => rt.println("refused"),
     }

@@ -4,22 +4,22 @@ ghost use Rattle.std.specs.Prelude.{◌≡◌, true};
 ghost use Rattle.object_arena.specs.Fit.{IsFit};
 
 use crate::acts::{are_made, prepare, put};
-use crate::blocks::declare;
 use crate::told::tell;
 use crate::words::parted;
 use base_core::{ListOf, Refusal};
+use block_notations::{TellsDeclared, tell_declared};
 use class_mapping::Mapping;
-use notations::Reader;
+use class_types::Hooks;
 use object_arena::Arena;
 use object_rows::Prepared;
 use row_project::project;
 use std::alloc::{AllocError, Global};
-use std::mem::{self, drop};
 
-/// The mapping that was declared last.
+/// The graphs of the group that is told of, and what is told so far.
 #[derive(Drop)]
-pub(crate) struct Player {
-    mapping: Box<Mapping>,
+struct Graphs<'x> {
+    lines: &'x str,
+    shown: String,
 }
 
 /// Whether a word says something of the preparation.
@@ -119,33 +119,75 @@ fn graph(alloc: Global, mapping: &Mapping, line: &str, shown: &mut String) -> Re
     play(alloc, mapping, &mut arena, &mut prepared, line, shown)
 }
 
-impl Player {
-    /// Nothing is declared.
-    pub(crate) fn new(alloc: Global) -> Result<Player, AllocError> {
-        Ok(Player {
-            mapping: Box::new(alloc, Mapping::new(alloc))?,
-        })
+/// The answer to a line.
+fn answer(alloc: Global, mapping: &Mapping, line: &str, shown: &mut String) -> Result<(), Refusal> {
+    if line.starts_with('#') {
+        shown.push_str(line)?;
+    } else {
+        graph(alloc, mapping, line, shown)?;
+    }
+    Ok(shown.push('\n')?)
+}
+
+/// The answers to lines, and `refused` behind that of a line that is refused.
+fn answer_all(
+    alloc: Global,
+    mapping: &Mapping,
+    lines: &str,
+    shown: &mut String,
+) -> Result<(), AllocError> {
+    for line in lines.lines() {
+        match answer(alloc, mapping, line, shown) {
+            Ok(()) => {}
+            Err(_) => shown.push_str("refused\n")?,
+        }
+    }
+    Ok(())
+}
+
+impl<'x> Graphs<'x> {
+    /// Nothing is told yet.
+    fn new(alloc: Global) -> Graphs<'x> {
+        Graphs {
+            lines: "",
+            shown: String::new(alloc),
+        }
     }
 
-    fn forget(&mut self, alloc: Global) -> Result<(), AllocError> {
-        let mapping = Box::new(alloc, Mapping::new(alloc))?;
-        drop(mem::replace(&mut self.mapping, mapping));
+    /// Tells of a group: its declarations are its first line.
+    fn tell_group(
+        &mut self,
+        alloc: Global,
+        hooks: &Hooks,
+        group: &'x str,
+    ) -> Result<(), AllocError> {
+        let (declarations, lines) = group.split_once('\n').unwrap_or((group, ""));
+        self.lines = lines;
+        tell_declared(alloc, hooks, declarations, self)
+    }
+
+    fn tell_groups(&mut self, alloc: Global, text: &'x str) -> Result<(), AllocError> {
+        let hooks = Hooks::new(alloc);
+        for group in text.split("\n=").skip(1) {
+            self.tell_group(alloc, &hooks, group)?;
+        }
         Ok(())
     }
 }
 
-impl Reader for Player {
-    fn answer(&mut self, alloc: Global, line: &str, shown: &mut String) -> Result<(), Refusal> {
-        if let Some(lines) = line.strip_prefix('=') {
-            self.forget(alloc)?;
-            return declare(alloc, &mut *self.mapping, lines);
-        }
-        if line.starts_with('#') {
-            shown.push_str(line)?;
-        } else {
-            graph(alloc, &*self.mapping, line, shown)?;
-        }
-        shown.push('\n')?;
-        Ok(())
+impl TellsDeclared for Graphs<'_> {
+    fn tell_refusal(&mut self, _alloc: Global, _refusal: &Refusal) -> Result<(), AllocError> {
+        self.shown.push_str("refused\n")
     }
+
+    fn tell_mapping(&mut self, alloc: Global, mapping: &Mapping) -> Result<(), AllocError> {
+        answer_all(alloc, mapping, self.lines, &mut self.shown)
+    }
+}
+
+/// What is told of the groups of a text.
+pub(crate) fn groups_told(alloc: Global, text: &str) -> Result<String, AllocError> {
+    let mut graphs = Graphs::new(alloc);
+    graphs.tell_groups(alloc, text)?;
+    Ok(graphs.shown)
 }
