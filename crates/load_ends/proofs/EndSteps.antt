@@ -1,0 +1,65 @@
+-- Links that lead to what the identity map has.
+use Rattle.std.proofs.Common.{◌≡◌, ◌<◌, Bool, true, false, List, length, get_or, Option, None, Some, Result, Ok, Err, IfErr, OnOk, if◌then◌else◌, refl, sym, ap, subst, ◌∙◌}
+use Rattle.std.specs.List.{All}
+use Rattle.std.specs.Option.{option_and_then}
+use Rattle.base_core.specs.declared.ids.ClassId.{ClassId}
+use Rattle.base_core.specs.declared.ids.ObjId.{ObjId}
+use Rattle.base_core.specs.declared.ids.RelNo.{RelNo}
+use Rattle.base_core.specs.declared.value.Value.{Value}
+use Rattle.base_core.specs.declared.refusal.Refusal.{Refusal}
+use Rattle.base_core.specs.declared.refusal.Refusal.TheVariants.{Memory}
+use Rattle.schema_core.specs.Tables.{has_null}
+use Rattle.class_types.specs.declared.mapped.Relation.{Relation}
+use Rattle.class_mapping.specs.Mapped.{IsClass, Mapped, relations_of, root_of}
+use Rattle.object_arena.specs.Fit.{relation_of}
+use Rattle.object_arena.specs.Graph.{Graph, object_at}
+use Rattle.object_arena.specs.Identity.{find_identity}
+use Rattle.programs.specs.Alone.{alone}
+use Rattle.programs.specs.Moment.{Reaches, Runs}
+use Rattle.programs.specs.Programs.{each}
+use Rattle.programs.proofs.AloneLemmas.{change_ok, lost_alone}
+use Rattle.programs.proofs.Sequence.{reaches_start}
+use Rattle.load_filling.specs.Growing.{Grows}
+use Rattle.load_rows.specs.Loading.{Loading}
+use Rattle.load_links.specs.Links.{end_filled}
+use Rattle.load_collections.proofs.CollectionLemmas.{class_there, owner_there, same_relation}
+use Rattle.load_targets.specs.Targets.{if_of}
+use Rattle.load_ends.specs.Ends.{IsChild, end_known, fill_owner, fill_owners, key_of, known_end}
+
+-- ---- what the identity map has
+
+pub end_null : (mapped : Mapped) (class : ClassId) (graph : Graph) (key : List Value) → has_null key ≡ true → None ≡ known_end mapped class graph key
+end_null mapped class graph key null = sym (ap (λ (b : Bool). if b then None else option_and_then (if_of graph mapped class) (find_identity graph (root_of mapped class) key)) null)
+
+pub end_found : (mapped : Mapped) (class : ClassId) (graph : Graph) (key : List Value) (found : Option ObjId) (end : Option ObjId) → has_null key ≡ false → find_identity graph (root_of mapped class) key ≡ found
+    → end ≡ option_and_then (if_of graph mapped class) found → end ≡ known_end mapped class graph key
+end_found mapped class graph key found end given is ends =
+    ends ∙ sym (ap (λ (b : Bool). if b then None else option_and_then (if_of graph mapped class) (find_identity graph (root_of mapped class) key)) given ∙ ap (option_and_then (if_of graph mapped class)) is)
+
+-- ---- the links
+
+-- the link of an owner was filled
+pub owner_filled : (mapped : Mapped) (relation : Relation) (place : RelNo) (owner : ObjId) (key : List Value) (end : Option ObjId) (own now : Loading) (r : Result (Unit {0}) Refusal) → key ≡ key_of mapped relation own.graph owner
+    → end ≡ known_end mapped relation.target own.graph key → OnOk r (now ≡ end_filled owner place end own) → IfErr r (λ e. e ≡ Memory)
+    → Runs alone (λ (u : Unit {0}). u) (fill_owner mapped relation place owner tt) own r now
+owner_filled mapped relation place owner key end own now (Ok u) named ends is cause =
+    change_ok (end_known mapped relation place owner)
+    (is ∙ ap (λ (e : Option ObjId). end_filled owner place e own) (ends ∙ ap (λ (k : List Value). known_end mapped relation.target own.graph k) named))
+owner_filled mapped relation place owner key end own now (Err e) named ends is cause = lost_alone cause
+
+-- the loop over owners begins
+pub owners_start : (mapped : Mapped) (relation : Relation) (place : RelNo) (owners : List ObjId) (own : Loading) → Reaches alone (fill_owners mapped relation place owners) own (each (fill_owner mapped relation place) tt owners) own
+unfolding fill_owners
+owners_start mapped relation place owners own = reaches_start
+
+-- ---- as objects are made
+
+child_there : (mapped : Mapped) (old new : Graph) (relation : Relation) (place : RelNo) (object : ObjId) → Grows old new → IsChild mapped old relation place object → IsChild mapped new relation place object
+child_there mapped old new relation place object grows child = record {
+  made = owner_there old new object grows child.made;
+  within = subst (λ (class : ClassId). place.0 < length (relations_of mapped class)) (sym (class_there old new object grows child.made)) child.within;
+  is = same_relation mapped old new object place grows child.made ∙ child.is;
+}
+
+pub children_still : (mapped : Mapped) (old new : Graph) (relation : Relation) (place : RelNo) (owners : List ObjId) → Grows old new → All (IsChild mapped old relation place) owners → All (IsChild mapped new relation place) owners
+children_still mapped old new relation place owners grows all = λ i d less. child_there mapped old new relation place _ grows (all i d less)

@@ -1,0 +1,3 @@
+mod KeySteps
+mod EndSteps
+mod ReadSteps

@@ -1,0 +1,16 @@
+use Rattle.std.proofs.Common.{◌≡◌, drop}
+use Rattle.object_arena.specs.Every.{classes_of}
+use Rattle.object_arena.specs.Fit.{IsFit}
+use Rattle.programs.specs.Alone.{alone}
+use Rattle.programs.specs.Moment.{Reaches}
+use Rattle.programs.specs.Programs.{each}
+use Rattle.load_rows.specs.Loading.{loading}
+use Rattle.load_ends.specs.Ends.{fill_owner, fill_owners}
+use Rattle.load_ends.proofs.filling.fill_owners.Given as goal
+
+abbrev pub invariant-loop-owner : goal.invariant-loop-owner
+invariant-loop-owner l = record {
+  step : Reaches alone (fill_owners l.mapping l.relation l.place l.owners) (loading l.fn.arena l.fn.notes) (each (fill_owner l.mapping l.relation l.place) tt (drop l.owner-index l.owners)) (loading l.arena l.notes);
+  fits : IsFit l.mapping l.arena;
+  classes : classes_of l.arena ≡ classes_of l.fn.arena;
+}

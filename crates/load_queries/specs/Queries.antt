@@ -1,0 +1,55 @@
+-- The reading of the objects of a query, as a program.
+use Rattle.std.specs.Prelude.{◌≡◌, ℕ, List, [], ◌∷◌, ◌++◌, fold, map, if◌then◌else◌}
+use Rattle.std.specs.BTreeSet.{BTreeSet, contains}
+use Rattle.std.specs.Ordering.{nat_cmp}
+use Rattle.base_core.specs.declared.ids.ClassId.{ClassId}
+use Rattle.base_core.specs.declared.ids.ObjId.{ObjId}
+use Rattle.base_core.specs.declared.value.Value.{Value}
+use Rattle.expr_types.specs.declared.expr.Origin.{Origin}
+use Rattle.expr_types.specs.declared.select.ObjectQuery.{ObjectQuery}
+use Rattle.expr_types.specs.declared.select.Select.{Select}
+use Rattle.sql_semantics.specs.Plain.{sources_of}
+use Rattle.class_mapping.specs.Mapped.{Mapped, tables_of}
+use Rattle.programs.specs.Programs.{Run, ◌>>=◌, give}
+use Rattle.programs.specs.Beside.{on_own}
+use Rattle.object_arena.specs.Graph.{is_among}
+use Rattle.load_columns.specs.Placing.{attribute_columns, from_root}
+use Rattle.load_selects.specs.Selects.{class_rows, item_of, origin_of}
+use Rattle.load_rows.specs.Loading.{Loading}
+use Rattle.load_calls.specs.Reading.{World, read}
+use Rattle.load_collections.specs.Collections.{take_rows}
+
+-- ---- each object once
+
+-- an object goes behind others, unless it is among them
+abbrev pub with_first : List ObjId → ObjId → List ObjId
+with_first kept object = if is_among kept object then kept else kept ++ object ∷ []
+
+-- objects where each comes first
+unfoldable pub firsts : List ObjId → List ObjId
+firsts objects = fold with_first [] objects
+
+-- a set has the numbers of these objects
+pub record HasSeen (seen : BTreeSet ℕ) (kept : List ObjId) : Type 0 where
+  pub same : (object : ObjId) → contains nat_cmp seen object.0 ≡ is_among kept object
+
+-- ---- the query
+
+-- the select of a query for objects has the attributes of the class as items; its first sources are the tables of the class, from the
+-- root's on
+pub record ReadsObjects (mapped : Mapped) (class : ClassId) (s : Select) : Type 0 where
+  pub more : List Origin
+  pub items : s.items ≡ map item_of (attribute_columns mapped class (from_root 0))
+  pub sources : sources_of s ≡ map origin_of (tables_of mapped class) ++ more
+
+-- the query for all objects of a class
+abbrev pub every_object : Mapped → ClassId → ObjectQuery
+every_object mapped class = record { class = class; select = class_rows mapped class []; joined = []; selectin = [] }
+
+-- the objects of rows where each comes first
+abbrev pub take_objects : Mapped → ClassId → List (List Value) → Loading → Run Loading (List ObjId)
+take_objects mapped class rows = take_rows mapped class rows >>= λ objects. give (firsts objects)
+
+-- the objects of a query: its select is sent, and each row gives its object
+unfoldable pub load_select : Mapped → ObjectQuery → World → Run World (List ObjId)
+load_select mapped query = read mapped.schema query.select >>= λ rows. on_own (take_objects mapped query.class rows)

@@ -1,0 +1,10 @@
+//! The reading of the objects of a query over any keeper, as a program of the store and of the objects and notes beside it.
+#![tactic(auto)]
+
+mod every;
+mod once;
+mod queries;
+
+pub use every::every_object;
+pub use once::firsts;
+pub use queries::load_select;
