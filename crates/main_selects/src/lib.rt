@@ -5,4 +5,5 @@ mod options;
 mod queries;
 mod shifted;
 
+pub use options::option_columns;
 pub use queries::main_select;

@@ -140,6 +140,25 @@ fn push_further_keys(
     Ok(())
 }
 
+/// What a joined option reads of its target: the attributes, and behind them the keys of the tables behind the root's. The only
+/// refusal is `Memory`.
+pub fn option_columns(
+    alloc: Global,
+    mapping: &Mapping,
+    class: ClassId,
+    placement: Placement,
+) -> Result<ListOf<SourceColumn>, Refusal>
+    requires configured { mapping.now.configured ≡ true }
+    requires class { IsClass mapping.now class }
+    ensures columns { IfOk result
+        (λ columns. columns ≡ spec.option_columns mapping.now class placement) }
+    ensures cause { IfErr result (λ e. e ≡ Memory) }
+{
+    let mut columns = attribute_columns(alloc, mapping, class, placement)?;
+    push_further_keys(&mut columns, alloc, mapping, class, placement)?;
+    Ok(columns)
+}
+
 /// Columns become items of a select, behind its others.
 fn push_items(select: &mut Select, columns: &[SourceColumn]) -> Result<(), Refusal>
     ensures items { OnOk result (select.new ≡ spec.with_items select.old columns.now) }
@@ -177,8 +196,7 @@ pub(crate) fn push_option(
     let placement = target_placement(mapping, relation, sources)?;
     let root = from_root(0);
     let further = related_sources(alloc, mapping, class, root, relation, sources)?;
-    let mut columns = attribute_columns(alloc, mapping, target, placement)?;
-    push_further_keys(&mut columns, alloc, mapping, target, placement)?;
+    let columns = option_columns(alloc, mapping, target, placement)?;
     push_left_joins(
         select,
         alloc,

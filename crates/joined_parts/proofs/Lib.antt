@@ -1,0 +1,4 @@
+mod Steps
+pub mod Widening
+pub mod Targets
+pub mod Options
