@@ -46,7 +46,7 @@ use Rattle.session_flush.specs.Outcome.{changes_of}
 use Rattle.session_flush_laws.specs.Laws.{LeavesLegalTables}
 use Rattle.session_flush_laws.proofs.Again.{here_at, prepared_among}
 use Rattle.session_flush_laws.proofs.Flushing.{IsFlushSent, flush_sent}
-use Rattle.legality_laws.specs.Legality.{AreSound, IsLegalStore}
+use Rattle.legality_laws.specs.Legality.{AreSound, IsAscendingStore, IsLegalStore}
 use Rattle.session_sound.specs.Sound.{AreSoundScopes, EachObject, IsFresh, IsMarkedRight, IsSettled, IsSound, IsWritten, RestIf, in_row, row_for}
 use Rattle.session_sound.proofs.Changes.{changed_sound}
 use Rattle.session_sound.proofs.Everyone.{identified_as}
@@ -58,11 +58,11 @@ use Rattle.flush_sound_laws.specs.Laws.{AnsweredFlushIsSound, FlushKeepsSound, I
 
 -- ---- what is known of an object of a plain class
 
-in_row_is : (attribute : Attribute) (row : Option (List Value)) → in_row attribute row ≡ column_in row attribute.column.0
+pub in_row_is : (attribute : Attribute) (row : Option (List Value)) → in_row attribute row ≡ column_in row attribute.column.0
 in_row_is attribute None = refl
 in_row_is attribute (Some row) = refl
 
-row_is : (tables : Tables) (attribute : Attribute) (identity : Option (List Value)) → is_some identity ≡ true → row_for tables attribute identity ≡ row_at tables (attribute.table, key_or_none identity)
+pub row_is : (tables : Tables) (attribute : Attribute) (identity : Option (List Value)) → is_some identity ≡ true → row_for tables attribute identity ≡ row_at tables (attribute.table, key_or_none identity)
 row_is tables attribute None there = absurd (let h : false ≡ true = there in cc)
 row_is tables attribute (Some key) there = refl
 
@@ -93,7 +93,7 @@ holds_fresh : (mapped : Mapped) (tables : Tables) (object : Object) → IsPlainC
 holds_fresh mapped tables object plain long there holds persists attr less base e =
     column_is mapped tables object attr plain (there persists) (omega (arith, less, long)) ∙ holds persists attr base less e
 
-persists_there : (object : Object) → is_identified object ≡ true → is_persistent object.state ≡ true → is_some object.identity ≡ true
+pub persists_there : (object : Object) → is_identified object ≡ true → is_persistent object.state ≡ true → is_some object.identity ≡ true
 persists_there object identified persists = by object.state refl persists
   where
     by : (state : State) → object.state ≡ state → is_persistent state ≡ true → is_some object.identity ≡ true
@@ -106,11 +106,11 @@ persists_there object identified persists = by object.state refl persists
 -- ---- what success makes of an object
 
 -- it is of the same class with as many cells, is not pending, and has no delete mark
-record IsSettledFrom (old new : Object) : Type 0 where
-  class : new.class ≡ old.class
-  cells : length new.cells ≡ length old.cells
-  settled : new.state ≢ Pending
-  unmarked : new.marked ≡ false
+pub record IsSettledFrom (old new : Object) : Type 0 where
+  pub class : new.class ≡ old.class
+  pub cells : length new.cells ≡ length old.cells
+  pub settled : new.state ≢ Pending
+  pub unmarked : new.marked ≡ false
 
 under_settled : (written : Written) (object : ObjId) (identity : Option (List Value)) → state_under written object identity ≢ Pending
 under_settled written object None is = absurd cc
@@ -164,77 +164,46 @@ starts_legal mapped graph frames [] (start ∷ starts) up sound = absurd sound
 starts_legal mapped graph frames (scope ∷ scopes) [] up sound = tt
 starts_legal mapped graph frames (scope ∷ scopes) (start ∷ starts) up sound = (record { legal = sound.0.legal; ascending = up.0 }, starts_legal mapped graph frames scopes starts up.1 sound.1)
 
-left_legal : LeavesLegalTables → (w : World) → IsSteady w → IsSound w → Legal w.own.mapping.schema (flush w).after.store.tables
-left_legal leaves w steady sound =
+pub left_legal : LeavesLegalTables → (w : World) → IsAscendingStore w.store → IsSound w → Legal w.own.mapping.schema (flush w).after.store.tables
+left_legal leaves w ascending sound =
     (leaves w (record {
-      tables = record { legal = sound.legal; ascending = steady.ascending.tables };
-      scopes = starts_legal w.own.mapping w.own.graph w.own.frames w.own.frames.scopes w.store.scopes steady.ascending.scopes sound.scopes;
+      tables = record { legal = sound.legal; ascending = ascending.tables };
+      scopes = starts_legal w.own.mapping w.own.graph w.own.frames w.own.frames.scopes w.store.scopes ascending.scopes sound.scopes;
     })).tables.legal
 
-module _ (w : World) (steady : IsSteady w) (sound : IsSound w) where
+module _ (w : World) (inside : 0 < length w.own.frames.scopes) (sound : IsSound w) (now : World) (sent : IsFlushSent w now) (legal : Legal w.own.mapping.schema now.store.tables) where
   abbrev mapped : Mapped
   mapped = w.own.mapping
 
   abbrev it_at : ℕ → Object
   it_at place = get_or w.own.graph.objects place no_object
 
-  class_is : (place : ℕ) → place < length w.own.graph.objects → IsPlainClass mapped (it_at place).class
-  class_is place less = steady.plain.class (it_at place).class (steady.plain.fit.objects place no_object less).class
+  abbrev pub written : Written
+  written = written_with mapped (prepared_of w.own.graph) (changes_of w.own) sent.given w.own.graph
 
-  long_is : (place : ℕ) → place < length w.own.graph.objects → length (spec_of mapped.schema (root_table mapped (it_at place).class)).columns ≡ length (it_at place).cells
-  long_is place less =
-      cells_are mapped (it_at place).class (length (it_at place).cells) (class_is place less)
-      (as_long cell_fits (attributes_of mapped (it_at place).class) (it_at place).cells (steady.plain.fit.objects place no_object less).cells)
+  keys_long : length written.keys ≡ length w.own.graph.objects
+  unfolding new_keys object_ids
+  keys_long =
+      length-map (map id_of_place (range_with_len 0 (length w.own.graph.objects))) (key_if_new mapped w.own.graph (prepared_of w.own.graph) (changes_of w.own) sent.given)
+      ∙ length-map (range_with_len 0 (length w.own.graph.objects)) id_of_place
+      ∙ length-range_with_len 0 (length w.own.graph.objects)
 
-  pub all_steady : AreSteady mapped w.own.graph (prepared_of w.own.graph) w.store.tables
-  all_steady = record {
-    plain = steady.plain;
-    well = steady.well;
-    legal = sound.legal;
-    sorted = ascending_sorted w.store.tables steady.ascending.tables;
-    is = sound.graph;
-    only = refl;
-    holds = λ place less persists.
-        fresh_holds mapped w.store.tables (it_at place) (class_is place less) (long_is place less) persists (persists_there (it_at place) (sound.graph.identified place no_object less) persists) (sound.fresh place less);
-    kept = steady.kept;
-  }
+  pub is : IsGraph (graph_written written).objects (graph_written written).roots
+  unfolding graph_written
+  is = written_graph written sound.graph keys_long
 
-  module _ (hold : FlushedObjectsHoldTheirRows) (now : World) (sent : IsFlushSent w now) (legal : Legal mapped.schema now.store.tables) where
-    abbrev written : Written
-    written = written_with mapped (prepared_of w.own.graph) (changes_of w.own) sent.given w.own.graph
+  pub settled_at : (place : ℕ) → place < length w.own.graph.objects → IsSettledFrom (it_at place) (get_or (graph_written written).objects place no_object)
+  settled_at place less =
+      subst (IsSettledFrom (it_at place)) (sym (flushed_at written place less))
+      (settled_in written (id_of_place place) (it_at place) (sound.marked place less) (it_at place).state refl
+      (λ stays. not_marked (it_at place).marked (λ marked.
+      let among : is_among (prepared_of w.own.graph).deleted (id_of_place place) ≡ true =
+      prepared_among w.own.graph place less
+      (ap (λ (o : Object). is_persistent o.state && o.marked) (here_at w.own.graph place) ∙ (λ i. sound.marked place less marked i && marked i)) in
+      let e : true ≡ false = sym among ∙ stays in
+      absurd cc)))
 
-    keys_long : length written.keys ≡ length w.own.graph.objects
-    unfolding new_keys object_ids
-    keys_long =
-        length-map (map id_of_place (range_with_len 0 (length w.own.graph.objects))) (key_if_new mapped w.own.graph (prepared_of w.own.graph) (changes_of w.own) sent.given)
-        ∙ length-map (range_with_len 0 (length w.own.graph.objects)) id_of_place
-        ∙ length-range_with_len 0 (length w.own.graph.objects)
-
-    is : IsGraph (graph_written written).objects (graph_written written).roots
-    unfolding graph_written
-    is = written_graph written sound.graph keys_long
-
-    settled_at : (place : ℕ) → place < length w.own.graph.objects → IsSettledFrom (it_at place) (get_or (graph_written written).objects place no_object)
-    settled_at place less =
-        subst (IsSettledFrom (it_at place)) (sym (flushed_at written place less))
-        (settled_in written (id_of_place place) (it_at place) (sound.marked place less) (it_at place).state refl
-        (λ stays. not_marked (it_at place).marked (λ marked.
-        let among : is_among (prepared_of w.own.graph).deleted (id_of_place place) ≡ true =
-        prepared_among w.own.graph place less
-        (ap (λ (o : Object). is_persistent o.state && o.marked) (here_at w.own.graph place) ∙ (λ i. sound.marked place less marked i && marked i)) in
-        let e : true ≡ false = sym among ∙ stays in
-        absurd cc)))
-
-    fresh_at : (place : ℕ) → place < length (graph_written written).objects → IsFresh mapped now.store.tables (get_or (graph_written written).objects place no_object)
-    fresh_at place less =
-        let new : Object = get_or (graph_written written).objects place no_object in
-        let within : place < length w.own.graph.objects = omega (arith, less, flushed_long written) in
-        let from = settled_at place within in
-        holds_fresh mapped now.store.tables new (subst (IsPlainClass mapped) (sym from.class) (class_is place within))
-        (ap (λ (c : ClassId). length (spec_of mapped.schema (root_table mapped c)).columns) from.class ∙ long_is place within ∙ sym from.cells)
-        (persists_there new (is.identified place no_object less))
-        (hold mapped w.own.graph (prepared_of w.own.graph) w.store.tables sent.statements (record { tables = now.store.tables; keys = sent.keys }) sent.given all_steady sent.planned sent.sent sent.known place within)
-
+  module _ (fresh_at : EachObject (IsFresh w.own.mapping now.store.tables) (graph_written written)) where
     each_settled : EachObject IsSettled (graph_written written)
     each_settled place less = let from = settled_at place (omega (arith, less, flushed_long written)) in record { settled = from.settled; unmarked = from.unmarked }
 
@@ -242,7 +211,7 @@ module _ (w : World) (steady : IsSteady w) (sound : IsSound w) where
     stands : IsSound (record { own = with_graph (graph_written written) w.own; store = record { tables = now.store.tables; scopes = w.store.scopes } })
     unfolding graph_written
     stands =
-        changed_sound w.own (record { tables = now.store.tables; scopes = w.store.scopes }) (graph_written written) (opened w.own.frames.scopes steady.inside) (flushed_long written) refl is fresh_at
+        changed_sound w.own (record { tables = now.store.tables; scopes = w.store.scopes }) (graph_written written) (opened w.own.frames.scopes inside) (flushed_long written) refl is fresh_at
         (λ place less. λ marked. absurd (let e : false ≡ true = sym (each_settled place less).unmarked ∙ marked in cc)) legal sound.scopes
       where
         opened : (scopes : List Scope) → 0 < length scopes → has_scope scopes ≡ true
@@ -250,7 +219,7 @@ module _ (w : World) (steady : IsSteady w) (sound : IsSound w) where
         opened (scope ∷ scopes) inside = refl
 
     -- and as it is
-    answered : IsSound now × IsWritten now
+    pub answered : IsSound now × IsWritten now
     answered = (
       moved,
       subst (EachObject IsSettled) (sym sent.objects) each_settled,
@@ -275,10 +244,50 @@ module _ (w : World) (steady : IsSteady w) (sound : IsSound w) where
           rest = subst (λ (g : Graph). RestIf now.own.frames.scopes g) (sym graph) (subst (λ (f : Framed). RestIf f.scopes (graph_written written)) (sym frames) stands.rest);
         }
 
+module _ (w : World) (steady : IsSteady w) (sound : IsSound w) where
+  abbrev stood : ℕ → Object
+  stood place = get_or w.own.graph.objects place no_object
+
+  class_is : (place : ℕ) → place < length w.own.graph.objects → IsPlainClass w.own.mapping (stood place).class
+  class_is place less = steady.plain.class (stood place).class (steady.plain.fit.objects place no_object less).class
+
+  long_is : (place : ℕ) → place < length w.own.graph.objects → length (spec_of w.own.mapping.schema (root_table w.own.mapping (stood place).class)).columns ≡ length (stood place).cells
+  long_is place less =
+      cells_are w.own.mapping (stood place).class (length (stood place).cells) (class_is place less)
+      (as_long cell_fits (attributes_of w.own.mapping (stood place).class) (stood place).cells (steady.plain.fit.objects place no_object less).cells)
+
+  pub all_steady : AreSteady w.own.mapping w.own.graph (prepared_of w.own.graph) w.store.tables
+  all_steady = record {
+    plain = steady.plain;
+    well = steady.well;
+    legal = sound.legal;
+    sorted = ascending_sorted w.store.tables steady.ascending.tables;
+    is = sound.graph;
+    only = refl;
+    holds = λ place less persists.
+        fresh_holds w.own.mapping w.store.tables (stood place) (class_is place less) (long_is place less) persists (persists_there (stood place) (sound.graph.identified place no_object less) persists) (sound.fresh place less);
+    kept = steady.kept;
+  }
+
+  module _ (hold : FlushedObjectsHoldTheirRows) (now : World) (sent : IsFlushSent w now) (legal : Legal w.own.mapping.schema now.store.tables) where
+    abbrev after : Written
+    after = written w steady.inside sound now sent legal
+
+    fresh_at : (place : ℕ) → place < length (graph_written after).objects → IsFresh w.own.mapping now.store.tables (get_or (graph_written after).objects place no_object)
+    fresh_at place less =
+        let new : Object = get_or (graph_written after).objects place no_object in
+        let within : place < length w.own.graph.objects = omega (arith, less, flushed_long after) in
+        let from = settled_at w steady.inside sound now sent legal place within in
+        holds_fresh w.own.mapping now.store.tables new (subst (IsPlainClass w.own.mapping) (sym from.class) (class_is place within))
+        (ap (λ (c : ClassId). length (spec_of w.own.mapping.schema (root_table w.own.mapping c)).columns) from.class ∙ long_is place within ∙ sym from.cells)
+        (persists_there new ((is w steady.inside sound now sent legal).identified place no_object less))
+        (hold w.own.mapping w.own.graph (prepared_of w.own.graph) w.store.tables sent.statements (record { tables = now.store.tables; keys = sent.keys }) sent.given all_steady sent.planned sent.sent sent.known place within)
+
 pub answered_sound : FlushedObjectsHoldTheirRows → LeavesLegalTables → AnsweredFlushIsSound
 answered_sound hold leaves w steady sound is =
     let sent : IsFlushSent w (flush w).after = flush_sent w is in
-    answered w steady sound hold (flush w).after sent (left_legal leaves w steady sound)
+    let legal = left_legal leaves w steady.ascending sound in
+    answered w steady.inside sound (flush w).after sent legal (fresh_at w steady sound hold (flush w).after sent legal)
 
 pub kept_sound : AnsweredFlushIsSound → RefusedFlushIsSound → FlushKeepsSound
 kept_sound answered refused w steady sound = by (flush w).answer refl

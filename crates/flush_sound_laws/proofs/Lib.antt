@@ -1,2 +1,4 @@
+mod Adding
 pub mod Answered
 pub mod Refused
+pub mod Told

@@ -1,13 +1,21 @@
 -- What a flush leaves of a session that is sound.
-use Rattle.std.specs.Prelude.{◌≡◌, ◌<◌, true, length, Ok, Err}
+use Rattle.std.specs.Prelude.{◌≡◌, ◌<◌, true, false, List, [], length, Ok, Err}
 use Rattle.base_core.specs.declared.refusal.Refusal.{Refusal}
 use Rattle.object_arena.specs.declared.object.Object.{Object}
 use Rattle.object_arena.specs.Graph.{is_persistent}
-use Rattle.prefix_laws.specs.Laws.{IsWellMapped}
+use Rattle.prefix_laws.specs.Laws.{IsTold, IsWellMapped}
+use Rattle.schema_core.specs.declared.changes.GoneRow.{GoneRow}
+use Rattle.schema_core.specs.Tables.{is_created}
+use Rattle.std.specs.List.{AllByRecursion}
+use Rattle.mapping_laws.specs.Hierarchies.{HasHierarchies}
+use Rattle.pair_rows.specs.Pairs.{lost_pairs}
+use Rattle.object_arena.specs.Fit.{IsFit}
+use Rattle.row_project.specs.Changes.{rows_lost}
+use Rattle.held_laws.specs.Laws.{IsWhollyKnown, KeepsItsKey}
 use Rattle.fresh_laws.specs.Laws.{ArePlainObjects, IsKept}
 use Rattle.legality_laws.specs.Legality.{IsAscendingStore}
 use Rattle.session_calls.specs.Parts.{World}
-use Rattle.session_flush.specs.Flush.{flush}
+use Rattle.session_flush.specs.Flush.{flush, prepared_of}
 use Rattle.session_sound.specs.Sound.{EachObject, IsSound, IsWritten}
 
 -- a flush in a sound session, whatever it is refused for, leaves a sound one
@@ -23,6 +31,46 @@ pub record IsSteady (world : World) : Type 0 where
   pub well : IsWellMapped world.own.mapping
   pub ascending : IsAscendingStore world.store
   pub kept : EachObject (λ (object : Object). is_persistent object.state ≡ true → IsKept world.own.mapping object) world.own.graph
+
+-- A session in a transaction, whose mapping is as every configured one is, with links, classes of several tables and
+-- discriminators as they may be, over tables that ascend, as do those at the start of each scope. Its objects are told by the
+-- tables: they fit their classes and have rows of their own, and the rows of those that are to be deleted stand as they were read,
+-- in created tables. The key of a persistent object has not been changed, and where it is to be deleted all of it is known.
+pub record IsToldSession (world : World) : Type 0 where
+  pub inside : 0 < length world.own.frames.scopes
+  pub well : IsWellMapped world.own.mapping
+  pub classes : HasHierarchies world.own.mapping
+  pub ascending : IsAscendingStore world.store
+  pub told : IsTold world.own.mapping world.own.graph (prepared_of world.own.graph) world.store.tables
+  pub created : AllByRecursion (λ (row : GoneRow). is_created world.store.tables row.name.table ≡ true) (rows_lost world.own.mapping world.own.graph (prepared_of world.own.graph))
+  pub keyed : EachObject (λ (object : Object). is_persistent object.state ≡ true → KeepsItsKey world.own.mapping object) world.own.graph
+  pub known : EachObject (λ (object : Object). object.marked ≡ true → IsWhollyKnown object) world.own.graph
+
+-- a flush that answers leaves a sound session, with nothing to be written
+abbrev pub ToldFlushIsSound : Type 0
+ToldFlushIsSound = (world : World) → IsToldSession world → IsSound world → (flush world).answer ≡ Ok tt → IsSound (flush world).after × IsWritten (flush world).after
+
+-- a flush keeps a session sound, whatever it answers
+abbrev pub ToldFlushKeepsSound : Type 0
+ToldFlushKeepsSound = (world : World) → IsToldSession world → IsSound world → IsSound (flush world).after
+
+-- Such a session of which nothing is taken away: its objects fit their classes, none has a delete mark, and no pair leaves a
+-- secondary table.
+pub record TakesNothingAway (world : World) : Type 0 where
+  pub inside : 0 < length world.own.frames.scopes
+  pub well : IsWellMapped world.own.mapping
+  pub classes : HasHierarchies world.own.mapping
+  pub ascending : IsAscendingStore world.store
+  pub fit : IsFit world.own.mapping world.own.graph
+  pub keyed : EachObject (λ (object : Object). is_persistent object.state ≡ true → KeepsItsKey world.own.mapping object) world.own.graph
+  pub unmarked : EachObject (λ (object : Object). object.marked ≡ false) world.own.graph
+  pub paired : lost_pairs world.own.mapping world.own.graph (prepared_of world.own.graph) ≡ []
+
+-- a flush keeps a session sound, of which nothing is taken away
+abbrev pub AddingFlushKeepsSound : Type 0
+AddingFlushKeepsSound = (world : World) → TakesNothingAway world → IsSound world → IsSound (flush world).after
+
+-- ---- of plain classes
 
 -- a flush that answers leaves a sound session, with nothing to be written
 abbrev pub AnsweredFlushIsSound : Type 0

@@ -2,9 +2,10 @@
 //! that could be turned into a wrong one.
 #![tactic(auto)]
 
-ghost use Rattle.flush_sound_laws.specs.Laws.{AnsweredFlushIsSound, FlushKeepsSound, RefusedFlushIsSound};
+ghost use Rattle.flush_sound_laws.specs.Laws.{AddingFlushKeepsSound, AnsweredFlushIsSound, FlushKeepsSound, RefusedFlushIsSound, ToldFlushIsSound, ToldFlushKeepsSound};
 
 use fresh_laws::flushed_objects_hold_their_rows;
+use held_laws::flushed_objects_hold;
 use session_flush_laws::a_flush_leaves_legal_tables;
 
 /// Whatever a flush is refused for, in the transaction or in a savepoint, and whatever it wrote before: the session is sound
@@ -29,4 +30,29 @@ pub fn a_flush_keeps_sound()
 {
     an_answered_flush_leaves_sound();
     a_refused_flush_leaves_sound();
+}
+
+/// A flush that answers leaves a sound session, over a mapping of any form: with links over foreign keys and secondary tables, with
+/// classes of several tables and with discriminators. The objects are told by the tables before it.
+pub fn an_answered_flush_of_a_told_session_leaves_sound()
+    ensures { ToldFlushIsSound }
+{
+    flushed_objects_hold();
+    a_flush_leaves_legal_tables();
+}
+
+/// A flush keeps such a session sound, whatever it answers.
+pub fn a_flush_keeps_a_told_session_sound()
+    ensures { ToldFlushKeepsSound }
+{
+    an_answered_flush_of_a_told_session_leaves_sound();
+    a_refused_flush_leaves_sound();
+}
+
+/// A flush keeps a session sound over a mapping of any form, whatever it answers, where nothing is taken away: no object has a delete
+/// mark, and no pair leaves a secondary table. The objects fit their classes, and their keys have not been changed.
+pub fn a_flush_that_takes_nothing_away_keeps_sound()
+    ensures { AddingFlushKeepsSound }
+{
+    a_flush_keeps_a_told_session_sound();
 }
