@@ -24,10 +24,9 @@ use Rattle.session_acts.specs.Steps.{flush_now, flush_whole, orphan_fault}
 use Rattle.session_sound.proofs.Beginning.{entered_graph, entered_mapping}
 use Rattle.session_sound.proofs.Programs.{checked_same}
 use Rattle.stated_flush_laws.specs.Laws.{AnswersWhereStated}
-use Rattle.health_laws.proofs.Acts.{IsInside, enter_led, steady}
-use Rattle.sendable_laws.specs.Sending.{FitPlansAreSendable, PlainChangesFit}
-use Rattle.complete_laws.specs.Complete.{BeginAnswers, CommitAnswers, FlushAnswers, IsWritable, MayBeWritten}
-use Rattle.complete_laws.proofs.Written.{flush_written}
+use Rattle.sendable_laws.specs.Sending.{ChangesFit, FitPlansAreSendable}
+use Rattle.complete_laws.specs.Complete.{BeginAnswersWhere, CommitAnswersWhere, FlushAnswersWhere, IsWritable}
+use Rattle.complete_laws.proofs.Written.{IsReady, flush_written}
 
 -- ---- programs that answer
 
@@ -63,7 +62,7 @@ unfolding ◌>>=◌ give by_own
 unless_answers true w well = absurd cc
 unless_answers false w well = begin_answers (in_transaction w.own) w
 
-enter_answers : (w : World) → w.own.failed ≡ false → (enter w).answer ≡ Ok tt
+pub enter_answers : (w : World) → w.own.failed ≡ false → (enter w).answer ≡ Ok tt
 unfolding enter checked by_own ◌>>=◌
 enter_answers w well = unless_answers w.own.failed w well
 
@@ -138,56 +137,57 @@ begun w = record { handle = w.own.drawn.drawn + 1; answered = record { answer = 
 
 -- ---- the flush
 
-module _ (answers : AnswersWhereStated) (sendable : FitPlansAreSendable) (fits : PlainChangesFit) where
-  record IsOpened (w : World) (after : Tables) : Type 0 where
-    inside : IsInside w.own.mapping w
-    no_orphan : orphan_fault w.own ≡ None
-    writable : IsWritable w.own.mapping w.own.graph w.store.tables after
+-- no rollback is awaited and no orphan waits, and once the transaction has begun the objects can be written
+pub record IsOpened (w : World) (after : Tables) : Type 0 where
+  pub well : w.own.failed ≡ false
+  pub no_orphan : orphan_fault w.own ≡ None
+  pub ready : IsReady (enter w).after.own.mapping (enter w).after.own.graph (enter w).after.store.tables
+  pub writable : IsWritable w.own.mapping w.own.graph w.store.tables after
 
-  opened : (w : World) (after : Tables) → MayBeWritten w after → IsOpened (enter w).after after
-  opened w after may =
-      let v : World = (enter w).after in
-      let led = (enter_led w may.whole may.healthy).told tt (enter_answers w may.well) in
-      record {
-        inside = subst (λ (m : Mapped). IsInside m v) (sym (entered_mapping w)) led;
-        no_orphan = ap (λ (g : Graph). orphan_fault (record w.own { graph = g })) (entered_graph w) ∙ may.no_orphan;
-        writable = subst (λ (m : Mapped). IsWritable m v.own.graph v.store.tables after) (sym (entered_mapping w))
-            (subst (λ (g : Graph). IsWritable w.own.mapping g v.store.tables after) (sym (entered_graph w)) (subst (λ (t : Tables). IsWritable w.own.mapping w.own.graph t after) (sym (entered_tables w)) may.writable));
-      }
+-- what holds of the mapping, the objects and the tables does so once the transaction has begun
+pub once_begun : (P : Mapped → Graph → Tables → Type 0) (w : World) → P w.own.mapping w.own.graph w.store.tables → P (enter w).after.own.mapping (enter w).after.own.graph (enter w).after.store.tables
+once_begun P w holds =
+    let v : World = (enter w).after in
+    subst (λ (m : Mapped). P m v.own.graph v.store.tables) (sym (entered_mapping w))
+    (subst (λ (g : Graph). P w.own.mapping g v.store.tables) (sym (entered_graph w)) (subst (λ (t : Tables). P w.own.mapping w.own.graph t) (sym (entered_tables w)) holds))
 
-  flush_done : (w : World) (after : Tables) → IsOpened w after → IsAnswered (flush_whole w) tt after
+module _ (answers : AnswersWhereStated) (sendable : FitPlansAreSendable) (fits : ChangesFit) where
+  flush_done : (w : World) (after : Tables) → IsOpened w after → IsAnswered (flush_whole (enter w).after) tt after
   unfolding flush_whole
   flush_done w after opening =
-      let v : World = (checked orphan_fault w).after in
-      let done = flush_written answers sendable fits w after (steady w.own.mapping w opening.inside) opening.inside.healthy.sound opening.writable in
-      goes (checked orphan_fault) (λ u. flush) w tt tt after (passes orphan_fault w opening.no_orphan)
-      (subst (λ (x : World). IsAnswered (flush x) tt after) (sym (checked_same orphan_fault w)) (record { answer = done.0; left = done.1 }))
-
-  now_done : (w : World) (after : Tables) → MayBeWritten w after → IsAnswered (flush_now w) tt after
-  unfolding flush_now
-  now_done w after may = goes enter (λ u. flush_whole) w tt tt after (enter_answers w may.well) (flush_done (enter w).after after (opened w after may))
-
-  pub flush_answers : FlushAnswers
-  flush_answers w after may = let done = now_done w after may in (done.answer, done.left)
-
-  pub commit_answers : CommitAnswers
-  unfolding acts.commit
-  commit_answers w after may =
-      let done = now_done w after may in
-      let last = whole_committed (flush_now w).after in
-      let all = goes flush_now (λ u. commit_whole) w tt tt after done.answer (record { answer = last.answer; left = last.left ∙ done.left }) in
-      (all.answer, all.left)
-
-  pub begin_answers_law : BeginAnswers
-  unfolding acts.begin_nested enter_nested
-  begin_answers_law w after may few =
       let v : World = (enter w).after in
-      let asked : World = (checked limit_fault v).after in
-      let entered : (enter w).answer ≡ Ok tt = enter_answers w may.well in
-      let passed : ((enter >>= λ u. checked limit_fault) w).answer ≡ Ok tt = (goes enter (λ u. checked limit_fault) w tt tt _ entered (record { answer = passes limit_fault v (room (length v.own.frames.scopes) (entered_few w few)); left = refl })).answer in
-      let same : ((enter >>= λ u. checked limit_fault) w).after ≡ v = then_after enter (λ u. checked limit_fault) w tt entered ∙ checked_same limit_fault v in
-      let flushed : IsAnswered (flush_whole ((enter >>= λ u. checked limit_fault) w).after) tt after = subst (λ (x : World). IsAnswered (flush_whole x) tt after) (sym same) (flush_done v after (opened w after may)) in
-      let last = begun (flush_whole ((enter >>= λ u. checked limit_fault) w).after).after in
-      let acted = goes flush_whole (λ u. begin_savepoint) ((enter >>= λ u. checked limit_fault) w).after tt last.handle after flushed.answer (record { answer = last.answered.answer; left = last.answered.left ∙ flushed.left }) in
-      let all = goes (enter >>= λ u. checked limit_fault) (λ u. flush_whole >>= λ u. begin_savepoint) w tt last.handle after passed acted in
-      (last.handle, all.answer, all.left)
+      let writable : IsWritable v.own.mapping v.own.graph v.store.tables after = once_begun (λ mapped graph tables. IsWritable mapped graph tables after) w opening.writable in
+      let done = flush_written answers sendable fits v after opening.ready writable in
+      let no_orphan : orphan_fault v.own ≡ None = ap (λ (g : Graph). orphan_fault (record w.own { graph = g })) (entered_graph w) ∙ opening.no_orphan in
+      goes (checked orphan_fault) (λ u. flush) v tt tt after (passes orphan_fault v no_orphan)
+      (subst (λ (x : World). IsAnswered (flush x) tt after) (sym (checked_same orphan_fault v)) (record { answer = done.0; left = done.1 }))
+
+  now_done : (w : World) (after : Tables) → IsOpened w after → IsAnswered (flush_now w) tt after
+  unfolding flush_now
+  now_done w after opening = goes enter (λ u. flush_whole) w tt tt after (enter_answers w opening.well) (flush_done w after opening)
+
+  module _ (Ready : World → Tables → Type 0) (opened : (w : World) (after : Tables) → Ready w after → IsOpened w after) where
+    pub flush_answers : FlushAnswersWhere Ready
+    flush_answers w after may = let done = now_done w after (opened w after may) in (done.answer, done.left)
+
+    pub commit_answers : CommitAnswersWhere Ready
+    unfolding acts.commit
+    commit_answers w after may =
+        let done = now_done w after (opened w after may) in
+        let last = whole_committed (flush_now w).after in
+        let all = goes flush_now (λ u. commit_whole) w tt tt after done.answer (record { answer = last.answer; left = last.left ∙ done.left }) in
+        (all.answer, all.left)
+
+    pub begin_answers_law : BeginAnswersWhere Ready
+    unfolding acts.begin_nested enter_nested
+    begin_answers_law w after may few =
+        let opening : IsOpened w after = opened w after may in
+        let v : World = (enter w).after in
+        let entered : (enter w).answer ≡ Ok tt = enter_answers w opening.well in
+        let passed : ((enter >>= λ u. checked limit_fault) w).answer ≡ Ok tt = (goes enter (λ u. checked limit_fault) w tt tt _ entered (record { answer = passes limit_fault v (room (length v.own.frames.scopes) (entered_few w few)); left = refl })).answer in
+        let same : ((enter >>= λ u. checked limit_fault) w).after ≡ v = then_after enter (λ u. checked limit_fault) w tt entered ∙ checked_same limit_fault v in
+        let flushed : IsAnswered (flush_whole ((enter >>= λ u. checked limit_fault) w).after) tt after = subst (λ (x : World). IsAnswered (flush_whole x) tt after) (sym same) (flush_done w after opening) in
+        let last = begun (flush_whole ((enter >>= λ u. checked limit_fault) w).after).after in
+        let acted = goes flush_whole (λ u. begin_savepoint) ((enter >>= λ u. checked limit_fault) w).after tt last.handle after flushed.answer (record { answer = last.answered.answer; left = last.answered.left ∙ flushed.left }) in
+        let all = goes (enter >>= λ u. checked limit_fault) (λ u. flush_whole >>= λ u. begin_savepoint) w tt last.handle after passed acted in
+        (last.handle, all.answer, all.left)

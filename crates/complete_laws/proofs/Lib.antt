@@ -1,2 +1,4 @@
 mod Written
 mod Answering
+mod Opened
+mod Leaving

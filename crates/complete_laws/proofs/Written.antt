@@ -1,45 +1,59 @@
 -- What can be written is written by a flush in the transaction.
-use Rattle.std.proofs.Common.{◌≡◌, ℕ, List, [], ◌∷◌, Ok, ap, ◌∙◌}
+use Rattle.std.proofs.Common.{◌≡◌, ℕ, true, List, [], ◌∷◌, Ok, ap, ◌∙◌}
 use Rattle.schema_core.specs.declared.changes.Planned.{Planned}
 use Rattle.schema_core.specs.declared.changes.RowChanges.{RowChanges}
 use Rattle.schema_core.specs.Catalog.{Catalog}
-use Rattle.schema_core.specs.Tables.{Tables}
+use Rattle.schema_core.specs.Tables.{Legal, Tables}
+use Rattle.class_mapping.specs.Mapped.{Mapped}
+use Rattle.mapping_laws.specs.Hierarchies.{HasHierarchies}
+use Rattle.object_arena.specs.Graph.{Graph}
+use Rattle.object_arena.specs.Identity.{IsGraph}
 use Rattle.flush_order.specs.Orders.{delete_order, gone_rows, insert_order}
 use Rattle.flush_plan.specs.Flushing.{Sofar}
 use Rattle.flush_plan.specs.Planning.{plan, statements, unless_gone_cycle, unless_new_cycle}
+use Rattle.pair_rows.specs.Pairs.{lost_pairs}
 use Rattle.plan_laws.specs.Laws.{before}
+use Rattle.plan_laws.specs.Premises.{IsSorted}
+use Rattle.plan_statements.specs.Known.{is_sendable}
+use Rattle.prefix_laws.specs.Laws.{IsTold, IsWellMapped}
 use Rattle.session_calls.specs.Parts.{World}
 use Rattle.session_flush.specs.Flush.{flush, prepared_of}
 use Rattle.session_flush.specs.Outcome.{changes_of}
 use Rattle.session_flush_laws.specs.Laws.{AreSendable}
 use Rattle.stated_flush_laws.specs.Laws.{AnswersWhereStated}
-use Rattle.session_sound.specs.Sound.{IsSound}
-use Rattle.flush_sound_laws.specs.Laws.{IsSteady}
-use Rattle.flush_sound_laws.proofs.Answered.{all_steady}
-use Rattle.fresh_laws.specs.Laws.{AreSteady}
-use Rattle.sendable_laws.specs.Sending.{AreAlwaysSendable, FitPlansAreSendable, PlainChangesFit}
-use Rattle.sendable_laws.proofs.Plain.{plain_told}
+use Rattle.sendable_laws.specs.Sending.{ChangesFit, FitPlansAreSendable, HoldWhenSent}
 use Rattle.complete_laws.specs.Complete.{IsWritable}
 
-still_sendable : (schema : Catalog) (changes : RowChanges) (planned : List Planned) (sofar : Sofar) → AreAlwaysSendable schema changes planned → AreSendable schema changes sofar planned
-still_sendable schema changes [] sofar all = tt
-still_sendable schema changes (one ∷ planned) sofar all = (all.0 sofar.keys, λ next sent. still_sendable schema changes planned next all.1)
+-- What the objects rest on: they fit the mapping, one stands for each key, and the tables tell what is to be deleted of them. No pair of
+-- a secondary table is taken away.
+pub record IsReady (mapped : Mapped) (graph : Graph) (old : Tables) : Type 0 where
+  pub well : IsWellMapped mapped
+  pub hierarchies : HasHierarchies mapped
+  pub is : IsGraph graph.objects graph.roots
+  pub legal : Legal mapped.schema old
+  pub sorted : IsSorted old
+  pub told : IsTold mapped graph (prepared_of graph) old
+  pub none_lost : lost_pairs mapped graph (prepared_of graph) ≡ []
+
+sendable_then : (schema : Catalog) (changes : RowChanges) (planned : List Planned) (sofar : Sofar) → HoldWhenSent (λ sent one. is_sendable schema changes sent.keys one ≡ true) schema changes sofar planned → AreSendable schema changes sofar planned
+sendable_then schema changes [] sofar all = tt
+sendable_then schema changes (one ∷ planned) sofar all = (all.0, λ next sent. sendable_then schema changes planned next (all.1 next sent))
 
 planned_is : (schema : Catalog) (changes : RowChanges) (order gone : List ℕ) → insert_order schema changes ≡ Ok order → delete_order schema changes (gone_rows schema changes) ≡ Ok gone → plan schema changes ≡ Ok (statements schema changes order gone)
 unfolding plan
 planned_is schema changes order gone ordered last = ap (unless_new_cycle schema changes) ordered ∙ ap (unless_gone_cycle schema changes order) last
 
 -- a flush that has begun answers
-pub flush_written : AnswersWhereStated → FitPlansAreSendable → PlainChangesFit → (w : World) (after : Tables) → IsSteady w → IsSound w → IsWritable w.own.mapping w.own.graph w.store.tables after → ((flush w).answer ≡ Ok tt) × ((flush w).after.store.tables ≡ after)
-flush_written answers sendable fits w after steady sound writable =
-    let all : AreSteady w.own.mapping w.own.graph (prepared_of w.own.graph) w.store.tables = all_steady w steady sound in
+pub flush_written : AnswersWhereStated → FitPlansAreSendable → ChangesFit → (w : World) (after : Tables) → IsReady w.own.mapping w.own.graph w.store.tables → IsWritable w.own.mapping w.own.graph w.store.tables after → ((flush w).answer ≡ Ok tt) × ((flush w).after.store.tables ≡ after)
+flush_written answers sendable fits w after ready writable =
     let changes : RowChanges = changes_of w.own in
     let planned : List Planned = statements w.own.mapping.schema changes writable.order writable.gone in
     let is : plan w.own.mapping.schema changes ≡ Ok planned = planned_is w.own.mapping.schema changes writable.order writable.gone writable.ordered writable.gone_ordered in
-    answers w writable.order writable.placed after planned steady.well (plain_told w.own.mapping w.own.graph (prepared_of w.own.graph) w.store.tables all)
+    let fit = fits w.own.mapping w.own.graph (prepared_of w.own.graph) ready.well ready.hierarchies ready.told.fit ready.is ready.told.keyed ready.none_lost in
+    answers w writable.order writable.placed after planned ready.well ready.told
     (record {
-      sorted = all.sorted;
-      legal = sound.legal;
+      sorted = ready.sorted;
+      legal = ready.legal;
       legal_after = writable.legal;
       clear = writable.clear;
       ordered = writable.ordered;
@@ -47,6 +61,4 @@ flush_written answers sendable fits w after steady sound writable =
       states = writable.states;
       no_guess = writable.no_guess;
     })
-    is
-    (still_sendable w.own.mapping.schema changes planned (before w.store.tables)
-    (sendable w.own.mapping.schema changes planned (fits w.own.mapping w.own.graph (prepared_of w.own.graph) w.store.tables all) is))
+    is (sendable_then w.own.mapping.schema changes planned (before w.store.tables) (sendable w.own.mapping.schema changes planned w.store.tables fit is))

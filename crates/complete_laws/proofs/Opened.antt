@@ -1,0 +1,186 @@
+-- Sessions whose objects can be written: those of which nothing is to be deleted, and those of plain classes.
+use Rattle.std.proofs.Common.{◌≡◌, ℕ, ◌<◌, Bool, true, false, cond, ◌&&◌, ◌==◌, List, [], ◌∷◌, length, map, filter, Option, None, Some, refl, sym, ap, ◌∙◌, subst, arith}
+use Rattle.std.specs.Prelude.{slice_get}
+use Rattle.std.specs.List.{AllByRecursion, flat_map}
+use Rattle.std.specs.Option.{option_map}
+use Rattle.std.proofs.lemmas.List.Elements.{recursion_from_All}
+use Rattle.std.proofs.lemmas.Option.{slice_get-map, slice_get_within}
+use Rattle.base_core.specs.declared.ids.ClassId.{ClassId}
+use Rattle.base_core.specs.declared.ids.ObjId.{ObjId}
+use Rattle.schema_core.specs.declared.changes.GoneRow.{GoneRow}
+use Rattle.schema_core.specs.Declaration.{some_two}
+use Rattle.schema_core.specs.DependencyOrder.{is_among}
+use Rattle.schema_core.specs.Tables.{Tables}
+use Rattle.class_types.specs.declared.mapped.Relation.{Relation}
+use Rattle.class_layouts.specs.Hierarchy.{has_class, line_of, line_or_none}
+use Rattle.class_sides.specs.Linking as linking
+use Rattle.class_sides.specs.Sides.{sides_of}
+use Rattle.class_layouts.specs.Columns.{layouts_of}
+use Rattle.class_mapping.specs.Mapped.{Mapped, class_or, list_or_none, relations_of, root_of, tables_of}
+use Rattle.class_mapping.specs.Lines.{are_declared}
+use Rattle.class_mapping.specs.Paired.{HasPairs, is_at_or_under}
+use Rattle.class_mapping.proofs.Having.{all_of, has_at}
+use Rattle.class_mapping.proofs.LineLemmas.{declared_in}
+use Rattle.class_mapping.proofs.RelatedLemmas.{class_has}
+use Rattle.mapping_laws.specs.Hierarchies.{HasHierarchies}
+use Rattle.object_arena.specs.declared.object.Object.{Object}
+use Rattle.object_arena.specs.Fit.{IsFit}
+use Rattle.object_arena.specs.Graph as graphs
+use Rattle.object_arena.specs.Graph.{Graph, IsObject, is_persistent, object_at, place_of}
+use Rattle.object_arena.specs.Identity.{IsGraph}
+use Rattle.flush_order.specs.Orders.{place_of_gone}
+use Rattle.flush_order.specs.Sorted.{same_place}
+use Rattle.object_rows.specs.declared.prepared.Prepared.{Prepared}
+use Rattle.object_rows.specs.Rows as rows
+use Rattle.object_rows.specs.Seen.{object_ids}
+use Rattle.object_rows.proofs.ObjectSteps.{all_made}
+use Rattle.pair_rows.specs.Pairs as pairs
+use Rattle.prefix_laws.specs.Laws.{IsAsRead, IsTold}
+use Rattle.fresh_laws.specs.Laws.{AreSteady}
+use Rattle.fresh_laws.proofs.Fresh.{ascending_sorted}
+use Rattle.fresh_laws.proofs.Plain.{none_lost}
+use Rattle.fresh_laws.proofs.Told.{all_told}
+use Rattle.flush_sound_laws.specs.Laws.{IsSteady}
+use Rattle.flush_sound_laws.proofs.Answered.{all_steady}
+use Rattle.session_calls.specs.Parts.{World}
+use Rattle.session_calls.specs.Steps.{enter}
+use Rattle.session_flush.specs.Flush.{is_to_delete, prepared_of}
+use Rattle.session_sound.specs.Sound.{EachObject, IsSound}
+use Rattle.session_sound.proofs.Beginning.{entered_mapping}
+use Rattle.health_laws.specs.Health.{HasPlainClasses}
+use Rattle.health_laws.proofs.Acts.{IsInside, enter_led, steady}
+use Rattle.sendable_laws.proofs.Roots.{alone, begun}
+use Rattle.complete_laws.specs.Complete.{HoldsLinks, LinksMayBeWritten, MayBeWritten}
+use Rattle.complete_laws.proofs.Answering.{IsOpened, enter_answers, once_begun}
+use Rattle.complete_laws.proofs.Written.{IsReady}
+
+-- ---- nothing is to be deleted
+
+none_kept : {A : Type 0} (test : A → Bool) (xs : List A) → AllByRecursion (λ x. test x ≡ false) xs → filter test xs ≡ []
+none_kept test [] none = refl
+none_kept test (x ∷ xs) none = ap (λ (b : Bool). cond b (x ∷ filter test xs) (filter test xs)) none.0 ∙ none_kept test xs none.1
+
+never : (a b : Bool) → b ≡ false → (a && b) ≡ false
+never true b none = none
+never false b none = refl
+
+each_of : {A : Type 0} (P Q : A → Type 0) (xs : List A) → ((x : A) → P x → Q x) → AllByRecursion P xs → AllByRecursion Q xs
+each_of P Q [] step all = tt
+each_of P Q (x ∷ xs) step all = (step x all.0, each_of P Q xs step all.1)
+
+pub none_deleted : (graph : Graph) → EachObject (λ (object : Object). object.marked ≡ false) graph → (prepared_of graph).deleted ≡ []
+none_deleted graph unmarked =
+    none_kept (is_to_delete graph) (object_ids graph)
+    (each_of (IsObject graph) (λ object. is_to_delete graph object ≡ false) (object_ids graph)
+    (λ object made. never (is_persistent (object_at graph object).state) (object_at graph object).marked (unmarked (place_of object) (let within : place_of object < length graph.objects = omega (arith, made.0, made.1) in within)))
+    (recursion_from_All (IsObject graph) (object_ids graph) (all_made graph (object_ids graph) refl)))
+
+unmarked_told : (mapped : Mapped) (graph : Graph) (old : Tables) → HasHierarchies mapped → IsFit mapped graph → IsGraph graph.objects graph.roots → (prepared : Prepared) → prepared.deleted ≡ [] → pairs.lost_pairs mapped graph prepared ≡ [] → IsTold mapped graph prepared old
+unfolding rows.gone_rows pairs.lost_rows
+unmarked_told mapped graph old has fit is prepared none lost = record {
+  fit = fit;
+  keyed = record {
+    made = subst (AllByRecursion (IsObject graph)) (sym none) tt;
+    standing = subst (AllByRecursion (λ object. is_persistent (object_at graph object).state ≡ true)) (sym none) tt;
+    once = ap (some_two (λ (one other : ObjId). one.0 == other.0)) none;
+    alone = alone mapped has graph fit is;
+    read = λ object table among inside. absurd (let e : false ≡ true = sym (ap (λ (objects : List ObjId). graphs.is_among objects object) none) ∙ among in cc);
+    pairs = ap (λ (found : List pairs.Pair). some_two (λ one other. same_place (place_of_gone mapped.schema one) (place_of_gone mapped.schema other)) (map (pairs.lost_row mapped graph) found)) lost;
+    secondary = λ class. subst (λ (found : List pairs.Pair). AllByRecursion (λ (row : GoneRow). is_among (tables_of mapped class) row.name.table ≡ false) (map (pairs.lost_row mapped graph) found)) (sym lost) tt;
+  };
+  read = subst (λ (objects : List ObjId). AllByRecursion (IsAsRead mapped.schema old) (flat_map (rows.rows_gone mapped graph) objects)) (sym none) tt;
+}
+
+pub links_told : (w : World) → HoldsLinks w → IsTold w.own.mapping w.own.graph (prepared_of w.own.graph) w.store.tables
+links_told w holds = unmarked_told w.own.mapping w.own.graph w.store.tables holds.hierarchies holds.fit holds.sound.graph (prepared_of w.own.graph) (none_deleted w.own.graph holds.unmarked) holds.none_lost
+
+links_ready : (w : World) → HoldsLinks w → IsReady w.own.mapping w.own.graph w.store.tables
+links_ready w holds = record {
+  well = holds.mapped;
+  hierarchies = holds.hierarchies;
+  is = holds.sound.graph;
+  legal = holds.sound.legal;
+  sorted = ascending_sorted w.store.tables holds.ascending.tables;
+  told = links_told w holds;
+  none_lost = holds.none_lost;
+}
+
+pub links_opened : (w : World) (after : Tables) → LinksMayBeWritten w after → IsOpened w after
+links_opened w after may = record { well = may.well; no_orphan = may.no_orphan; ready = once_begun IsReady w (links_ready w may.holds); writable = may.writable }
+
+-- ---- plain classes
+
+no_relations : (mapped : Mapped) → HasPlainClasses mapped → (class : ClassId) → relations_of mapped class ≡ []
+no_relations mapped plain class =
+    by (slice_get mapped.classes.lines class.0) refl
+  where
+    by : (found : Option (List ClassId)) → slice_get mapped.classes.lines class.0 ≡ found → relations_of mapped class ≡ []
+    by None e =
+        ap list_or_none
+        (slice_get-map (linking.relations_on mapped.schema.tables mapped.classes (sides_of mapped.schema.tables mapped.classes (layouts_of mapped.schema.tables mapped.classes)) (linking.all_names mapped.classes (sides_of mapped.schema.tables mapped.classes (layouts_of mapped.schema.tables mapped.classes)))) mapped.classes.lines class.0
+        ∙ ap (option_map (linking.relations_on mapped.schema.tables mapped.classes (sides_of mapped.schema.tables mapped.classes (layouts_of mapped.schema.tables mapped.classes)) (linking.all_names mapped.classes (sides_of mapped.schema.tables mapped.classes (layouts_of mapped.schema.tables mapped.classes))))) e)
+    by (Some line) e = (plain.class class (omega (arith, slice_get_within mapped.classes.lines class.0 line e, plain.well.lined))).relations
+
+none_at : (xs : List Relation) (place : ℕ) (relation : Relation) → xs ≡ [] → slice_get xs place ≡ Some relation → ⊥
+none_at [] place relation none at = cc
+none_at (x ∷ xs) place relation none at = cc
+
+plain_pairs : (mapped : Mapped) → HasPlainClasses mapped → HasPairs mapped
+plain_pairs mapped plain = record {
+  rooted = λ class above under. rooted class above under;
+  inherited = λ class above place relation under at. absurd (none_at (relations_of mapped above) place relation (no_relations mapped plain above) at);
+  back = λ class place relation at. absurd (none_at (relations_of mapped class) place relation (no_relations mapped plain class) at);
+  returns = λ class place relation partner at there. absurd (none_at (relations_of mapped class) place relation (no_relations mapped plain class) at);
+}
+  where
+    rooted : (class above : ClassId) → is_at_or_under mapped class above ≡ true → (root_of mapped class).0 ≡ (root_of mapped above).0
+    rooted class above under = by (slice_get mapped.classes.lines class.0) refl
+      where
+        by : (found : Option (List ClassId)) → slice_get mapped.classes.lines class.0 ≡ found → (root_of mapped class).0 ≡ (root_of mapped above).0
+        by None e = absurd (let h : false ≡ true = sym (ap (λ (l : Option (List ClassId)). has_class (line_or_none l) above.0) e) ∙ under in cc)
+        by (Some line) e =
+            let within : has_class line above.0 ≡ true = sym (ap (λ (l : Option (List ClassId)). has_class (line_or_none l) above.0) e) ∙ under in
+            let declared : above.0 < length mapped.classes.specs = declared_in mapped.classes.specs line above (all_of (are_declared mapped.classes.specs) mapped.classes.lines line plain.well.lines.declared (has_at mapped.classes.lines class.0 line e)) within in
+            let begins = plain.well.lines.nested class.0 above under in
+            let own = plain.well.lines.own above.0 (omega (arith, declared, plain.well.lined)) in
+            let top = begun (line_of mapped.classes class.0) (line_of mapped.classes above.0) begins.0 above begins.1 (class_has (line_of mapped.classes above.0) above own) in
+            ap (λ (found : Option ClassId). (class_or found class).0) top.1 ∙ sym (ap (λ (found : Option ClassId). (class_or found above).0) top.2)
+
+plain_hierarchies : (mapped : Mapped) → HasPlainClasses mapped → HasHierarchies mapped
+plain_hierarchies mapped plain = record { lined = plain.well.lined; lines = plain.well.lines; valid = plain.well.valid; paired = plain_pairs mapped plain; declared = plain.well.declared }
+
+none_mapped : {A B : Type 0} (f : A → B) (xs : List A) → map f xs ≡ [] → xs ≡ []
+none_mapped f [] none = refl
+none_mapped f (x ∷ xs) none = absurd cc
+
+lost_none : (mapped : Mapped) (graph : Graph) (prepared : Prepared) → pairs.lost_rows mapped graph prepared ≡ [] → pairs.lost_pairs mapped graph prepared ≡ []
+unfolding pairs.lost_rows
+lost_none mapped graph prepared none = none_mapped (pairs.lost_row mapped graph) (pairs.lost_pairs mapped graph prepared) none
+
+plain_ready : (w : World) → IsSteady w → IsSound w → HasPlainClasses w.own.mapping → IsReady w.own.mapping w.own.graph w.store.tables
+plain_ready w steady sound plain =
+    let all : AreSteady w.own.mapping w.own.graph (prepared_of w.own.graph) w.store.tables = all_steady w steady sound in
+    let prepared : Prepared = prepared_of w.own.graph in
+    record {
+      well = steady.well;
+      hierarchies = plain_hierarchies w.own.mapping plain;
+      is = sound.graph;
+      legal = sound.legal;
+      sorted = all.sorted;
+      told = all_told w.own.mapping w.own.graph steady.plain steady.well w.store.tables sound.legal prepared all.only sound.graph
+          (λ object made persists. all.holds (place_of object) (let within : place_of object < length w.own.graph.objects = omega (arith, made.0, made.1) in within) persists)
+          (λ object made persists. all.kept (place_of object) (let within : place_of object < length w.own.graph.objects = omega (arith, made.0, made.1) in within) persists);
+      none_lost = lost_none w.own.mapping w.own.graph prepared (none_lost w.own.mapping w.own.graph steady.plain prepared);
+    }
+
+pub plain_opened : (w : World) (after : Tables) → MayBeWritten w after → IsOpened w after
+plain_opened w after may =
+    let v : World = (enter w).after in
+    let led : IsInside w.own.mapping v = (enter_led w may.whole may.healthy).told tt (enter_answers w may.well) in
+    let own : IsInside v.own.mapping v = subst (λ (m : Mapped). IsInside m v) (sym (entered_mapping w)) led in
+    record {
+      well = may.well;
+      no_orphan = may.no_orphan;
+      ready = plain_ready v (steady v.own.mapping v own) own.healthy.sound own.healthy.tidy.own.plain;
+      writable = may.writable;
+    }
