@@ -1,1 +1,1 @@
-pub mod OpenLemmas
+mod OwnerLemmas

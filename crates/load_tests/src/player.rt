@@ -7,19 +7,22 @@ ghost use Rattle.object_arena.specs.Graph.{IsObject, object_at};
 ghost use Rattle.programs.specs.Programs.{ends_early};
 ghost use Rattle.load_calls.specs.Reading.{IsReady, StaysReady};
 
-use crate::declared::declare_all;
-use crate::graph::{first_word, is_made, put};
-use crate::store::fill;
-use crate::told::{tell_load, tell_objects};
-use base_core::{ListOf, ObjId, Refusal, RelNo};
+use crate::owners::{are_owners, is_persistent, related};
+use base_core::{ClassId, ListOf, ObjId, ObjList, Refusal, RelNo};
 use class_mapping::Mapping;
 use class_types::Hooks;
 use keeper_core::{Keeper, Notes, calls};
 use keeper_mem::MemKeeper;
+use load_batches::load_members;
 use load_calls::refresh;
+use load_ends::load_ends;
+use load_lines::{
+    declare_all, fill, first_word, is_made, objects_of, put, tell_load, tell_objects,
+};
+use load_queries::{every_object, load_select};
 use load_targets::load_lazy;
 use notations::{Reader, number};
-use object_arena::{Arena, State};
+use object_arena::Arena;
 use std::alloc::{AllocError, Global};
 use std::mem::{self, drop};
 
@@ -27,16 +30,6 @@ use std::mem::{self, drop};
 #[derive(Drop)]
 pub(crate) struct Player {
     mapping: Box<Mapping>,
-}
-
-fn is_persistent(arena: &Arena, object: ObjId) -> bool
-    requires { IsObject arena.now object }
-    ensures { result ≡ true → (object_at arena.now object).state ≡ Persistent }
-{
-    match arena.state_of(object) {
-        State::Persistent => true,
-        _ => false,
-    }
 }
 
 /// Loads the link of an object at a place.
@@ -64,7 +57,46 @@ fn load_link<K: Keeper>(
     load_lazy(alloc, arena, mapping, keeper, object, place, notes)
 }
 
-/// Loads what an act asks for of a persistent object.
+/// Loads the links of objects of a class at a place.
+#[tactic(auto, using(crate::proofs::OwnerLemmas::children_of))]
+fn load_together<K: Keeper>(
+    alloc: Global,
+    arena: &mut Arena,
+    mapping: &Mapping,
+    keeper: &mut K,
+    words: &str,
+    notes: &mut Notes,
+) -> Result<(), Refusal>
+    requires configured { mapping.now.configured ≡ true }
+    requires fit { IsFit mapping.now arena.old }
+    requires ready { IsReady mapping.now.schema (K.moment keeper.old) }
+    ensures stays { StaysReady mapping.now.schema result (K.moment keeper.new) }
+    ensures fits { IsFit mapping.now arena.new }
+{
+    let (class, words) = first_word(words);
+    let (place, words) = first_word(words);
+    let class = ClassId(number(class));
+    let place = RelNo(number(place));
+    let owners = objects_of(alloc, words)?;
+    let owners = owners.as_slice();
+    if class.0 >= mapping.count() || place.0 as usize >= mapping.relations(class).len() {
+        return Err(Refusal::NotBuilt);
+    }
+    let relation = related(mapping, class, place);
+    if relation.far.is_some() || !are_owners(&*arena, mapping, class, place, owners) {
+        return Err(Refusal::NotBuilt);
+    }
+    if !relation.many {
+        return load_ends(
+            alloc, arena, mapping, keeper, owners, relation, place, notes,
+        );
+    }
+    load_members(
+        alloc, arena, mapping, keeper, relation, place, owners, notes,
+    )
+}
+
+/// Loads what an act asks for of objects.
 fn load<K: Keeper>(
     alloc: Global,
     arena: &mut Arena,
@@ -80,6 +112,9 @@ fn load<K: Keeper>(
     ensures stays { StaysReady mapping.now.schema result (K.moment keeper.new) }
     ensures fits { IsFit mapping.now arena.new }
 {
+    if letter == "b" {
+        return load_together(alloc, arena, mapping, keeper, words, notes);
+    }
     let (object, place) = first_word(words);
     let object = ObjId(number(object));
     if !is_made(arena, object) || !is_persistent(arena, object) {
@@ -92,12 +127,42 @@ fn load<K: Keeper>(
     load_link(alloc, object, place, arena, mapping, keeper, notes)
 }
 
-fn is_ended(answer: &Result<(), Refusal>) -> bool
+/// Loads all objects of a class.
+fn load_class<K: Keeper>(
+    alloc: Global,
+    arena: &mut Arena,
+    mapping: &Mapping,
+    keeper: &mut K,
+    words: &str,
+    notes: &mut Notes,
+) -> Result<ObjList, Refusal>
+    requires configured { mapping.now.configured ≡ true }
+    requires fit { IsFit mapping.now arena.old }
+    requires ready { IsReady mapping.now.schema (K.moment keeper.old) }
+    ensures stays { StaysReady mapping.now.schema result (K.moment keeper.new) }
+    ensures fits { IsFit mapping.now arena.new }
+{
+    let class = ClassId(number(words));
+    if class.0 >= mapping.count() {
+        return Err(Refusal::NotBuilt);
+    }
+    let query = every_object(alloc, mapping, class)?;
+    load_select(alloc, arena, mapping, keeper, &query, notes)
+}
+
+fn is_ended<T>(answer: &Result<T, Refusal>) -> bool
     ensures { result ≡ false → IfErr answer.now (λ e. ends_early e ≡ false) }
 {
     match answer {
-        Ok(()) => false,
+        Ok(_loaded) => false,
         Err(refusal) => calls::ends_early(refusal),
+    }
+}
+
+fn with_none(alloc: Global, answer: Result<(), Refusal>) -> Result<ObjList, Refusal> {
+    match answer {
+        Ok(()) => Ok(ListOf::new(alloc)),
+        Err(refusal) => Err(refusal),
     }
 }
 
@@ -122,6 +187,31 @@ fn tell<K: Keeper>(
     if is_ended(&answer) {
         return Err(Refusal::Memory);
     }
+    let answer = with_none(alloc, answer);
+    tell_load(alloc, mapping, act, &answer, &notes, shown)
+}
+
+/// Loads all objects of a class, and tells of it.
+fn tell_class<K: Keeper>(
+    alloc: Global,
+    arena: &mut Arena,
+    mapping: &Mapping,
+    keeper: &mut K,
+    act: &str,
+    shown: &mut String,
+) -> Result<(), Refusal>
+    requires configured { mapping.now.configured ≡ true }
+    requires fit { IsFit mapping.now arena.old }
+    requires ready { IsReady mapping.now.schema (K.moment keeper.old) }
+    ensures stays { OnOk result (IsReady mapping.now.schema (K.moment keeper.new)) }
+    ensures fits { IsFit mapping.now arena.new }
+{
+    let (_letter, words) = first_word(act);
+    let mut notes = ListOf::new(alloc);
+    let answer = load_class(alloc, arena, mapping, keeper, words, &mut notes);
+    if is_ended(&answer) {
+        return Err(Refusal::Memory);
+    }
     tell_load(alloc, mapping, act, &answer, &notes, shown)
 }
 
@@ -143,6 +233,7 @@ fn step<K: Keeper>(
     let (letter, words) = first_word(act);
     match letter {
         "h" | "k" | "s" | "c" => put(alloc, mapping, arena, letter, words),
+        "q" => tell_class(alloc, arena, mapping, keeper, act, shown),
         _ => tell(alloc, arena, mapping, keeper, act, shown),
     }
 }

@@ -19,7 +19,7 @@ use Rattle.legality_laws.proofs.EachCall.{write_legal}
 use Rattle.legality_laws.proofs.HeldRows.{holds_legal_rows}
 use Rattle.legality_laws.proofs.Telling.{told_attached, told_called, told_stated}
 use Rattle.load_calls.specs.Reading.{IsReady}
-use Rattle.load_tests.specs.Opened.{IsOpen}
+use Rattle.load_lines.specs.Opened.{IsOpen}
 
 pub attached_open : (schema : Catalog) (old new : Moment Store) (r : Result (Unit {0}) KeeperStop) → IsAttached old targets.Memory (as_refusal stop_refusal r) new → OnOk r (IsOpen schema 0 new)
 attached_open schema old new (Ok u) is = record { attached = is.attached; depth = is.depth; legal = told_attached (AreSound schema) old new (no_tables_sound schema) is }

@@ -19,15 +19,21 @@ fn word_of(refusal: &Refusal) -> &'static str {
     }
 }
 
-fn say_answer(answer: &Result<(), Refusal>, said: &mut String) -> Result<(), AllocError> {
+/// The objects that a load answered, or why it was refused.
+fn say_answer(
+    alloc: Global,
+    answer: &Result<ObjList, Refusal>,
+    said: &mut String,
+) -> Result<(), AllocError> {
+    said.push_str(": ")?;
     match answer {
-        Ok(()) => said.push_str(": ok\n"),
-        Err(refusal) => {
-            said.push_str(": ")?;
-            said.push_str(word_of(refusal))?;
-            said.push('\n')
+        Ok(objects) => {
+            said.push_str("ok")?;
+            say_objects(alloc, objects, said)?;
         }
+        Err(refusal) => said.push_str(word_of(refusal))?,
     }
+    said.push('\n')
 }
 
 /// A select's text in SQLite, with its values.
@@ -66,16 +72,16 @@ fn say_note(
 }
 
 /// What a load answered and noted.
-pub(crate) fn tell_load(
+pub fn tell_load(
     alloc: Global,
     mapping: &Mapping,
     act: &str,
-    answer: &Result<(), Refusal>,
+    answer: &Result<ObjList, Refusal>,
     notes: &Notes,
     said: &mut String,
 ) -> Result<(), Refusal> {
     said.push_str(act)?;
-    say_answer(answer, said)?;
+    say_answer(alloc, answer, said)?;
     for note in notes.as_slice() {
         say_note(alloc, mapping, note, said)?;
     }
@@ -158,11 +164,7 @@ fn say_object(
 }
 
 /// All objects.
-pub(crate) fn tell_objects(
-    alloc: Global,
-    arena: &Arena,
-    said: &mut String,
-) -> Result<(), AllocError> {
+pub fn tell_objects(alloc: Global, arena: &Arena, said: &mut String) -> Result<(), AllocError> {
     for number in 0..arena.count() {
         let object = arena.object(ObjId(number + 1));
         say_object(alloc, number + 1, object, said)?;

@@ -1,5 +1,5 @@
-use Rattle.load_tests.specs.Opened.{IsOpen}
-use Rattle.load_tests.proofs.store.create_all.Given as goal
+use Rattle.load_lines.specs.Opened.{IsOpen}
+use Rattle.load_lines.proofs.store.create_all.Given as goal
 
 abbrev pub invariant-loop-number : goal.invariant-loop-number
 invariant-loop-number g l = IsOpen l.schema 0 (g.K.Keeper.moment l.keeper)

@@ -1,9 +1,9 @@
 use Rattle.std.proofs.Common.{List, OnOk, Result, subst}
 use Rattle.base_core.specs.declared.refusal.Refusal.{Refusal}
 use Rattle.base_core.specs.declared.value.Value.{Value}
-use Rattle.load_tests.specs.Opened.{IsOpen}
-use Rattle.load_tests.proofs.OpenLemmas.{written_open}
-use Rattle.load_tests.proofs.store.insert.Goals as goal
+use Rattle.load_lines.specs.Opened.{IsOpen}
+use Rattle.load_lines.proofs.OpenLemmas.{written_open}
+use Rattle.load_lines.proofs.store.insert.Goals as goal
 
 pub returns-in-Ok : goal.returns-in-Ok
 returns-in-Ok g c =

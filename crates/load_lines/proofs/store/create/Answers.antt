@@ -2,9 +2,9 @@ use Rattle.std.proofs.Common.{Bool, OnOk, Result, subst}
 use Rattle.base_core.specs.declared.refusal.Refusal.{Refusal}
 use Rattle.keeper_core.specs.Calls as call
 use Rattle.legality_laws.proofs.EachCall.{create_legal}
-use Rattle.load_tests.specs.Opened.{IsOpen}
-use Rattle.load_tests.proofs.OpenLemmas.{called_open}
-use Rattle.load_tests.proofs.store.create.Goals as goal
+use Rattle.load_lines.specs.Opened.{IsOpen}
+use Rattle.load_lines.proofs.OpenLemmas.{called_open}
+use Rattle.load_lines.proofs.store.create.Goals as goal
 
 pub returns-in-Ok : goal.returns-in-Ok
 returns-in-Ok g c =

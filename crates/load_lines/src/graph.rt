@@ -13,12 +13,12 @@ use object_arena::{Arena, Cell, Link};
 use std::alloc::Global;
 
 /// What stands before the first blank, and behind it.
-pub(crate) fn first_word(words: &str) -> (&str, &str) {
+pub fn first_word(words: &str) -> (&str, &str) {
     words.split_once(' ').unwrap_or((words, ""))
 }
 
 /// Whether an object has been made.
-pub(crate) fn is_made(arena: &Arena, object: ObjId) -> bool
+pub fn is_made(arena: &Arena, object: ObjId) -> bool
     ensures { result ≡ true → IsObject arena.now object }
 {
     0 < object.0 && object.0 <= arena.count()
@@ -87,7 +87,7 @@ fn set(
 }
 
 /// Objects with commas between them; there may be none.
-fn objects_of(alloc: Global, words: &str) -> Result<ObjList, Refusal> {
+pub fn objects_of(alloc: Global, words: &str) -> Result<ObjList, Refusal> {
     let mut objects = ListOf::new(alloc);
     for word in words.split(',') {
         if !word.is_empty() {
@@ -129,7 +129,7 @@ fn keep(alloc: Global, mapping: &Mapping, arena: &mut Arena, words: &str) -> Res
 }
 
 /// Puts objects as an act says.
-pub(crate) fn put(
+pub fn put(
     alloc: Global,
     mapping: &Mapping,
     arena: &mut Arena,

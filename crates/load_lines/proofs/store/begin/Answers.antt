@@ -1,8 +1,8 @@
 use Rattle.keeper_core.specs.Calls as call
 use Rattle.legality_laws.specs.Legality.{AreSound}
 use Rattle.legality_laws.proofs.EachCall.{keeps_begin}
-use Rattle.load_tests.proofs.OpenLemmas.{called_open}
-use Rattle.load_tests.proofs.store.begin.Goals as goal
+use Rattle.load_lines.proofs.OpenLemmas.{called_open}
+use Rattle.load_lines.proofs.store.begin.Goals as goal
 
 pub returns : goal.returns
 returns g c =

@@ -4,7 +4,7 @@ ghost use Rattle.std.specs.Prelude.{◌≡◌, None, IfOk, OnOk};
 ghost use Rattle.schema_core.specs.Catalog.{IsTable};
 ghost use Rattle.schema_core.specs.WellFormed.{IsWellFormed};
 ghost use Rattle.load_calls.specs.Reading.{IsReady};
-ghost use Rattle.load_tests.specs.Opened.{IsOpen};
+ghost use Rattle.load_lines.specs.Opened.{IsOpen};
 
 use base_core::{ListOf, Refusal, TableId};
 use fitting_statements::fits_schema;
@@ -107,7 +107,7 @@ fn insert_all<K: Keeper>(
 }
 
 /// The keeper takes memory as its target, makes all tables, and has the rows of a line in a transaction.
-pub(crate) fn fill<K: Keeper>(
+pub fn fill<K: Keeper>(
     alloc: Global,
     keeper: &mut K,
     schema: &Schema,

@@ -51,7 +51,7 @@ fn with_line(
 }
 
 /// Declares what lines with `;` behind each say, and configures the mapping.
-pub(crate) fn declare_all(
+pub fn declare_all(
     alloc: Global,
     hooks: &Hooks,
     mapping: &mut Mapping,

@@ -1,8 +1,8 @@
 use Rattle.std.proofs.Common.{OnOk, Result, subst}
 use Rattle.keeper_core.specs.declared.keeper.KeeperStop.{KeeperStop}
-use Rattle.load_tests.specs.Opened.{IsOpen}
-use Rattle.load_tests.proofs.OpenLemmas.{attached_open}
-use Rattle.load_tests.proofs.store.attach.Goals as goal
+use Rattle.load_lines.specs.Opened.{IsOpen}
+use Rattle.load_lines.proofs.OpenLemmas.{attached_open}
+use Rattle.load_lines.proofs.store.attach.Goals as goal
 
 pub returns-in-Ok : goal.returns-in-Ok
 returns-in-Ok g c =
