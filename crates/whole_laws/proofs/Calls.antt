@@ -11,11 +11,11 @@ use Rattle.session_calls.specs.Parts.{World}
 use Rattle.health_laws.specs.Calls.{Call, MayCall, after_call, after_calls}
 use Rattle.health_laws.specs.Health.{HasPlainClasses, IsWhole}
 use Rattle.health_laws.proofs.Calls.{call_healthy, new_healthy}
-use Rattle.whole_laws.specs.Whole.{AreCallsOf, CallsKeepWhole, IsCallOf, IsHale, SessionsHaveOneForEachKey, new_world}
+use Rattle.whole_laws.specs.Whole.{AreCallsOf, CallsKeepWhole, IsCallOf, IsHale, IsKeyed, SessionsHaveOneForEachKey, new_world}
 use Rattle.whole_laws.proofs.Handled as handled
 use Rattle.whole_laws.proofs.Handled.{Handled}
 use Rattle.whole_laws.proofs.Programs as keyed
-use Rattle.whole_laws.proofs.Programs.{HasKeyed}
+use Rattle.whole_laws.proofs.Since.{keyed_steps, make_keyed}
 
 may_call : (call : Call) (w : World) → IsCallOf call w → MayCall call w
 may_call (Call.Make class given) w of = tt
@@ -35,22 +35,22 @@ may_call (Call.Rows select) w of = tt
 may_call (Call.Write statement) w of = of
 
 module _ (rules : Rules) where
-  call_keyed : (call : Call) (w : World) → IsCallOf call w → HasKeyed w → HasKeyed (after_call rules call w)
-  call_keyed (Call.Make class given) w of has = keyed.make_keyed rules class given w of.0 of.1 has
-  call_keyed (Call.Add object) w of has = (keyed.add_keyed object).kept w has
-  call_keyed (Call.Set object attr value) w of has = keyed.set_keyed object attr value rules w of.1 has
-  call_keyed (Call.Read object attr) w of has = (keyed.read_keyed object attr).kept w has
-  call_keyed (Call.Delete object) w of has = (keyed.delete_keyed object).kept w has
-  call_keyed Call.Flush w of has = keyed.flush_keyed.kept w has
-  call_keyed Call.Commit w of has = keyed.commit_keyed.kept w has
-  call_keyed Call.Rollback w of has = keyed.rollback_keyed.kept w has
-  call_keyed Call.Close w of has = keyed.close_keyed.kept w has
-  call_keyed Call.BeginNested w of has = keyed.nested_begun.kept w has
-  call_keyed (Call.CommitHandle handle) w of has = (keyed.handle_committed handle).kept w has
-  call_keyed (Call.RollbackHandle handle) w of has = (keyed.handle_keyed handle).kept w has
-  call_keyed (Call.ChangeTables change) w of has = (keyed.tables_keyed change).kept w has
-  call_keyed (Call.Rows select) w of has = (keyed.rows_asked select).kept w has
-  call_keyed (Call.Write statement) w of has = (keyed.bulk_sent statement).kept w has
+  call_keyed : (call : Call) (w : World) → IsCallOf call w → IsKeyed w.own → IsKeyed (after_call rules call w).own
+  call_keyed (Call.Make class given) w of has = make_keyed rules class given w of.0 of.1 has
+  call_keyed (Call.Add object) w of has = (keyed.adds IsKeyed keyed_steps object).kept w has
+  call_keyed (Call.Set object attr value) w of has = keyed.sets IsKeyed keyed_steps object attr value rules w of.1 has
+  call_keyed (Call.Read object attr) w of has = (keyed.reads IsKeyed keyed_steps object attr).kept w has
+  call_keyed (Call.Delete object) w of has = (keyed.deletes IsKeyed keyed_steps object).kept w has
+  call_keyed Call.Flush w of has = (keyed.flushes IsKeyed keyed_steps).kept w has
+  call_keyed Call.Commit w of has = (keyed.commits IsKeyed keyed_steps).kept w has
+  call_keyed Call.Rollback w of has = (keyed.rolls_back IsKeyed keyed_steps).kept w has
+  call_keyed Call.Close w of has = (keyed.closes IsKeyed keyed_steps).kept w has
+  call_keyed Call.BeginNested w of has = (keyed.begins_nested IsKeyed keyed_steps).kept w has
+  call_keyed (Call.CommitHandle handle) w of has = (keyed.commits_handle IsKeyed keyed_steps handle).kept w has
+  call_keyed (Call.RollbackHandle handle) w of has = (keyed.rolls_back_to IsKeyed keyed_steps handle).kept w has
+  call_keyed (Call.ChangeTables change) w of has = (keyed.changes_tables IsKeyed keyed_steps change).kept w has
+  call_keyed (Call.Rows select) w of has = (keyed.asks_rows IsKeyed keyed_steps select).kept w has
+  call_keyed (Call.Write statement) w of has = (keyed.sends_bulk IsKeyed keyed_steps statement).kept w has
 
   call_handled : (call : Call) (w : World) → Handled w → Handled (after_call rules call w)
   call_handled (Call.Make class given) w has = handled.make_handled rules class given w has

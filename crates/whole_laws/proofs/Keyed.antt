@@ -170,7 +170,7 @@ taken_fits mapped Detached number o fits =
     given_fits mapped (expired_object (record o { state = Persistent; marked = false })) (changed_values 0 o.cells) (expired_fits mapped (record o { state = Persistent; marked = false }) stood)
     (recursion_from_All (λ (one : AttrNo × Value). IsAttribute mapped o.class one.0) (changed_values 0 o.cells) changed.0) changed.1
 
-taken_class : (state : State) (number : ℕ) (o : Object) → (object_taken state number o).class ≡ o.class
+pub taken_class : (state : State) (number : ℕ) (o : Object) → (object_taken state number o).class ≡ o.class
 taken_class Transient number o = refl
 taken_class Pending number o = refl
 taken_class Persistent number o = refl
@@ -205,7 +205,7 @@ if_fits : (mapped : Mapped) (is_read : Bool) (o : Object) → ObjectFits mapped 
 if_fits mapped true o fits = expired_fits mapped o fits
 if_fits mapped false o fits = fits
 
-if_class : (is_read : Bool) (o : Object) → (expired_if is_read o).class ≡ o.class
+pub if_class : (is_read : Bool) (o : Object) → (expired_if is_read o).class ≡ o.class
 if_class true o = refl
 if_class false o = refl
 

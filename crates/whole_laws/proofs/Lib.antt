@@ -4,3 +4,4 @@ pub mod Keeping
 pub mod Programs
 pub mod Handled
 pub mod Calls
+pub mod Since

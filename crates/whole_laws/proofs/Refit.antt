@@ -62,7 +62,7 @@ classes_mapped : (change : Object → Object) (objects : List Object) → ((o : 
 classes_mapped change [] same = refl
 classes_mapped change (o ∷ objects) same = λ i. same o i ∷ classes_mapped change objects same i
 
-classes_all : (change : Object → Object) (graph : Graph) → ((o : Object) → (change o).class ≡ o.class) → classes_of (each_object change graph) ≡ classes_of graph
+pub classes_all : (change : Object → Object) (graph : Graph) → ((o : Object) → (change o).class ≡ o.class) → classes_of (each_object change graph) ≡ classes_of graph
 unfolding classes_of
 classes_all change graph same = λ i. (classes_mapped change graph.objects same i, graph.roots)
 

@@ -1,0 +1,6 @@
+pub mod Sent
+pub mod Resolved
+pub mod Performed
+pub mod Told
+pub mod Built
+pub mod Shells

@@ -1,0 +1,308 @@
+-- Every line of a script keeps a session of plain classes whole, and what names stand for.
+use Rattle.std.proofs.Common.{◌≡◌, ◌<◌, ◌≤◌, ℕ, ◌+◌, Bool, true, false, List, [], ◌∷◌, length, get_or, Option, None, Some, Result, Ok, Err, refl, sym, ap, ◌∙◌, subst, arith}
+use Rattle.std.specs.Prelude.{if◌then◌else◌, nat_lt}
+use Rattle.std.specs.List.{AllByRecursion}
+use Rattle.std.proofs.lemmas.List.{get_or_at, length-append}
+use Rattle.std.proofs.lemmas.List.Elements.{recursion_from_All}
+use Rattle.base_core.specs.declared.ids.AttrNo.{AttrNo}
+use Rattle.base_core.specs.declared.ids.ClassId.{ClassId}
+use Rattle.base_core.specs.declared.ids.ObjId.{ObjId}
+use Rattle.base_core.specs.declared.ids.RelNo.{RelNo}
+use Rattle.base_core.specs.declared.ids.TableId.{TableId}
+use Rattle.base_core.specs.declared.refusal.LimitKind.TheVariants.{Objects}
+use Rattle.base_core.specs.declared.refusal.Refusal.{Refusal}
+use Rattle.base_core.specs.declared.refusal.Refusal.TheVariants.{LimitReached}
+use Rattle.base_core.specs.declared.value.Value.{Value}
+use Rattle.class_types.specs.Rules.{Rules}
+use Rattle.class_mapping.specs.Mapped.{IsAttribute, IsClass, relations_of}
+use Rattle.keeper_core.specs.Calls as call
+use Rattle.legality_laws.specs.Legality.{Keeps}
+use Rattle.legality_laws.proofs.EachJoin.{keeps_each, keeps_give, keeps_then}
+use Rattle.object_arena.specs.declared.object.Object.{Object}
+use Rattle.object_arena.specs.Graph.{Graph, IsObject, fresh_object, make, no_object, object_at, object_limit, place_of, with_fresh, with_object}
+use Rattle.object_arena.proofs.ClassLemmas.{classes_set}
+use Rattle.programs.specs.Programs.{Event, Run, ◌>>=◌, continue_from, each, give}
+use Rattle.programs.specs.Beside.{by_own, changes, on_own, on_store}
+use Rattle.programs.specs.Store.{Store}
+use Rattle.schema_core.specs.DependencyOrder.{table_ids}
+use Rattle.session_scopes.specs.Making.{first_given_fault, made_unless as object_unless, object_made, object_with}
+use Rattle.session_scopes.specs.Scoping.{session_nested}
+use Rattle.session_scopes.specs.SessionState.{AreThereStill, IsMadeOf, SameObjects, SessionState, with_notes}
+use Rattle.session_scopes.proofs.SessionLemmas.{there_made, there_still}
+use Rattle.session_calls.specs.Parts.{World}
+use Rattle.session_calls.proofs.Joining.{same_itself}
+use Rattle.session_acts.specs.Steps as acts
+use Rattle.session_acts.specs.Steps.{flush_whole}
+use Rattle.session_dump.specs.Dump.{Filled, scan_each, scan_one, scan_tables}
+use Rattle.session_savepoints.specs.Steps.{begin_savepoint, enter_nested}
+use Rattle.session_tables.specs.declared.tables.TableChange.TheVariants.{Create, Drop}
+use Rattle.session_values.specs.Steps.{given_fault, made_unless, valid_made}
+use Rattle.shell_parts.specs.declared.names.Bound.TheVariants.{Object as OneObject, Saved}
+use Rattle.command_resolve.specs.declared.answer.Answer.{Answer}
+use Rattle.command_resolve.specs.declared.answer.Answer.TheVariants as answer
+use Rattle.command_resolve.specs.declared.resolved.Resolved.{Resolved}
+use Rattle.command_resolve.specs.declared.resolved.Resolved.TheVariants as resolved
+use Rattle.command_resolve.specs.Standing.{IsDrawn, IsOfDeclared, IsThere}
+use Rattle.command_resolve.specs.Terms.{Bindings}
+use Rattle.session_perform.specs.Performing.{IsReady, program_of_resolved, telling}
+use Rattle.script_laws.proofs.Sent.{sends_plain}
+use Rattle.shell_steps.specs.declared.stage.Stage.TheVariants.{Configured}
+use Rattle.shell_steps.specs.ShellState.{AreBound}
+use Rattle.shell_steps.proofs.Bindings.{bound_same, bound_stays}
+use Rattle.health_laws.specs.Calls.{Call, after_call}
+use Rattle.health_laws.proofs.Objects.{class_left}
+use Rattle.whole_laws.specs.Whole.{CallsKeepWhole, IsCallOf, IsHale}
+use Rattle.whole_laws.proofs.Keeping.{Holds}
+use Rattle.whole_laws.proofs.Programs as keeps
+use Rattle.whole_laws.proofs.Since.{IsKeyedSince, since_steps}
+use Rattle.script_laws.specs.Lines.{LinesKeepWhole}
+use Rattle.script_laws.proofs.Resolved.{Asks}
+
+-- ---- what is told of an answer changes nothing
+
+told_from : {A : Type 0} (P : World → Type 0) (events : List Event) (v : World) (r : Result A Refusal) (tell : A → Answer) → P v → P (continue_from events v r (λ a. give (tell a))).after
+unfolding give
+told_from P events v (Ok a) tell here = here
+told_from P events v (Err e) tell here = here
+
+told_after : {A : Type 0} (P : World → Type 0) (tell : A → Answer) (m : World → Run World A) (w : World) → P (m w).after → P (telling tell m w).after
+unfolding ◌>>=◌
+told_after P tell m w here = told_from P (m w).events (m w).after (m w).answer tell here
+
+answered_from : {A : Type 0} (events : List Event) (v : World) (r : Result A Refusal) (tell : A → Answer) (a : Answer) → (continue_from events v r (λ a. give (tell a))).answer ≡ Ok a → (x : A) × (r ≡ Ok x) × (tell x ≡ a)
+unfolding give
+answered_from events v (Ok x) tell a is = (x, refl, cc)
+answered_from events v (Err e) tell a is = absurd cc
+
+told_answer : {A : Type 0} (tell : A → Answer) (m : World → Run World A) (w : World) (a : Answer) → (telling tell m w).answer ≡ Ok a → (x : A) × ((m w).answer ≡ Ok x) × (tell x ≡ a)
+unfolding ◌>>=◌
+told_answer tell m w a is = answered_from (m w).events (m w).after (m w).answer tell a is
+
+-- ---- the tables are told as they are
+
+module _ (P : Store → Type 0) where
+  scanned : (table : TableId) (tables : Filled) → Keeps P (scan_one table tables)
+  unfolding scan_one call.scan give
+  scanned table tables = keeps_then P (call.scan table) _ (record { kept = λ w here. here }) (λ w rows here is. keeps_give P _)
+
+  all_scanned : (order : List TableId) → AllByRecursion (λ table. (tables : Filled) → Keeps P (scan_one table tables)) order
+  all_scanned [] = tt
+  all_scanned (table ∷ order) = (scanned table, all_scanned order)
+
+dump_hale : (w : World) → IsHale w → IsHale (scan_tables w).after
+unfolding scan_tables scan_each by_own on_store
+dump_hale w hale =
+    let P : Store → Type 0 = λ store. IsHale (record { own = w.own; store = store }) in
+    let order : List TableId = table_ids w.own.mapping.schema in
+    (keeps_each P scan_one [] order (all_scanned P order)).kept w.store hale
+
+dump_same : (w : World) → SameObjects w.own (scan_tables w).after.own
+unfolding scan_tables by_own on_store
+dump_same w = same_itself w.own
+
+-- ---- no object of a plain class has a relationship
+
+no_place : {A B : Type 0} (n : ℕ) (xs : List A) → xs ≡ [] → n < length xs → B
+no_place n xs none less = let inside : n < 0 = subst (λ ys. n < length ys) none less in absurd (omega (arith, inside))
+
+no_link : {A : Type 0} (w : World) (object : ObjId) (class : ClassId) (relation : RelNo) → IsHale w → IsMadeOf w.own.graph object class → relation.0 < length (relations_of w.own.mapping class) → A
+no_link w object class relation hale made less =
+    let inside : place_of object < length w.own.graph.objects = omega (arith, made.0.0, made.0.1) in
+    let own = subst (IsClass w.own.mapping) made.1 (hale.keyed.fit.objects (place_of object) no_object inside).class in
+    no_place relation.0 (relations_of w.own.mapping class) (hale.keyed.plain.class class own).relations less
+
+-- ---- an object is made
+
+record IsMaking (class : ClassId) (own : SessionState) (run : Run SessionState ObjId) : Type 0 where
+  mapping : run.after.mapping ≡ own.mapping
+  stay : AreThereStill own.graph run.after.graph
+  drawn : own.drawn.drawn ≤ run.after.drawn.drawn
+  made : (object : ObjId) → run.answer ≡ Ok object → IsMadeOf run.after.graph object class
+
+not_made : (class : ClassId) (own : SessionState) (run : Run SessionState ObjId) (e : Refusal) → run.answer ≡ Err e → run.after ≡ own → IsMaking class own run
+not_made class own run e refused same = record {
+  mapping = ap (λ (s : SessionState). s.mapping) same;
+  stay = λ object there. rw same (there, refl);
+  drawn = rw same (omega arith);
+  made = λ object is. absurd (let no : (let r : Result ObjId Refusal = Err e in r ≡ Ok object) = sym refused ∙ is in cc);
+}
+
+module _ (class : ClassId) (cells : List (AttrNo × Value)) (own : SessionState) where
+  abbrev wider : Graph
+  wider = with_fresh own.graph own.mapping class
+
+  abbrev new_id : ObjId
+  new_id = record { 0 = length own.graph.objects + 1 }
+
+  abbrev now : Graph
+  now = with_object wider new_id (object_with (object_at wider new_id) cells)
+
+  made_now : (object : ObjId) → new_id ≡ object → IsMadeOf now object class
+  made_now object same =
+      let same_classes = classes_set wider now new_id (object_with (object_at wider new_id) cells) (class_left (object_at wider new_id) cells) refl in
+      let fresh : object_at wider new_id ≡ fresh_object own.mapping class =
+      ap (λ (p : ℕ). get_or wider.objects p no_object) (let e : place_of new_id ≡ length own.graph.objects = omega arith in e)
+      ∙ get_or_at own.graph.objects (fresh_object own.mapping class) [] no_object (length own.graph.objects) refl in
+      let long : length wider.objects ≡ length own.graph.objects + 1 = length-append own.graph.objects (fresh_object own.mapping class ∷ []) in
+      subst (λ (o : ObjId). IsMadeOf now o class) same (there_made own.mapping wider now new_id class (omega arith, omega (arith, long)) fresh same_classes)
+
+  room_makes : (room : Bool) (fault : Option Refusal) → IsMaking class own (object_unless fault cells own (if room then Ok (new_id, wider) else Err (LimitReached Objects)))
+  room_makes room (Some fault) = not_made class own _ fault refl refl
+  room_makes false None = not_made class own _ (LimitReached Objects) refl refl
+  room_makes true None = record {
+    mapping = refl;
+    stay = there_still own.mapping own.graph wider now class refl (classes_set wider now new_id (object_with (object_at wider new_id) cells) (class_left (object_at wider new_id) cells) refl);
+    drawn = omega arith;
+    made = λ object is. made_now object (let same : new_id ≡ object = cc in same);
+  }
+
+  unless_makes : (fault : Option Refusal) → IsMaking class own (made_unless fault class cells own)
+  unfolding object_made make
+  unless_makes (Some fault) = not_made class own _ fault refl refl
+  unless_makes None = room_makes (nat_lt (length own.graph.objects) object_limit) (first_given_fault own.mapping class cells)
+
+  makes : (rules : Rules) → IsMaking class own (valid_made rules class cells own)
+  unfolding valid_made
+  makes rules = unless_makes (given_fault rules own.mapping class cells)
+
+-- ---- a savepoint begins
+
+-- the number that is answered is that of a savepoint that has begun
+abbrev Draws : (World → Run World ℕ) → Type 0
+Draws m = (w : World) (number : ℕ) → (m w).answer ≡ Ok number → IsDrawn (m w).after.own.drawn.drawn number
+
+draws_from : {A : Type 0} (events : List Event) (v : World) (r : Result A Refusal) (next : A → World → Run World ℕ) → ((a : A) → Draws (next a)) → (number : ℕ) → (continue_from events v r next).answer ≡ Ok number → IsDrawn (continue_from events v r next).after.own.drawn.drawn number
+draws_from events v (Ok a) next draws number is = draws a v number is
+draws_from events v (Err e) next draws number is = absurd cc
+
+draws_then : {A : Type 0} (m : World → Run World A) (next : A → World → Run World ℕ) → ((a : A) → Draws (next a)) → Draws (m >>= next)
+unfolding ◌>>=◌
+draws_then m next draws w number is = draws_from (m w).events (m w).after (m w).answer next draws number is
+
+handle_drawn : Draws (changes session_nested >>= λ u. by_own (λ session. give session.drawn.drawn))
+unfolding ◌>>=◌ changes by_own give
+handle_drawn w number is =
+    let same : w.own.drawn.drawn + 1 ≡ number = cc in
+    (omega (arith, same), omega (arith, same))
+
+nested_drawn : Draws acts.begin_nested
+unfolding acts.begin_nested begin_savepoint
+nested_drawn =
+    draws_then enter_nested (λ u. flush_whole >>= λ u. begin_savepoint)
+    (λ u. draws_then flush_whole (λ u. begin_savepoint) (λ u. draws_then (on_store with_notes call.savepoint) (λ u. (changes session_nested >>= λ u. by_own (λ session. give session.drawn.drawn))) (λ u. handle_drawn)))
+
+-- ---- each case of a line
+
+-- what is to be bound is there
+abbrev pub IsBound : SessionState → Answer → Type 0
+IsBound session (answer.Bind name thing) = IsThere session.graph session.drawn.drawn thing × IsOfDeclared session.mapping thing
+IsBound session other = Unit {0}
+
+-- a session is left whole, what names stand for is there still, and what is to be bound is there
+pub record IsLeft (names : Bindings) (run : Run World Answer) : Type 0 where
+  pub hale : IsHale run.after
+  pub bound : AreBound (Configured run.after.own) names
+  pub told : (a : Answer) → run.answer ≡ Ok a → IsBound run.after.own a
+
+module _ (law : CallsKeepWhole) (rules : Rules) (names : Bindings) where
+  called : (call : Call) (w : World) → IsHale w → IsCallOf call w → IsHale (after_call rules call w)
+  called call w hale of = law rules (call ∷ []) w hale (of, tt)
+
+  told_left : {A : Type 0} (tell : A → Answer) (m : World → Run World A) (w : World) → ((own : SessionState) (a : A) → IsBound own (tell a)) → AreBound (Configured w.own) names → IsHale (m w).after → SameObjects w.own (m w).after.own → IsLeft names (telling tell m w)
+  told_left tell m w binds bound hale same = record {
+    hale = told_after IsHale tell m w hale;
+    bound = told_after (λ v. AreBound (Configured v.own) names) tell m w (bound_same names w.own (m w).after.own same bound);
+    told = λ a is. let from = told_answer tell m w a is in subst (IsBound (telling tell m w).after.own) from.2 (binds (telling tell m w).after.own from.0);
+  }
+
+  kept_left : {A : Type 0} (tell : A → Answer) (m : World → Run World A) (w : World) → ((own : SessionState) (a : A) → IsBound own (tell a)) → IsHale w → AreBound (Configured w.own) names → IsHale (m w).after → Keeps (Holds (IsKeyedSince w.own)) m → IsLeft names (telling tell m w)
+  kept_left tell m w binds before bound hale keeps = told_left tell m w binds bound hale (keeps.kept w (record { keyed = before.keyed; same = same_itself w.own })).same
+
+  -- an object is made, and bound
+  made_left : (name : List ℕ) (class : ClassId) (cells : List (AttrNo × Value)) (w : World) → IsHale w → Asks w.own.mapping w.own.graph (resolved.New name class cells) → AreBound (Configured w.own) names → IsLeft names (program_of_resolved rules (resolved.New name class cells) w)
+  unfolding on_own
+  made_left name class cells w hale asks bound =
+      let m : World → Run World ObjId = on_own (valid_made rules class cells) in
+      let tell : ObjId → Answer = λ object. answer.Bind name (OneObject object class) in
+      let making = makes class cells w.own rules in
+      record {
+        hale = told_after IsHale tell m w (called (Call.Make class cells) w hale asks);
+        bound = told_after (λ v. AreBound (Configured v.own) names) tell m w (bound_stays names w.own (m w).after.own making.mapping making.stay making.drawn bound);
+        told = λ a is.
+            let from = told_answer tell m w a is in
+            let there : IsBound (m w).after.own (tell from.0) = (making.made from.0 from.1, subst (λ mapped. IsClass mapped class) (sym making.mapping) asks.0) in
+            subst (IsBound (telling tell m w).after.own) from.2 (told_after (λ v. IsBound v.own (tell from.0)) tell m w there);
+      }
+
+  -- a savepoint begins, and is bound
+  nested_left : (name : List ℕ) (w : World) → IsHale w → AreBound (Configured w.own) names → IsLeft names (program_of_resolved rules (resolved.BeginNested name) w)
+  nested_left name w hale bound =
+      let m : World → Run World ℕ = acts.begin_nested in
+      let tell : ℕ → Answer = λ handle. answer.Bind name (Saved handle) in
+      let same = ((keeps.begins_nested (IsKeyedSince w.own) (since_steps w.own)).kept w (record { keyed = hale.keyed; same = same_itself w.own })).same in
+      record {
+        hale = told_after IsHale tell m w (called Call.BeginNested w hale tt);
+        bound = told_after (λ v. AreBound (Configured v.own) names) tell m w (bound_same names w.own (m w).after.own same bound);
+        told = λ a is.
+            let from = told_answer tell m w a is in
+            let there : IsBound (m w).after.own (tell from.0) = (nested_drawn w from.0 from.1, tt) in
+            subst (IsBound (telling tell m w).after.own) from.2 (told_after (λ v. IsBound v.own (tell from.0)) tell m w there);
+      }
+
+  as_it_was : (a : Answer) (w : World) → ((own : SessionState) → IsBound own a) → IsHale w → AreBound (Configured w.own) names → IsLeft names (give a w)
+  unfolding give
+  as_it_was a w binds hale bound = record { hale = hale; bound = bound; told = λ b is. subst (IsBound w.own) (let same : a ≡ b = cc in same) (binds w.own) }
+
+  module _ (w : World) (hale : IsHale w) (bound : AreBound (Configured w.own) names) where
+    abbrev P : SessionState → Type 0
+    P = IsKeyedSince w.own
+
+    abbrev steps : keeps.AreSteps P
+    steps = since_steps w.own
+
+    has_attribute : (object : ObjId) (attr : AttrNo) (class : ClassId) → IsMadeOf w.own.graph object class → IsAttribute w.own.mapping class attr → IsAttribute w.own.mapping (object_at w.own.graph object).class attr
+    has_attribute object attr class made inside = subst (λ (c : ClassId). IsAttribute w.own.mapping c attr) (sym made.1) inside
+
+    pub line_left : (line : Resolved) → Asks w.own.mapping w.own.graph line → IsLeft names (program_of_resolved rules line w)
+    unfolding by_own
+    line_left resolved.CreateAll asks = kept_left _ _ w (λ own a. tt) hale bound (called (Call.ChangeTables Create) w hale tt) (keeps.changes_tables P steps Create)
+    line_left resolved.DropAll asks = kept_left _ _ w (λ own a. tt) hale bound (called (Call.ChangeTables Drop) w hale tt) (keeps.changes_tables P steps Drop)
+    line_left resolved.Dump asks = told_left answer.Tables scan_tables w (λ own a. tt) bound (dump_hale w hale) (dump_same w)
+    line_left (resolved.New name class cells) asks = made_left name class cells w hale asks bound
+    line_left (resolved.BeginNested name) asks = nested_left name w hale bound
+    line_left (resolved.SetCell object attr value) asks =
+        let inside = has_attribute object attr asks.0 asks.1 asks.2 in
+        told_left _ _ w (λ own a. tt) bound (called (Call.Set object attr value) w hale (asks.1.0, inside))
+        (keeps.sets P steps object attr value rules w inside (record { keyed = hale.keyed; same = same_itself w.own })).same
+    line_left (resolved.ChangeLink owner relation change) asks = no_link w owner asks.0 relation hale asks.1 asks.2
+    line_left (resolved.Add object) asks = kept_left _ _ w (λ own a. tt) hale bound (called (Call.Add object) w hale asks) (keeps.adds P steps object)
+    line_left (resolved.Delete object) asks = kept_left _ _ w (λ own a. tt) hale bound (called (Call.Delete object) w hale asks) (keeps.deletes P steps object)
+    line_left (resolved.Show thing) asks = as_it_was (answer.Thing thing) w (λ own. tt) hale bound
+    line_left (resolved.ShowCell object attr) asks = kept_left answer.Value _ w (λ own a. tt) hale bound (called (Call.Read object attr) w hale asks) (keeps.reads P steps object attr)
+    line_left (resolved.ShowLink object relation) asks = no_link w object asks.0 relation hale asks.1 asks.2
+    line_left (resolved.State object) asks = as_it_was (answer.State (object_at w.own.graph object).state) w (λ own. tt) hale bound
+    line_left (resolved.Same object other) asks = as_it_was _ w (λ own. tt) hale bound
+    line_left resolved.Flush asks = kept_left _ _ w (λ own a. tt) hale bound (called Call.Flush w hale tt) (keeps.flushes P steps)
+    line_left (resolved.Commit None) asks = kept_left _ _ w (λ own a. tt) hale bound (called Call.Commit w hale tt) (keeps.commits P steps)
+    line_left (resolved.Commit (Some handle)) asks = kept_left _ _ w (λ own a. tt) hale bound (called (Call.CommitHandle handle) w hale tt) (keeps.commits_handle P steps handle)
+    line_left (resolved.Rollback None) asks = kept_left _ _ w (λ own a. tt) hale bound (called Call.Rollback w hale tt) (keeps.rolls_back P steps)
+    line_left (resolved.Rollback (Some handle)) asks = kept_left _ _ w (λ own a. tt) hale bound (called (Call.RollbackHandle handle) w hale tt) (keeps.rolls_back_to P steps handle)
+    line_left resolved.Close asks = kept_left _ _ w (λ own a. tt) hale bound (called Call.Close w hale tt) (keeps.closes P steps)
+    line_left (resolved.Rows select) asks = kept_left answer.Rows _ w (λ own a. tt) hale bound (called (Call.Rows select) w hale tt) (keeps.asks_rows P steps select)
+    line_left (resolved.Bulk statement) asks = kept_left answer.Count _ w (λ own a. tt) hale bound (called (Call.Write statement) w hale asks) (keeps.sends_bulk P steps statement)
+
+-- ---- lines of which all that they name is there
+
+ready_asks : (own : SessionState) (line : Resolved) → IsReady own line → Asks own.mapping own.graph line
+ready_asks own (resolved.New name class cells) ready = (ready.0, recursion_from_All (λ (one : AttrNo × Value). IsAttribute own.mapping class one.0) cells ready.1)
+ready_asks own (resolved.SetCell object attr value) ready = ((object_at own.graph object).class, (ready.0.0, refl), ready.0.1)
+ready_asks own (resolved.ChangeLink owner relation change) ready = ((object_at own.graph owner).class, (ready.0.0, refl), ready.0.1.0)
+ready_asks own (resolved.Add object) ready = ready
+ready_asks own (resolved.Delete object) ready = ready
+ready_asks own (resolved.ShowCell object attr) ready = ready.0
+ready_asks own (resolved.ShowLink object relation) ready = ((object_at own.graph object).class, (ready.0, refl), ready.1)
+ready_asks own (resolved.Bulk statement) ready = sends_plain own.mapping.schema statement ready.0 ready.1
+ready_asks own _ ready = tt
+
+pub lines_law : CallsKeepWhole → LinesKeepWhole
+lines_law law rules line w hale ready = (line_left law rules [] w hale ((λ name thing is. absurd cc), (λ name thing is. absurd cc)) line (ready_asks w.own line ready)).hale

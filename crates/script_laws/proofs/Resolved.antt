@@ -1,0 +1,291 @@
+-- What a line asks for names what is there, where the names stand for what is there.
+use Rattle.std.proofs.Common.{◌≡◌, ◌<◌, ℕ, Bool, true, false, not, List, [], ◌∷◌, ◌++◌, length, Option, None, Some, Result, Ok, Err, refl, sym, ap, ◌∙◌, subst}
+use Rattle.std.specs.Prelude.{IsTrue, if◌then◌else◌, is_none, slice_get, slice_index_or}
+use Rattle.std.specs.Option.{option_map}
+use Rattle.std.specs.List.{AllByRecursion, position}
+use Rattle.std.proofs.lemmas.List.Quantifiers.{position-Some}
+use Rattle.std.proofs.lemmas.Option.{get_or_from_slice_get, same_Some, slice_get_within}
+use Rattle.base_core.specs.declared.ids.AttrNo.{AttrNo}
+use Rattle.base_core.specs.declared.ids.ClassId.{ClassId}
+use Rattle.base_core.specs.declared.ids.ObjId.{ObjId}
+use Rattle.base_core.specs.declared.ids.RelNo.{RelNo}
+use Rattle.base_core.specs.declared.refusal.Refusal.{Refusal}
+use Rattle.base_core.specs.declared.value.Value.{Value}
+use Rattle.schema_core.specs.Catalog.{same_name}
+use Rattle.class_types.specs.declared.declared.ClassSpec.{ClassSpec}
+use Rattle.class_types.specs.declared.mapped.Attribute.{Attribute}
+use Rattle.class_types.specs.declared.mapped.Relation.{Relation}
+use Rattle.class_layouts.specs.Hierarchy.{no_class, place_of}
+use Rattle.class_mapping.specs.Mapped.{IsAttribute, IsClass, Mapped, attributes_of, find_attribute, find_class, no_attribute, relations_of}
+use Rattle.object_arena.specs.Fit.{no_relation}
+use Rattle.object_arena.specs.Graph.{Graph, IsObject}
+use Rattle.sql_semantics.specs.Checked.{Checked, ◌>>=◌}
+use Rattle.session_scopes.specs.SessionState.{IsMadeOf}
+use Rattle.session_acts.specs.Steps.{IsPlainButForKeys}
+use Rattle.script_types.specs.declared.command.Command.{Command}
+use Rattle.script_types.specs.declared.command.Command.TheVariants as line
+use Rattle.script_types.specs.declared.command.Term.{Term}
+use Rattle.shell_parts.specs.declared.names.Bound.{Bound}
+use Rattle.shell_parts.specs.declared.names.Bound.TheVariants.{Nothing, Object, Objects, Saved}
+use Rattle.shell_parts.specs.Bindings.{bound_to}
+use Rattle.command_resolve.specs.declared.members.Member.{Member}
+use Rattle.command_resolve.specs.declared.members.Member.TheVariants.{Attribute as OfAttribute, One, Many}
+use Rattle.command_resolve.specs.declared.resolved.Resolved.{Resolved}
+use Rattle.command_resolve.specs.declared.resolved.Resolved.TheVariants as resolved
+use Rattle.command_resolve.specs.Attributes.{Cells, Giving, as_attribute, as_link, attribute_given, attribute_named, cells_behind, cells_fault, cells_of, class_named, find_relation, is_given, link_named, link_or_unknown, link_unless, member_named, member_or, unless_fault, value_fault}
+use Rattle.command_resolve.specs.Resolving.{Ends, ends_of, id_of_term, resolve, resolved_new, resolved_same, resolved_set, resolved_set_at, resolved_show, resolved_show_at, resolved_statement, set_by, show_by}
+use Rattle.command_resolve.specs.Standing.{AreThere, IsThere}
+use Rattle.command_resolve.specs.Terms.{Bindings, Named, found_or_unknown, found_or_wrong, handle_if_named, object_at, object_of, shown_of, wrong_kind}
+use Rattle.base_core.specs.Answers.{Gives}
+use Rattle.expr_types.specs.declared.select.Bulk.{Bulk}
+use Rattle.relations.specs.declared.calls.LinkCall.{LinkCall}
+use Rattle.relations.specs.declared.calls.LinkCall.TheVariants.{Append, Remove, Set}
+use Rattle.sayable_lines.specs.Sayable.{IsSayable}
+use Rattle.schema_core.specs.Tables.{kind_of_value}
+use Rattle.script_types.specs.declared.select.SynBulk.{SynBulk}
+use Rattle.script_resolve.specs.Bulks.{resolved_bulk}
+use Rattle.script_resolve.specs.Sayable.{is_sayable_bulk}
+use Rattle.script_resolve.specs.Selects.{resolved_select}
+use Rattle.script_resolve.proofs.Whole.{bulk_fits, bulk_once}
+use Rattle.script_laws.proofs.Sent.{sends_plain}
+
+-- what a line is asked of a session, so that it stays whole
+abbrev pub Asks : Mapped → Graph → Resolved → Type 0
+Asks mapped graph (resolved.New name class cells) = IsClass mapped class × AllByRecursion (λ (one : AttrNo × Value). IsAttribute mapped class one.0) cells
+Asks mapped graph (resolved.SetCell object attr value) = (class : ClassId) × IsMadeOf graph object class × IsAttribute mapped class attr
+Asks mapped graph (resolved.ChangeLink owner relation call) = (class : ClassId) × IsMadeOf graph owner class × (relation.0 < length (relations_of mapped class))
+Asks mapped graph (resolved.Add object) = IsObject graph object
+Asks mapped graph (resolved.Delete object) = IsObject graph object
+Asks mapped graph (resolved.ShowCell object attr) = IsObject graph object
+Asks mapped graph (resolved.ShowLink object relation) = (class : ClassId) × IsMadeOf graph object class × (relation.0 < length (relations_of mapped class))
+Asks mapped graph (resolved.Bulk statement) = IsPlainButForKeys mapped.schema statement
+Asks mapped graph other = Unit {0}
+
+-- ---- answers that were given
+
+-- an answer of two steps is that of the second, behind the first's
+pub given : {A B : Type 0} (m : Checked A) (next : A → Checked B) (b : B) → (m >>= next) ≡ Ok b → (a : A) × (m ≡ Ok a) × (next a ≡ Ok b)
+given (Ok a) next b is = (a, refl, is)
+given (Err e) next b is = absurd cc
+
+same_Ok : {A : Type 0} (a b : A) → (let one : Checked A = Ok a in one ≡ Ok b) → a ≡ b
+same_Ok a b is = cc
+
+found : {A : Type 0} (name : List ℕ) (o : Option A) (a : A) → found_or_unknown name o ≡ Ok a → o ≡ Some a
+found name None a is = absurd cc
+found name (Some b) a is = ap (λ c. Some c) (same_Ok b a is)
+
+found_there : {A : Type 0} (o : Option A) (a : A) → found_or_wrong o ≡ Ok a → o ≡ Some a
+found_there None a is = absurd cc
+found_there (Some b) a is = ap (λ c. Some c) (same_Ok b a is)
+
+passes : {A : Type 0} (fault : Option Refusal) (a b : A) → unless_fault fault a ≡ Ok b → a ≡ b
+passes None a b is = same_Ok a b is
+passes (Some e) a b is = absurd cc
+
+-- the number that was made of a place is inside
+placed : {X : Type 0} (make : ℕ → X) (number : X → ℕ) → ((i : ℕ) → number (make i) ≡ i) → (o : Option ℕ) (n : ℕ) → ((i : ℕ) → o ≡ Some i → i < n) → (x : X) → option_map make o ≡ Some x → number x < n
+placed make number same None n inside x is = absurd cc
+placed make number same (Some i) n inside x is = subst (λ (k : ℕ). k < n) (sym (same i) ∙ ap number (same_Some (make i) x is)) (inside i refl)
+
+-- ---- classes and their members
+
+class_is : (mapped : Mapped) (name : List ℕ) (class : ClassId) → class_named mapped name ≡ Ok class → IsClass mapped class
+class_is mapped name class is =
+    placed (λ (place : ℕ). let c : ClassId = record { 0 = place } in c) (λ (c : ClassId). c.0) (λ i. refl) (place_of mapped.classes.specs name) (length mapped.classes.specs)
+    (λ i at. (position-Some (λ (spec : ClassSpec). same_name spec.name name) mapped.classes.specs i no_class at).0) class (found name (find_class mapped name) class is)
+
+-- the class has the member
+abbrev HasMember : Mapped → ClassId → Member → Type 0
+HasMember mapped class (OfAttribute attr) = IsAttribute mapped class attr
+HasMember mapped class (One relation) = relation.0 < length (relations_of mapped class)
+HasMember mapped class (Many relation) = relation.0 < length (relations_of mapped class)
+
+module _ (mapped : Mapped) (class : ClassId) where
+  link_is : (relation : RelNo) (many : Bool) (member : Member) → relation.0 < length (relations_of mapped class) → (let one : Checked Member = Ok (if many then Many relation else One relation) in one ≡ Ok member) → HasMember mapped class member
+  link_is relation true member less is = subst (HasMember mapped class) (same_Ok (Many relation) member is) less
+  link_is relation false member less is = subst (HasMember mapped class) (same_Ok (One relation) member is) less
+
+  link_by : (name : List ℕ) (o : Option RelNo) (member : Member) → find_relation (relations_of mapped class) name ≡ o → link_or_unknown (relations_of mapped class) name o ≡ Ok member → HasMember mapped class member
+  link_by name None member at is = absurd cc
+  link_by name (Some relation) member at is =
+      link_is relation (slice_index_or (relations_of mapped class) relation.0 no_relation).many member
+      (placed (λ (place : ℕ). let r : RelNo = record { 0 = place } in r) (λ (r : RelNo). r.0) (λ i. refl) (position (λ (r : Relation). same_name r.name name) (relations_of mapped class)) (length (relations_of mapped class))
+      (λ i here. (position-Some (λ (r : Relation). same_name r.name name) (relations_of mapped class) i no_relation here).0) relation at) is
+
+  member_by : (name : List ℕ) (o : Option AttrNo) (member : Member) → find_attribute (attributes_of mapped class) name ≡ o → member_or (relations_of mapped class) name o ≡ Ok member → HasMember mapped class member
+  member_by name None member at is = link_by name (find_relation (relations_of mapped class) name) member refl is
+  member_by name (Some attr) member at is =
+      subst (HasMember mapped class) (same_Ok (OfAttribute attr) member is)
+      (placed (λ (place : ℕ). let a : AttrNo = record { 0 = place } in a) (λ (a : AttrNo). a.0) (λ i. refl) (position (λ (a : Attribute). same_name a.name name) (attributes_of mapped class)) (length (attributes_of mapped class))
+      (λ i here. (position-Some (λ (a : Attribute). same_name a.name name) (attributes_of mapped class) i no_attribute here).0) attr at)
+
+  member_is : (name : List ℕ) (member : Member) → member_named mapped class name ≡ Ok member → HasMember mapped class member
+  member_is name member is = member_by name (find_attribute (attributes_of mapped class) name) member refl is
+
+  attribute_of : (member : Member) (attr : AttrNo) → HasMember mapped class member → as_attribute member ≡ Ok attr → IsAttribute mapped class attr
+  attribute_of (OfAttribute own) attr has is = subst (IsAttribute mapped class) (same_Ok own attr is) has
+  attribute_of (One relation) attr has is = absurd cc
+  attribute_of (Many relation) attr has is = absurd cc
+
+  given_attribute : (before : List Giving) (name : List ℕ) (attr : AttrNo) → attribute_given mapped class before name ≡ Ok attr → IsAttribute mapped class attr
+  given_attribute before name attr is =
+      let one = given (attribute_named mapped class name) (λ attr. (if is_given before name then wrong_kind else Ok attr)) attr is in
+      let two = given (member_named mapped class name) as_attribute one.0 one.1 in
+      subst (IsAttribute mapped class) (first (is_given before name) one.0 one.2) (attribute_of two.0 one.0 (member_is name two.0 two.1) two.2)
+    where
+      first : (again : Bool) (own : AttrNo) → (let r : Checked AttrNo = if again then wrong_kind else Ok own in r ≡ Ok attr) → own ≡ attr
+      first true own is = absurd cc
+      first false own is = same_Ok own attr is
+
+  cells_are : (before rest : List Giving) (cells : Cells) → cells_behind mapped class before rest ≡ Ok cells → AllByRecursion (λ (one : AttrNo × Value). IsAttribute mapped class one.0) cells
+  cells_are before [] cells is = subst (AllByRecursion (λ (one : AttrNo × Value). IsAttribute mapped class one.0)) (same_Ok [] cells is) tt
+  cells_are before (giving ∷ rest) cells is =
+      let one = given (attribute_given mapped class before giving.0) (λ attr. cells_behind mapped class (before ++ giving ∷ []) rest >>= λ more. Ok ((attr, giving.1) ∷ more)) cells is in
+      let two = given (cells_behind mapped class (before ++ giving ∷ []) rest) (λ more. Ok ((one.0, giving.1) ∷ more)) cells one.2 in
+      subst (AllByRecursion (λ (one : AttrNo × Value). IsAttribute mapped class one.0)) (same_Ok ((one.0, giving.1) ∷ two.0) cells two.2)
+      (given_attribute before giving.0 one.0 one.1, cells_are (before ++ giving ∷ []) rest two.0 two.1)
+
+  relation_unless : (wrong : Bool) (own relation : RelNo) → own.0 < length (relations_of mapped class) → link_unless wrong own ≡ Ok relation → relation.0 < length (relations_of mapped class)
+  relation_unless true own relation less is = absurd cc
+  relation_unless false own relation less is = subst (λ (r : RelNo). r.0 < length (relations_of mapped class)) (same_Ok own relation is) less
+
+  relation_of : (many : Bool) (member : Member) (relation : RelNo) → HasMember mapped class member → as_link many member ≡ Ok relation → relation.0 < length (relations_of mapped class)
+  relation_of many (OfAttribute attr) relation has is = absurd cc
+  relation_of many (One own) relation has is = relation_unless many own relation has is
+  relation_of many (Many own) relation has is = relation_unless (not many) own relation has is
+
+  link_named_is : (many : Bool) (name : List ℕ) (relation : RelNo) → link_named mapped many class name ≡ Ok relation → relation.0 < length (relations_of mapped class)
+  link_named_is many name relation is =
+      let one = given (member_named mapped class name) (as_link many) relation is in relation_of many one.0 relation (member_is name one.0 one.1) one.2
+
+-- ---- what names stand for
+
+module _ (mapped : Mapped) (graph : Graph) (drawn : ℕ) (names : Bindings) (there : AreThere graph drawn names) where
+  abbrev Made : Named → Type 0
+  Made named = IsMadeOf graph named.0 named.1
+
+  at_index : (index : Option ℕ) (thing : Bound) (named : Named) → IsThere graph drawn thing → object_at index thing ≡ Ok named → Made named
+  at_index None Nothing named is at = absurd cc
+  at_index None (Object object class) named is at = subst Made (same_Ok (object, class) named at) is
+  at_index None (Objects members) named is at = absurd cc
+  at_index None (Saved number) named is at = absurd cc
+  at_index (Some place) Nothing named is at = absurd cc
+  at_index (Some place) (Object object class) named is at = absurd cc
+  at_index (Some place) (Objects members) named is at =
+      let here : slice_get members place ≡ Some named = found_there (slice_get members place) named at in
+      subst Made (get_or_from_slice_get members place named named here) (is place named (slice_get_within members place named here))
+  at_index (Some place) (Saved number) named is at = absurd cc
+
+  of_term : (term : Term) (named : Named) → object_of names term ≡ Ok named → Made named
+  of_term term named is =
+      let one = given (found_or_unknown term.name (bound_to names term.name)) (object_at term.index) named is in
+      at_index term.index one.0 named (there term.name one.0 (found term.name (bound_to names term.name) one.0 one.1)) one.2
+
+  of_id : (term : Term) (object : ObjId) → id_of_term names term ≡ Ok object → IsObject graph object
+  of_id term object is =
+      let one = given (object_of names term) (λ named. Ok named.0) object is in
+      subst (IsObject graph) (same_Ok one.0.0 object one.2) (of_term term one.0 one.1).0
+
+  -- ---- each line
+
+  abbrev Fits : Resolved → Type 0
+  Fits asked = Asks mapped graph asked
+
+  new_line : (name class : List ℕ) (cells : List Giving) (asked : Resolved) → resolved_new mapped name class cells ≡ Ok asked → Fits asked
+  new_line name class cells asked is =
+      let one = given (class_named mapped class) (λ class. (cells_of mapped class cells >>= λ found. Ok (resolved.New name class found))) asked is in
+      let two = given (cells_of mapped one.0 cells) (λ found. Ok (resolved.New name one.0 found)) asked one.2 in
+      let three = given (cells_behind mapped one.0 [] cells) (λ found. unless_fault (cells_fault mapped one.0 found) found) two.0 two.1 in
+      subst Fits (same_Ok (resolved.New name one.0 two.0) asked two.2) (
+        class_is mapped class one.0 one.1,
+        subst (AllByRecursion (λ (one-2 : AttrNo × Value). IsAttribute mapped one.0 one-2.0)) (passes (cells_fault mapped one.0 three.0) three.0 two.0 three.2) (cells_are mapped one.0 [] cells three.0 three.1),
+      )
+
+  none_line : (named : Named) (relation : RelNo) (value : Value) (wrong : Bool) (asked : Resolved) → Made named → relation.0 < length (relations_of mapped named.1)
+      → (let r : Checked Resolved = if wrong then Ok (resolved.ChangeLink named.0 relation (Set None)) else wrong_kind in r ≡ Ok asked) → Fits asked
+  none_line named relation value true asked made less is = subst Fits (same_Ok (resolved.ChangeLink named.0 relation (Set None)) asked is) (named.1, made, less)
+  none_line named relation value false asked made less is = absurd cc
+
+  set_line_by : (named : Named) (value : Value) (member : Member) (asked : Resolved) → Made named → HasMember mapped named.1 member → set_by mapped named value member ≡ Ok asked → Fits asked
+  set_line_by named value (OfAttribute attr) asked made has is = subst Fits (passes (value_fault mapped named.1 attr value) (resolved.SetCell named.0 attr value) asked is) (named.1, made, has)
+  set_line_by named value (One relation) asked made has is = none_line named relation value (is_none (kind_of_value value)) asked made has is
+  set_line_by named value (Many relation) asked made has is = absurd cc
+
+  set_line : (term : Term) (member : List ℕ) (value : Value) (asked : Resolved) → resolved_set mapped names term member value ≡ Ok asked → Fits asked
+  set_line term member value asked is =
+      let one = given (object_of names term) (resolved_set_at mapped member value) asked is in
+      let two = given (member_named mapped one.0.1 member) (set_by mapped one.0 value) asked one.2 in
+      set_line_by one.0 value two.0 asked (of_term term one.0 one.1) (member_is mapped one.0.1 member two.0 two.1) two.2
+
+  show_line_by : (named : Named) (member : Member) → Made named → HasMember mapped named.1 member → Fits (show_by named.0 member)
+  show_line_by named (OfAttribute attr) made has = made.0
+  show_line_by named (One relation) made has = (named.1, made, has)
+  show_line_by named (Many relation) made has = (named.1, made, has)
+
+  show_line : (term : Term) (member : List ℕ) (asked : Resolved) → resolved_show mapped names term member ≡ Ok asked → Fits asked
+  show_line term member asked is =
+      let one = given (object_of names term) (resolved_show_at mapped member) asked is in
+      let two = given (member_named mapped one.0.1 member) (λ found. Ok (show_by one.0.0 found)) asked one.2 in
+      subst Fits (same_Ok (show_by one.0.0 two.0) asked two.2) (show_line_by one.0 two.0 (of_term term one.0 one.1) (member_is mapped one.0.1 member two.0 two.1))
+
+  -- the ends of a link are those of an object that has it
+  change_line : (many : Bool) (term : Term) (member : List ℕ) (other : Term) (call : ObjId → LinkCall) (asked : Resolved)
+      → (ends_of mapped names many term member other >>= λ ends. Ok (resolved.ChangeLink ends.0 ends.1 (call ends.2))) ≡ Ok asked → Fits asked
+  change_line many term member other call asked is =
+      let one = given (ends_of mapped names many term member other) (λ ends. Ok (resolved.ChangeLink ends.0 ends.1 (call ends.2))) asked is in
+      let two = given (object_of names term) (λ owner. (link_named mapped many owner.1 member >>= λ relation. (id_of_term names other >>= λ end. Ok (owner.0, relation, end)))) one.0 one.1 in
+      let three = given (link_named mapped many two.0.1 member) (λ relation. (id_of_term names other >>= λ end. Ok (two.0.0, relation, end))) one.0 two.2 in
+      let four = given (id_of_term names other) (λ end. Ok (two.0.0, three.0, end)) one.0 three.2 in
+      let ends : Ends = (two.0.0, three.0, four.0) in
+      subst Fits (same_Ok (resolved.ChangeLink one.0.0 one.0.1 (call one.0.2)) asked one.2)
+      (subst (λ (e : Ends). Fits (resolved.ChangeLink e.0 e.1 (call e.2))) (same_Ok ends one.0 four.2)
+      (two.0.1, of_term term two.0 two.1, link_named_is mapped two.0.1 many member three.0 three.1))
+
+  -- a line that is of one object
+  one_object : (term : Term) (call : ObjId → Resolved) (asked : Resolved) → ((object : ObjId) → IsObject graph object → Fits (call object)) → (id_of_term names term >>= λ object. Ok (call object)) ≡ Ok asked → Fits asked
+  one_object term call asked fits is =
+      let one = given (id_of_term names term) (λ object. Ok (call object)) asked is in subst Fits (same_Ok (call one.0) asked one.2) (fits one.0 (of_id term one.0 one.1))
+
+  -- a line of which nothing is asked
+  free : {A : Type 0} (m : Checked A) (call : A → Resolved) (asked : Resolved) → ((a : A) → Fits (call a)) → (m >>= λ a. Ok (call a)) ≡ Ok asked → Fits asked
+  free m call asked fits is = let one = given m (λ a. Ok (call a)) asked is in subst Fits (same_Ok (call one.0) asked one.2) (fits one.0)
+
+  plain : (call asked : Resolved) → Fits call → (let one : Checked Resolved = Ok call in one ≡ Ok asked) → Fits asked
+  plain call asked fits is = subst Fits (same_Ok call asked is) fits
+
+  bulk_line : (written : SynBulk) (asked : Resolved) → IsTrue (is_sayable_bulk written) → resolved_statement mapped written ≡ Ok asked → Fits asked
+  bulk_line written asked sayable is =
+      let one = given (resolved_bulk mapped.schema written) (λ statement. Ok (resolved.Bulk statement)) asked is in
+      let told : Gives (λ (x : Bulk). x) (Ok one.0) (resolved_bulk mapped.schema written) = one.1 in
+      subst Fits (same_Ok (resolved.Bulk one.0) asked one.2)
+      (sends_plain mapped.schema one.0 (bulk_fits mapped.schema written (Ok one.0) told sayable) (bulk_once mapped.schema written (Ok one.0) told))
+
+  same_line : (term other : Term) (asked : Resolved) → resolved_same names term other ≡ Ok asked → Fits asked
+  same_line term other asked is =
+      let one = given (id_of_term names term) (λ first. (id_of_term names other >>= λ second. Ok (resolved.Same first second))) asked is in
+      free (id_of_term names other) (λ second. resolved.Same one.0 second) asked (λ second. tt) one.2
+
+  pub asks_what_is_there : (command : Command) (asked : Resolved) → IsSayable command → resolve mapped names command ≡ Ok asked → Fits asked
+  asks_what_is_there line.CreateAll asked sayable is = plain resolved.CreateAll asked tt is
+  asks_what_is_there line.DropAll asked sayable is = plain resolved.DropAll asked tt is
+  asks_what_is_there line.Dump asked sayable is = plain resolved.Dump asked tt is
+  asks_what_is_there (line.New name class cells) asked sayable is = new_line name class cells asked is
+  asks_what_is_there (line.BeginNested name) asked sayable is = plain (resolved.BeginNested name) asked tt is
+  asks_what_is_there (line.SetValue term member value) asked sayable is = set_line term member value asked is
+  asks_what_is_there (line.SetTerm term member other) asked sayable is = change_line false term member other (λ end. Set (Some end)) asked is
+  asks_what_is_there (line.Append term member other) asked sayable is = change_line true term member other Append asked is
+  asks_what_is_there (line.Remove term member other) asked sayable is = change_line true term member other Remove asked is
+  asks_what_is_there (line.Add term) asked sayable is = one_object term resolved.Add asked (λ object made. made) is
+  asks_what_is_there (line.Delete term) asked sayable is = one_object term resolved.Delete asked (λ object made. made) is
+  asks_what_is_there (line.Show term) asked sayable is = free (shown_of names term) resolved.Show asked (λ thing. tt) is
+  asks_what_is_there (line.ShowMember term member) asked sayable is = show_line term member asked is
+  asks_what_is_there (line.State term) asked sayable is = one_object term resolved.State asked (λ object made. tt) is
+  asks_what_is_there (line.Same term other) asked sayable is = same_line term other asked is
+  asks_what_is_there line.Flush asked sayable is = plain resolved.Flush asked tt is
+  asks_what_is_there (line.Commit name) asked sayable is = free (handle_if_named names name) resolved.Commit asked (λ number. tt) is
+  asks_what_is_there (line.Rollback name) asked sayable is = free (handle_if_named names name) resolved.Rollback asked (λ number. tt) is
+  asks_what_is_there line.Close asked sayable is = plain resolved.Close asked tt is
+  asks_what_is_there (line.Rows written) asked sayable is = free (resolved_select mapped.schema written) resolved.Rows asked (λ select. tt) is
+  asks_what_is_there (line.Bulk written) asked sayable is = bulk_line written asked sayable is
+  asks_what_is_there _ asked sayable is = absurd cc
