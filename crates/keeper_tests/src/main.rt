@@ -4,14 +4,17 @@
 //! does.
 //!
 //! `log` shows the entries of the log, each a table, a key and the row before, and the places of the scopes in it. `rows` shows
-//! the rows of a table, and `sent` how many statements were sent. `random` plays so many calls from a seed on a new keeper and
-//! on plain lists with copied scopes, and tells the first after which they differ.
+//! the rows of a table, and `sent` how many statements were sent. `selects` asks forty selects of the keeper, and tells how many
+//! answer as over the lists of its tables' rows, until one answers something else. `random` plays so many calls from a seed on a
+//! new keeper and on plain lists with copied scopes, and tells the first after which they differ.
 #![tactic(auto)]
 
+mod asked;
 mod laws;
 mod model;
 mod play;
 mod random;
+mod selects;
 mod show;
 
 use laws::{one_open_key_alone, thousand_is_the_most};

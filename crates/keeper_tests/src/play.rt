@@ -1,5 +1,6 @@
 //! Lines played on a keeper in memory.
 
+use crate::asked::asked_alike;
 use crate::random::played_alike;
 use crate::show::{push_log, push_rows};
 use base_core::{Refusal, TableId};
@@ -62,6 +63,9 @@ impl Play {
                 TableId(number(rest)),
             )?,
             "sent" => shown.push(digit(self.keeper.statements().len() as u64))?,
+            "selects" => {
+                shown.push_str(asked_alike(alloc, &self.schema, &mut self.keeper)?.as_str())?
+            }
             "random" => shown.push_str(played_alike(alloc, &self.schema, rest)?.as_str())?,
             _ => shown.push(call(alloc, &self.schema, &mut self.keeper, line))?,
         }
