@@ -171,7 +171,7 @@ module _ (keeps : FlushKeepsSound) (answers : AnsweredFlushIsSound) where
       record {
         healthy = record { sound = done.0; tidy = like.tidy };
         fit = subst (λ (m : Mapped). IsFit m (flush w).after.own.graph) (sym sent.mapping)
-            (subst (λ (g : Graph). IsFit w.own.mapping g) (sym sent.objects) (flushed_fit w.own.mapping w.own.graph (prepared_of w.own.graph) (changes_of w.own) sent.given it.healthy.tidy.own.plain it.fit));
+            (subst (λ (g : Graph). IsFit w.own.mapping g) (sym sent.objects) (flushed_fit w.own.mapping w.own.graph (prepared_of w.own.graph) (changes_of w.own) sent.given it.healthy.tidy.own.plain.well refl it.fit));
         committable = record {
           inside = subst (λ (n : ℕ). 0 < n) (sym like.scopes) it.inside;
           well = record { handled = well_handled w (flush w).after.own it.well like.scopes like.failed like.drawn; well = like.failed ∙ it.well.well };

@@ -26,13 +26,13 @@ use Rattle.session_sound.proofs.Programs.{checked_then, entered_then}
 use Rattle.session_sound.proofs.Rolling.{handle_sound, rollback_sound}
 use Rattle.session_laws.proofs.Adding.{add_sound}
 use Rattle.session_laws.proofs.Making.{make_sound}
+use Rattle.session_link_laws.proofs.Linking.{always_once}
 use Rattle.session_table_laws.proofs.Dropping.{drop_sound}
 use Rattle.session_table_laws.proofs.Making.{create_sound}
 use Rattle.flush_sound_laws.specs.Laws.{AnsweredFlushIsSound, FlushKeepsSound}
 use Rattle.health_laws.specs.Calls.{Call, CallsKeepHealth, CallsKeepOne, MayCall, MayCallAll, after_call, after_calls}
 use Rattle.health_laws.specs.Health.{HasPlainClasses, IsHealthy, IsOrderlySession, IsTidy, IsWhole}
 use Rattle.health_laws.proofs.Acts.{bulk_healthy, commit_healthy, flush_now_healthy, handle_healthy, nested_healthy, ready, rows_healthy}
-use Rattle.health_laws.proofs.Fits.{comes_alone}
 use Rattle.health_laws.proofs.Programs.{add_tidy, close_tidy, delete_tidy, enter_tidy, handle_tidy, read_tidy, rollback_tidy, set_tidy, tables_tidy, tidy_checked, tidy_then}
 use Rattle.health_laws.proofs.Sessions.{object_orderly}
 
@@ -94,7 +94,7 @@ module _ (keeps : FlushKeepsSound) (answers : AnsweredFlushIsSound) (rules : Rul
   pub call_healthy : (call : Call) (w : World) → IsWhole w → MayCall call w → IsHealthy w → IsHealthy (after_call rules call w)
   call_healthy (Call.Make class given) w whole may healthy = make_healthy rules class given w healthy
   call_healthy (Call.Add object) w whole may healthy =
-      record { sound = add_sound object w (comes_alone w.own.mapping w.own.graph object healthy.tidy.own.plain whole.fit may) healthy.sound; tidy = (add_tidy object).kept w healthy.tidy }
+      record { sound = add_sound object w (always_once w.own.mapping w.own.graph object may) healthy.sound; tidy = (add_tidy object).kept w healthy.tidy }
   call_healthy (Call.Set object attr value) w whole may healthy = record { sound = valid_sound rules object attr value w may healthy.sound; tidy = (valid_tidy rules object attr value).kept w healthy.tidy }
   call_healthy (Call.Read object attr) w whole may healthy = record { sound = read_sound attr object w may healthy.sound; tidy = (read_tidy object attr).kept w healthy.tidy }
   call_healthy (Call.Delete object) w whole may healthy = record { sound = delete_sound object w may healthy.sound; tidy = (delete_tidy object).kept w healthy.tidy }

@@ -109,7 +109,7 @@ no_link : {A : Type 0} (w : World) (object : ObjId) (class : ClassId) (relation 
 no_link w object class relation hale made less =
     let inside : place_of object < length w.own.graph.objects = omega (arith, made.0.0, made.0.1) in
     let own = subst (IsClass w.own.mapping) made.1 (hale.keyed.fit.objects (place_of object) no_object inside).class in
-    no_place relation.0 (relations_of w.own.mapping class) (hale.keyed.plain.class class own).relations less
+    no_place relation.0 (relations_of w.own.mapping class) (hale.healthy.tidy.own.plain.class class own).relations less
 
 -- ---- an object is made
 

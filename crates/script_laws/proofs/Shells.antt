@@ -220,7 +220,7 @@ module _ (law : CallsKeepWhole) (rules : Rules) where
           sound = record { graph = sound.graph; legal = sound.legal; fresh = sound.fresh; marked = sound.marked; scopes = sound.scopes; rest = sound.rest };
           tidy = record { own = record { plain = own.plain; objects = own.objects; named = own.named }; ascending = hale.healthy.tidy.ascending };
         };
-        keyed = record { plain = hale.keyed.plain; fit = hale.keyed.fit; keys = hale.keyed.keys };
+        keyed = record { well = hale.keyed.well; fit = hale.keyed.fit; keys = hale.keyed.keys };
         handled = hale.handled;
       }
 

@@ -11,7 +11,7 @@ use Rattle.session_calls.specs.Parts.{World}
 use Rattle.health_laws.specs.Calls.{Call, MayCall, after_call, after_calls}
 use Rattle.health_laws.specs.Health.{HasPlainClasses, IsWhole}
 use Rattle.health_laws.proofs.Calls.{call_healthy, new_healthy}
-use Rattle.whole_laws.specs.Whole.{AreCallsOf, CallsKeepWhole, IsCallOf, IsHale, IsKeyed, SessionsHaveOneForEachKey, new_world}
+use Rattle.whole_laws.specs.Whole.{AreCallsOf, CallsKeepFit, CallsKeepWhole, IsCallOf, IsHale, IsKeyed, SessionsHaveOneForEachKey, new_world}
 use Rattle.whole_laws.proofs.Handled as handled
 use Rattle.whole_laws.proofs.Handled.{Handled}
 use Rattle.whole_laws.proofs.Programs as keyed
@@ -69,6 +69,10 @@ module _ (rules : Rules) where
   call_handled (Call.Rows select) w has = handled.rows_handled select w has
   call_handled (Call.Write statement) w has = handled.bulk_handled statement w has
 
+pub fit_law : CallsKeepFit
+fit_law rules [] w keyed of = keyed
+fit_law rules (call ∷ calls) w keyed of = fit_law rules calls (after_call rules call w) (call_keyed rules call w of.0 keyed) of.1
+
 module _ (keeps : FlushKeepsSound) (answers : AnsweredFlushIsSound) (rules : Rules) where
   call_hale : (call : Call) (w : World) → IsCallOf call w → IsHale w → IsHale (after_call rules call w)
   call_hale call w of hale =
@@ -86,7 +90,7 @@ module _ (keeps : FlushKeepsSound) (answers : AnsweredFlushIsSound) (rules : Rul
 -- ---- a new session
 
 pub new_whole : (mapping : Mapped) → HasPlainClasses mapping → IsHale (new_world mapping)
-new_whole mapping plain = record { healthy = new_healthy mapping plain; keyed = record { plain = plain; fit = fit_empty mapping; keys = All-nil (HasKeys mapping empty_graph) }; handled = refl }
+new_whole mapping plain = record { healthy = new_healthy mapping plain; keyed = record { well = plain.well; fit = fit_empty mapping; keys = All-nil (HasKeys mapping empty_graph) }; handled = refl }
 
 pub whole_law : FlushKeepsSound → AnsweredFlushIsSound → CallsKeepWhole
 whole_law keeps answers rules calls w hale of = calls_hale keeps answers rules calls w hale of

@@ -318,7 +318,7 @@ module _ (P : SessionState → Type 0) (again : (notes : List Note) (own : Sessi
   unfolding flush
   flush_led w has =
       guarded Handled (Holds P) write_objects give_up w
-      ((keeping.writes_objects P (λ events own p. again _ own p) (λ rows own p. again _ own p) (λ prepared rows keys own p. other (graph_flushed own.mapping prepared rows keys own.graph) own p)).kept w has)
+      ((keeping.writes_objects P (λ events own p. again _ own p) (λ rows own p. again _ own p) (λ prepared none rows keys own p. other (graph_flushed own.mapping prepared rows keys own.graph) own p)).kept w has)
       (λ v p. (calm v.own p).handles) (λ v p. given_up v (calm v.own p))
 
   whole_led : (w : World) → P w.own → IsLed Handled (Holds P) (flush_whole w)

@@ -1,5 +1,5 @@
 -- What programs of a session keep of it where each of its steps does, whatever they answer.
-use Rattle.std.proofs.Common.{ℕ, ◌+◌, zero, suc, Bool, true, false, List, [], ◌∷◌, Option, None, Some}
+use Rattle.std.proofs.Common.{◌≡◌, ℕ, ◌+◌, zero, suc, Bool, true, false, List, [], ◌∷◌, Option, None, Some, Ok, sym, ap}
 use Rattle.std.specs.List.{AllByRecursion}
 use Rattle.base_core.specs.declared.ids.ObjId.{ObjId}
 use Rattle.base_core.specs.declared.ids.TableId.{TableId}
@@ -105,29 +105,34 @@ module _ (P : SessionState → Type 0) (notes : (events : List Event) (own : Ses
 
   -- ---- the rows of a flush
 
+  -- no link is cleared
+  none_cleared : (w : World) (prepared : Prepared) → (prepare w).answer ≡ Ok prepared → prepared.cleared ≡ []
+  unfolding prepare by_own give
+  none_cleared w prepared is = let same : prepared_of w.own.graph ≡ prepared = cc in ap (λ (p : Prepared). p.cleared) (sym same)
+
   writes : (schema : Catalog) → IsKeptByWrites schema (Holds P)
   writes schema statement well = noted (call.write schema statement)
 
-  module _ (warned : (rows : RowChanges) (own : SessionState) → P own → P (with_warnings rows.warnings own)) (flushed : (prepared : Prepared) (rows : RowChanges) (keys : List (List Value)) (own : SessionState) → P own → P (session_flushed prepared rows keys own)) where
-    writes_rows : (prepared : Prepared) (rows : RowChanges) → Keeps (Holds P) (write_rows prepared rows)
+  module _ (warned : (rows : RowChanges) (own : SessionState) → P own → P (with_warnings rows.warnings own)) (flushed : (prepared : Prepared) → prepared.cleared ≡ [] → (rows : RowChanges) (keys : List (List Value)) (own : SessionState) → P own → P (session_flushed prepared rows keys own)) where
+    writes_rows : (prepared : Prepared) → prepared.cleared ≡ [] → (rows : RowChanges) → Keeps (Holds P) (write_rows prepared rows)
     unfolding write_rows on_own ask
-    writes_rows prepared rows =
+    writes_rows prepared none rows =
         joined (on_own (ask (λ session. plan session.mapping.schema rows))) (λ statements. by_own (λ session. send_plan session.mapping.schema rows statements) >>= λ keys. changes (session_flushed prepared rows keys))
         (record { kept = λ w has. has })
         (λ statements.
         joined (by_own (λ session. send_plan session.mapping.schema rows statements)) (λ keys. changes (session_flushed prepared rows keys))
         (chosen (λ session. send_plan session.mapping.schema rows statements) (λ own. plan_keeps own.mapping.schema rows (Holds P) (writes own.mapping.schema) statements))
-        (λ keys. changed (session_flushed prepared rows keys) (flushed prepared rows keys)))
+        (λ keys. changed (session_flushed prepared rows keys) (flushed prepared none rows keys)))
 
-    warns : (prepared : Prepared) (rows : RowChanges) → Keeps (Holds P) (write_warned prepared rows)
+    warns : (prepared : Prepared) → prepared.cleared ≡ [] → (rows : RowChanges) → Keeps (Holds P) (write_warned prepared rows)
     unfolding write_warned
-    warns prepared rows = joined (changes (with_warnings rows.warnings)) (λ u. write_rows prepared rows) (changed (with_warnings rows.warnings) (warned rows)) (λ u. writes_rows prepared rows)
+    warns prepared none rows = joined (changes (with_warnings rows.warnings)) (λ u. write_rows prepared rows) (changed (with_warnings rows.warnings) (warned rows)) (λ u. writes_rows prepared none rows)
 
     pub writes_objects : Keeps (Holds P) write_objects
     unfolding write_objects prepare write_prepared
     writes_objects =
-        joined prepare write_prepared (chosen (λ session. give (prepared_of session.graph)) (λ own. keeps_give (Holds P) (prepared_of own.graph)))
-        (λ prepared. chosen (λ session. write_warned prepared (project session.mapping session.graph prepared)) (λ own. warns prepared (project own.mapping own.graph prepared)))
+        keeps_then (Holds P) prepare write_prepared (chosen (λ session. give (prepared_of session.graph)) (λ own. keeps_give (Holds P) (prepared_of own.graph)))
+        (λ w prepared has is. chosen (λ session. write_warned prepared (project session.mapping session.graph prepared)) (λ own. warns prepared (none_cleared w prepared is) (project own.mapping own.graph prepared)))
 
   -- ---- what is done behind it
 

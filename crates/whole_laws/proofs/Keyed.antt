@@ -24,7 +24,7 @@ use Rattle.object_arena.specs.declared.object.Cell.{Cell}
 use Rattle.object_arena.specs.declared.object.Object.{Object}
 use Rattle.object_arena.specs.declared.object.State.{State}
 use Rattle.object_arena.specs.declared.object.State.TheVariants.{Transient, Pending, Persistent, Deleted, Detached}
-use Rattle.object_arena.specs.Fit.{IsFit, ObjectFits, cell_fits, is_of_kind, value_fits}
+use Rattle.object_arena.specs.Fit.{IsFit, cell_fits, is_of_kind, value_fits}
 use Rattle.object_arena.specs.Graph.{Graph, cell_in, cell_put, either_fault, expired_object, fresh_object, key_fault, make, no_object, object_at, object_limit, place_of, value_fault, with_fresh, with_object, with_value}
 use Rattle.object_arena.proofs.FitLemmas.{fit_fresh}
 use Rattle.object_arena.proofs.PartLemmas.{pointwise_at, pointwise_set}
@@ -47,22 +47,22 @@ use Rattle.session_laws.proofs.Making.{made}
 use Rattle.health_laws.proofs.Fits.{classes_written, flushed_fit}
 use Rattle.health_laws.proofs.Objects.{class_left}
 use Rattle.whole_laws.specs.Whole.{IsKeyed}
-use Rattle.whole_laws.proofs.Refit.{IsRefit, committed_class, committed_fits, expired_fits, left_fits, refit_all, refit_with, restored_refit}
+use Rattle.whole_laws.proofs.Refit.{FitsIn, IsRefit, committed_class, committed_fits, expired_fits, fits_each, left_fits, refit_all, refit_with, restored_refit}
 
 -- ---- other objects
 
 pub graph_keyed : (graph : Graph) (own : SessionState) → IsRefit own.mapping own.graph graph → IsKeyed own → IsKeyed (with_graph graph own)
 graph_keyed graph own change keyed = record {
-  plain = keyed.plain;
+  well = keyed.well;
   fit = change.fit;
   keys = subst (All (HasKeys own.mapping graph)) (sym (between_scopes own.graph graph own.frames)) (all_kept own.mapping own.graph graph own.frames.scopes change.same keyed.keys);
 }
 
-pub object_keyed : (object : ObjId) (new : Object) (own : SessionState) → new.class ≡ (object_at own.graph object).class → (place_of object < length own.graph.objects → ObjectFits own.mapping new) → IsKeyed own → IsKeyed (with_graph (with_object own.graph object new) own)
-object_keyed object new own class one keyed = graph_keyed (with_object own.graph object new) own (refit_with own.mapping own.graph object new keyed.plain keyed.fit class one) keyed
+pub object_keyed : (object : ObjId) (new : Object) (own : SessionState) → new.class ≡ (object_at own.graph object).class → (place_of object < length own.graph.objects → FitsIn own.mapping own.graph.roots new) → IsKeyed own → IsKeyed (with_graph (with_object own.graph object new) own)
+object_keyed object new own class one keyed = graph_keyed (with_object own.graph object new) own (refit_with own.mapping own.graph object new keyed.fit class one) keyed
 
-its_fit : (object : ObjId) (own : SessionState) → IsKeyed own → place_of object < length own.graph.objects → ObjectFits own.mapping (object_at own.graph object)
-its_fit object own keyed less = keyed.fit.objects (place_of object) _ less
+its_fit : (object : ObjId) (own : SessionState) → IsKeyed own → place_of object < length own.graph.objects → FitsIn own.mapping own.graph.roots (object_at own.graph object)
+its_fit object own keyed less = fits_each own.mapping own.graph keyed.fit (place_of object) less
 
 unless_keyed : (fault : Option Refusal) (graph : Graph) (own : SessionState) → IsKeyed own → (fault ≡ None → IsKeyed (with_graph graph own)) → IsKeyed (changed_unless fault graph own).after
 unless_keyed None graph own keyed later = later refl
@@ -78,11 +78,14 @@ kind_taken wanted (Some found) none = by (same_kind wanted found) none
     by true none = refl
     by false none = absurd cc
 
-put_fits : (mapped : Mapped) (o : Object) (attr : AttrNo) (cell : Cell) → ObjectFits mapped o → IsAttribute mapped o.class attr → cell_fits (attribute_of mapped o.class attr) cell ≡ true → ObjectFits mapped (cell_put o attr cell)
-put_fits mapped o attr cell fits inside good = record {
-  class = fits.class;
-  cells = pointwise_set cell_fits (attributes_of mapped o.class) o.cells attr.0 cell no_attribute fits.cells good inside;
-  identity = fits.identity;
+put_fits : (mapped : Mapped) (roots : List ClassId) (o : Object) (attr : AttrNo) (cell : Cell) → FitsIn mapped roots o → IsAttribute mapped o.class attr → cell_fits (attribute_of mapped o.class attr) cell ≡ true → FitsIn mapped roots (cell_put o attr cell)
+put_fits mapped roots o attr cell fits inside good = record {
+  own = record {
+    class = fits.own.class;
+    cells = pointwise_set cell_fits (attributes_of mapped o.class) o.cells attr.0 cell no_attribute fits.own.cells good inside;
+    identity = fits.own.identity;
+    links = fits.own.links;
+  };
   links = fits.links;
 }
 
@@ -97,8 +100,8 @@ value_keyed object attr value own inside none keyed =
     (λ less.
     let fits = its_fit object own keyed less in
     let attribute = attribute_of own.mapping o.class attr in
-    let old = pointwise_at cell_fits (attributes_of own.mapping o.class) o.cells attr.0 no_attribute _ fits.cells inside in
-    put_fits own.mapping o attr put fits inside
+    let old = pointwise_at cell_fits (attributes_of own.mapping o.class) o.cells attr.0 no_attribute _ fits.own.cells inside in
+    put_fits own.mapping own.graph.roots o attr put fits inside
     (and_from (value_fits attribute (Some value)) (value_fits attribute (cell_in o attr).base) (kind_taken attribute.kind (kind_of_value value) none)
     (and_parts (value_fits attribute (cell_in o attr).value) (value_fits attribute (cell_in o attr).base) old).1)) keyed)
 
@@ -106,13 +109,13 @@ both_none : (first second : Option Refusal) → either_fault first second ≡ No
 both_none None second none = (refl, none)
 both_none (Some fault) second none = absurd cc
 
-given_fits : (mapped : Mapped) (o : Object) (given : List (AttrNo × Value)) → ObjectFits mapped o → AllByRecursion (λ (one : AttrNo × Value). IsAttribute mapped o.class one.0) given → first_given_fault mapped o.class given ≡ None → ObjectFits mapped (object_with o given)
-given_fits mapped o [] fits all none = fits
-given_fits mapped o (one ∷ others) fits all none =
+given_fits : (mapped : Mapped) (roots : List ClassId) (o : Object) (given : List (AttrNo × Value)) → FitsIn mapped roots o → AllByRecursion (λ (one : AttrNo × Value). IsAttribute mapped o.class one.0) given → first_given_fault mapped o.class given ≡ None → FitsIn mapped roots (object_with o given)
+given_fits mapped roots o [] fits all none = fits
+given_fits mapped roots o (one ∷ others) fits all none =
     let both = both_none (given_fault mapped o.class one) (first_given_fault mapped o.class others) none in
     let attribute = attribute_of mapped o.class one.0 in
-    given_fits mapped (cell_put o one.0 (unwritten_cell one.1)) others
-    (put_fits mapped o one.0 (unwritten_cell one.1) fits all.0 (and_from (value_fits attribute (Some one.1)) true (kind_taken attribute.kind (kind_of_value one.1) both.0) refl)) all.1 both.1
+    given_fits mapped roots (cell_put o one.0 (unwritten_cell one.1)) others
+    (put_fits mapped roots o one.0 (unwritten_cell one.1) fits all.0 (and_from (value_fits attribute (Some one.1)) true (kind_taken attribute.kind (kind_of_value one.1) both.0) refl)) all.1 both.1
 
 -- ---- marks
 
@@ -121,7 +124,7 @@ unfolding deletion_marked
 mark_keyed object own keyed =
     let o : Object = object_at own.graph object in
     unless_keyed (delete_fault o) (with_object own.graph object (record o { marked = true })) own keyed
-    (λ none. object_keyed object (record o { marked = true }) own refl (λ less. let fits = its_fit object own keyed less in record { class = fits.class; cells = fits.cells; identity = fits.identity; links = fits.links }) keyed)
+    (λ none. object_keyed object (record o { marked = true }) own refl (λ less. let fits = its_fit object own keyed less in record { own = record { class = fits.own.class; cells = fits.own.cells; identity = fits.own.identity; links = fits.own.links }; links = fits.links }) keyed)
 
 -- ---- an object is made
 
@@ -137,12 +140,12 @@ new_keyed class given own declared attributes none keyed =
     ap (λ (p : ℕ). get_or wider.objects p no_object) (let e : length own.graph.objects + 1 - 1 ≡ length own.graph.objects = omega arith in e)
     ∙ get_or_at own.graph.objects (fresh_object own.mapping class) [] no_object (length own.graph.objects) refl in
     let change : IsRefit own.mapping wider now =
-    refit_with own.mapping wider id (object_with o given) keyed.plain fit (class_left o given)
-    (λ less. given_fits own.mapping o given (fit.objects (place_of id) _ less)
+    refit_with own.mapping wider id (object_with o given) fit (class_left o given)
+    (λ less. given_fits own.mapping wider.roots o given (fits_each own.mapping wider fit (place_of id) less)
     (subst (λ (c : ClassId). AllByRecursion (λ (one : AttrNo × Value). IsAttribute own.mapping c one.0) given) (sym (ap (λ (x : Object). x.class) fresh)) attributes)
     (ap (λ (x : Object). first_given_fault own.mapping x.class given) fresh ∙ none)) in
     record {
-      plain = keyed.plain;
+      well = keyed.well;
       fit = change.fit;
       keys = all_kept own.mapping wider now own.frames.scopes change.same (all_made own.mapping own.graph wider class own.frames.scopes refl keyed.keys);
     }
@@ -159,15 +162,16 @@ made_keyed class given own declared attributes keyed = room_keyed (nat_lt (lengt
 
 -- ---- objects come in
 
-taken_fits : (mapped : Mapped) (state : State) (number : ℕ) (o : Object) → ObjectFits mapped o → ObjectFits mapped (object_taken state number o)
-taken_fits mapped Transient number o fits = record { class = fits.class; cells = fits.cells; identity = refl; links = fits.links }
-taken_fits mapped Pending number o fits = fits
-taken_fits mapped Persistent number o fits = fits
-taken_fits mapped Deleted number o fits = fits
-taken_fits mapped Detached number o fits =
-    let changed = changed_fit mapped o fits in
-    let stood : ObjectFits mapped (record o { state = Persistent; marked = false }) = record { class = fits.class; cells = fits.cells; identity = fits.identity; links = fits.links } in
-    given_fits mapped (expired_object (record o { state = Persistent; marked = false })) (changed_values 0 o.cells) (expired_fits mapped (record o { state = Persistent; marked = false }) stood)
+taken_fits : (mapped : Mapped) (roots : List ClassId) (state : State) (number : ℕ) (o : Object) → FitsIn mapped roots o → FitsIn mapped roots (object_taken state number o)
+taken_fits mapped roots Transient number o fits = record { own = record { class = fits.own.class; cells = fits.own.cells; identity = refl; links = fits.own.links }; links = fits.links }
+taken_fits mapped roots Pending number o fits = fits
+taken_fits mapped roots Persistent number o fits = fits
+taken_fits mapped roots Deleted number o fits = fits
+taken_fits mapped roots Detached number o fits =
+    let changed = changed_fit mapped o fits.own in
+    let begun : Object = record o { state = Persistent; marked = false } in
+    let stood : FitsIn mapped roots begun = record { own = record { class = fits.own.class; cells = fits.own.cells; identity = fits.own.identity; links = fits.own.links }; links = fits.links } in
+    given_fits mapped roots (expired_object begun) (changed_values 0 o.cells) (expired_fits mapped roots begun stood)
     (recursion_from_All (λ (one : AttrNo × Value). IsAttribute mapped o.class one.0) (changed_values 0 o.cells) changed.0) changed.1
 
 pub taken_class : (state : State) (number : ℕ) (o : Object) → (object_taken state number o).class ≡ o.class
@@ -181,8 +185,8 @@ one_keyed : (object : ObjId) (own : SessionState) → IsKeyed own → IsKeyed (s
 one_keyed object own keyed =
     let o : Object = object_at own.graph object in
     let number : ℕ = one_more own.added in
-    object_keyed object (taken_under number o) (record own { added = added_then o.state own.added }) (taken_class o.state number o) (λ less. taken_fits own.mapping o.state number o (its_fit object own keyed less))
-    (record { plain = keyed.plain; fit = keyed.fit; keys = keyed.keys })
+    object_keyed object (taken_under number o) (record own { added = added_then o.state own.added }) (taken_class o.state number o) (λ less. taken_fits own.mapping own.graph.roots o.state number o (its_fit object own keyed less))
+    (record { well = keyed.well; fit = keyed.fit; keys = keyed.keys })
 
 all_joined : (objects : List ObjId) (own : SessionState) → IsKeyed own → IsKeyed (session_joined objects own)
 all_joined [] own keyed = keyed
@@ -192,18 +196,18 @@ pub added_keyed : (object : ObjId) (own : SessionState) → IsKeyed own → IsKe
 added_keyed object own keyed =
     let joined : SessionState = session_joined (coming_objects own.mapping own.graph object) own in
     let all : IsKeyed joined = all_joined (coming_objects own.mapping own.graph object) own keyed in
-    object_keyed object (object_unmarked (object_at joined.graph object)) joined refl (λ less. let fits = its_fit object joined all less in record { class = fits.class; cells = fits.cells; identity = fits.identity; links = fits.links }) all
+    object_keyed object (object_unmarked (object_at joined.graph object)) joined refl (λ less. let fits = its_fit object joined all less in record { own = record { class = fits.own.class; cells = fits.own.cells; identity = fits.own.identity; links = fits.own.links }; links = fits.links }) all
 
 -- ---- the objects were written, or are to be read again
 
-pub flushed_keyed : (prepared : Prepared) (rows : RowChanges) (keys : List (List Value)) (own : SessionState) → IsKeyed own → IsKeyed (session_flushed prepared rows keys own)
-flushed_keyed prepared rows keys own keyed =
+pub flushed_keyed : (prepared : Prepared) → prepared.cleared ≡ [] → (rows : RowChanges) (keys : List (List Value)) (own : SessionState) → IsKeyed own → IsKeyed (session_flushed prepared rows keys own)
+flushed_keyed prepared none rows keys own keyed =
     graph_keyed (graph_flushed own.mapping prepared rows keys own.graph) own
-    (record { fit = flushed_fit own.mapping own.graph prepared rows keys keyed.plain keyed.fit; same = classes_written (written_with own.mapping prepared rows keys own.graph) }) keyed
+    (record { fit = flushed_fit own.mapping own.graph prepared rows keys keyed.well none keyed.fit; same = classes_written (written_with own.mapping prepared rows keys own.graph) }) keyed
 
-if_fits : (mapped : Mapped) (is_read : Bool) (o : Object) → ObjectFits mapped o → ObjectFits mapped (expired_if is_read o)
-if_fits mapped true o fits = expired_fits mapped o fits
-if_fits mapped false o fits = fits
+if_fits : (mapped : Mapped) (roots : List ClassId) (is_read : Bool) (o : Object) → FitsIn mapped roots o → FitsIn mapped roots (expired_if is_read o)
+if_fits mapped roots true o fits = expired_fits mapped roots o fits
+if_fits mapped roots false o fits = fits
 
 pub if_class : (is_read : Bool) (o : Object) → (expired_if is_read o).class ≡ o.class
 if_class true o = refl
@@ -212,20 +216,20 @@ if_class false o = refl
 pub reread_keyed : (table : TableId) (own : SessionState) → IsKeyed own → IsKeyed (session_reread table own)
 reread_keyed table own keyed =
     graph_keyed (graph_reread own.mapping table own.graph) own
-    (refit_all own.mapping own.graph (reread_of own.mapping table) keyed.plain keyed.fit (λ o. if_class (is_reread own.mapping table o) o) (λ o fits. if_fits own.mapping (is_reread own.mapping table o) o fits)) keyed
+    (refit_all own.mapping own.graph (reread_of own.mapping table) keyed.fit (λ o. if_class (is_reread own.mapping table o) o) (λ o fits. if_fits own.mapping own.graph.roots (is_reread own.mapping table o) o fits)) keyed
 
 -- ---- scopes begin and end
 
 pub begun_keyed : (own : SessionState) → IsKeyed own → IsKeyed (session_begun own)
-begun_keyed own keyed = record { plain = keyed.plain; fit = keyed.fit; keys = All-cons (HasKeys own.mapping own.graph) (begun_at own.graph) own.frames.scopes (keys_begun own.mapping own.graph keyed.fit) keyed.keys }
+begun_keyed own keyed = record { well = keyed.well; fit = keyed.fit; keys = All-cons (HasKeys own.mapping own.graph) (begun_at own.graph) own.frames.scopes (keys_begun own.mapping own.graph keyed.fit) keyed.keys }
 
 pub nested_keyed : (own : SessionState) → IsKeyed own → IsKeyed (session_nested own)
-nested_keyed own keyed = record { plain = keyed.plain; fit = keyed.fit; keys = All-cons (HasKeys own.mapping own.graph) (begun_at own.graph) own.frames.scopes (keys_begun own.mapping own.graph keyed.fit) keyed.keys }
+nested_keyed own keyed = record { well = keyed.well; fit = keyed.fit; keys = All-cons (HasKeys own.mapping own.graph) (begun_at own.graph) own.frames.scopes (keys_begun own.mapping own.graph keyed.fit) keyed.keys }
 
 pub released_keyed : (own : SessionState) → IsKeyed own → IsKeyed (session_released own)
 unfolding scope_released
 released_keyed own keyed = record {
-  plain = keyed.plain;
+  well = keyed.well;
   fit = keyed.fit;
   keys = keys_left own.mapping own.graph (length own.frames.scopes - (length own.frames.scopes - 1)) own.frames.scopes (drop (length own.frames.scopes - (length own.frames.scopes - 1)) own.frames.scopes) refl keyed.keys;
 }
@@ -233,9 +237,9 @@ released_keyed own keyed = record {
 pub restored_keyed : (depth : ℕ) (own : SessionState) → IsKeyed own → IsKeyed (session_restored depth own)
 restored_keyed depth own keyed =
     let now : SessionState = session_restored depth own in
-    let change : IsRefit own.mapping own.graph now.graph = restored_refit depth own.frames own.graph own.mapping keyed.plain keyed.fit keyed.keys in
+    let change : IsRefit own.mapping own.graph now.graph = restored_refit depth own.frames own.graph own.mapping keyed.fit keyed.keys in
     record {
-      plain = keyed.plain;
+      well = keyed.well;
       fit = change.fit;
       keys = all_kept own.mapping own.graph now.graph now.frames.scopes change.same
           (keys_left own.mapping own.graph (length own.frames.scopes - (depth - 1)) own.frames.scopes now.frames.scopes (around_scopes depth own.frames) keyed.keys);
@@ -243,10 +247,10 @@ restored_keyed depth own keyed =
 
 pub closed_keyed : (own : SessionState) → IsKeyed own → IsKeyed (session_closed own)
 closed_keyed own keyed =
-    let change = refit_all own.mapping own.graph object_left keyed.plain keyed.fit (λ o. refl) (λ o fits. left_fits own.mapping o fits) in
-    record { plain = keyed.plain; fit = change.fit; keys = All-nil (HasKeys own.mapping (session_closed own).graph) }
+    let change = refit_all own.mapping own.graph object_left keyed.fit (λ o. refl) (λ o fits. left_fits own.mapping own.graph.roots o fits) in
+    record { well = keyed.well; fit = change.fit; keys = All-nil (HasKeys own.mapping (session_closed own).graph) }
 
 pub committed_keyed : (own : SessionState) → IsKeyed own → IsKeyed (session_committed own)
 committed_keyed own keyed =
-    let change = refit_all own.mapping own.graph object_committed keyed.plain keyed.fit (λ o. committed_class o.state o) (λ o fits. committed_fits own.mapping o.state o fits) in
-    record { plain = keyed.plain; fit = change.fit; keys = All-nil (HasKeys own.mapping (session_committed own).graph) }
+    let change = refit_all own.mapping own.graph object_committed keyed.fit (λ o. committed_class o.state o) (λ o fits. committed_fits own.mapping own.graph.roots o.state o fits) in
+    record { well = keyed.well; fit = change.fit; keys = All-nil (HasKeys own.mapping (session_committed own).graph) }

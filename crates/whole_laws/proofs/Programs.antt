@@ -1,5 +1,5 @@
 -- What each step of a session keeps of it, the programs of its calls keep, whatever they answer.
-use Rattle.std.proofs.Common.{◌≡◌, ℕ, ◌+◌, ◌-◌, Bool, true, false, not, ◌&&◌, ◌==◌, List, length, Option, None, Some, sym, subst}
+use Rattle.std.proofs.Common.{◌≡◌, ℕ, ◌+◌, ◌-◌, Bool, true, false, not, ◌&&◌, ◌==◌, List, [], length, Option, None, Some, sym, subst}
 use Rattle.base_core.specs.declared.ids.AttrNo.{AttrNo}
 use Rattle.base_core.specs.declared.ids.ObjId.{ObjId}
 use Rattle.base_core.specs.declared.ids.TableId.{TableId}
@@ -53,7 +53,7 @@ pub record AreSteps (P : SessionState → Type 0) : Type 0 where
   pub rolled : (count : ℕ) (own : SessionState) → P own → P (session_rolled_back count own)
   pub committed : (own : SessionState) → P own → P (session_committed own)
   pub closed : (own : SessionState) → P own → P (session_closed own)
-  pub flushed : (prepared : Prepared) (rows : RowChanges) (keys : List (List Value)) (own : SessionState) → P own → P (session_flushed prepared rows keys own)
+  pub flushed : (prepared : Prepared) → prepared.cleared ≡ [] → (rows : RowChanges) (keys : List (List Value)) (own : SessionState) → P own → P (session_flushed prepared rows keys own)
   pub reread : (table : TableId) (own : SessionState) → P own → P (session_reread table own)
   pub added : (object : ObjId) (own : SessionState) → P own → P (session_added object own)
   pub marked : (object : ObjId) (own : SessionState) → P own → P (deletion_marked object own).after

@@ -1,4 +1,4 @@
--- Objects of plain classes that change, each in its class, go on to fit.
+-- Objects that change, each in its class, go on to fit.
 use Rattle.std.proofs.Common.{◌≡◌, ℕ, ◌-◌, ◌<◌, ◌≤◌, Bool, true, false, List, [], ◌∷◌, length, map, get_or, Option, None, Some, ⊎_elim, refl, sym, ap, ◌∙◌, subst, arith}
 use Rattle.std.specs.Prelude.{if◌then◌else◌, nat_lt}
 use Rattle.std.specs.List.{All}
@@ -13,10 +13,11 @@ use Rattle.object_arena.specs.declared.object.Object.{Object}
 use Rattle.object_arena.specs.declared.object.State.{State}
 use Rattle.object_arena.specs.declared.object.State.TheVariants.{Transient, Pending, Persistent, Deleted, Detached}
 use Rattle.object_arena.specs.Every.{classes_of, each_object, each_placed}
-use Rattle.object_arena.specs.Fit.{IsFit, ObjectFits, cell_fits, identity_fits}
-use Rattle.object_arena.specs.Graph.{Graph, expired_cell, expired_object, kept_identity, no_object, object_at, place_of, with_object}
+use Rattle.object_arena.specs.Fit.{IsFit, ObjectFits, cell_fits, identity_fits, links_fit}
+use Rattle.object_arena.specs.Graph.{Graph, expired_cell, expired_object, kept_identity, no_object, object_at, place_of, put_back_object, settled_object, with_object}
 use Rattle.object_arena.proofs.ClassLemmas.{classes_set}
 use Rattle.object_arena.proofs.FitLemmas.{object_back}
+use Rattle.object_arena.proofs.LinkLemmas.{links_expired, links_settled}
 use Rattle.object_arena.proofs.PartLemmas.{pointwise_map}
 use Rattle.savepoints.specs.declared.scope.Scope.{Scope}
 use Rattle.savepoints.specs.declared.scope.Standing.{Standing}
@@ -26,8 +27,7 @@ use Rattle.session_sound.specs.Sound.{EachObject}
 use Rattle.session_sound.proofs.Everyone.{each_changed}
 use Rattle.session_sound.proofs.Restoring.{again, again_at, lost, object, same_roots, start, want}
 use Rattle.scope_laws.proofs.Inside.{restored_long}
-use Rattle.health_laws.specs.Health.{HasPlainClasses}
-use Rattle.health_laws.proofs.Fits.{classes_each, no_links, same_classes}
+use Rattle.health_laws.proofs.Fits.{classes_each, same_classes}
 use Rattle.health_laws.proofs.Named.{each_with}
 use Rattle.health_laws.proofs.Objects.{back_class}
 use Rattle.health_laws.proofs.Restored.{where_class}
@@ -38,25 +38,30 @@ pub record IsRefit (mapped : Mapped) (old new : Graph) : Type 0 where
   pub fit : IsFit mapped new
   pub same : classes_of new ≡ classes_of old
 
-pub refit : (mapped : Mapped) (old new : Graph) → HasPlainClasses mapped → IsFit mapped old → classes_of new ≡ classes_of old → new.roots ≡ old.roots → EachObject (ObjectFits mapped) new → IsRefit mapped old new
-refit mapped old new plain fit same roots all = record {
+-- an object fits its class, and its links fit among objects of these root classes
+pub record FitsIn (mapped : Mapped) (roots : List ClassId) (o : Object) : Type 0 where
+  pub own : ObjectFits mapped o
+  pub links : links_fit mapped roots o ≡ true
+
+pub refit : (mapped : Mapped) (old new : Graph) → IsFit mapped old → classes_of new ≡ classes_of old → new.roots ≡ old.roots → EachObject (FitsIn mapped old.roots) new → IsRefit mapped old new
+refit mapped old new fit same roots all = record {
   fit = record {
-    objects = λ place d less. subst (ObjectFits mapped) (get_or_default new.objects place no_object d less) (all place less);
+    objects = λ place d less. subst (ObjectFits mapped) (get_or_default new.objects place no_object d less) (all place less).own;
     roots = roots ∙ fit.roots ∙ same_classes mapped old new same;
     links = λ place d less.
-        let fits = subst (ObjectFits mapped) (get_or_default new.objects place no_object d less) (all place less) in
-        no_links mapped new.roots (get_or new.objects place d) (plain.class (get_or new.objects place d).class fits.class) fits;
+        subst (λ (o : Object). links_fit mapped new.roots o ≡ true) (get_or_default new.objects place no_object d less)
+        (subst (λ (among : List ClassId). links_fit mapped among (get_or new.objects place no_object) ≡ true) (sym roots) (all place less).links);
   };
   same = same;
 }
 
-pub fits_each : (mapped : Mapped) (graph : Graph) → IsFit mapped graph → EachObject (ObjectFits mapped) graph
-fits_each mapped graph fit place less = fit.objects place no_object less
+pub fits_each : (mapped : Mapped) (graph : Graph) → IsFit mapped graph → EachObject (FitsIn mapped graph.roots) graph
+fits_each mapped graph fit place less = record { own = fit.objects place no_object less; links = fit.links place no_object less }
 
 -- one object
-pub refit_with : (mapped : Mapped) (graph : Graph) (object : ObjId) (new : Object) → HasPlainClasses mapped → IsFit mapped graph → new.class ≡ (object_at graph object).class → (place_of object < length graph.objects → ObjectFits mapped new) → IsRefit mapped graph (with_object graph object new)
-refit_with mapped graph object new plain fit class one =
-    refit mapped graph (with_object graph object new) plain fit (classes_set graph (with_object graph object new) object new class refl) refl (each_with (ObjectFits mapped) graph object new (fits_each mapped graph fit) one)
+pub refit_with : (mapped : Mapped) (graph : Graph) (object : ObjId) (new : Object) → IsFit mapped graph → new.class ≡ (object_at graph object).class → (place_of object < length graph.objects → FitsIn mapped graph.roots new) → IsRefit mapped graph (with_object graph object new)
+refit_with mapped graph object new fit class one =
+    refit mapped graph (with_object graph object new) fit (classes_set graph (with_object graph object new) object new class refl) refl (each_with (FitsIn mapped graph.roots) graph object new (fits_each mapped graph fit) one)
 
 classes_mapped : (change : Object → Object) (objects : List Object) → ((o : Object) → (change o).class ≡ o.class) → map (λ (o : Object). o.class) (map change objects) ≡ map (λ (o : Object). o.class) objects
 classes_mapped change [] same = refl
@@ -67,36 +72,39 @@ unfolding classes_of
 classes_all change graph same = λ i. (classes_mapped change graph.objects same i, graph.roots)
 
 -- all objects
-pub refit_all : (mapped : Mapped) (graph : Graph) (change : Object → Object) → HasPlainClasses mapped → IsFit mapped graph → ((o : Object) → (change o).class ≡ o.class) → ((o : Object) → ObjectFits mapped o → ObjectFits mapped (change o)) → IsRefit mapped graph (each_object change graph)
-refit_all mapped graph change plain fit class step = refit mapped graph (each_object change graph) plain fit (classes_all change graph class) refl (each_changed (ObjectFits mapped) (ObjectFits mapped) change graph (fits_each mapped graph fit) step)
+pub refit_all : (mapped : Mapped) (graph : Graph) (change : Object → Object) → IsFit mapped graph → ((o : Object) → (change o).class ≡ o.class) → ((o : Object) → FitsIn mapped graph.roots o → FitsIn mapped graph.roots (change o)) → IsRefit mapped graph (each_object change graph)
+refit_all mapped graph change fit class step = refit mapped graph (each_object change graph) fit (classes_all change graph class) refl (each_changed (FitsIn mapped graph.roots) (FitsIn mapped graph.roots) change graph (fits_each mapped graph fit) step)
 
 -- ---- what is left of an object that is expired, ends or goes back
 
-pub expired_fits : (mapped : Mapped) (o : Object) → ObjectFits mapped o → ObjectFits mapped (expired_object o)
-expired_fits mapped o fits = record {
-  class = fits.class;
-  cells = pointwise_map cell_fits (λ cell. expired_cell) (attributes_of mapped o.class) o.cells (λ attribute cell h. refl) fits.cells;
-  identity = fits.identity;
-  links = length-map o.links (λ link. Unloaded [] []) ∙ fits.links;
+pub expired_fits : (mapped : Mapped) (roots : List ClassId) (o : Object) → FitsIn mapped roots o → FitsIn mapped roots (expired_object o)
+expired_fits mapped roots o fits = record {
+  own = record {
+    class = fits.own.class;
+    cells = pointwise_map cell_fits (λ cell. expired_cell) (attributes_of mapped o.class) o.cells (λ attribute cell h. refl) fits.own.cells;
+    identity = fits.own.identity;
+    links = length-map o.links (λ link. Unloaded [] []) ∙ fits.own.links;
+  };
+  links = links_expired mapped roots o fits.links;
 }
 
-in_fits : (mapped : Mapped) (state : State) (o : Object) → ObjectFits mapped o → ObjectFits mapped (expired_in state o)
-in_fits mapped Transient o fits = fits
-in_fits mapped Pending o fits = fits
-in_fits mapped Persistent o fits = expired_fits mapped o fits
-in_fits mapped Deleted o fits = fits
-in_fits mapped Detached o fits = fits
+in_fits : (mapped : Mapped) (roots : List ClassId) (state : State) (o : Object) → FitsIn mapped roots o → FitsIn mapped roots (expired_in state o)
+in_fits mapped roots Transient o fits = fits
+in_fits mapped roots Pending o fits = fits
+in_fits mapped roots Persistent o fits = expired_fits mapped roots o fits
+in_fits mapped roots Deleted o fits = fits
+in_fits mapped roots Detached o fits = fits
 
-where_fits : (mapped : Mapped) (is_read : Bool) (o : Object) → ObjectFits mapped o → ObjectFits mapped (expired_where is_read o)
-where_fits mapped true o fits = in_fits mapped o.state o fits
-where_fits mapped false o fits = fits
+where_fits : (mapped : Mapped) (roots : List ClassId) (is_read : Bool) (o : Object) → FitsIn mapped roots o → FitsIn mapped roots (expired_where is_read o)
+where_fits mapped roots true o fits = in_fits mapped roots o.state o fits
+where_fits mapped roots false o fits = fits
 
-pub committed_fits : (mapped : Mapped) (state : State) (o : Object) → ObjectFits mapped o → ObjectFits mapped (object_committed_in state o)
-committed_fits mapped Transient o fits = fits
-committed_fits mapped Pending o fits = fits
-committed_fits mapped Persistent o fits = expired_fits mapped o fits
-committed_fits mapped Deleted o fits = record { class = fits.class; cells = fits.cells; identity = fits.identity; links = fits.links }
-committed_fits mapped Detached o fits = fits
+pub committed_fits : (mapped : Mapped) (roots : List ClassId) (state : State) (o : Object) → FitsIn mapped roots o → FitsIn mapped roots (object_committed_in state o)
+committed_fits mapped roots Transient o fits = fits
+committed_fits mapped roots Pending o fits = fits
+committed_fits mapped roots Persistent o fits = expired_fits mapped roots o fits
+committed_fits mapped roots Deleted o fits = record { own = record { class = fits.own.class; cells = fits.own.cells; identity = fits.own.identity; links = fits.own.links }; links = fits.links }
+committed_fits mapped roots Detached o fits = fits
 
 pub committed_class : (state : State) (o : Object) → (object_committed_in state o).class ≡ o.class
 committed_class Transient o = refl
@@ -112,8 +120,24 @@ left_key mapped class Persistent identity fits = fits
 left_key mapped class Deleted identity fits = fits
 left_key mapped class Detached identity fits = fits
 
-pub left_fits : (mapped : Mapped) (o : Object) → ObjectFits mapped o → ObjectFits mapped (object_left o)
-left_fits mapped o fits = record { class = fits.class; cells = fits.cells; identity = left_key mapped o.class o.state o.identity fits.identity; links = fits.links }
+pub left_fits : (mapped : Mapped) (roots : List ClassId) (o : Object) → FitsIn mapped roots o → FitsIn mapped roots (object_left o)
+left_fits mapped roots o fits = record {
+  own = record { class = fits.own.class; cells = fits.own.cells; identity = left_key mapped o.class o.state o.identity fits.own.identity; links = fits.own.links };
+  links = fits.links;
+}
+
+back_links : (mapped : Mapped) (roots : List ClassId) (state : State) (o : Object) → links_fit mapped roots o ≡ true → links_fit mapped roots (settled_object state o) ≡ true
+back_links mapped roots Transient o fits = links_settled mapped roots o fits
+back_links mapped roots Pending o fits = fits
+back_links mapped roots Persistent o fits = fits
+back_links mapped roots Deleted o fits = fits
+back_links mapped roots Detached o fits = fits
+
+back_fits : (mapped : Mapped) (roots : List ClassId) (o : Object) (state : State) (identity : Option (List Value)) → FitsIn mapped roots o → identity_fits mapped o.class identity ≡ true → FitsIn mapped roots (put_back_object o state identity)
+back_fits mapped roots o state identity fits key = record {
+  own = object_back mapped o state identity fits.own key;
+  links = back_links mapped roots state (record o { state = state; identity = identity; marked = false }) fits.links;
+}
 
 -- ---- a rollback
 
@@ -138,15 +162,15 @@ start_key mapped graph scopes n place keys less =
     (cases_lt n (length scopes))
 
 module _ (depth : ℕ) (frames : Framed) (graph : Graph) where
-  again_fits : (mapped : Mapped) → IsFit mapped graph → All (HasKeys mapped graph) frames.scopes → (place : ℕ) → place < length graph.objects → ObjectFits mapped (again depth frames graph place)
+  again_fits : (mapped : Mapped) → IsFit mapped graph → All (HasKeys mapped graph) frames.scopes → (place : ℕ) → place < length graph.objects → FitsIn mapped graph.roots (again depth frames graph place)
   again_fits mapped fit keys place less =
       let o : Object = object depth frames graph place in
-      let fits : ObjectFits mapped o = fit.objects place no_object less in
+      let fits : FitsIn mapped graph.roots o = fits_each mapped graph fit place less in
       let wanted : Standing = want depth frames graph place in
-      where_fits mapped _ (back_to wanted (lost depth frames graph place) o)
-      (object_back mapped o _ wanted.identity fits
+      where_fits mapped graph.roots _ (back_to wanted (lost depth frames graph place) o)
+      (back_fits mapped graph.roots o _ wanted.identity fits
       (either_key mapped o.class (nat_lt place (length (start depth frames graph).standings)) (standing_at (start depth frames graph) place) (since (trace_in frames.traces place).loaded o.identity)
-      (start_key mapped graph frames.scopes (length frames.scopes - depth) place keys less) (since_key mapped o.class (trace_in frames.traces place).loaded o.identity fits.identity)))
+      (start_key mapped graph frames.scopes (length frames.scopes - depth) place keys less) (since_key mapped o.class (trace_in frames.traces place).loaded o.identity fits.own.identity)))
 
   restored_classes : classes_of (restored_graph depth frames graph) ≡ classes_of graph
   unfolding restored_graph put_back_all
@@ -154,9 +178,9 @@ module _ (depth : ℕ) (frames : Framed) (graph : Graph) where
       placed_classes (read_again depth frames.traces) (put_back_all (scope_at depth frames.scopes) frames.traces graph) (λ place o. where_class _ o)
       ∙ placed_classes (stood_again (scope_at depth frames.scopes) frames.traces graph) graph (λ place o. back_class o _ _)
 
-  pub restored_refit : (mapped : Mapped) → HasPlainClasses mapped → IsFit mapped graph → All (HasKeys mapped graph) frames.scopes → IsRefit mapped graph (restored_graph depth frames graph)
-  restored_refit mapped plain fit keys =
-      refit mapped graph (restored_graph depth frames graph) plain fit restored_classes (same_roots depth frames graph)
+  pub restored_refit : (mapped : Mapped) → IsFit mapped graph → All (HasKeys mapped graph) frames.scopes → IsRefit mapped graph (restored_graph depth frames graph)
+  restored_refit mapped fit keys =
+      refit mapped graph (restored_graph depth frames graph) fit restored_classes (same_roots depth frames graph)
       (λ place less.
       let within : place < length graph.objects = omega (arith, less, restored_long depth frames graph) in
-      subst (ObjectFits mapped) (sym (again_at depth frames graph place no_object within)) (again_fits mapped fit keys place within))
+      subst (FitsIn mapped graph.roots) (sym (again_at depth frames graph place no_object within)) (again_fits mapped fit keys place within))

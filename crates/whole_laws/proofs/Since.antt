@@ -33,7 +33,7 @@ use Rattle.whole_laws.proofs.Refit.{classes_all, committed_class, restored_refit
 -- ---- objects that fit, and keys
 
 same_keys : (own now : SessionState) → now.mapping ≡ own.mapping → now.graph ≡ own.graph → now.frames.scopes ≡ own.frames.scopes → IsKeyed own → IsKeyed now
-same_keys own now mapping graph scopes keyed = record { plain = rw mapping keyed.plain; fit = rw mapping (rw graph keyed.fit); keys = rw mapping (rw graph (rw scopes keyed.keys)) }
+same_keys own now mapping graph scopes keyed = record { well = rw mapping keyed.well; fit = rw mapping (rw graph keyed.fit); keys = rw mapping (rw graph (rw scopes keyed.keys)) }
 
 pub keyed_steps : AreSteps IsKeyed
 keyed_steps = record {
@@ -117,7 +117,7 @@ module _ (first : SessionState) where
   restored_since : (depth : ℕ) (own : SessionState) → IsKeyedSince first own → IsKeyedSince first (session_restored depth own)
   restored_since depth own since =
       goes_on own (session_restored depth own) since (restored_keyed depth own)
-      (record { mapping = refl; classes = (restored_refit depth own.frames own.graph own.mapping since.keyed.plain since.keyed.fit since.keyed.keys).same; drawn = omega arith })
+      (record { mapping = refl; classes = (restored_refit depth own.frames own.graph own.mapping since.keyed.fit since.keyed.keys).same; drawn = omega arith })
 
   pub since_steps : AreSteps (IsKeyedSince first)
   since_steps = record {
@@ -133,8 +133,8 @@ module _ (first : SessionState) where
     rolled = λ count own since. stays own _ since (keyed_steps.rolled count own) refl refl (omega arith);
     committed = λ own since. goes_on own _ since (committed_keyed own) (record { mapping = refl; classes = classes_all object_committed own.graph (λ o. committed_class o.state o); drawn = omega arith });
     closed = λ own since. goes_on own _ since (closed_keyed own) (record { mapping = refl; classes = classes_all object_left own.graph (λ o. refl); drawn = omega arith });
-    flushed = λ prepared rows keys own since.
-        goes_on own _ since (flushed_keyed prepared rows keys own) (regraphed own (graph_flushed own.mapping prepared rows keys own.graph) (classes_written (written_with own.mapping prepared rows keys own.graph)));
+    flushed = λ prepared none rows keys own since.
+        goes_on own _ since (flushed_keyed prepared none rows keys own) (regraphed own (graph_flushed own.mapping prepared rows keys own.graph) (classes_written (written_with own.mapping prepared rows keys own.graph)));
     reread = λ table own since.
         goes_on own _ since (reread_keyed table own) (regraphed own (graph_reread own.mapping table own.graph) (classes_all (reread_of own.mapping table) own.graph (λ o. if_class (is_reread own.mapping table o) o)));
     added = λ object own since. goes_on own _ since (added_keyed object own) (added_same object own);

@@ -7,6 +7,7 @@ use Rattle.class_types.specs.Rules.{Rules}
 use Rattle.class_mapping.specs.Mapped.{IsAttribute, IsClass, Mapped}
 use Rattle.object_arena.specs.Fit.{IsFit}
 use Rattle.object_arena.specs.Graph.{IsObject, object_at}
+use Rattle.prefix_laws.specs.Laws.{IsWellMapped}
 use Rattle.savepoints.specs.Scopes.{HasKeys}
 use Rattle.session_scopes.specs.SessionState.{SessionState, new_session}
 use Rattle.session_calls.specs.Parts.{World}
@@ -15,9 +16,10 @@ use Rattle.session_sound.specs.Sound.{IsHandled}
 use Rattle.health_laws.specs.Calls.{Call, HasOneForEachKey, after_call, after_calls}
 use Rattle.health_laws.specs.Health.{HasPlainClasses, IsHealthy}
 
--- the objects fit their classes, and had keys of these at the start of each scope
+-- The mapping is as every configured one is, with links, classes of several tables and discriminators as they may be. The objects fit
+-- their classes, their links too, and had keys of these at the start of each scope.
 pub record IsKeyed (own : SessionState) : Type 0 where
-  pub plain : HasPlainClasses own.mapping
+  pub well : IsWellMapped own.mapping
   pub fit : IsFit own.mapping own.graph
   pub keys : All (HasKeys own.mapping own.graph) own.frames.scopes
 
@@ -41,6 +43,10 @@ IsCallOf call world = Unit {0}
 abbrev pub AreCallsOf : Rules → List Call → World → Type 0
 AreCallsOf rules [] world = Unit {0}
 AreCallsOf rules (call ∷ calls) world = IsCallOf call world × AreCallsOf rules calls (after_call rules call world)
+
+-- over classes of any form, whatever is called, and whatever is answered, objects go on to fit
+abbrev pub CallsKeepFit : Type 0
+CallsKeepFit = (rules : Rules) (calls : List Call) (world : World) → IsKeyed world.own → AreCallsOf rules calls world → IsKeyed (after_calls rules calls world).own
 
 -- whatever is called, and whatever is answered, a healthy session that is whole stays so
 abbrev pub CallsKeepWhole : Type 0

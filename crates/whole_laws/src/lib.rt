@@ -5,7 +5,7 @@
 
 ghost use Rattle.class_mapping.specs.Mapped.{Mapped};
 ghost use Rattle.health_laws.specs.Health.{HasPlainClasses};
-ghost use Rattle.whole_laws.specs.Whole.{CallsKeepWhole, IsHale, SessionsHaveOneForEachKey, new_world};
+ghost use Rattle.whole_laws.specs.Whole.{CallsKeepFit, CallsKeepWhole, IsHale, SessionsHaveOneForEachKey, new_world};
 
 use flush_sound_laws::{a_flush_keeps_sound, an_answered_flush_leaves_sound};
 
@@ -13,6 +13,13 @@ use flush_sound_laws::{a_flush_keeps_sound, an_answered_flush_leaves_sound};
 /// A new session over a configured mapping of plain classes is whole beside a store without tables.
 pub fn a_new_session_is_whole()
     ensures { (mapping : Mapped) → HasPlainClasses mapping → IsHale (new_world mapping) }
+{}
+
+/// Over every configured mapping, with links, classes of several tables and discriminators: whatever calls are made one after another, of
+/// classes, attributes and objects that are there, and whatever each answers, the objects go on to fit their classes, and their links
+/// the relationships of these.
+pub fn calls_keep_objects_fitting()
+    ensures { CallsKeepFit }
 {}
 
 /// Whatever calls are made one after another, of classes, attributes and objects that are there, and whatever each answers, a session
