@@ -1,0 +1,139 @@
+//! Whole scripts.
+
+ghost use Rattle.std.specs.Prelude.{◌≡◌, None, true, OnOk};
+ghost use Rattle.session_parts.specs.Depths.{HasDepth};
+
+use crate::lines::play;
+use base_core::Refusal;
+use class_mapping::Mapping;
+use class_types::Hooks;
+use keeper_core::{Keeper, Target};
+use keeper_mem::MemKeeper;
+use session_scopes::Session;
+use shell_lines::{Desk, Said};
+use shell_parts::Names;
+use std::alloc::Global;
+
+/// Takes a line of declarations.
+fn declare(
+    alloc: Global,
+    hooks: &Hooks,
+    desk: &mut Desk,
+    mapping: &mut Mapping,
+    line: &str,
+) -> Result<(), Refusal> {
+    match desk.say(alloc, line.as_bytes())? {
+        Said::Declare(block) => block.declare(hooks, mapping),
+        _ => Ok(()),
+    }
+}
+
+/// Declares what lines say, and configures the mapping.
+fn declare_all(
+    alloc: Global,
+    hooks: &Hooks,
+    desk: &mut Desk,
+    mapping: &mut Mapping,
+    lines: &str,
+) -> Result<(), Refusal> {
+    for line in lines.lines() {
+        declare(alloc, hooks, desk, mapping, line)?;
+    }
+    declare(alloc, hooks, desk, mapping, "configure")?;
+    mapping.configure()
+}
+
+/// Plays the lines of a session that is opened over a mapping.
+#[tactic(auto, using(crate::proofs::Naming::naming))]
+fn play_session<K: Keeper>(
+    alloc: Global,
+    hooks: &Hooks,
+    desk: &mut Desk,
+    keeper: &mut K,
+    mapping: Mapping,
+    lines: &str,
+    shown: &mut String,
+) -> Result<(), Refusal>
+    requires configured { mapping.configured ≡ true }
+    requires outside { HasDepth 0 (K.moment keeper.old) }
+{
+    let mut names = Names::new(alloc);
+    let mut session = Session::new(alloc, mapping);
+    play(
+        alloc,
+        hooks,
+        desk,
+        &mut names,
+        &mut session,
+        keeper,
+        lines,
+        shown,
+    )
+}
+
+/// Plays a script over a keeper without tables.
+fn play_over<K: Keeper>(
+    alloc: Global,
+    hooks: &Hooks,
+    keeper: &mut K,
+    script: &str,
+    shown: &mut String,
+) -> Result<(), Refusal>
+    requires { HasDepth 0 (K.moment keeper.old) }
+{
+    let (head, lines) = script.split_once("configure\n").unwrap_or((script, ""));
+    let mut desk = Desk::new();
+    let mut mapping = Mapping::new(alloc);
+    declare_all(alloc, hooks, &mut desk, &mut mapping, head)?;
+    if !mapping.is_configured() {
+        return Err(Refusal::NotBuilt);
+    }
+    play_session(alloc, hooks, &mut desk, keeper, mapping, lines, shown)
+}
+
+/// The keeper takes memory as its target.
+fn attach<K: Keeper>(alloc: Global, keeper: &mut K) -> Result<(), Refusal>
+    requires { (K.moment keeper.old).target ≡ None }
+    ensures { OnOk result (HasDepth 0 (K.moment keeper.new)) }
+{
+    match keeper.attach(alloc, Target::Memory) {
+        Ok(()) => Ok(()),
+        Err(_stop) => Err(Refusal::Memory),
+    }
+}
+
+/// Plays a script over a keeper that was given no target.
+fn play_fresh<K: Keeper>(
+    alloc: Global,
+    hooks: &Hooks,
+    keeper: &mut K,
+    script: &str,
+    shown: &mut String,
+) -> Result<(), Refusal>
+    requires { (K.moment keeper.old).target ≡ None }
+{
+    attach(alloc, keeper)?;
+    play_over(alloc, hooks, keeper, script, shown)
+}
+
+/// Plays a script over a keeper in memory.
+fn play_script(
+    alloc: Global,
+    hooks: &Hooks,
+    script: &str,
+    shown: &mut String,
+) -> Result<(), Refusal> {
+    let mut keeper = MemKeeper::new(alloc, &[])?;
+    play_fresh(alloc, hooks, &mut keeper, script, shown)
+}
+
+/// Plays scripts, and writes `----` between their answers.
+pub(crate) fn play_all(alloc: Global, text: &str) -> Result<String, Refusal> {
+    let hooks = Hooks::new(alloc);
+    let mut shown = String::new(alloc);
+    for script in text.split("----\n") {
+        play_script(alloc, &hooks, script, &mut shown)?;
+        shown.push_str("----\n")?;
+    }
+    Ok(shown)
+}
