@@ -1,5 +1,5 @@
 mod CellSteps
-mod FitSteps
+pub mod FitSteps
 mod FollowSteps
 mod HolderSteps
 mod KeySteps

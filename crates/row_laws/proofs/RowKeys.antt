@@ -117,7 +117,7 @@ split_of : (mapped : Mapped) (class : ClassId) (known : HasTables mapped class) 
 split_of mapped class known attribute key (inl first) = first
 split_of mapped class known attribute key (inr later) = true_false (is_key mapped.schema.tables attribute) key (no_later_key mapped (line_of mapped.classes class.0) 1 0 known.rest attribute refl later)
 
-of_key : (mapped : Mapped) (class : ClassId) (attr : AttrNo) → HasTables mapped class → Has (key_attributes mapped class) attr → IsOfKey mapped class attr
+pub of_key : (mapped : Mapped) (class : ClassId) (attr : AttrNo) → HasTables mapped class → Has (key_attributes mapped class) attr → IsOfKey mapped class attr
 of_key mapped class attr known there =
     let tables = mapped.schema.tables in
     let line : List ClassId = line_of mapped.classes class.0 in
@@ -134,7 +134,7 @@ of_key mapped class attr known there =
     let of = of_column mapped line (0, root_table mapped class) placed.1 own in
     record { attribute = placed.1; at = ap (slice_get all) (sym number) ∙ at; of = of; key = sym (key_by_column mapped line (0, root_table mapped class) placed.1 of) ∙ kept.1 }
 
-each_passes : {A B : Type 0} (test : A → B → Bool) (f : A → B) (xs : List A) → ((x : A) → Has xs x → test x (f x) ≡ true) → pointwise test xs (map f xs) ≡ true
+pub each_passes : {A B : Type 0} (test : A → B → Bool) (f : A → B) (xs : List A) → ((x : A) → Has xs x → test x (f x) ≡ true) → pointwise test xs (map f xs) ≡ true
 each_passes test f [] h = refl
 each_passes test f (x ∷ xs) h = ap (λ (b : Bool). b && pointwise test xs (map f xs)) (h x (inl refl)) ∙ each_passes test f xs (λ y there. h y (inr there))
 
@@ -226,7 +226,7 @@ branch_keys mapped class named key has less there fits =
     ∙ ap (λ (root : ClassId). fits_table (spec_of mapped.schema (table_or_none (own_table mapped.schema.tables mapped.classes root.0))) key) same
     ∙ sym (keys_alike mapped class key has known) ∙ fits
 
-named_fits : (mapped : Mapped) (class : ClassId) (values : List Value) (key : List Value) (name : Option (List ℕ)) → HasHierarchies mapped → IsClass mapped class → key_fits mapped class key ≡ true
+pub named_fits : (mapped : Mapped) (class : ClassId) (values : List Value) (key : List Value) (name : Option (List ℕ)) → HasHierarchies mapped → IsClass mapped class → key_fits mapped class key ≡ true
     → FitsAs mapped key (class_by mapped class values name)
 named_fits mapped class values key None has less fits = fits
 named_fits mapped class values key (Some name) has less fits = by (find test (branch mapped class)) refl

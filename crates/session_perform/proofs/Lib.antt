@@ -1,3 +1,3 @@
 mod Performed
-mod Sendable
+pub mod Sendable
 pub mod Refusing
