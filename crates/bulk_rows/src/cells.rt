@@ -5,21 +5,19 @@ ghost use Rattle.base_core.specs.declared.value.Value.TheVariants.{Null};
 ghost use Rattle.schema_core.specs.Apply.{with_cells};
 ghost use Rattle.sql_semantics.specs.Checked.{Gives};
 ghost use Rattle.expr_eval.specs.Place.{place_of};
+ghost use Rattle.lent_tables.specs.Lent.{seen};
 ghost use Rattle.sql_semantics.specs.Taken as spec;
 
-use base_core::{ColumnNo, Copied, ListOf, Refusal, RowList, RowValues, TableId, Value};
+use base_core::{ColumnNo, Copied, ListOf, Refusal, RowValues, Value};
 use expr_eval::{Scope, value_in};
 use expr_types::Expr;
+use lent_tables::LentTables;
 use std::alloc::{AllocError, Global};
 
 /// The scope of a row of the table, which alone is in scope.
-pub(crate) fn scope_at<'x>(
-    starts: &'x [u32],
-    tables: &'x [(TableId, RowList)],
-    row: &'x [Value],
-) -> Scope<'x>
+pub(crate) fn scope_at<'x>(starts: &'x [u32], tables: LentTables<'x>, row: &'x [Value]) -> Scope<'x>
     requires { starts.now ≡ 0 ∷ [] }
-    ensures { place_of result ≡ spec.at tables.now row.now }
+    ensures { place_of result ≡ spec.at (seen tables.entry) row.now }
 {
     Scope {
         row,
@@ -32,11 +30,11 @@ pub(crate) fn scope_at<'x>(
 /// What is written into a column: NULL, or the value of an expression at the row as it was.
 fn value_for(
     alloc: Global,
-    tables: &[(TableId, RowList)],
+    tables: LentTables<'_>,
     row: &[Value],
     written: &Option<Expr>,
 ) -> Result<Value, Refusal>
-    ensures { Gives (λ x. x) result (spec.value_for tables.now row.now written.now) }
+    ensures { Gives (λ x. x) result (spec.value_for (seen tables.entry) row.now written.now) }
 {
     match written {
         Some(e) => value_in(alloc, e, &scope_at(&[0], tables, row)),
@@ -47,11 +45,12 @@ fn value_for(
 /// The cells that are written.
 fn cells(
     alloc: Global,
-    tables: &[(TableId, RowList)],
+    tables: LentTables<'_>,
     row: &[Value],
     written: &[(ColumnNo, Option<Expr>)],
 ) -> Result<Vec<(ColumnNo, Value)>, Refusal>
-    ensures { Gives (λ v. v.items) result (spec.cells_from tables.now row.now [] written.now) }
+    ensures { Gives (λ v. v.items) result
+        (spec.cells_from (seen tables.entry) row.now [] written.now) }
 {
     let mut cells = Vec::new(alloc);
     for cell in written {
@@ -78,11 +77,11 @@ fn with_cells(row: Vec<Value>, written: &[(ColumnNo, Value)]) -> Result<RowValue
 /// The row with the values of the expressions in their columns.
 pub(crate) fn rewritten(
     alloc: Global,
-    tables: &[(TableId, RowList)],
+    tables: LentTables<'_>,
     row: &RowValues,
     written: &[(ColumnNo, Option<Expr>)],
 ) -> Result<RowValues, Refusal>
-    ensures { Gives (λ x. x) result (spec.rewritten_row tables.now written.now row.now) }
+    ensures { Gives (λ x. x) result (spec.rewritten_row (seen tables.entry) written.now row.now) }
 {
     let cells = cells(alloc, tables, row.as_slice(), written)?;
     Ok(with_cells(row.copied()?.into_vec(), &cells)?)

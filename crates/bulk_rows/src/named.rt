@@ -1,13 +1,14 @@
 //! Tables in the expressions of a bulk statement.
 
 ghost use Rattle.std.specs.Prelude.{◌≡◌, ◌++◌, map, OnOk};
+ghost use Rattle.lent_tables.specs.Lent.{seen};
 ghost use Rattle.sql_semantics.specs.Checked.{Gives};
 ghost use Rattle.sql_semantics.specs.Rows.{require_created, flat, named_where};
 ghost use Rattle.sql_semantics.specs.Applied as spec;
 
 use base_core::{ColumnNo, ListOf, Refusal};
-use expr_eval::TableRows;
 use expr_types::Expr;
+use lent_tables::LentTables;
 use select_rows::{created, named};
 use std::alloc::{AllocError, Global};
 
@@ -39,14 +40,15 @@ fn of_cells(cells: &[(ColumnNo, Option<Expr>)], found: &mut Vec<u32>) -> Result<
 #[tactic(auto, using(crate::proofs::Behind::all_named))]
 pub fn all_created(
     alloc: Global,
-    tables: &TableRows,
+    tables: LentTables<'_>,
     cells: &[(ColumnNo, Option<Expr>)],
     filter: &Option<Expr>,
 ) -> Result<(), Refusal>
-    ensures { Gives (λ x. x) result (require_created tables.now (spec.named_in cells.now filter.now)) }
+    ensures { Gives (λ x. x) result
+        (require_created (seen tables.entry) (spec.named_in cells.now filter.now)) }
 {
     let mut found = Vec::new(alloc);
     of_cells(cells, &mut found)?;
     of_expression(filter, &mut found)?;
-    created(tables.as_slice(), &found)
+    created(tables, &found)
 }

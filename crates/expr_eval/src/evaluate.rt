@@ -7,17 +7,19 @@ ghost use Rattle.base_core.specs.Order.{same_value};
 ghost use Rattle.sql_semantics.specs.Eval as spec;
 ghost use Rattle.sql_semantics.specs.Eval.{meaning_of};
 ghost use Rattle.expr_eval.specs.Place.{place_of};
+ghost use Rattle.lent_tables.specs.Walks.{rows_left};
 ghost use Rattle.sql_semantics.specs.Truth as truth;
 
 use crate::aggregate::{aggregated, known};
 use crate::compare::{among, between, compared, is_null, same};
 use crate::function::applied;
 use crate::number::{arithmetic, negated};
-use crate::scope::{Scope, counted, joined, more_starts, rows_in};
+use crate::scope::{Scope, counted, joined, more_starts};
 use crate::text::{concatenated, is_like};
 use crate::truth::{all3, any3, not3, passes, signed, truth_of, value_of};
 use base_core::{ArithOp, Copied, Refusal, RowValues, Value};
 use expr_types::{CompareOp, Expr, Func, Origin};
+use lent_tables::{LentTables, RowWalk};
 use sqlite_items::{Boxed, Items};
 use std::alloc::Global;
 
@@ -65,7 +67,7 @@ pub fn eval<'x>(
     let scope = Scope {
         row: row.as_slice(),
         starts,
-        tables: &[],
+        tables: LentTables::Listed(&[]),
         group: None,
     };
     value_in(alloc, e, &scope)
@@ -248,7 +250,7 @@ fn existence(
     ensures { Gives (λ x. x) result
         (spec.existence negated origin.now (meaning_of condition.now) (place_of scope.now)) }
 {
-    let rows = rows_in(scope.tables, origin.table);
+    let rows = scope.tables.rows(origin.table);
     let found = some_row(alloc, condition, rows, scope)?;
     Ok(value_of(signed(negated, Some(found))))
 }
@@ -357,15 +359,17 @@ fn along<'x>(
 fn some_row(
     alloc: Global,
     condition: &Boxed<Expr>,
-    rows: &[RowValues],
+    rows: RowWalk<'_>,
     scope: &Scope<'_>,
 ) -> Result<bool, Refusal>
     ensures { Gives (λ x. x) result
-        (spec.some_from (place_of scope.now) (meaning_of condition.now) false rows.now) }
+        (spec.some_from (place_of scope.now) (meaning_of condition.now) false
+        (rows_left rows.entry)) }
 {
     let starts = more_starts(alloc, scope.starts, scope.row.len())?;
+    let mut left = rows;
     let mut found = false;
-    for row in rows {
+    while let Some(row) = left.next_row() {
         let wide = joined(alloc, scope.row, row.as_slice())?;
         let inside = Scope {
             row: &wide,

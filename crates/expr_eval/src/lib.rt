@@ -13,5 +13,5 @@ mod truth;
 
 pub use compare::{below, is_null, same};
 pub use evaluate::{eval, value_in};
-pub use scope::{Scope, TableRows, joined, more_starts, rows_in};
+pub use scope::{Scope, TableRows, joined, more_starts};
 pub use truth::passes;

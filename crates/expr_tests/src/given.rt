@@ -7,6 +7,7 @@ use expr_eval::{TableRows, eval};
 use expr_normal::{negate, normal};
 use expr_types::{Bulk, CopiedIn, Expr, Statement};
 use expr_typing::type_of;
+use lent_tables::{EntryWalk, LentTables};
 use notations::{Reader, declare, row, rows};
 use printing::ValueText;
 use schema_core::Schema;
@@ -110,6 +111,14 @@ impl Given {
         }
     }
 
+    fn lent(&self) -> LentTables<'_> {
+        LentTables::Listed(self.tables.as_slice())
+    }
+
+    fn entries(&self) -> EntryWalk<'_> {
+        EntryWalk::Listed(self.keyed.as_slice().iter())
+    }
+
     fn say_value(&self, alloc: Global, e: &Expr, shown: &mut String) -> Result<(), Refusal> {
         let value = eval(alloc, e, &self.row, STARTS.as_slice())?;
         let value = ValueText(&value);
@@ -124,11 +133,11 @@ impl Given {
                 ..
             } => insert(alloc, columns, values, shown),
             Bulk::Update { cells, filter, .. } => {
-                let rows = updated(alloc, &self.tables, cells, filter, &self.keyed)?;
+                let rows = updated(alloc, self.lent(), cells, filter, self.entries())?;
                 Ok(push_keyed(alloc, shown, rows.as_slice())?)
             }
             Bulk::Delete { filter, .. } => {
-                let keys = deleted(alloc, &self.tables, filter, &self.keyed)?;
+                let keys = deleted(alloc, self.lent(), filter, self.entries())?;
                 Ok(push_rows(alloc, shown, keys.as_slice())?)
             }
         }

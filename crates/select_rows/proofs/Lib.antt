@@ -4,6 +4,7 @@ pub mod Firsts
 pub mod ItemKinds
 pub mod Items
 pub mod NotNull
+mod OfChosen
 pub mod ValueKinds
 pub mod Refused
 pub mod Shapes

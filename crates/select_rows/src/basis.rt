@@ -2,21 +2,19 @@
 
 ghost use Rattle.std.specs.Prelude.{◌≡◌};
 ghost use Rattle.expr_eval.specs.Place.{place_of};
+ghost use Rattle.lent_tables.specs.Lent.{seen};
 ghost use Rattle.select_sources.specs.Frames.{frame_at};
 ghost use Rattle.sql_semantics.specs.Rows as spec;
 
-use base_core::{RowList, TableId, Value};
+use base_core::{RowList, Value};
 use expr_eval::Scope;
+use lent_tables::LentTables;
 use select_sources::scope_at;
 use sql_semantics::Basis;
 
 /// The scope of a row or a group.
-pub(crate) fn scope_of<'x>(
-    starts: &'x [u32],
-    tables: &'x [(TableId, RowList)],
-    basis: &'x Basis,
-) -> Scope<'x>
-    ensures { place_of result ≡ spec.at_basis (frame_at starts.now tables.now) basis.now }
+pub(crate) fn scope_of<'x>(starts: &'x [u32], tables: LentTables<'x>, basis: &'x Basis) -> Scope<'x>
+    ensures { place_of result ≡ spec.at_basis (frame_at starts.now (seen tables.entry)) basis.now }
 {
     match basis {
         Basis::Row(row) => scope_at(starts, tables, row.as_slice()),

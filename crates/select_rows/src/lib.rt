@@ -10,5 +10,5 @@ mod output;
 mod rows;
 mod seen;
 
-pub use rows::rows_of;
+pub use rows::{rows_from, rows_of};
 pub use select_sources::{Frame, created, named};

@@ -1,3 +1,4 @@
+mod ChosenRows
 pub mod Columns
 pub mod FoundRows
 pub mod Sure

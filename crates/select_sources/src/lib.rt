@@ -8,8 +8,8 @@ mod source;
 mod survey;
 mod table;
 
-pub use filter::{keep_if, passed};
+pub use filter::keep_if;
 pub use frame::{Frame, scope_at};
-pub use source::sources;
+pub use source::chosen;
 pub use survey::named;
 pub use table::{all_created, created};

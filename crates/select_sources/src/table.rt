@@ -2,20 +2,19 @@
 
 ghost use Rattle.std.specs.Prelude.{◌≡◌, ◌∷◌, ◌++◌, map, Ok, OnOk, IfOk};
 ghost use Rattle.base_core.specs.Answers.{Gives};
+ghost use Rattle.lent_tables.specs.Lent.{seen};
 ghost use Rattle.sql_semantics.specs.Rows as spec;
 
 use crate::survey::{named, named_all};
-use base_core::{ListOf, Name, Refusal, RowList, TableId};
+use base_core::{ListOf, Name, Refusal, TableId};
 use expr_types::{Expr, Joined, Select};
+use lent_tables::LentTables;
 use std::alloc::{AllocError, Global};
 
 /// The first table of the select's text that was not created is refused.
-pub fn all_created(
-    alloc: Global,
-    tables: &[(TableId, RowList)],
-    select: &Select,
-) -> Result<(), Refusal>
-    ensures { Gives (λ x. x) result (spec.require_created tables.now (spec.tables_of select.now)) }
+pub fn all_created(alloc: Global, tables: LentTables<'_>, select: &Select) -> Result<(), Refusal>
+    ensures { Gives (λ x. x) result (spec.require_created (seen tables.entry)
+        (spec.tables_of select.now)) }
 {
     let named = tables_of(alloc, select)?;
     created(tables, &named)
@@ -25,26 +24,15 @@ pub fn all_created(
 ///
 /// # Errors
 /// `OperationalError` with that table.
-pub fn created(tables: &[(TableId, RowList)], named: &[u32]) -> Result<(), Refusal>
-    ensures { result ≡ spec.require_created tables.now named.now }
+pub fn created(tables: LentTables<'_>, named: &[u32]) -> Result<(), Refusal>
+    ensures { result ≡ spec.require_created (seen tables.entry) named.now }
 {
     for table in named {
-        if !is_created(tables, *table) {
+        if !tables.has(TableId(*table)) {
             return Err(Refusal::OperationalError(TableId(*table)));
         }
     }
     Ok(())
-}
-
-fn is_created(tables: &[(TableId, RowList)], table: u32) -> bool
-    ensures { result ≡ spec.is_created tables.now table }
-{
-    for (id, _) in tables {
-        if id.0 == table {
-            return true;
-        }
-    }
-    false
 }
 
 #[tactic(auto, using(crate::proofs::Surveys::all_named))]

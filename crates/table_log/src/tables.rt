@@ -1,17 +1,16 @@
 //! Tables with scopes.
 
-ghost use Rattle.std.specs.Prelude.{◌≡◌, ◌-◌, ◌<◌, [], true, is_some, length, drop, slice_index_or, IfOk, OnOk, OnErr};
+ghost use Rattle.std.specs.Prelude.{◌≡◌, ◌-◌, ◌<◌, [], true, is_some, length, drop, slice_index_or, OnOk, OnErr};
 ghost use Rattle.std.specs.Option.{option_copied, option_map};
 ghost use Rattle.programs.specs.Store.{committed_of, with_empty_table, without_table};
 ghost use Rattle.schema_core.specs.Tables.{is_created, row_under, rows_in, with_row, with_rows, without_row};
-ghost use Rattle.sql_semantics.specs.Created.{bare};
 ghost use Rattle.table_log.specs.Marks.{Notes, last_cut, log_cut, no_marks, place_added, place_dropped, rows_there, unscoped};
 ghost use Rattle.table_log.specs.Scopes.{scope_ended, scope_started, scope_undone, with_tables};
 ghost use Rattle.table_log.specs.Undone.{AreMarks};
 ghost use Rattle.table_rows.specs.Rows.{AreSorted, rows_at, rows_present, tables_present};
 
 use crate::undoing::{LogEntry, forget, make_room, undo_from};
-use base_core::{Copied, Key, ListOf, Name, RowList, RowValues, TableId};
+use base_core::{Copied, Key, Name, RowValues, TableId};
 use schema_core::ColumnSpec;
 use std::alloc::{AllocError, Global};
 use std::marker::Model;
@@ -78,13 +77,6 @@ impl TableLog {
         ensures { option_map rows_present (option_copied result) ≡ rows_in self.now.seen.tables table }
     {
         self.tables.get(table)
-    }
-
-    /// Each table with copies of its rows, rising by key, as a select sees them.
-    pub fn bare(&self, alloc: Global) -> Result<ListOf<(TableId, RowList)>, AllocError>
-        ensures { IfOk result (λ tables. tables ≡ bare self.now.seen.tables) }
-    {
-        self.tables.bare(alloc)
     }
 
     /// Makes an index on columns of these names of a table, where the table has them and there is none. No table changes.

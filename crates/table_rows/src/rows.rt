@@ -231,19 +231,6 @@ impl TableRows {
         Ok(ListOf::from_vec(rows))
     }
 
-    /// Copies of the rows, each with its key before it.
-    pub fn pairs(&self, alloc: Global) -> Result<ListOf<(Key, RowValues)>, AllocError>
-        ensures { IfOk result (λ pairs. pairs ≡ rows_present self.now) }
-    {
-        let mut pairs = Vec::new(alloc);
-        for (key, place) in &self.rows {
-            if let Some(row) = place {
-                pairs.push((key.copied()?, row.copied()?))?;
-            }
-        }
-        Ok(ListOf::from_vec(pairs))
-    }
-
     /// One above the greatest key, 1 where there are no rows; none where the greatest key is the greatest integer. Empty places
     /// above the last row are not gone through.
     pub fn next_key(&self) -> Option<i64>

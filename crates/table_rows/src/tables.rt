@@ -4,12 +4,11 @@ ghost use Rattle.std.specs.Prelude.{◌≡◌, [], true, is_some, IfOk, IfSome, 
 ghost use Rattle.std.specs.Option.{option_copied, option_map};
 ghost use Rattle.programs.specs.Store.{with_empty_table, without_table};
 ghost use Rattle.schema_core.specs.Tables.{rows_in, row_under, with_row, with_rows, without_row};
-ghost use Rattle.sql_semantics.specs.Created.{bare};
 ghost use Rattle.table_rows.specs.Rows.{AreSorted, IsPlaced, KeepsAllPlaces, rows_present, with_former_row, rows_at, tables_present};
 
 use crate::rows::TableRows;
 use crate::table::IndexedRows;
-use base_core::{Key, ListOf, Name, RowList, RowValues, TableId};
+use base_core::{Key, Name, RowValues, TableId};
 use schema_core::ColumnSpec;
 use std::alloc::{AllocError, Global};
 use std::collections::BTreeMap;
@@ -83,17 +82,6 @@ impl TableMap {
         ensures { result.now.entries ≡ self.now }
     {
         &self.tables
-    }
-
-    /// Each table with copies of its rows, rising by key, as a select sees them.
-    pub fn bare(&self, alloc: Global) -> Result<ListOf<(TableId, RowList)>, AllocError>
-        ensures { IfOk result (λ tables. tables ≡ bare (tables_present self.now)) }
-    {
-        let mut tables = Vec::new(alloc);
-        for (table, rows) in &self.tables {
-            tables.push((*table, rows.rows().list(alloc)?))?;
-        }
-        Ok(ListOf::from_vec(tables))
     }
 
     #[tactic(auto, using(crate::proofs::Seen::seeing))]

@@ -9,7 +9,8 @@ ghost use Rattle.sql_semantics.specs.Applied as spec;
 ghost use Rattle.sql_semantics.specs.Checked.{Gives};
 ghost use Rattle.sql_semantics.specs.Plain.{IsPlainBulk};
 ghost use Rattle.table_log.specs.Marks.{Notes, rows_there};
-ghost use Rattle.table_rows.specs.Rows.{AreSorted, rows_at};
+ghost use Rattle.lent_tables.specs.Walks.{entries_left};
+ghost use Rattle.table_rows.specs.Rows.{AreSorted, rows_at, rows_present};
 ghost use Rattle.table_store.specs.Held.{AreKeysOf, IsDivided, Made, put_all, take_all, without_key};
 ghost use Rattle.table_store.specs.Written.{Leaves, WroteBulk, keys_to_remove, rows_to_write};
 
@@ -20,6 +21,7 @@ use base_core::{ColumnNo, Copied, Key, ListOf, Refusal, RowValues, TableId};
 use expr_types::{Bulk, Expr};
 use keeper_core::WriteRefusal;
 use keeper_core::calls::table_of_bulk;
+use lent_tables::{EntryWalk, LentTables};
 use row_cells::lacks_value;
 use row_judging::Before;
 use schema_core::{Schema, TableSpec, Unwritten, Violation};
@@ -240,6 +242,13 @@ fn insert(
     }
 }
 
+/// The rows of a table, each with its key.
+fn entries_of(rows: &TableRows) -> EntryWalk<'_>
+    ensures { entries_left result ≡ rows_present rows.now }
+{
+    EntryWalk::Held(rows.places().iter())
+}
+
 #[tactic(auto, using(table_rows::proofs::Laws::rows_there))]
 /// The rows that an UPDATE writes, each under its key.
 fn rows_to_write(
@@ -257,9 +266,9 @@ fn rows_to_write(
     let Some(rows) = store.get(table) else {
         return Err(Refusal::Memory);
     };
-    let seen = store.bare(alloc)?;
-    bulk_rows::all_created(alloc, &seen, cells.as_slice(), filter)?;
-    bulk_rows::updated(alloc, &seen, cells, filter, &rows.pairs(alloc)?)
+    let seen = LentTables::Held(store.tables());
+    bulk_rows::all_created(alloc, seen, cells.as_slice(), filter)?;
+    bulk_rows::updated(alloc, seen, cells, filter, entries_of(rows))
 }
 
 #[tactic(auto, using(table_rows::proofs::Laws::rows_there))]
@@ -278,9 +287,9 @@ fn keys_to_remove(
     let Some(rows) = store.get(table) else {
         return Err(Refusal::Memory);
     };
-    let seen = store.bare(alloc)?;
-    bulk_rows::all_created(alloc, &seen, &[], filter)?;
-    bulk_rows::deleted(alloc, &seen, filter, &rows.pairs(alloc)?)
+    let seen = LentTables::Held(store.tables());
+    bulk_rows::all_created(alloc, seen, &[], filter)?;
+    bulk_rows::deleted(alloc, seen, filter, entries_of(rows))
 }
 
 #[tactic(auto, using(crate::proofs::BulkSteps::taking_steps))]

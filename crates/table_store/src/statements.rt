@@ -23,8 +23,9 @@ use crate::writing::apply;
 use base_core::{KeyList, RowList, TableId};
 use expr_types::{Bulk, Select};
 use keeper_core::{QueryRefusal, WriteRefusal};
+use lent_tables::LentTables;
 use schema_core::{RowStmt, Schema, Unwritten};
-use select_rows::rows_of;
+use select_rows::rows_from;
 use std::alloc::{AllocError, Global};
 use table_log::TableLog;
 
@@ -107,10 +108,8 @@ pub fn query(
     ensures refuses { IfErr
         (as_refusal query_refusal result) (RefusesSelect schema.now select.now) }
 {
-    let Ok(tables) = store.bare(alloc) else {
-        return Err(QueryRefusal::Memory);
-    };
-    match rows_of(alloc, schema, &tables, select) {
+    let tables = LentTables::Held(store.tables());
+    match rows_from(alloc, schema, tables, select) {
         Ok(rows) => Ok(rows),
         Err(refusal) => Err(evaluation_refusal(&refusal)),
     }

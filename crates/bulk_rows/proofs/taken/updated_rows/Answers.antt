@@ -1,7 +1,9 @@
+use Rattle.lent_tables.specs.Lent.{seen}
+use Rattle.lent_tables.specs.Walks.{entries_left}
 use Rattle.bulk_rows.proofs.Updates.{update_next}
 use Rattle.bulk_rows.proofs.taken.updated_rows.Goals as goal
 
-pub loop-entry-preserved : goal.loop-entry-preserved
-loop-entry-preserved c =
-    update_next c.args.tables.now c.args.written.now c.args.filter.now c.loop-entry.done.items c.in_ok-done.done.items c.args.rows.now c.loop-entry.entry-index c.entry-item.result c.as_slice.result.now c.in_ok-taken.taken _
-    c.loop-entry-test.true c.entry-item.is c.as_slice.ensures c.in_ok-taken.ensures c.in_ok-done.ensures c.loop-entry.invariant
+pub loop-key-preserved : goal.loop-key-preserved
+loop-key-preserved c =
+    update_next (seen c.args.tables) c.args.written.now c.args.filter.now c.loop-key.done.items c.in_ok-done.done.items (entries_left c.loop-key.left) (entries_left c.next_entry.new.self) (c.in-Some.key.now, c.in-Some.row.now) c.as_slice.result.now c.in_ok-taken.taken _
+    c.in-Some.ensures c.as_slice.ensures c.in_ok-taken.ensures c.in_ok-done.ensures c.loop-key.invariant

@@ -3,6 +3,7 @@ use Rattle.expr_types.specs.declared.expr.Expr.{size-Expr}
 use Rattle.sql_semantics.specs.Eval as spec
 use Rattle.sql_semantics.specs.Eval.{meaning_of}
 use Rattle.expr_eval.specs.Place.{place_of}
+use Rattle.lent_tables.specs.Walks.{rows_left}
 use Rattle.expr_eval.proofs.evaluate.+eval.Given as goal
 
 abbrev pub invariant-several-loop-part : goal.invariant-several-loop-part
@@ -12,7 +13,10 @@ abbrev pub invariant-along-loop-row : goal.invariant-along-loop-row
 invariant-along-loop-row l = spec.along_from (spec.without_group (place_of l.scope)) (meaning_of l.operand) l.values.items (drop l.row-index l.rows) ≡ spec.along_from (spec.without_group (place_of l.scope)) (meaning_of l.operand) [] l.rows
 
 abbrev pub invariant-some_row-loop-row : goal.invariant-some_row-loop-row
-invariant-some_row-loop-row l = (spec.some_from (place_of l.scope) (meaning_of l.condition) l.found (drop l.row-index l.rows) ≡ spec.some_from (place_of l.scope) (meaning_of l.condition) false l.rows) × (l.starts.items ≡ l.scope.starts.now ++ length l.scope.row.now ∷ [])
+invariant-some_row-loop-row l = (spec.some_from (place_of l.scope) (meaning_of l.condition) l.found (rows_left l.left) ≡ spec.some_from (place_of l.scope) (meaning_of l.condition) false (rows_left l.fn.rows)) × (l.starts.items ≡ l.scope.starts.now ++ length l.scope.row.now ∷ [])
+
+abbrev pub decreases-some_row-loop-row : goal.decreases-some_row-loop-row
+decreases-some_row-loop-row l = length (rows_left l.left)
 
 abbrev pub decreases-value_in : goal.decreases-value_in
 decreases-value_in l = 5 * goal.size-value_in l

@@ -1,6 +1,7 @@
 use Rattle.std.proofs.Common.{◌≡◌, drop}
+use Rattle.lent_tables.specs.Lent.{seen}
 use Rattle.sql_semantics.specs.Rows as spec
 use Rattle.select_sources.proofs.table.created.Given as goal
 
 abbrev pub invariant-loop-table : goal.invariant-loop-table
-invariant-loop-table l = spec.require_created l.tables (drop l.table-index l.named) ≡ spec.require_created l.tables l.named
+invariant-loop-table l = spec.require_created (seen l.tables) (drop l.table-index l.named) ≡ spec.require_created (seen l.tables) l.named
