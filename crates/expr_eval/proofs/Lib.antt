@@ -1,4 +1,5 @@
 pub mod Ends
+pub mod Linked
 pub mod Operands
 pub mod Refused
 pub mod Truths

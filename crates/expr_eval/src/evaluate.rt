@@ -16,6 +16,7 @@ use crate::function::applied;
 use crate::number::{arithmetic, negated};
 use crate::scope::{Scope, counted, joined, more_starts};
 use crate::text::{concatenated, is_like};
+use crate::tried::rows_tried;
 use crate::truth::{all3, any3, not3, passes, signed, truth_of, value_of};
 use base_core::{ArithOp, Copied, Refusal, RowValues, Value};
 use expr_types::{CompareOp, Expr, Func, Origin};
@@ -250,7 +251,7 @@ fn existence(
     ensures { Gives (λ x. x) result
         (spec.existence negated origin.now (meaning_of condition.now) (place_of scope.now)) }
 {
-    let rows = scope.tables.rows(origin.table);
+    let rows = rows_tried(alloc, origin, condition.get(), scope)?;
     let found = some_row(alloc, condition, rows, scope)?;
     Ok(value_of(signed(negated, Some(found))))
 }

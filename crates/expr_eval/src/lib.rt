@@ -9,6 +9,7 @@ mod number;
 mod pattern;
 mod scope;
 mod text;
+mod tried;
 mod truth;
 
 pub use compare::{below, is_null, same};
