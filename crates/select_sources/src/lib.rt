@@ -2,6 +2,7 @@
 #![tactic(auto)]
 
 mod filter;
+mod first;
 mod found;
 mod frame;
 mod source;
