@@ -1,27 +1,15 @@
 -- Sessions whose objects can be written: those of which nothing is to be deleted, and those of plain classes.
-use Rattle.std.proofs.Common.{◌≡◌, ℕ, ◌<◌, Bool, true, false, cond, ◌&&◌, ◌==◌, List, [], ◌∷◌, length, map, filter, Option, None, Some, refl, sym, ap, ◌∙◌, subst, arith}
-use Rattle.std.specs.Prelude.{slice_get}
-use Rattle.std.specs.List.{AllByRecursion, flat_map}
-use Rattle.std.specs.Option.{option_map}
+use Rattle.std.proofs.Common.{◌≡◌, inl, ◌<◌, Bool, true, false, cond, ◌&&◌, ◌==◌, List, [], ◌∷◌, length, map, filter, refl, sym, ap, ◌∙◌, subst, arith}
+use Rattle.std.specs.List.{AllByRecursion, flat_map, list_all}
 use Rattle.std.proofs.lemmas.List.Elements.{recursion_from_All}
-use Rattle.std.proofs.lemmas.Option.{slice_get-map, slice_get_within}
-use Rattle.base_core.specs.declared.ids.ClassId.{ClassId}
 use Rattle.base_core.specs.declared.ids.ObjId.{ObjId}
 use Rattle.schema_core.specs.declared.changes.GoneRow.{GoneRow}
 use Rattle.schema_core.specs.Declaration.{some_two}
 use Rattle.schema_core.specs.DependencyOrder.{is_among}
 use Rattle.schema_core.specs.Tables.{Tables}
-use Rattle.class_types.specs.declared.mapped.Relation.{Relation}
-use Rattle.class_layouts.specs.Hierarchy.{has_class, line_of, line_or_none}
-use Rattle.class_sides.specs.Linking as linking
-use Rattle.class_sides.specs.Sides.{sides_of}
-use Rattle.class_layouts.specs.Columns.{layouts_of}
-use Rattle.class_mapping.specs.Mapped.{Mapped, class_or, list_or_none, relations_of, root_of, tables_of}
-use Rattle.class_mapping.specs.Lines.{are_declared}
-use Rattle.class_mapping.specs.Paired.{HasPairs, is_at_or_under}
-use Rattle.class_mapping.proofs.Having.{all_of, has_at}
-use Rattle.class_mapping.proofs.LineLemmas.{declared_in}
-use Rattle.class_mapping.proofs.RelatedLemmas.{class_has}
+use Rattle.class_mapping.specs.Mapped.{Mapped, tables_of}
+use Rattle.class_mapping.specs.Plain.{is_plain_root}
+use Rattle.class_mapping.specs.PlainClass.{ArePlain}
 use Rattle.mapping_laws.specs.Hierarchies.{HasHierarchies}
 use Rattle.object_arena.specs.declared.object.Object.{Object}
 use Rattle.object_arena.specs.Fit.{IsFit}
@@ -47,9 +35,9 @@ use Rattle.session_calls.specs.Steps.{enter}
 use Rattle.session_flush.specs.Flush.{is_to_delete, prepared_of}
 use Rattle.session_sound.specs.Sound.{EachObject, IsSound}
 use Rattle.session_sound.proofs.Beginning.{entered_mapping}
-use Rattle.health_laws.specs.Health.{HasPlainClasses}
 use Rattle.health_laws.proofs.Acts.{IsInside, enter_led, steady}
-use Rattle.sendable_laws.proofs.Roots.{alone, begun}
+use Rattle.health_laws.proofs.Fits.{hierarchies}
+use Rattle.sendable_laws.proofs.Roots.{alone}
 use Rattle.complete_laws.specs.Complete.{HoldsLinks, LinksMayBeWritten, MayBeWritten}
 use Rattle.complete_laws.proofs.Answering.{IsOpened, enter_answers, once_begun}
 use Rattle.complete_laws.proofs.Written.{IsReady}
@@ -110,45 +98,6 @@ links_opened w after may = record { well = may.well; no_orphan = may.no_orphan; 
 
 -- ---- plain classes
 
-no_relations : (mapped : Mapped) → HasPlainClasses mapped → (class : ClassId) → relations_of mapped class ≡ []
-no_relations mapped plain class =
-    by (slice_get mapped.classes.lines class.0) refl
-  where
-    by : (found : Option (List ClassId)) → slice_get mapped.classes.lines class.0 ≡ found → relations_of mapped class ≡ []
-    by None e =
-        ap list_or_none
-        (slice_get-map (linking.relations_on mapped.schema.tables mapped.classes (sides_of mapped.schema.tables mapped.classes (layouts_of mapped.schema.tables mapped.classes)) (linking.all_names mapped.classes (sides_of mapped.schema.tables mapped.classes (layouts_of mapped.schema.tables mapped.classes)))) mapped.classes.lines class.0
-        ∙ ap (option_map (linking.relations_on mapped.schema.tables mapped.classes (sides_of mapped.schema.tables mapped.classes (layouts_of mapped.schema.tables mapped.classes)) (linking.all_names mapped.classes (sides_of mapped.schema.tables mapped.classes (layouts_of mapped.schema.tables mapped.classes))))) e)
-    by (Some line) e = (plain.class class (omega (arith, slice_get_within mapped.classes.lines class.0 line e, plain.well.lined))).relations
-
-none_at : (xs : List Relation) (place : ℕ) (relation : Relation) → xs ≡ [] → slice_get xs place ≡ Some relation → ⊥
-none_at [] place relation none at = cc
-none_at (x ∷ xs) place relation none at = cc
-
-plain_pairs : (mapped : Mapped) → HasPlainClasses mapped → HasPairs mapped
-plain_pairs mapped plain = record {
-  rooted = λ class above under. rooted class above under;
-  inherited = λ class above place relation under at. absurd (none_at (relations_of mapped above) place relation (no_relations mapped plain above) at);
-  back = λ class place relation at. absurd (none_at (relations_of mapped class) place relation (no_relations mapped plain class) at);
-  returns = λ class place relation partner at there. absurd (none_at (relations_of mapped class) place relation (no_relations mapped plain class) at);
-}
-  where
-    rooted : (class above : ClassId) → is_at_or_under mapped class above ≡ true → (root_of mapped class).0 ≡ (root_of mapped above).0
-    rooted class above under = by (slice_get mapped.classes.lines class.0) refl
-      where
-        by : (found : Option (List ClassId)) → slice_get mapped.classes.lines class.0 ≡ found → (root_of mapped class).0 ≡ (root_of mapped above).0
-        by None e = absurd (let h : false ≡ true = sym (ap (λ (l : Option (List ClassId)). has_class (line_or_none l) above.0) e) ∙ under in cc)
-        by (Some line) e =
-            let within : has_class line above.0 ≡ true = sym (ap (λ (l : Option (List ClassId)). has_class (line_or_none l) above.0) e) ∙ under in
-            let declared : above.0 < length mapped.classes.specs = declared_in mapped.classes.specs line above (all_of (are_declared mapped.classes.specs) mapped.classes.lines line plain.well.lines.declared (has_at mapped.classes.lines class.0 line e)) within in
-            let begins = plain.well.lines.nested class.0 above under in
-            let own = plain.well.lines.own above.0 (omega (arith, declared, plain.well.lined)) in
-            let top = begun (line_of mapped.classes class.0) (line_of mapped.classes above.0) begins.0 above begins.1 (class_has (line_of mapped.classes above.0) above own) in
-            ap (λ (found : Option ClassId). (class_or found class).0) top.1 ∙ sym (ap (λ (found : Option ClassId). (class_or found above).0) top.2)
-
-plain_hierarchies : (mapped : Mapped) → HasPlainClasses mapped → HasHierarchies mapped
-plain_hierarchies mapped plain = record { lined = plain.well.lined; lines = plain.well.lines; valid = plain.well.valid; paired = plain_pairs mapped plain; declared = plain.well.declared }
-
 none_mapped : {A B : Type 0} (f : A → B) (xs : List A) → map f xs ≡ [] → xs ≡ []
 none_mapped f [] none = refl
 none_mapped f (x ∷ xs) none = absurd cc
@@ -157,13 +106,13 @@ lost_none : (mapped : Mapped) (graph : Graph) (prepared : Prepared) → pairs.lo
 unfolding pairs.lost_rows
 lost_none mapped graph prepared none = none_mapped (pairs.lost_row mapped graph) (pairs.lost_pairs mapped graph prepared) none
 
-plain_ready : (w : World) → IsSteady w → IsSound w → HasPlainClasses w.own.mapping → IsReady w.own.mapping w.own.graph w.store.tables
-plain_ready w steady sound plain =
+plain_ready : (w : World) → IsSteady w → IsSound w → IsReady w.own.mapping w.own.graph w.store.tables
+plain_ready w steady sound =
     let all : AreSteady w.own.mapping w.own.graph (prepared_of w.own.graph) w.store.tables = all_steady w steady sound in
     let prepared : Prepared = prepared_of w.own.graph in
     record {
       well = steady.well;
-      hierarchies = plain_hierarchies w.own.mapping plain;
+      hierarchies = hierarchies w.own.mapping steady.well;
       is = sound.graph;
       legal = sound.legal;
       sorted = all.sorted;
@@ -176,11 +125,12 @@ plain_ready w steady sound plain =
 pub plain_opened : (w : World) (after : Tables) → MayBeWritten w after → IsOpened w after
 plain_opened w after may =
     let v : World = (enter w).after in
-    let led : IsInside w.own.mapping v = (enter_led w may.whole may.healthy).told tt (enter_answers w may.well) in
+    let led : IsInside w.own.mapping v = (enter_led w (inl may.plain) may.whole may.healthy).told tt (enter_answers w may.well) in
     let own : IsInside v.own.mapping v = subst (λ (m : Mapped). IsInside m v) (sym (entered_mapping w)) led in
+    let plain : ArePlain v.own.mapping = ap (λ (m : Mapped). list_all is_plain_root m.classes.specs) (entered_mapping w) ∙ may.plain in
     record {
       well = may.well;
       no_orphan = may.no_orphan;
-      ready = plain_ready v (steady v.own.mapping v own) own.healthy.sound own.healthy.tidy.own.plain;
+      ready = plain_ready v (steady v.own.mapping v own plain) own.healthy.sound;
       writable = may.writable;
     }

@@ -2,6 +2,7 @@
 use Rattle.std.specs.Prelude.{◌≡◌, ◌<◌, ℕ, false, List, [], length, None, Some, Ok}
 use Rattle.schema_core.specs.Tables.{Legal, Tables}
 use Rattle.class_mapping.specs.Mapped.{Mapped}
+use Rattle.class_mapping.specs.PlainClass.{ArePlain}
 use Rattle.mapping_laws.specs.Hierarchies.{HasHierarchies}
 use Rattle.object_arena.specs.declared.object.Object.{Object}
 use Rattle.object_arena.specs.Fit.{IsFit}
@@ -37,8 +38,9 @@ pub record IsWritable (mapped : Mapped) (graph : Graph) (old after : Tables) : T
   pub clear : IsClear mapped.schema old after
   pub no_guess : guess mapped.schema old (project mapped graph (prepared_of graph)) order placed.keys ≡ false
 
--- a healthy session in which no rollback is awaited and no orphan waits, and whose objects state tables that can be written
+-- a healthy session of plain classes in which no rollback is awaited and no orphan waits, and whose objects state tables that can be written
 pub record MayBeWritten (world : World) (after : Tables) : Type 0 where
+  pub plain : ArePlain world.own.mapping
   pub healthy : IsHealthy world
   pub whole : IsWhole world
   pub well : world.own.failed ≡ false

@@ -162,7 +162,7 @@ module _ (w : World) (adds : TakesNothingAway w) (sound : IsSound w) where
     read = subst (AllByRecursion (IsAsRead mapped.schema w.store.tables)) (sym none_gone) tt;
   }
 
-  told_session : IsToldSession w
+  pub told_session : IsToldSession w
   told_session = record {
     inside = adds.inside;
     well = adds.well;

@@ -1,11 +1,15 @@
 -- Calls that flush keep a healthy session healthy, whatever they answer.
-use Rattle.std.proofs.Common.{◌≡◌, ℕ, ◌+◌, ◌-◌, ◌<◌, Bool, true, false, ◌==◌, List, [], ◌∷◌, get_or, length, Option, None, Some, Result, Ok, Err, refl, sym, ap, ◌∙◌, subst, arith}
+use Rattle.std.proofs.Common.{◌≡◌, inl, inr, ℕ, ◌+◌, ◌-◌, ◌<◌, Bool, true, false, ◌==◌, List, [], ◌∷◌, get_or, length, Option, None, Some, Result, Ok, Err, refl, sym, ap, ◌∙◌, subst, arith}
 use Rattle.std.specs.Prelude.{is_none}
 use Rattle.std.proofs.lemmas.List.Quantifiers.{position-Some}
 use Rattle.base_core.specs.declared.refusal.Refusal.{Refusal}
 use Rattle.base_core.specs.declared.refusal.Refusal.TheVariants.{InvalidRequestError, PendingRollbackError, ResourceClosedError}
 use Rattle.base_core.specs.declared.refusal.RequestKind.TheVariants.{KeyChange}
+use Rattle.std.specs.List.{list_all}
 use Rattle.class_mapping.specs.Mapped.{Mapped}
+use Rattle.class_mapping.specs.Plain.{is_plain_root}
+use Rattle.class_mapping.specs.PlainClass.{ArePlain}
+use Rattle.pair_rows.specs.Pairs.{lost_pairs}
 use Rattle.expr_types.specs.declared.select.Bulk.{Bulk}
 use Rattle.expr_types.specs.declared.select.Select.{Select}
 use Rattle.keeper_core.specs.Calls as call
@@ -33,15 +37,16 @@ use Rattle.session_flush.specs.Outcome.{changes_of}
 use Rattle.session_flush_laws.proofs.Flushing.{IsFlushSent, flush_sent}
 use Rattle.session_acts.specs.Steps as acts
 use Rattle.session_acts.specs.Steps.{IsPlainButForKeys, flush_now, flush_whole, flushing, orphan_fault}
-use Rattle.session_sound.specs.Sound.{EachObject, IsCommittable, IsHandled, IsWell}
+use Rattle.session_sound.specs.Sound.{EachObject, IsCommittable, IsHandled, IsSound, IsWell, IsWritten}
 use Rattle.session_sound.proofs.Beginning.{enter_sound, entered_graph, entered_mapping, entered_open}
 use Rattle.session_sound.proofs.Programs.{checked_none, checked_same}
 use Rattle.session_laws.proofs.Nesting.{nest_sound}
 use Rattle.session_laws.proofs.Rereading.{bulk_sound, rows_sound}
 use Rattle.session_laws.proofs.Whole.{handle_released, whole_sound}
-use Rattle.flush_sound_laws.specs.Laws.{AnsweredFlushIsSound, FlushKeepsSound, IsSteady}
-use Rattle.health_laws.specs.Health.{IsHealthy, IsWhole, KeepsHealthWhole, is_named}
-use Rattle.health_laws.proofs.Fits.{flushed_fit}
+use Rattle.flush_sound_laws.specs.Laws.{AddingFlushKeepsSound, AnsweredFlushIsSound, FlushKeepsSound, IsSteady, TakesNothingAway, ToldFlushIsSound}
+use Rattle.flush_sound_laws.proofs.Adding.{told_session}
+use Rattle.health_laws.specs.Health.{HoldsItsKey, IsHealthy, IsWhole, KeepsHealthWhole, MayFlush, TakesNothing, is_named}
+use Rattle.health_laws.proofs.Fits.{flushed_fit, hierarchies}
 use Rattle.health_laws.proofs.Flushes.{answered_as, flush_tidy}
 use Rattle.health_laws.proofs.Programs.{IsClean, IsReady, bulk_clean, commit_clean, enter_tidy, release_clean, rows_tidy, savepoint_clean}
 
@@ -75,6 +80,7 @@ pub record IsInside (mapped : Mapped) (world : World) : Type 0 where
   pub fit : IsFit world.own.mapping world.own.graph
   pub well : IsWell world
   pub inside : 0 < length world.own.frames.scopes
+  pub may : MayFlush world.own
   pub same : world.own.mapping ≡ mapped
 
 some_scopes : (scopes : List Scope) → has_scope scopes ≡ true → 0 < length scopes
@@ -106,17 +112,26 @@ entered_well : (w : World) (u : Unit {0}) → IsHandled w → (enter w).answer �
 unfolding enter checked by_own ◌>>=◌
 entered_well w u handled is = unless_well w.own.failed w u refl handled is
 
+may_entered : (w : World) → MayFlush w.own → MayFlush (enter w).after.own
+may_entered w (inl plain) = inl (ap (λ (m : Mapped). list_all is_plain_root m.classes.specs) (entered_mapping w) ∙ plain)
+may_entered w (inr none) = inr (record {
+  unmarked = subst (EachObject (λ (object : Object). object.marked ≡ false)) (sym (entered_graph w)) none.unmarked;
+  paired = ap (λ (m : Mapped). lost_pairs m (enter w).after.own.graph (prepared_of (enter w).after.own.graph)) (entered_mapping w)
+      ∙ ap (λ (g : Graph). lost_pairs w.own.mapping g (prepared_of g)) (entered_graph w) ∙ none.paired;
+})
+
 enter_healthy : (w : World) → IsHealthy w → IsHealthy (enter w).after
 enter_healthy w healthy = record { sound = enter_sound w healthy.sound; tidy = enter_tidy.kept w healthy.tidy }
 
-pub enter_led : (w : World) → IsWhole w → IsHealthy w → IsLed IsHealthy (IsInside w.own.mapping) (enter w)
-enter_led w whole healthy = record {
+pub enter_led : (w : World) → MayFlush w.own → IsWhole w → IsHealthy w → IsLed IsHealthy (IsInside w.own.mapping) (enter w)
+enter_led w may whole healthy = record {
   here = enter_healthy w healthy;
   told = λ u is. record {
     healthy = enter_healthy w healthy;
     fit = subst (λ (m : Mapped). IsFit m (enter w).after.own.graph) (sym (entered_mapping w)) (subst (λ (g : Graph). IsFit w.own.mapping g) (sym (entered_graph w)) whole.fit);
     well = entered_well w u whole.handled is;
     inside = some_scopes (enter w).after.own.frames.scopes (entered_open w u is);
+    may = may_entered w may;
     same = entered_mapping w;
   };
 }
@@ -139,16 +154,54 @@ persists_named Persistent o at is identified =
 persists_named Deleted o at is identified = absurd cc
 persists_named Detached o at is identified = absurd cc
 
-pub steady : (mapped : Mapped) (w : World) → IsInside mapped w → IsSteady w
-steady mapped w it = record {
-  inside = it.inside;
-  plain = record { all = it.healthy.tidy.own.plain.all; class = it.healthy.tidy.own.plain.class; fit = it.fit };
-  well = it.healthy.tidy.own.plain.well;
-  ascending = it.healthy.tidy.ascending;
-  kept = λ place less persists.
-      let orderly = it.healthy.tidy.own.objects place less in
-      record { keyed = orderly.keyed (persists_named (get_or w.own.graph.objects place no_object).state (get_or w.own.graph.objects place no_object) refl persists (it.healthy.sound.graph.identified place no_object less)); known = orderly.known };
-}
+module _ (mapped : Mapped) (w : World) (it : IsInside mapped w) where
+  keyed_at : (place : ℕ) → place < length w.own.graph.objects → is_persistent (get_or w.own.graph.objects place no_object).state ≡ true → HoldsItsKey w.own.mapping (get_or w.own.graph.objects place no_object) × (is_named (get_or w.own.graph.objects place no_object).state (get_or w.own.graph.objects place no_object).identity ≡ true)
+  keyed_at place less persists =
+      let named = persists_named (get_or w.own.graph.objects place no_object).state (get_or w.own.graph.objects place no_object) refl persists (it.healthy.sound.graph.identified place no_object less) in
+      ((it.healthy.tidy.own.objects place less).keyed, named)
+
+  pub steady : ArePlain w.own.mapping → IsSteady w
+  steady plain = record {
+    inside = it.inside;
+    plain = record { all = plain; class = it.healthy.tidy.own.classes.plain plain; fit = it.fit };
+    well = it.healthy.tidy.own.classes.well;
+    ascending = it.healthy.tidy.ascending;
+    kept = λ place less persists. let keyed = keyed_at place less persists in record { keyed = keyed.0 keyed.1; known = (it.healthy.tidy.own.objects place less).known };
+  }
+
+  adding : TakesNothing w.own → TakesNothingAway w
+  adding none = record {
+    inside = it.inside;
+    well = it.healthy.tidy.own.classes.well;
+    classes = hierarchies w.own.mapping it.healthy.tidy.own.classes.well;
+    ascending = it.healthy.tidy.ascending;
+    fit = it.fit;
+    keyed = λ place less persists. let keyed = keyed_at place less persists in keyed.0 keyed.1;
+    unmarked = none.unmarked;
+    paired = none.paired;
+  }
+
+-- a flush of a session that may be flushed leaves it sound
+abbrev pub FlushLeavesSound : Type 0
+FlushLeavesSound = (mapped : Mapped) (w : World) → IsInside mapped w → IsSound (flush w).after
+
+-- and where it answers, with nothing to be written
+abbrev pub FlushWritesAll : Type 0
+FlushWritesAll = (mapped : Mapped) (w : World) → IsInside mapped w → (flush w).answer ≡ Ok tt → IsSound (flush w).after × IsWritten (flush w).after
+
+pub leaves_sound : FlushKeepsSound → AddingFlushKeepsSound → FlushLeavesSound
+leaves_sound plain adds mapped w it = by it.may
+  where
+    by : MayFlush w.own → IsSound (flush w).after
+    by (inl all) = plain w (steady mapped w it all) it.healthy.sound
+    by (inr none) = adds w (adding mapped w it none) it.healthy.sound
+
+pub writes_all : AnsweredFlushIsSound → ToldFlushIsSound → FlushWritesAll
+writes_all plain told mapped w it is = by it.may
+  where
+    by : MayFlush w.own → IsSound (flush w).after × IsWritten (flush w).after
+    by (inl all) = plain w (steady mapped w it all) it.healthy.sound is
+    by (inr none) = told w (told_session w (adding mapped w it none) it.healthy.sound) it.healthy.sound is
 
 pub identified_objects : (w : World) → IsHealthy w → EachObject (λ (o : Object). is_identified o ≡ true) w.own.graph
 identified_objects w healthy place less = healthy.sound.graph.identified place no_object less
@@ -156,10 +209,10 @@ identified_objects w healthy place less = healthy.sound.graph.identified place n
 pub ready : (w : World) → IsHealthy w → IsReady w
 ready w healthy = record { tidy = healthy.tidy; identified = identified_objects w healthy }
 
-module _ (keeps : FlushKeepsSound) (answers : AnsweredFlushIsSound) where
+module _ (keeps : FlushLeavesSound) (answers : FlushWritesAll) where
   flush_healthy : (mapped : Mapped) (w : World) → IsInside mapped w → IsHealthy (flush w).after
   flush_healthy mapped w it = record {
-    sound = keeps w (steady mapped w it) it.healthy.sound;
+    sound = keeps mapped w it;
     tidy = flush_tidy w (identified_objects w it.healthy) it.healthy.tidy;
   }
 
@@ -167,11 +220,11 @@ module _ (keeps : FlushKeepsSound) (answers : AnsweredFlushIsSound) where
   flush_done mapped w u it is =
       let sent : IsFlushSent w (flush w).after = flush_sent w is in
       let like = answered_as w u it.healthy.tidy is in
-      let done = answers w (steady mapped w it) it.healthy.sound is in
+      let done = answers mapped w it is in
       record {
         healthy = record { sound = done.0; tidy = like.tidy };
         fit = subst (λ (m : Mapped). IsFit m (flush w).after.own.graph) (sym sent.mapping)
-            (subst (λ (g : Graph). IsFit w.own.mapping g) (sym sent.objects) (flushed_fit w.own.mapping w.own.graph (prepared_of w.own.graph) (changes_of w.own) sent.given it.healthy.tidy.own.plain.well refl it.fit));
+            (subst (λ (g : Graph). IsFit w.own.mapping g) (sym sent.objects) (flushed_fit w.own.mapping w.own.graph (prepared_of w.own.graph) (changes_of w.own) sent.given it.healthy.tidy.own.classes.well refl it.fit));
         committable = record {
           inside = subst (λ (n : ℕ). 0 < n) (sym like.scopes) it.inside;
           well = record { handled = well_handled w (flush w).after.own it.well like.scopes like.failed like.drawn; well = like.failed ∙ it.well.well };
@@ -195,13 +248,13 @@ module _ (keeps : FlushKeepsSound) (answers : AnsweredFlushIsSound) where
       led_then IsHealthy (IsInside mapped) (IsFlushed mapped) (checked orphan_fault) (λ u. flush) w (led_checked IsHealthy (IsInside mapped) orphan_fault w it.healthy (λ none. it))
       (λ u inside. record { here = flush_healthy mapped (checked orphan_fault w).after inside; told = λ v is. flush_done mapped (checked orphan_fault w).after v inside is })
 
-  pub now_led : (w : World) → IsWhole w → IsHealthy w → IsLed IsHealthy (IsFlushed w.own.mapping) (flush_now w)
+  pub now_led : (w : World) → MayFlush w.own → IsWhole w → IsHealthy w → IsLed IsHealthy (IsFlushed w.own.mapping) (flush_now w)
   unfolding flush_now
-  now_led w whole healthy =
-      led_then IsHealthy (IsInside w.own.mapping) (IsFlushed w.own.mapping) enter (λ u. flush_whole) w (enter_led w whole healthy) (λ u inside. flush_led w.own.mapping (enter w).after inside)
+  now_led w may whole healthy =
+      led_then IsHealthy (IsInside w.own.mapping) (IsFlushed w.own.mapping) enter (λ u. flush_whole) w (enter_led w may whole healthy) (λ u inside. flush_led w.own.mapping (enter w).after inside)
 
   pub flush_now_healthy : KeepsHealthWhole flush_now
-  flush_now_healthy w whole healthy = (now_led w whole healthy).here
+  flush_now_healthy w may whole healthy = (now_led w may whole healthy).here
 
   -- ---- acts behind it
 
@@ -214,16 +267,16 @@ module _ (keeps : FlushKeepsSound) (answers : AnsweredFlushIsSound) where
 
   pub commit_healthy : KeepsHealthWhole acts.commit
   unfolding acts.commit
-  commit_healthy w whole healthy =
-      (led_then IsHealthy (IsFlushed w.own.mapping) IsHealthy flush_now (λ u. commit_whole) w (now_led w whole healthy)
+  commit_healthy w may whole healthy =
+      (led_then IsHealthy (IsFlushed w.own.mapping) IsHealthy flush_now (λ u. commit_whole) w (now_led w may whole healthy)
       (λ u done.
       let v : World = (flush_now w).after in
       acted commit_whole v (record { sound = whole_sound v done.committable done.healthy.sound; tidy = (commit_clean.kept v (clean w.own.mapping v done)).tidy }))).here
 
   pub rows_healthy : (select : Select) → KeepsHealthWhole (acts.rows select)
   unfolding acts.rows
-  rows_healthy select w whole healthy =
-      (led_then IsHealthy (IsFlushed w.own.mapping) IsHealthy flush_now (λ u. statements.rows select) w (now_led w whole healthy)
+  rows_healthy select w may whole healthy =
+      (led_then IsHealthy (IsFlushed w.own.mapping) IsHealthy flush_now (λ u. statements.rows select) w (now_led w may whole healthy)
       (λ u done.
       let v : World = (flush_now w).after in
       acted (statements.rows select) v (record { sound = rows_sound select v done.healthy.sound; tidy = (rows_tidy select).kept v done.healthy.tidy }))).here
@@ -237,19 +290,19 @@ module _ (keeps : FlushKeepsSound) (answers : AnsweredFlushIsSound) where
       let v : World = (asked w).after in
       led_then IsHealthy (IsFlushed mapped) IsHealthy flush_whole (λ u. act) v (flush_led mapped v inside) (λ u done. acted act (flush_whole v).after (later (flush_whole v).after done)))).here
 
-  pub asked_led : (fault : SessionState → Option Refusal) (w : World) → IsWhole w → IsHealthy w → IsLed IsHealthy (IsInside w.own.mapping) ((enter >>= λ u. checked fault) w)
-  asked_led fault w whole healthy =
-      led_then IsHealthy (IsInside w.own.mapping) (IsInside w.own.mapping) enter (λ u. checked fault) w (enter_led w whole healthy)
+  pub asked_led : (fault : SessionState → Option Refusal) (w : World) → MayFlush w.own → IsWhole w → IsHealthy w → IsLed IsHealthy (IsInside w.own.mapping) ((enter >>= λ u. checked fault) w)
+  asked_led fault w may whole healthy =
+      led_then IsHealthy (IsInside w.own.mapping) (IsInside w.own.mapping) enter (λ u. checked fault) w (enter_led w may whole healthy)
       (λ u inside. led_checked IsHealthy (IsInside w.own.mapping) fault (enter w).after inside.healthy (λ none. inside))
 
-  nested_led : (w : World) → IsWhole w → IsHealthy w → IsLed IsHealthy (IsInside w.own.mapping) (enter_nested w)
+  nested_led : (w : World) → MayFlush w.own → IsWhole w → IsHealthy w → IsLed IsHealthy (IsInside w.own.mapping) (enter_nested w)
   unfolding enter_nested
-  nested_led w whole healthy = asked_led limit_fault w whole healthy
+  nested_led w may whole healthy = asked_led limit_fault w may whole healthy
 
   pub nested_healthy : KeepsHealthWhole acts.begin_nested
   unfolding acts.begin_nested
-  nested_healthy w whole healthy =
-      flushing_led w.own.mapping enter_nested begin_savepoint w (nested_led w whole healthy)
+  nested_healthy w may whole healthy =
+      flushing_led w.own.mapping enter_nested begin_savepoint w (nested_led w may whole healthy)
       (λ v done. record { sound = nest_sound v done.committable.written done.healthy.sound; tidy = (savepoint_clean.kept v (clean w.own.mapping v done)).tidy })
 
   -- ---- the end of a savepoint
@@ -269,13 +322,14 @@ module _ (keeps : FlushKeepsSound) (answers : AnsweredFlushIsSound) where
     healthy : IsHealthy w
     whole : IsWhole w
     well : w.own.failed ≡ false
+    may : MayFlush w.own
     same : w.own.mapping ≡ mapped
 
-  check_led : (handle : ℕ) (w : World) → IsWhole w → IsHealthy w → IsLed IsHealthy (IsInside w.own.mapping) (check_handle handle w)
+  check_led : (handle : ℕ) (w : World) → MayFlush w.own → IsWhole w → IsHealthy w → IsLed IsHealthy (IsInside w.own.mapping) (check_handle handle w)
   unfolding check_handle
-  check_led handle w whole healthy =
+  check_led handle w may whole healthy =
       led_then IsHealthy (IsAwake w.own.mapping) (IsInside w.own.mapping) (checked pending_fault) (λ u. checked (handle_fault handle)) w
-      (led_checked IsHealthy (IsAwake w.own.mapping) pending_fault w healthy (λ none. record { healthy = healthy; whole = whole; well = not_failed w.own.failed none; same = refl }))
+      (led_checked IsHealthy (IsAwake w.own.mapping) pending_fault w healthy (λ none. record { healthy = healthy; whole = whole; well = not_failed w.own.failed none; may = may; same = refl }))
       (λ u awake.
       let v : World = (checked pending_fault w).after in
       led_checked IsHealthy (IsInside w.own.mapping) (handle_fault handle) v awake.healthy
@@ -284,13 +338,14 @@ module _ (keeps : FlushKeepsSound) (answers : AnsweredFlushIsSound) where
         fit = awake.whole.fit;
         well = record { handled = awake.whole.handled; well = awake.well };
         inside = is_there handle v (place_of_handle v.own.drawn handle) refl awake.well awake.whole.handled none;
+        may = awake.may;
         same = awake.same;
       }))
 
   pub handle_healthy : (handle : ℕ) → KeepsHealthWhole (acts.commit_handle handle)
   unfolding acts.commit_handle
-  handle_healthy handle w whole healthy =
-      flushing_led w.own.mapping (check_handle handle) (release_handle handle) w (check_led handle w whole healthy)
+  handle_healthy handle w may whole healthy =
+      flushing_led w.own.mapping (check_handle handle) (release_handle handle) w (check_led handle w may whole healthy)
       (λ v done. record { sound = handle_released handle v done.committable.well done.healthy.sound; tidy = ((release_clean handle).kept v (clean w.own.mapping v done)).tidy })
 
   -- ---- a bulk statement
@@ -300,21 +355,21 @@ module _ (keeps : FlushKeepsSound) (answers : AnsweredFlushIsSound) where
   no_key false second none = refl
 
   -- of a statement that is sent it is known that it writes no key
-  bulk_led : (statement : Bulk) (w : World) → IsPlainButForKeys w.own.mapping.schema statement → IsWhole w → IsHealthy w
+  bulk_led : (statement : Bulk) (w : World) → IsPlainButForKeys w.own.mapping.schema statement → MayFlush w.own → IsWhole w → IsHealthy w
       → IsLed IsHealthy (λ v. IsInside w.own.mapping v × IsPlainBulk w.own.mapping.schema statement) (statements.enter_bulk statement w)
   unfolding statements.enter_bulk
-  bulk_led statement w plain whole healthy =
-      led_then IsHealthy (IsInside w.own.mapping) (λ v. IsInside w.own.mapping v × IsPlainBulk w.own.mapping.schema statement) enter (λ u. checked (statements.update_fault statement)) w (enter_led w whole healthy)
+  bulk_led statement w plain may whole healthy =
+      led_then IsHealthy (IsInside w.own.mapping) (λ v. IsInside w.own.mapping v × IsPlainBulk w.own.mapping.schema statement) enter (λ u. checked (statements.update_fault statement)) w (enter_led w may whole healthy)
       (λ u inside.
       let v : World = (enter w).after in
       led_checked IsHealthy (λ v. IsInside w.own.mapping v × IsPlainBulk w.own.mapping.schema statement) (statements.update_fault statement) v inside.healthy
       (λ none. (inside, plain (ap (λ (m : Mapped). statements.writes_key m.schema statement) (sym inside.same) ∙ no_key (statements.writes_key v.own.mapping.schema statement) _ none))))
 
-  pub bulk_healthy : (statement : Bulk) (w : World) → IsPlainButForKeys w.own.mapping.schema statement → IsWhole w → IsHealthy w → IsHealthy (acts.bulk statement w).after
+  pub bulk_healthy : (statement : Bulk) (w : World) → IsPlainButForKeys w.own.mapping.schema statement → MayFlush w.own → IsWhole w → IsHealthy w → IsHealthy (acts.bulk statement w).after
   unfolding acts.bulk
-  bulk_healthy statement w plain whole healthy =
+  bulk_healthy statement w plain may whole healthy =
       (led_then IsHealthy (λ v. IsInside w.own.mapping v × IsPlainBulk w.own.mapping.schema statement) IsHealthy (statements.enter_bulk statement) (λ u. flush_whole >>= λ u. statements.bulk statement) w
-      (bulk_led statement w plain whole healthy)
+      (bulk_led statement w plain may whole healthy)
       (λ u inside.
       let v : World = (statements.enter_bulk statement w).after in
       led_then IsHealthy (IsFlushed w.own.mapping) IsHealthy flush_whole (λ u. statements.bulk statement) v (flush_led w.own.mapping v inside.0)
@@ -322,7 +377,7 @@ module _ (keeps : FlushKeepsSound) (answers : AnsweredFlushIsSound) where
       let x : World = (flush_whole v).after in
       acted (statements.bulk statement) x (record {
         sound = bulk_sound statement x
-            (record { inside = open_scopes x.own.frames.scopes done.committable.inside; plain = done.healthy.tidy.own.plain.class; fit = done.fit }, subst (λ (m : Mapped). IsPlainBulk m.schema statement) (sym done.same) inside.1)
+            (record { inside = open_scopes x.own.frames.scopes done.committable.inside; fit = done.fit }, subst (λ (m : Mapped). IsPlainBulk m.schema statement) (sym done.same) inside.1)
             done.healthy.sound;
         tidy = ((bulk_clean statement).kept x (clean w.own.mapping x done)).tidy;
       })))).here

@@ -26,23 +26,22 @@ use Rattle.session_sound.proofs.Programs.{checked_then, entered_then}
 use Rattle.session_sound.proofs.Rolling.{handle_sound, rollback_sound}
 use Rattle.session_laws.proofs.Adding.{add_sound}
 use Rattle.session_laws.proofs.Making.{make_sound}
-use Rattle.session_link_laws.proofs.Linking.{always_once}
+use Rattle.session_link_laws.proofs.Linking.{always_once, change_sound, related_sound}
 use Rattle.session_table_laws.proofs.Dropping.{drop_sound}
 use Rattle.session_table_laws.proofs.Making.{create_sound}
-use Rattle.flush_sound_laws.specs.Laws.{AnsweredFlushIsSound, FlushKeepsSound}
 use Rattle.health_laws.specs.Calls.{Call, CallsKeepHealth, CallsKeepOne, MayCall, MayCallAll, after_call, after_calls}
-use Rattle.health_laws.specs.Health.{HasPlainClasses, IsHealthy, IsOrderlySession, IsTidy, IsWhole}
-use Rattle.health_laws.proofs.Acts.{bulk_healthy, commit_healthy, flush_now_healthy, handle_healthy, nested_healthy, ready, rows_healthy}
-use Rattle.health_laws.proofs.Programs.{add_tidy, close_tidy, delete_tidy, enter_tidy, handle_tidy, read_tidy, rollback_tidy, set_tidy, tables_tidy, tidy_checked, tidy_then}
+use Rattle.health_laws.specs.Health.{HasClasses, IsHealthy, IsOrderlySession, IsTidy, IsWhole}
+use Rattle.health_laws.proofs.Acts.{FlushLeavesSound, FlushWritesAll, bulk_healthy, commit_healthy, flush_now_healthy, handle_healthy, nested_healthy, ready, rows_healthy}
+use Rattle.health_laws.proofs.Programs.{add_tidy, close_tidy, delete_tidy, enter_tidy, handle_tidy, link_tidy, read_tidy, related_tidy, rollback_tidy, set_tidy, tables_tidy, tidy_checked, tidy_then}
 use Rattle.health_laws.proofs.Sessions.{object_orderly}
 
 -- ---- a new session
 
-pub new_healthy : (mapping : Mapped) → HasPlainClasses mapping → IsHealthy (record { own = new_session mapping; store = record { tables = []; scopes = [] } })
-new_healthy mapping plain = record {
+pub new_healthy : (mapping : Mapped) → HasClasses mapping → IsHealthy (record { own = new_session mapping; store = record { tables = []; scopes = [] } })
+new_healthy mapping classes = record {
   sound = new_sound mapping;
   tidy = record {
-    own = record { plain = plain; objects = λ place less. absurd (omega (arith, less)); named = tt };
+    own = record { classes = classes; objects = λ place less. absurd (omega (arith, less)); named = tt };
     ascending = record { tables = no_tables_ascend; scopes = tt };
   };
 }
@@ -90,7 +89,7 @@ tables_healthy : (change : TableChange) (w : World) → IsHealthy w → IsHealth
 tables_healthy Create w healthy = record { sound = create_sound w healthy.tidy.ascending healthy.sound; tidy = (tables_tidy Create).kept w healthy.tidy }
 tables_healthy Drop w healthy = record { sound = drop_sound w healthy.tidy.ascending healthy.sound; tidy = (tables_tidy Drop).kept w healthy.tidy }
 
-module _ (keeps : FlushKeepsSound) (answers : AnsweredFlushIsSound) (rules : Rules) where
+module _ (keeps : FlushLeavesSound) (answers : FlushWritesAll) (rules : Rules) where
   pub call_healthy : (call : Call) (w : World) → IsWhole w → MayCall call w → IsHealthy w → IsHealthy (after_call rules call w)
   call_healthy (Call.Make class given) w whole may healthy = make_healthy rules class given w healthy
   call_healthy (Call.Add object) w whole may healthy =
@@ -98,22 +97,24 @@ module _ (keeps : FlushKeepsSound) (answers : AnsweredFlushIsSound) (rules : Rul
   call_healthy (Call.Set object attr value) w whole may healthy = record { sound = valid_sound rules object attr value w may healthy.sound; tidy = (valid_tidy rules object attr value).kept w healthy.tidy }
   call_healthy (Call.Read object attr) w whole may healthy = record { sound = read_sound attr object w may healthy.sound; tidy = (read_tidy object attr).kept w healthy.tidy }
   call_healthy (Call.Delete object) w whole may healthy = record { sound = delete_sound object w may healthy.sound; tidy = (delete_tidy object).kept w healthy.tidy }
-  call_healthy Call.Flush w whole may healthy = flush_now_healthy keeps answers w whole healthy
-  call_healthy Call.Commit w whole may healthy = commit_healthy keeps answers w whole healthy
+  call_healthy (Call.ChangeLink owner place call) w whole may healthy = record { sound = change_sound owner place call w whole.fit may.0 may.1 healthy.sound; tidy = (link_tidy owner place call).kept w healthy.tidy }
+  call_healthy (Call.ReadLink object place) w whole may healthy = record { sound = related_sound object place w healthy.sound; tidy = (related_tidy object place).kept w healthy.tidy }
+  call_healthy Call.Flush w whole may healthy = flush_now_healthy keeps answers w may whole healthy
+  call_healthy Call.Commit w whole may healthy = commit_healthy keeps answers w may whole healthy
   call_healthy Call.Rollback w whole may healthy = record { sound = rollback_sound w healthy.sound; tidy = rollback_tidy w (ready w healthy) }
   call_healthy Call.Close w whole may healthy = record { sound = close_sound w healthy.sound; tidy = close_tidy.kept w healthy.tidy }
-  call_healthy Call.BeginNested w whole may healthy = nested_healthy keeps answers w whole healthy
-  call_healthy (Call.CommitHandle handle) w whole may healthy = handle_healthy keeps answers handle w whole healthy
+  call_healthy Call.BeginNested w whole may healthy = nested_healthy keeps answers w may whole healthy
+  call_healthy (Call.CommitHandle handle) w whole may healthy = handle_healthy keeps answers handle w may whole healthy
   call_healthy (Call.RollbackHandle handle) w whole may healthy = record { sound = handle_sound handle w whole.handled healthy.sound; tidy = handle_tidy handle w (ready w healthy) }
   call_healthy (Call.ChangeTables change) w whole may healthy = tables_healthy change w healthy
-  call_healthy (Call.Rows select) w whole may healthy = rows_healthy keeps answers select w whole healthy
-  call_healthy (Call.Write statement) w whole may healthy = bulk_healthy keeps answers statement w may whole healthy
+  call_healthy (Call.Rows select) w whole may healthy = rows_healthy keeps answers select w may whole healthy
+  call_healthy (Call.Write statement) w whole may healthy = bulk_healthy keeps answers statement w may.0 may.1 whole healthy
 
   calls_healthy : (calls : List Call) (w : World) → IsHealthy w → MayCallAll rules calls w → IsHealthy (after_calls rules calls w)
   calls_healthy [] w healthy may = healthy
   calls_healthy (call ∷ calls) w healthy may = calls_healthy calls (after_call rules call w) (call_healthy call w may.0 may.1 healthy) may.2
 
-pub calls_law : FlushKeepsSound → AnsweredFlushIsSound → CallsKeepHealth
+pub calls_law : FlushLeavesSound → FlushWritesAll → CallsKeepHealth
 calls_law keeps answers rules calls w healthy may = calls_healthy keeps answers rules calls w healthy may
 
 pub one_law : CallsKeepHealth → CallsKeepOne

@@ -5,6 +5,7 @@ use Rattle.std.specs.List.{AllByRecursion}
 use Rattle.base_core.specs.declared.ids.AttrNo.{AttrNo}
 use Rattle.base_core.specs.declared.ids.ClassId.{ClassId}
 use Rattle.base_core.specs.declared.ids.ObjId.{ObjId}
+use Rattle.base_core.specs.declared.ids.RelNo.{RelNo}
 use Rattle.base_core.specs.declared.ids.TableId.{TableId}
 use Rattle.base_core.specs.declared.refusal.Refusal.{Refusal}
 use Rattle.base_core.specs.declared.value.Value.{Value}
@@ -21,6 +22,7 @@ use Rattle.object_arena.specs.Identity.{is_identified}
 use Rattle.programs.specs.Programs.{Run, ◌>>=◌, continue_from, each, give, refuse}
 use Rattle.programs.specs.Beside.{by_own, changes, on_own, on_store}
 use Rattle.programs.specs.Store.{Store}
+use Rattle.relations.specs.declared.calls.LinkCall.{LinkCall}
 use Rattle.sql_semantics.specs.Applied.{table_of}
 use Rattle.session_parts.specs.Ends.{object_committed_in}
 use Rattle.session_scopes.specs.Changes.{cell_read, deletion_marked, value_put}
@@ -34,6 +36,9 @@ use Rattle.session_savepoints.specs.Steps.{begin_savepoint, check_handle, commit
 use Rattle.session_objects.specs.Conflicts.{add_fault}
 use Rattle.session_objects.specs.Steps.{add, add_inside}
 use Rattle.session_objects.specs.Taking.{session_added}
+use Rattle.session_links.specs.Linking.{change_fault, session_changed}
+use Rattle.session_links.specs.Reading.{link_read}
+use Rattle.session_links.specs.Steps.{change_inside, change_link, read_related}
 use Rattle.session_statements.specs.Rewriting.{session_reread}
 use Rattle.session_statements.specs.Steps as statements
 use Rattle.session_tables.specs.declared.tables.TableChange.{TableChange}
@@ -46,7 +51,7 @@ use Rattle.session_sound.specs.Sound.{EachObject, IsSettled}
 use Rattle.session_sound.proofs.Everyone.{each_changed}
 use Rattle.health_laws.specs.Health.{IsOrderlySession, IsTidy}
 use Rattle.health_laws.proofs.Restored.{restored_orderly}
-use Rattle.health_laws.proofs.Sessions.{added_orderly, begun_orderly, closed_orderly, committed_session, marked_orderly, nested_orderly, object_orderly, released_orderly, reread_orderly, reread_settled, rolled_orderly, value_orderly}
+use Rattle.health_laws.proofs.Sessions.{added_orderly, begun_orderly, closed_orderly, committed_session, linked_orderly, marked_orderly, nested_orderly, object_orderly, released_orderly, reread_orderly, reread_settled, rolled_orderly, value_orderly}
 
 -- ---- how programs are put together
 
@@ -54,7 +59,7 @@ pub tidy_store : {A : Type 0} (m : Store → Run Store A) → KeepsAscending m �
 unfolding on_store
 tidy_store m up = record {
   kept = λ w tidy. record {
-    own = record { plain = tidy.own.plain; objects = tidy.own.objects; named = tidy.own.named };
+    own = record { classes = tidy.own.classes; objects = tidy.own.objects; named = tidy.own.named };
     ascending = up.kept w.store tidy.ascending;
   };
 }
@@ -123,6 +128,20 @@ unfolding add
 add_tidy object =
     tidy_then enter (λ u. add_inside object) enter_tidy
     (λ u. tidy_then (checked (add_fault object)) (λ u. changes (session_added object)) (tidy_checked (add_fault object)) (λ u. tidy_changes (session_added object) (added_orderly object)))
+
+pub link_tidy : (owner : ObjId) (place : RelNo) (call : LinkCall) → Keeps IsTidy (change_link owner place call)
+unfolding change_link
+link_tidy owner place call =
+    tidy_then enter (λ u. change_inside owner place call) enter_tidy
+    (λ u. tidy_then (checked (change_fault owner place call)) (λ u. changes (session_changed owner place call)) (tidy_checked (change_fault owner place call)) (λ u. tidy_changes (session_changed owner place call) (linked_orderly owner place call)))
+
+related_kept : (object : ObjId) (place : RelNo) (own : SessionState) → IsOrderlySession own → IsOrderlySession (link_read object place own).after
+unfolding link_read
+related_kept object place own orderly = orderly
+
+pub related_tidy : (object : ObjId) (place : RelNo) → Keeps IsTidy (read_related object place)
+unfolding read_related
+related_tidy object place = tidy_then enter (λ u. on_own (link_read object place)) enter_tidy (λ u. tidy_own (link_read object place) (related_kept object place))
 
 -- ---- tables and queries
 
@@ -244,7 +263,7 @@ clean_store : {A : Type 0} (m : Store → Run Store A) → KeepsAscending m → 
 unfolding on_store
 clean_store m up = record {
   kept = λ w clean. record {
-    tidy = record { own = record { plain = clean.tidy.own.plain; objects = clean.tidy.own.objects; named = clean.tidy.own.named }; ascending = up.kept w.store clean.tidy.ascending };
+    tidy = record { own = record { classes = clean.tidy.own.classes; objects = clean.tidy.own.objects; named = clean.tidy.own.named }; ascending = up.kept w.store clean.tidy.ascending };
     written = clean.written;
   };
 }

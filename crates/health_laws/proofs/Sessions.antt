@@ -1,10 +1,11 @@
 -- What becomes of a session leaves it orderly.
 use Rattle.std.proofs.Common.{◌≡◌, ℕ, ◌+◌, ◌-◌, ◌<◌, Bool, true, false, List, [], ◌∷◌, length, Option, None, Some, Ok, Err, refl, sym, ap, ◌∙◌, subst}
-use Rattle.std.specs.Prelude.{if◌then◌else◌, nat_lt}
+use Rattle.std.specs.Prelude.{if◌then◌else◌, nat_lt, slice_set, Result}
 use Rattle.base_core.specs.Counts.{one_more}
 use Rattle.base_core.specs.declared.ids.AttrNo.{AttrNo}
 use Rattle.base_core.specs.declared.ids.ClassId.{ClassId}
 use Rattle.base_core.specs.declared.ids.ObjId.{ObjId}
+use Rattle.base_core.specs.declared.ids.RelNo.{RelNo}
 use Rattle.base_core.specs.declared.ids.TableId.{TableId}
 use Rattle.base_core.specs.declared.refusal.LimitKind.TheVariants.{Objects}
 use Rattle.base_core.specs.declared.refusal.Refusal.{Refusal}
@@ -17,6 +18,10 @@ use Rattle.object_arena.specs.Graph.{Graph, cell_in, cell_put, fresh_object, key
 use Rattle.object_rows.specs.declared.prepared.Prepared.{Prepared}
 use Rattle.graph_flushed.specs.Flushed.{Written, graph_flushed, written_with}
 use Rattle.savepoints.specs.Scopes.{scope_released}
+use Rattle.relations.specs.declared.calls.LinkCall.{LinkCall}
+use Rattle.relations.specs.declared.change.Change.{Change}
+use Rattle.relations.specs.declared.change.LinkPut.{LinkPut}
+use Rattle.relations.specs.Calls.{link_change}
 use Rattle.session_parts.specs.Ends.{object_committed, object_left, object_unmarked}
 use Rattle.session_scopes.specs.Changes.{changed_unless, delete_fault, deletion_marked, value_put}
 use Rattle.session_scopes.specs.Making.{first_given_fault, made_unless, object_made, object_with}
@@ -24,6 +29,7 @@ use Rattle.session_scopes.specs.Scoping.{session_begun, session_closed, session_
 use Rattle.session_scopes.specs.SessionState.{SessionState, with_graph}
 use Rattle.session_objects.specs.Taking.{added_then, coming_objects, session_added, session_joined, session_taken, session_unmarked, taken_under}
 use Rattle.session_objects.proofs.TakingLemmas.{state_left}
+use Rattle.session_links.specs.Linking.{child_of, coming_along, session_by, session_changed, session_linked, session_orphaned, session_put}
 use Rattle.session_statements.specs.Rewriting.{expired_if, graph_reread, is_reread, reread_of, session_reread}
 use Rattle.session_flush.specs.Flush.{session_flushed}
 use Rattle.session_sound.specs.Sound.{EachObject, IsSettled}
@@ -40,7 +46,7 @@ use Rattle.health_laws.proofs.Objects.{committed_orderly, expired_orderly, left_
 
 pub changed_orderly : (graph : Graph) (own : SessionState) → EachObject (IsOrderly own.mapping) graph → ((place : ℕ) → is_named_in own.graph place ≡ true → is_named_in graph place ≡ true) → IsOrderlySession own → IsOrderlySession (with_graph graph own)
 changed_orderly graph own objects stays orderly = record {
-  plain = orderly.plain;
+  classes = orderly.classes;
   objects = objects;
   named = subst (AreNamedSince (is_named_in graph)) (sym (between_scopes own.graph graph own.frames)) (named_more (is_named_in own.graph) (is_named_in graph) own.frames.scopes stays orderly.named);
 }
@@ -77,7 +83,7 @@ new_orderly class given own orderly =
     let now : Graph = made own.mapping class given own.graph in
     let fresh : Object = fresh_object own.mapping class in
     record {
-      plain = orderly.plain;
+      classes = orderly.classes;
       objects = each_made own.mapping class given own.graph (IsOrderly own.mapping) orderly.objects (made_orderly own.mapping (object_with fresh given) (state_left fresh given) (marked_left fresh given));
       named = named_more (is_named_in own.graph) (is_named_in now) own.frames.scopes
           (λ place is. ap (λ (o : Object). is_named o.state o.identity) (made_before own.mapping class given own.graph place (named_inside own.graph place is)) ∙ is) orderly.named;
@@ -100,7 +106,7 @@ one_taken object own orderly =
     let o : Object = object_at own.graph object in
     let number : ℕ = one_more own.added in
     put_orderly object (taken_under number o) (record own { added = added_then o.state own.added }) (λ less. taken_orderly own.mapping o.state number o refl (orderly.objects (place_of object) less)) (taken_named o.state number o refl)
-    (record { plain = orderly.plain; objects = orderly.objects; named = orderly.named })
+    (record { classes = orderly.classes; objects = orderly.objects; named = orderly.named })
 
 all_joined : (objects : List ObjId) (own : SessionState) → IsOrderlySession own → IsOrderlySession (session_joined objects own)
 all_joined [] own orderly = orderly
@@ -115,6 +121,34 @@ pub added_orderly : (object : ObjId) (own : SessionState) → IsOrderlySession o
 added_orderly object own orderly =
     let objects : List ObjId = coming_objects own.mapping own.graph object in
     without_mark object (session_joined objects own) (all_joined objects own orderly)
+
+-- ---- links change
+
+-- the links of an object and its orphan mark tell nothing of its row
+put_linked : (put : Option LinkPut) (own : SessionState) → IsOrderlySession own → IsOrderlySession (session_put put own)
+put_linked None own orderly = orderly
+put_linked (Some put) own orderly =
+    let o : Object = object_at own.graph put.object in
+    put_orderly put.object (record o { links = slice_set o.links put.relation.0 put.link }) own (λ less. let one = orderly.objects (place_of put.object) less in record { keyed = one.keyed; known = one.known }) (λ named. named) orderly
+
+orphan_marked : (object : ObjId) (orphan : Option Bool) (own : SessionState) → IsOrderlySession own → IsOrderlySession (session_orphaned object orphan own)
+orphan_marked object None own orderly = orderly
+orphan_marked object (Some orphan) own orderly =
+    let o : Object = object_at own.graph object in
+    put_orderly object (record o { orphan = orphan }) own (λ less. let one = orderly.objects (place_of object) less in record { keyed = one.keyed; known = one.known }) (λ named. named) orderly
+
+by_change : (owner : ObjId) (place : RelNo) (call : LinkCall) (own : SessionState) (found : Result Change Refusal) → IsOrderlySession own → IsOrderlySession (session_by owner place call own found)
+by_change owner place call own (Err fault) orderly = orderly
+by_change owner place call own (Ok change) orderly =
+    let marked : SessionState = session_orphaned (child_of owner call) change.orphan own in
+    let left : SessionState = session_put change.left marked in
+    let joined : SessionState = session_put change.joined left in
+    all_joined (coming_along own owner place call change) (session_linked (child_of owner call) change own)
+    (put_linked change.own joined (put_linked change.joined left (put_linked change.left marked (orphan_marked (child_of owner call) change.orphan own orderly))))
+
+pub linked_orderly : (owner : ObjId) (place : RelNo) (call : LinkCall) (own : SessionState) → IsOrderlySession own → IsOrderlySession (session_changed owner place call own)
+unfolding session_changed
+linked_orderly owner place call own orderly = by_change owner place call own (link_change own.graph own.mapping owner place call) orderly
 
 -- ---- the objects were written, or are to be read again
 
@@ -150,25 +184,25 @@ reread_orderly table own settled orderly =
 -- ---- scopes begin and end
 
 pub begun_orderly : (own : SessionState) → IsOrderlySession own → IsOrderlySession (session_begun own)
-begun_orderly own orderly = record { plain = orderly.plain; objects = orderly.objects; named = begun_named own.graph own.frames.scopes orderly.named }
+begun_orderly own orderly = record { classes = orderly.classes; objects = orderly.objects; named = begun_named own.graph own.frames.scopes orderly.named }
 
 pub nested_orderly : (own : SessionState) → IsOrderlySession own → IsOrderlySession (session_nested own)
-nested_orderly own orderly = record { plain = orderly.plain; objects = orderly.objects; named = begun_named own.graph own.frames.scopes orderly.named }
+nested_orderly own orderly = record { classes = orderly.classes; objects = orderly.objects; named = begun_named own.graph own.frames.scopes orderly.named }
 
 pub released_orderly : (own : SessionState) → IsOrderlySession own → IsOrderlySession (session_released own)
 unfolding scope_released
 released_orderly own orderly = record {
-  plain = orderly.plain;
+  classes = orderly.classes;
   objects = orderly.objects;
   named = named_left (is_named_in own.graph) own.frames.scopes (length own.frames.scopes - (length own.frames.scopes - 1)) orderly.named;
 }
 
 pub rolled_orderly : (count : ℕ) (own : SessionState) → IsOrderlySession own → IsOrderlySession (session_rolled_back count own)
-rolled_orderly count own orderly = record { plain = orderly.plain; objects = orderly.objects; named = orderly.named }
+rolled_orderly count own orderly = record { classes = orderly.classes; objects = orderly.objects; named = orderly.named }
 
 pub closed_orderly : (own : SessionState) → IsOrderlySession own → IsOrderlySession (session_closed own)
 closed_orderly own orderly = record {
-  plain = orderly.plain;
+  classes = orderly.classes;
   objects = each_changed (IsOrderly own.mapping) (IsOrderly own.mapping) object_left own.graph orderly.objects (λ o one. left_orderly own.mapping o one);
   named = tt;
 }
@@ -177,7 +211,7 @@ pub committed_session : (own : SessionState) → EachObject IsSettled own.graph 
 committed_session own settled orderly =
     let Both : Object → Type 0 = λ o. IsSettled o × IsOrderly own.mapping o in
     record {
-      plain = orderly.plain;
+      classes = orderly.classes;
       objects = each_changed Both (IsOrderly own.mapping) object_committed own.graph (λ place less. (settled place less, orderly.objects place less)) (λ o both. committed_orderly own.mapping o.state o refl both.0.unmarked both.1);
       named = tt;
     }

@@ -1,6 +1,6 @@
 -- What sessions keep beside soundness, so that every call finds what it needs: keys that no cell contradicts, and objects to be deleted
 -- of which all is known.
-use Rattle.std.specs.Prelude.{◌≡◌, ℕ, ◌<◌, Bool, true, ◌&&◌, List, [], ◌∷◌, length, slice_index_or, Option, is_some}
+use Rattle.std.specs.Prelude.{◌≡◌, ◌⊎◌, ℕ, ◌<◌, Bool, true, false, ◌&&◌, List, [], ◌∷◌, length, slice_index_or, Option, is_some}
 use Rattle.base_core.specs.declared.ids.AttrNo.{AttrNo}
 use Rattle.base_core.specs.declared.ids.ClassId.{ClassId}
 use Rattle.base_core.specs.declared.value.Value.{Value}
@@ -11,6 +11,7 @@ use Rattle.object_arena.specs.declared.object.Object.{Object}
 use Rattle.object_arena.specs.declared.object.State.{State}
 use Rattle.object_arena.specs.Fit.{IsFit}
 use Rattle.object_arena.specs.Graph.{Graph, cell_in, has_identity, no_object}
+use Rattle.pair_rows.specs.Pairs.{lost_pairs}
 use Rattle.prefix_laws.specs.Laws.{IsWellMapped}
 use Rattle.programs.specs.Programs.{Run}
 use Rattle.savepoints.specs.declared.scope.Scope.{Scope}
@@ -18,6 +19,7 @@ use Rattle.savepoints.specs.declared.scope.Standing.{Standing}
 use Rattle.savepoints.specs.Scopes.{standing_at, standing_of}
 use Rattle.session_scopes.specs.SessionState.{SessionState}
 use Rattle.session_calls.specs.Parts.{World}
+use Rattle.session_flush.specs.Flush.{prepared_of}
 use Rattle.session_sound.specs.Sound.{EachObject, IsHandled, IsSound}
 
 -- ---- objects
@@ -57,14 +59,14 @@ AreNamedSince now (scope ∷ scopes) = ((place : ℕ) → was_named scope place 
 
 -- ---- sessions
 
--- each class is a plain root, and the mapping is as every configured one is
-pub record HasPlainClasses (mapped : Mapped) : Type 0 where
-  pub all : ArePlain mapped
-  pub class : (class : ClassId) → IsClass mapped class → IsPlainClass mapped class
+-- the mapping is as every configured one is, with links, classes of several tables and discriminators as they may be; where all its
+-- classes are plain roots, each has what such a class has
+pub record HasClasses (mapped : Mapped) : Type 0 where
   pub well : IsWellMapped mapped
+  pub plain : ArePlain mapped → (class : ClassId) → IsClass mapped class → IsPlainClass mapped class
 
 pub record IsOrderlySession (own : SessionState) : Type 0 where
-  pub plain : HasPlainClasses own.mapping
+  pub classes : HasClasses own.mapping
   pub objects : EachObject (IsOrderly own.mapping) own.graph
   pub named : AreNamedSince (is_named_in own.graph) own.frames.scopes
 
@@ -73,7 +75,7 @@ pub record IsTidy (world : World) : Type 0 where
   pub own : IsOrderlySession world.own
   pub ascending : IsAscendingStore world.store
 
--- a session of plain classes of which every call finds what it needs, and leaves it so
+-- a session of which every call finds what it needs, and leaves it so
 pub record IsHealthy (world : World) : Type 0 where
   pub sound : IsSound world
   pub tidy : IsTidy world
@@ -83,6 +85,15 @@ pub record IsWhole (world : World) : Type 0 where
   pub fit : IsFit world.own.mapping world.own.graph
   pub handled : IsHandled world
 
--- a call that needs it whole keeps a healthy session healthy, whatever it answers
+-- nothing is to be taken away: no object has a delete mark, and no pair leaves a secondary table
+pub record TakesNothing (own : SessionState) : Type 0 where
+  pub unmarked : EachObject (λ (object : Object). object.marked ≡ false) own.graph
+  pub paired : lost_pairs own.mapping own.graph (prepared_of own.graph) ≡ []
+
+-- the session may be flushed: its classes are plain roots, or nothing is to be taken away
+abbrev pub MayFlush : SessionState → Type 0
+MayFlush own = ArePlain own.mapping ⊎ TakesNothing own
+
+-- a call that flushes, and needs it whole, keeps a healthy session healthy, whatever it answers
 abbrev pub KeepsHealthWhole : {A : Type 0} → (World → Run World A) → Type 0
-KeepsHealthWhole m = (world : World) → IsWhole world → IsHealthy world → IsHealthy (m world).after
+KeepsHealthWhole m = (world : World) → MayFlush world.own → IsWhole world → IsHealthy world → IsHealthy (m world).after

@@ -1,4 +1,4 @@
-//! Sessions of plain classes that are healthy: sound, over tables that ascend, and such that every call finds what it needs. Every call
+//! Sessions that are healthy: sound, over tables that ascend, and such that every call finds what it needs. Every call
 //! keeps them so, whatever it answers. Each law is the contract of a function that does nothing, so there is no body that could be
 //! turned into a wrong one.
 #![tactic(auto)]
@@ -15,29 +15,34 @@ ghost use Rattle.session_calls.specs.Parts.{World};
 ghost use Rattle.session_flush_laws.specs.Laws.{world_of};
 ghost use Rattle.session_scopes.specs.SessionState.{SessionState, new_session};
 ghost use Rattle.health_laws.specs.Calls.{CallsKeepHealth, CallsKeepOne};
-ghost use Rattle.health_laws.specs.Health.{HasPlainClasses, IsHealthy, KeepsHealthWhole};
+ghost use Rattle.health_laws.specs.Health.{HasClasses, IsHealthy, KeepsHealthWhole};
 
-use flush_sound_laws::{a_flush_keeps_sound, an_answered_flush_leaves_sound};
+use flush_sound_laws::{
+    a_flush_keeps_sound, a_flush_that_takes_nothing_away_keeps_sound,
+    an_answered_flush_leaves_sound, an_answered_flush_of_a_told_session_leaves_sound,
+};
 use keeper_core::Keeper;
 
 #[tactic(auto, using(crate::proofs::Calls::new_healthy))]
-/// A new session over a configured mapping of plain classes is healthy beside a store without tables.
+/// A new session over a configured mapping is healthy beside a store without tables.
 pub fn a_new_session_is_healthy()
-    ensures { (mapping : Mapped) → HasPlainClasses mapping → IsHealthy (record {
+    ensures { (mapping : Mapped) → HasClasses mapping → IsHealthy (record {
       own = new_session mapping;
       store = record { tables = []; scopes = [] };
     }) }
 {}
 
 /// Calls that flush keep a session healthy, whether the flush or the act behind it answers or is refused: the flush itself, the commit
-/// of the transaction, and the beginning of a savepoint.
+/// of the transaction, and the beginning of a savepoint. Classes are plain roots, or nothing is to be taken away.
 pub fn flushing_calls_keep_health()
     ensures flush { KeepsHealthWhole acts.flush_now }
     ensures commit { KeepsHealthWhole acts.commit }
     ensures nested { KeepsHealthWhole acts.begin_nested }
 {
     a_flush_keeps_sound();
+    a_flush_that_takes_nothing_away_keeps_sound();
     an_answered_flush_leaves_sound();
+    an_answered_flush_of_a_told_session_leaves_sound();
 }
 
 /// Whatever calls are made one after another, and whatever each answers, a healthy session stays healthy: what is known of its objects is
@@ -46,7 +51,9 @@ pub fn calls_keep_health()
     ensures { CallsKeepHealth }
 {
     a_flush_keeps_sound();
+    a_flush_that_takes_nothing_away_keeps_sound();
     an_answered_flush_leaves_sound();
+    an_answered_flush_of_a_told_session_leaves_sound();
 }
 
 /// After every call one object stands for each key.

@@ -1,7 +1,9 @@
--- What mappings keep as tables and classes are declared, and that a configured one of plain classes is as the laws of sessions ask.
+-- What mappings keep as tables and classes are declared, and that a configured one is as the laws of sessions ask.
 use Rattle.std.proofs.Common.{◌≡◌, ◌<◌, ◌≤◌, ℕ, ◌+◌, true, false, List, [], ◌∷◌, ◌++◌, length, take, get_or, Option, None, Some, Result, Ok, Err, ⊎_elim, refl, sym, ap, ◌∙◌, subst, arith}
 use Rattle.std.proofs.Math.Seq.{take-length}
-use Rattle.std.proofs.lemmas.Bool.{cases_lt}
+use Rattle.std.specs.List.{list_all}
+use Rattle.std.proofs.lemmas.Bool.{and_from, cases_lt}
+use Rattle.std.proofs.lemmas.List.Folds.{list_all-append}
 use Rattle.std.proofs.lemmas.List.{get_or_append_left, get_or_at, length-append, take-append-le}
 use Rattle.base_core.specs.declared.ids.ClassId.{ClassId}
 use Rattle.base_core.specs.declared.ids.TableId.{TableId}
@@ -9,7 +11,7 @@ use Rattle.base_core.specs.declared.refusal.ArgumentKind.{ArgumentKind}
 use Rattle.base_core.specs.declared.refusal.Refusal.{Refusal}
 use Rattle.schema_core.specs.declared.table.TableSpec.{TableSpec}
 use Rattle.schema_core.specs.Catalog.{Catalog, no_table}
-use Rattle.schema_core.specs.Declaration.{declaration_fault, declare, declared_unless as table_unless, with_table}
+use Rattle.schema_core.specs.Declaration.{declaration_fault, declare, declared_unless as table_unless}
 use Rattle.class_types.specs.Rules.{Rules}
 use Rattle.class_types.specs.declared.declared.ClassSpec.{ClassSpec}
 use Rattle.class_layouts.specs.declared.classes.Classes.{Classes}
@@ -20,14 +22,14 @@ use Rattle.class_layouts.specs.Hierarchy as hierarchy
 use Rattle.class_mapping.specs.Declaring.{class_unless, configure, configured_mapping, configured_unless, declare_class, declare_table, over_tables, with_class}
 use Rattle.class_mapping.specs.Lines.{AreLines}
 use Rattle.class_mapping.specs.Mapped.{IsValidMapping, Mapped, fault_of}
-use Rattle.class_mapping.specs.PlainClass.{ArePlain}
 use Rattle.class_mapping.proofs.LineLemmas.{lines_class, lines_table}
 use Rattle.class_mapping.proofs.MappingLemmas.{lined_more, orphans_more}
 use Rattle.class_mapping.proofs.PlainClassLemmas.{alone_more, over_more, over_table, plain_class, table_taken}
 use Rattle.class_mapping.proofs.RelatedPairs.{are_related}
 use Rattle.class_mapping.proofs.ValidLemmas.{valid_from}
-use Rattle.configured_laws.proofs.Links.{plain_late, well_mapped}
-use Rattle.health_laws.specs.Health.{HasPlainClasses}
+use Rattle.configured_laws.specs.Configured.{has_late_links}
+use Rattle.configured_laws.proofs.Links.{well_mapped}
+use Rattle.health_laws.specs.Health.{HasClasses}
 use Rattle.shell_steps.specs.ShellState.{new_mapping}
 use Rattle.script_laws.specs.Scripts.{IsBuilt}
 
@@ -45,8 +47,12 @@ no_lines = record {
   told = λ class spec at. absurd cc;
 }
 
-pub new_built : IsBuilt new_mapping
-new_built = record { lined = refl; lines = no_lines; alone = λ all. refl; over = refl; orphans = refl; faultless = λ place less. absurd (omega (arith, less)) }
+pub new_built : IsBuilt 0 new_mapping
+new_built = record { lined = refl; lines = no_lines; alone = λ all. refl; over = refl; late = refl; orphans = refl; faultless = λ place less. absurd (omega (arith, less)); few = omega arith }
+
+-- it is so in more lines
+pub built_wider : (count more : ℕ) (mapped : Mapped) → count ≤ more → IsBuilt count mapped → IsBuilt more mapped
+built_wider count more mapped least built = record { lined = built.lined; lines = built.lines; alone = built.alone; over = built.over; late = built.late; orphans = built.orphans; faultless = built.faultless; few = omega (arith, built.few, least) }
 
 -- ---- one table more
 
@@ -73,34 +79,38 @@ faultless_more tables spec none before place less =
     ∙ none)
     (cases_lt place (length tables))
 
-with_one_table : (mapped : Mapped) (spec : TableSpec) (table : TableId) (new : Catalog) → declare mapped.schema spec ≡ Ok (table, new) → IsBuilt mapped → IsBuilt (record { schema = new; classes = mapped.classes; configured = false })
+with_one_table : (count : ℕ) (mapped : Mapped) (spec : TableSpec) (table : TableId) (new : Catalog) → declare mapped.schema spec ≡ Ok (table, new) → IsBuilt count mapped → IsBuilt (count + 1) (record { schema = new; classes = mapped.classes; configured = false })
 unfolding declare
-with_one_table mapped spec table new is built =
+with_one_table count mapped spec table new is built =
+    let taken : new.tables ≡ mapped.schema.tables ++ spec ∷ [] = ap (λ (schema : Catalog). schema.tables) (table_taken mapped.schema spec table new is) in
+    let long : length (mapped.schema.tables ++ spec ∷ []) ≡ length mapped.schema.tables + 1 = length-append mapped.schema.tables (spec ∷ []) in
     let none : declaration_fault mapped.schema.tables spec ≡ None = no_fault (declaration_fault mapped.schema.tables spec) mapped.schema spec (table, new) is in
     record {
       lined = built.lined;
       lines = lines_table mapped.schema spec table new mapped.classes is built.lines;
       alone = built.alone;
       over = over_table mapped.schema spec table new mapped.classes.specs is built.over;
+      late = built.late;
       orphans = built.orphans;
+      few = subst (λ (tables : List TableSpec). length tables ≤ count + 1) (sym taken) (omega (arith, long, built.few));
       faultless = subst (λ (schema : Catalog). (place : ℕ) → place < length schema.tables → declaration_fault (take place schema.tables) (get_or schema.tables place no_table) ≡ None) (sym (table_taken mapped.schema spec table new is))
           (faultless_more mapped.schema.tables spec none built.faultless);
     }
 
-over_built : (mapped : Mapped) (spec : TableSpec) (r : Result (TableId × Catalog) Refusal) (p : TableId × Mapped) → declare mapped.schema spec ≡ r → over_tables mapped r ≡ Ok p → IsBuilt mapped → IsBuilt p.1
-over_built mapped spec (Ok (table, new)) p at is built =
+over_built : (count : ℕ) (mapped : Mapped) (spec : TableSpec) (r : Result (TableId × Catalog) Refusal) (p : TableId × Mapped) → declare mapped.schema spec ≡ r → over_tables mapped r ≡ Ok p → IsBuilt count mapped → IsBuilt (count + 1) p.1
+over_built count mapped spec (Ok (table, new)) p at is built =
     let now : Mapped = record { schema = new; classes = mapped.classes; configured = false } in
-    subst (λ (q : TableId × Mapped). IsBuilt q.1) (let same : (let q : TableId × Mapped = (table, now) in q ≡ p) = cc in same) (with_one_table mapped spec table new at built)
-over_built mapped spec (Err e) p at is built = absurd cc
+    subst (λ (q : TableId × Mapped). IsBuilt (count + 1) q.1) (let same : (let q : TableId × Mapped = (table, now) in q ≡ p) = cc in same) (with_one_table count mapped spec table new at built)
+over_built count mapped spec (Err e) p at is built = absurd cc
 
-pub table_built : (mapped : Mapped) (spec : TableSpec) (p : TableId × Mapped) → declare_table mapped spec ≡ Ok p → IsBuilt mapped → IsBuilt p.1
+pub table_built : (count : ℕ) (mapped : Mapped) (spec : TableSpec) (p : TableId × Mapped) → declare_table mapped spec ≡ Ok p → IsBuilt count mapped → IsBuilt (count + 1) p.1
 unfolding declare_table
-table_built mapped spec p is built = over_built mapped spec (declare mapped.schema spec) p refl is built
+table_built count mapped spec p is built = over_built count mapped spec (declare mapped.schema spec) p refl is built
 
 -- ---- one class more
 
-with_one_class : (rules : Rules) (mapped : Mapped) (spec : ClassSpec) → class_fault rules mapped.schema.tables mapped.classes spec ≡ None → IsBuilt mapped → IsBuilt (with_class mapped spec)
-with_one_class rules mapped spec none built =
+with_one_class : (count : ℕ) (rules : Rules) (mapped : Mapped) (spec : ClassSpec) → class_fault rules mapped.schema.tables mapped.classes spec ≡ None → has_late_links spec ≡ true → IsBuilt count mapped → IsBuilt count (with_class mapped spec)
+with_one_class count rules mapped spec none late built =
     let tables : List TableSpec = mapped.schema.tables in
     let new : Classes = hierarchy.with_class mapped.classes spec in
     let taken : declared_unless (class_fault rules tables mapped.classes spec) mapped.classes spec ≡ Ok (tt, new) = ap (λ (fault : Option ArgumentKind). declared_unless fault mapped.classes spec) none in
@@ -109,38 +119,39 @@ with_one_class rules mapped spec none built =
       lines = lines_class rules tables mapped.classes spec new taken built.lined built.lines;
       alone = alone_more mapped.classes spec new refl built.alone;
       over = over_more rules tables mapped.classes spec new taken built.over;
+      late = list_all-append has_late_links mapped.classes.specs (spec ∷ []) ∙ and_from (list_all has_late_links mapped.classes.specs) (list_all has_late_links (spec ∷ [])) built.late (and_from (has_late_links spec) true late refl);
       orphans = orphans_more rules tables mapped.classes spec new taken built.orphans;
       faultless = built.faultless;
+      few = built.few;
     }
 
-unless_built : (rules : Rules) (mapped : Mapped) (spec : ClassSpec) (fault : Option ArgumentKind) (p : ClassId × Mapped) → class_fault rules mapped.schema.tables mapped.classes spec ≡ fault → class_unless fault mapped spec ≡ Ok p → IsBuilt mapped → IsBuilt p.1
-unless_built rules mapped spec None p at is built =
+unless_built : (count : ℕ) (rules : Rules) (mapped : Mapped) (spec : ClassSpec) (fault : Option ArgumentKind) (p : ClassId × Mapped) → class_fault rules mapped.schema.tables mapped.classes spec ≡ fault → class_unless fault mapped spec ≡ Ok p → has_late_links spec ≡ true → IsBuilt count mapped → IsBuilt count p.1
+unless_built count rules mapped spec None p at is late built =
     let first : ClassId = record { 0 = length mapped.classes.specs } in
-    subst (λ (q : ClassId × Mapped). IsBuilt q.1) (let same : (let q : ClassId × Mapped = (first, with_class mapped spec) in q ≡ p) = cc in same) (with_one_class rules mapped spec at built)
-unless_built rules mapped spec (Some kind) p at is built = absurd cc
+    subst (λ (q : ClassId × Mapped). IsBuilt count q.1) (let same : (let q : ClassId × Mapped = (first, with_class mapped spec) in q ≡ p) = cc in same) (with_one_class count rules mapped spec at late built)
+unless_built count rules mapped spec (Some kind) p at is late built = absurd cc
 
-pub class_built : (rules : Rules) (mapped : Mapped) (spec : ClassSpec) (p : ClassId × Mapped) → declare_class rules mapped spec ≡ Ok p → IsBuilt mapped → IsBuilt p.1
+pub class_built : (count : ℕ) (rules : Rules) (mapped : Mapped) (spec : ClassSpec) (p : ClassId × Mapped) → declare_class rules mapped spec ≡ Ok p → has_late_links spec ≡ true → IsBuilt count mapped → IsBuilt count p.1
 unfolding declare_class
-class_built rules mapped spec p is built = unless_built rules mapped spec (class_fault rules mapped.schema.tables mapped.classes spec) p refl is built
+class_built count rules mapped spec p is late built = unless_built count rules mapped spec (class_fault rules mapped.schema.tables mapped.classes spec) p refl is late built
 
 -- ---- all is checked
 
-plain_configured : (mapped : Mapped) → fault_of mapped ≡ None → IsBuilt mapped → ArePlain mapped → length mapped.schema.tables ≤ 4294967295 → HasPlainClasses (configured_mapping mapped)
-plain_configured mapped none built all few =
+found_classes : (count : ℕ) (mapped : Mapped) → fault_of mapped ≡ None → IsBuilt count mapped → count ≤ 4294967295 → HasClasses (configured_mapping mapped)
+found_classes count mapped none built few =
     let now : Mapped = configured_mapping mapped in
     let valid : IsValidMapping now = valid_from mapped.schema.tables mapped.classes (layouts_of mapped.schema.tables mapped.classes) built.orphans none in
     record {
-      all = all;
-      class = λ class less. plain_class now class built.alone built.over less all;
       well = well_mapped now built.lined built.lines valid (are_related now built.lined built.lines valid)
-          (record { count = few; faultless = built.faultless; targets = λ done. valid.targets }) (plain_late mapped.classes.specs all);
+          (record { count = omega (arith, built.few, few); faultless = built.faultless; targets = λ done. valid.targets }) built.late;
+      plain = λ all class less. plain_class now class built.alone built.over less all;
     }
 
-configured_by : (mapped : Mapped) (fault : Option ArgumentKind) (p : Unit {0} × Mapped) → fault_of mapped ≡ fault → configured_unless fault mapped ≡ Ok p → IsBuilt mapped → ArePlain mapped → length mapped.schema.tables ≤ 4294967295 → HasPlainClasses p.1
-configured_by mapped None p at is built all few =
-    subst (λ (q : Unit {0} × Mapped). HasPlainClasses q.1) (let same : (let q : Unit {0} × Mapped = (tt, configured_mapping mapped) in q ≡ p) = cc in same) (plain_configured mapped at built all few)
-configured_by mapped (Some kind) p at is built all few = absurd cc
+configured_by : (count : ℕ) (mapped : Mapped) (fault : Option ArgumentKind) (p : Unit {0} × Mapped) → fault_of mapped ≡ fault → configured_unless fault mapped ≡ Ok p → IsBuilt count mapped → count ≤ 4294967295 → HasClasses p.1
+configured_by count mapped None p at is built few =
+    subst (λ (q : Unit {0} × Mapped). HasClasses q.1) (let same : (let q : Unit {0} × Mapped = (tt, configured_mapping mapped) in q ≡ p) = cc in same) (found_classes count mapped at built few)
+configured_by count mapped (Some kind) p at is built few = absurd cc
 
-pub configured_plain : (mapped : Mapped) (p : Unit {0} × Mapped) → configure mapped ≡ Ok p → IsBuilt mapped → ArePlain mapped → length mapped.schema.tables ≤ 4294967295 → HasPlainClasses p.1
+pub configured_classes : (count : ℕ) (mapped : Mapped) (p : Unit {0} × Mapped) → configure mapped ≡ Ok p → IsBuilt count mapped → count ≤ 4294967295 → HasClasses p.1
 unfolding configure
-configured_plain mapped p is built all few = configured_by mapped (fault_of mapped) p refl is built all few
+configured_classes count mapped p is built few = configured_by count mapped (fault_of mapped) p refl is built few

@@ -1,4 +1,4 @@
-pub mod Sent
+pub mod Late
 pub mod Resolved
 pub mod Performed
 pub mod Told

@@ -1,5 +1,5 @@
--- Every line of a script keeps a session of plain classes whole, and what names stand for.
-use Rattle.std.proofs.Common.{◌≡◌, ◌<◌, ◌≤◌, ℕ, ◌+◌, Bool, true, false, List, [], ◌∷◌, length, get_or, Option, None, Some, Result, Ok, Err, refl, sym, ap, ◌∙◌, subst, arith}
+-- Every line of a script keeps a session whole, and what names stand for.
+use Rattle.std.proofs.Common.{◌≡◌, ◌≤◌, ℕ, ◌+◌, Bool, true, false, List, [], ◌∷◌, length, get_or, Option, None, Some, Result, Ok, Err, refl, sym, ap, ◌∙◌, subst, arith}
 use Rattle.std.specs.Prelude.{if◌then◌else◌, nat_lt}
 use Rattle.std.specs.List.{AllByRecursion}
 use Rattle.std.proofs.lemmas.List.{get_or_at, length-append}
@@ -14,12 +14,11 @@ use Rattle.base_core.specs.declared.refusal.Refusal.{Refusal}
 use Rattle.base_core.specs.declared.refusal.Refusal.TheVariants.{LimitReached}
 use Rattle.base_core.specs.declared.value.Value.{Value}
 use Rattle.class_types.specs.Rules.{Rules}
-use Rattle.class_mapping.specs.Mapped.{IsAttribute, IsClass, relations_of}
+use Rattle.class_mapping.specs.Mapped.{IsAttribute, IsClass}
 use Rattle.keeper_core.specs.Calls as call
 use Rattle.legality_laws.specs.Legality.{Keeps}
 use Rattle.legality_laws.proofs.EachJoin.{keeps_each, keeps_give, keeps_then}
-use Rattle.object_arena.specs.declared.object.Object.{Object}
-use Rattle.object_arena.specs.Graph.{Graph, IsObject, fresh_object, make, no_object, object_at, object_limit, place_of, with_fresh, with_object}
+use Rattle.object_arena.specs.Graph.{Graph, fresh_object, make, no_object, object_at, object_limit, place_of, with_fresh, with_object}
 use Rattle.object_arena.proofs.ClassLemmas.{classes_set}
 use Rattle.programs.specs.Programs.{Event, Run, ◌>>=◌, continue_from, each, give}
 use Rattle.programs.specs.Beside.{by_own, changes, on_own, on_store}
@@ -34,6 +33,8 @@ use Rattle.session_calls.proofs.Joining.{same_itself}
 use Rattle.session_acts.specs.Steps as acts
 use Rattle.session_acts.specs.Steps.{flush_whole}
 use Rattle.session_dump.specs.Dump.{Filled, scan_each, scan_one, scan_tables}
+use Rattle.session_links.specs.Steps.{read_related}
+use Rattle.session_links.specs.declared.reading.Related.{Related}
 use Rattle.session_savepoints.specs.Steps.{begin_savepoint, enter_nested}
 use Rattle.session_tables.specs.declared.tables.TableChange.TheVariants.{Create, Drop}
 use Rattle.session_values.specs.Steps.{given_fault, made_unless, valid_made}
@@ -44,14 +45,15 @@ use Rattle.command_resolve.specs.declared.resolved.Resolved.{Resolved}
 use Rattle.command_resolve.specs.declared.resolved.Resolved.TheVariants as resolved
 use Rattle.command_resolve.specs.Standing.{IsDrawn, IsOfDeclared, IsThere}
 use Rattle.command_resolve.specs.Terms.{Bindings}
-use Rattle.session_perform.specs.Performing.{IsReady, program_of_resolved, telling}
-use Rattle.script_laws.proofs.Sent.{sends_plain}
+use Rattle.session_perform.specs.Performing.{IsReady, as_it_is, link_shown, program_of_resolved, telling}
+use Rattle.session_perform.proofs.Sendable.{plain_but_for_keys}
 use Rattle.shell_steps.specs.declared.stage.Stage.TheVariants.{Configured}
 use Rattle.shell_steps.specs.ShellState.{AreBound}
 use Rattle.shell_steps.proofs.Bindings.{bound_same, bound_stays}
 use Rattle.health_laws.specs.Calls.{Call, after_call}
+use Rattle.health_laws.specs.Health.{MayFlush}
 use Rattle.health_laws.proofs.Objects.{class_left}
-use Rattle.whole_laws.specs.Whole.{CallsKeepWhole, IsCallOf, IsHale}
+use Rattle.whole_laws.specs.Whole.{CallsKeepWhole, IsCallOf, IsHale, MayFlushIn}
 use Rattle.whole_laws.proofs.Keeping.{Holds}
 use Rattle.whole_laws.proofs.Programs as keeps
 use Rattle.whole_laws.proofs.Since.{IsKeyedSince, since_steps}
@@ -99,17 +101,6 @@ dump_hale w hale =
 dump_same : (w : World) → SameObjects w.own (scan_tables w).after.own
 unfolding scan_tables by_own on_store
 dump_same w = same_itself w.own
-
--- ---- no object of a plain class has a relationship
-
-no_place : {A B : Type 0} (n : ℕ) (xs : List A) → xs ≡ [] → n < length xs → B
-no_place n xs none less = let inside : n < 0 = subst (λ ys. n < length ys) none less in absurd (omega (arith, inside))
-
-no_link : {A : Type 0} (w : World) (object : ObjId) (class : ClassId) (relation : RelNo) → IsHale w → IsMadeOf w.own.graph object class → relation.0 < length (relations_of w.own.mapping class) → A
-no_link w object class relation hale made less =
-    let inside : place_of object < length w.own.graph.objects = omega (arith, made.0.0, made.0.1) in
-    let own = subst (IsClass w.own.mapping) made.1 (hale.keyed.fit.objects (place_of object) no_object inside).class in
-    no_place relation.0 (relations_of w.own.mapping class) (hale.healthy.tidy.own.plain.class class own).relations less
 
 -- ---- an object is made
 
@@ -205,8 +196,8 @@ pub record IsLeft (names : Bindings) (run : Run World Answer) : Type 0 where
   pub told : (a : Answer) → run.answer ≡ Ok a → IsBound run.after.own a
 
 module _ (law : CallsKeepWhole) (rules : Rules) (names : Bindings) where
-  called : (call : Call) (w : World) → IsHale w → IsCallOf call w → IsHale (after_call rules call w)
-  called call w hale of = law rules (call ∷ []) w hale (of, tt)
+  called : (call : Call) (w : World) → IsHale w → IsCallOf call w → MayFlushIn call w → IsHale (after_call rules call w)
+  called call w hale of may = law rules (call ∷ []) w hale (of, tt) (may, tt)
 
   told_left : {A : Type 0} (tell : A → Answer) (m : World → Run World A) (w : World) → ((own : SessionState) (a : A) → IsBound own (tell a)) → AreBound (Configured w.own) names → IsHale (m w).after → SameObjects w.own (m w).after.own → IsLeft names (telling tell m w)
   told_left tell m w binds bound hale same = record {
@@ -226,7 +217,7 @@ module _ (law : CallsKeepWhole) (rules : Rules) (names : Bindings) where
       let tell : ObjId → Answer = λ object. answer.Bind name (OneObject object class) in
       let making = makes class cells w.own rules in
       record {
-        hale = told_after IsHale tell m w (called (Call.Make class cells) w hale asks);
+        hale = told_after IsHale tell m w (called (Call.Make class cells) w hale asks tt);
         bound = told_after (λ v. AreBound (Configured v.own) names) tell m w (bound_stays names w.own (m w).after.own making.mapping making.stay making.drawn bound);
         told = λ a is.
             let from = told_answer tell m w a is in
@@ -235,13 +226,13 @@ module _ (law : CallsKeepWhole) (rules : Rules) (names : Bindings) where
       }
 
   -- a savepoint begins, and is bound
-  nested_left : (name : List ℕ) (w : World) → IsHale w → AreBound (Configured w.own) names → IsLeft names (program_of_resolved rules (resolved.BeginNested name) w)
-  nested_left name w hale bound =
+  nested_left : (name : List ℕ) (w : World) → MayFlush w.own → IsHale w → AreBound (Configured w.own) names → IsLeft names (program_of_resolved rules (resolved.BeginNested name) w)
+  nested_left name w may hale bound =
       let m : World → Run World ℕ = acts.begin_nested in
       let tell : ℕ → Answer = λ handle. answer.Bind name (Saved handle) in
       let same = ((keeps.begins_nested (IsKeyedSince w.own) (since_steps w.own)).kept w (record { keyed = hale.keyed; same = same_itself w.own })).same in
       record {
-        hale = told_after IsHale tell m w (called Call.BeginNested w hale tt);
+        hale = told_after IsHale tell m w (called Call.BeginNested w hale tt may);
         bound = told_after (λ v. AreBound (Configured v.own) names) tell m w (bound_same names w.own (m w).after.own same bound);
         told = λ a is.
             let from = told_answer tell m w a is in
@@ -249,11 +240,24 @@ module _ (law : CallsKeepWhole) (rules : Rules) (names : Bindings) where
             subst (IsBound (telling tell m w).after.own) from.2 (told_after (λ v. IsBound v.own (tell from.0)) tell m w there);
       }
 
+  -- what a link leads to is shown
+  shown_from : {A : Type 0} (events : List Event) (v : World) (r : Result A Refusal) (tell : A → SessionState → Answer) → ((own : SessionState) (a : A) → IsBound own (tell a own)) → IsHale v → AreBound (Configured v.own) names → IsLeft names (continue_from events v r (λ a. as_it_is (tell a)))
+  unfolding by_own give
+  shown_from events v (Ok a) tell binds hale bound = record { hale = hale; bound = bound; told = λ b is. subst (IsBound v.own) (let same : tell a v.own ≡ b = cc in same) (binds v.own a) }
+  shown_from events v (Err e) tell binds hale bound = record { hale = hale; bound = bound; told = λ b is. absurd cc }
+
+  link_left : (object : ObjId) (relation : RelNo) (w : World) → IsHale w → AreBound (Configured w.own) names → IsLeft names (program_of_resolved rules (resolved.ShowLink object relation) w)
+  unfolding ◌>>=◌
+  link_left object relation w hale bound =
+      let run : Run World Related = read_related object relation w in
+      let same = ((keeps.reads_links (IsKeyedSince w.own) (since_steps w.own) object relation).kept w (record { keyed = hale.keyed; same = same_itself w.own })).same in
+      shown_from run.events run.after run.answer (λ related session. answer.Thing (link_shown session.graph related)) (λ own related. tt) (called (Call.ReadLink object relation) w hale tt tt) (bound_same names w.own run.after.own same bound)
+
   as_it_was : (a : Answer) (w : World) → ((own : SessionState) → IsBound own a) → IsHale w → AreBound (Configured w.own) names → IsLeft names (give a w)
   unfolding give
   as_it_was a w binds hale bound = record { hale = hale; bound = bound; told = λ b is. subst (IsBound w.own) (let same : a ≡ b = cc in same) (binds w.own) }
 
-  module _ (w : World) (hale : IsHale w) (bound : AreBound (Configured w.own) names) where
+  module _ (w : World) (may : MayFlush w.own) (hale : IsHale w) (bound : AreBound (Configured w.own) names) where
     abbrev P : SessionState → Type 0
     P = IsKeyedSince w.own
 
@@ -265,44 +269,44 @@ module _ (law : CallsKeepWhole) (rules : Rules) (names : Bindings) where
 
     pub line_left : (line : Resolved) → Asks w.own.mapping w.own.graph line → IsLeft names (program_of_resolved rules line w)
     unfolding by_own
-    line_left resolved.CreateAll asks = kept_left _ _ w (λ own a. tt) hale bound (called (Call.ChangeTables Create) w hale tt) (keeps.changes_tables P steps Create)
-    line_left resolved.DropAll asks = kept_left _ _ w (λ own a. tt) hale bound (called (Call.ChangeTables Drop) w hale tt) (keeps.changes_tables P steps Drop)
+    line_left resolved.CreateAll asks = kept_left _ _ w (λ own a. tt) hale bound (called (Call.ChangeTables Create) w hale tt tt) (keeps.changes_tables P steps Create)
+    line_left resolved.DropAll asks = kept_left _ _ w (λ own a. tt) hale bound (called (Call.ChangeTables Drop) w hale tt tt) (keeps.changes_tables P steps Drop)
     line_left resolved.Dump asks = told_left answer.Tables scan_tables w (λ own a. tt) bound (dump_hale w hale) (dump_same w)
     line_left (resolved.New name class cells) asks = made_left name class cells w hale asks bound
-    line_left (resolved.BeginNested name) asks = nested_left name w hale bound
+    line_left (resolved.BeginNested name) asks = nested_left name w may hale bound
     line_left (resolved.SetCell object attr value) asks =
         let inside = has_attribute object attr asks.0 asks.1 asks.2 in
-        told_left _ _ w (λ own a. tt) bound (called (Call.Set object attr value) w hale (asks.1.0, inside))
+        told_left _ _ w (λ own a. tt) bound (called (Call.Set object attr value) w hale (asks.1.0, inside) tt)
         (keeps.sets P steps object attr value rules w inside (record { keyed = hale.keyed; same = same_itself w.own })).same
-    line_left (resolved.ChangeLink owner relation change) asks = no_link w owner asks.0 relation hale asks.1 asks.2
-    line_left (resolved.Add object) asks = kept_left _ _ w (λ own a. tt) hale bound (called (Call.Add object) w hale asks) (keeps.adds P steps object)
-    line_left (resolved.Delete object) asks = kept_left _ _ w (λ own a. tt) hale bound (called (Call.Delete object) w hale asks) (keeps.deletes P steps object)
+    line_left (resolved.ChangeLink owner relation change) asks =
+        told_left _ _ w (λ own a. tt) bound (called (Call.ChangeLink owner relation change) w hale asks tt) (keeps.links P steps owner relation change w asks (record { keyed = hale.keyed; same = same_itself w.own })).same
+    line_left (resolved.Add object) asks = kept_left _ _ w (λ own a. tt) hale bound (called (Call.Add object) w hale asks tt) (keeps.adds P steps object)
+    line_left (resolved.Delete object) asks = kept_left _ _ w (λ own a. tt) hale bound (called (Call.Delete object) w hale asks tt) (keeps.deletes P steps object)
     line_left (resolved.Show thing) asks = as_it_was (answer.Thing thing) w (λ own. tt) hale bound
-    line_left (resolved.ShowCell object attr) asks = kept_left answer.Value _ w (λ own a. tt) hale bound (called (Call.Read object attr) w hale asks) (keeps.reads P steps object attr)
-    line_left (resolved.ShowLink object relation) asks = no_link w object asks.0 relation hale asks.1 asks.2
+    line_left (resolved.ShowCell object attr) asks = kept_left answer.Value _ w (λ own a. tt) hale bound (called (Call.Read object attr) w hale asks tt) (keeps.reads P steps object attr)
+    line_left (resolved.ShowLink object relation) asks = link_left object relation w hale bound
     line_left (resolved.State object) asks = as_it_was (answer.State (object_at w.own.graph object).state) w (λ own. tt) hale bound
     line_left (resolved.Same object other) asks = as_it_was _ w (λ own. tt) hale bound
-    line_left resolved.Flush asks = kept_left _ _ w (λ own a. tt) hale bound (called Call.Flush w hale tt) (keeps.flushes P steps)
-    line_left (resolved.Commit None) asks = kept_left _ _ w (λ own a. tt) hale bound (called Call.Commit w hale tt) (keeps.commits P steps)
-    line_left (resolved.Commit (Some handle)) asks = kept_left _ _ w (λ own a. tt) hale bound (called (Call.CommitHandle handle) w hale tt) (keeps.commits_handle P steps handle)
-    line_left (resolved.Rollback None) asks = kept_left _ _ w (λ own a. tt) hale bound (called Call.Rollback w hale tt) (keeps.rolls_back P steps)
-    line_left (resolved.Rollback (Some handle)) asks = kept_left _ _ w (λ own a. tt) hale bound (called (Call.RollbackHandle handle) w hale tt) (keeps.rolls_back_to P steps handle)
-    line_left resolved.Close asks = kept_left _ _ w (λ own a. tt) hale bound (called Call.Close w hale tt) (keeps.closes P steps)
-    line_left (resolved.Rows select) asks = kept_left answer.Rows _ w (λ own a. tt) hale bound (called (Call.Rows select) w hale tt) (keeps.asks_rows P steps select)
-    line_left (resolved.Bulk statement) asks = kept_left answer.Count _ w (λ own a. tt) hale bound (called (Call.Write statement) w hale asks) (keeps.sends_bulk P steps statement)
+    line_left resolved.Flush asks = kept_left _ _ w (λ own a. tt) hale bound (called Call.Flush w hale tt may) (keeps.flushes P steps)
+    line_left (resolved.Commit None) asks = kept_left _ _ w (λ own a. tt) hale bound (called Call.Commit w hale tt may) (keeps.commits P steps)
+    line_left (resolved.Commit (Some handle)) asks = kept_left _ _ w (λ own a. tt) hale bound (called (Call.CommitHandle handle) w hale tt may) (keeps.commits_handle P steps handle)
+    line_left (resolved.Rollback None) asks = kept_left _ _ w (λ own a. tt) hale bound (called Call.Rollback w hale tt tt) (keeps.rolls_back P steps)
+    line_left (resolved.Rollback (Some handle)) asks = kept_left _ _ w (λ own a. tt) hale bound (called (Call.RollbackHandle handle) w hale tt tt) (keeps.rolls_back_to P steps handle)
+    line_left resolved.Close asks = kept_left _ _ w (λ own a. tt) hale bound (called Call.Close w hale tt tt) (keeps.closes P steps)
+    line_left (resolved.Rows select) asks = kept_left answer.Rows _ w (λ own a. tt) hale bound (called (Call.Rows select) w hale tt may) (keeps.asks_rows P steps select)
+    line_left (resolved.Bulk statement) asks = kept_left answer.Count _ w (λ own a. tt) hale bound (called (Call.Write statement) w hale asks may) (keeps.sends_bulk P steps statement)
 
 -- ---- lines of which all that they name is there
 
 ready_asks : (own : SessionState) (line : Resolved) → IsReady own line → Asks own.mapping own.graph line
 ready_asks own (resolved.New name class cells) ready = (ready.0, recursion_from_All (λ (one : AttrNo × Value). IsAttribute own.mapping class one.0) cells ready.1)
 ready_asks own (resolved.SetCell object attr value) ready = ((object_at own.graph object).class, (ready.0.0, refl), ready.0.1)
-ready_asks own (resolved.ChangeLink owner relation change) ready = ((object_at own.graph owner).class, (ready.0.0, refl), ready.0.1.0)
+ready_asks own (resolved.ChangeLink owner relation change) ready = record { made = ready.0.0; there = ready.0.1.0; form = ready.0.1.1; end = ready.1 }
 ready_asks own (resolved.Add object) ready = ready
 ready_asks own (resolved.Delete object) ready = ready
 ready_asks own (resolved.ShowCell object attr) ready = ready.0
-ready_asks own (resolved.ShowLink object relation) ready = ((object_at own.graph object).class, (ready.0, refl), ready.1)
-ready_asks own (resolved.Bulk statement) ready = sends_plain own.mapping.schema statement ready.0 ready.1
+ready_asks own (resolved.Bulk statement) ready = plain_but_for_keys own.mapping.schema statement ready.0 ready.1
 ready_asks own _ ready = tt
 
 pub lines_law : CallsKeepWhole → LinesKeepWhole
-lines_law law rules line w hale ready = (line_left law rules [] w hale ((λ name thing is. absurd cc), (λ name thing is. absurd cc)) line (ready_asks w.own line ready)).hale
+lines_law law rules line w hale ready may = (line_left law rules [] w may hale ((λ name thing is. absurd cc), (λ name thing is. absurd cc)) line (ready_asks w.own line ready)).hale

@@ -1,5 +1,5 @@
 -- What a line asks for names what is there, where the names stand for what is there.
-use Rattle.std.proofs.Common.{◌≡◌, ◌<◌, ℕ, Bool, true, false, not, List, [], ◌∷◌, ◌++◌, length, Option, None, Some, Result, Ok, Err, refl, sym, ap, ◌∙◌, subst}
+use Rattle.std.proofs.Common.{◌≡◌, ◌<◌, ℕ, Bool, true, false, List, [], ◌∷◌, ◌++◌, length, Option, None, Some, Ok, Err, refl, sym, ap, ◌∙◌, subst}
 use Rattle.std.specs.Prelude.{IsTrue, if◌then◌else◌, is_none, slice_get, slice_index_or}
 use Rattle.std.specs.Option.{option_map}
 use Rattle.std.specs.List.{AllByRecursion, position}
@@ -18,7 +18,7 @@ use Rattle.class_types.specs.declared.mapped.Relation.{Relation}
 use Rattle.class_layouts.specs.Hierarchy.{no_class, place_of}
 use Rattle.class_mapping.specs.Mapped.{IsAttribute, IsClass, Mapped, attributes_of, find_attribute, find_class, no_attribute, relations_of}
 use Rattle.object_arena.specs.Fit.{no_relation}
-use Rattle.object_arena.specs.Graph.{Graph, IsObject}
+use Rattle.object_arena.specs.Graph.{Graph, IsObject, object_at as object_of_graph}
 use Rattle.sql_semantics.specs.Checked.{Checked, ◌>>=◌}
 use Rattle.session_scopes.specs.SessionState.{IsMadeOf}
 use Rattle.session_acts.specs.Steps.{IsPlainButForKeys}
@@ -32,13 +32,15 @@ use Rattle.command_resolve.specs.declared.members.Member.{Member}
 use Rattle.command_resolve.specs.declared.members.Member.TheVariants.{Attribute as OfAttribute, One, Many}
 use Rattle.command_resolve.specs.declared.resolved.Resolved.{Resolved}
 use Rattle.command_resolve.specs.declared.resolved.Resolved.TheVariants as resolved
-use Rattle.command_resolve.specs.Attributes.{Cells, Giving, as_attribute, as_link, attribute_given, attribute_named, cells_behind, cells_fault, cells_of, class_named, find_relation, is_given, link_named, link_or_unknown, link_unless, member_named, member_or, unless_fault, value_fault}
+use Rattle.command_resolve.specs.Attributes.{Cells, Giving, as_attribute, as_link, attribute_given, attribute_named, cells_behind, cells_fault, cells_of, class_named, find_relation, IsMember, IsRelation, is_given, link_named, link_or_unknown, member_named, member_or, unless_fault, value_fault}
 use Rattle.command_resolve.specs.Resolving.{Ends, ends_of, id_of_term, resolve, resolved_new, resolved_same, resolved_set, resolved_set_at, resolved_show, resolved_show_at, resolved_statement, set_by, show_by}
 use Rattle.command_resolve.specs.Standing.{AreThere, IsThere}
 use Rattle.command_resolve.specs.Terms.{Bindings, Named, found_or_unknown, found_or_wrong, handle_if_named, object_at, object_of, shown_of, wrong_kind}
 use Rattle.base_core.specs.Answers.{Gives}
 use Rattle.expr_types.specs.declared.select.Bulk.{Bulk}
 use Rattle.relations.specs.declared.calls.LinkCall.{LinkCall}
+use Rattle.relations.specs.Calls.{end_of, is_of_collection}
+use Rattle.relations.specs.Keys.{IsEnd}
 use Rattle.relations.specs.declared.calls.LinkCall.TheVariants.{Append, Remove, Set}
 use Rattle.sayable_lines.specs.Sayable.{IsSayable}
 use Rattle.schema_core.specs.Tables.{kind_of_value}
@@ -47,17 +49,17 @@ use Rattle.script_resolve.specs.Bulks.{resolved_bulk}
 use Rattle.script_resolve.specs.Sayable.{is_sayable_bulk}
 use Rattle.script_resolve.specs.Selects.{resolved_select}
 use Rattle.script_resolve.proofs.Whole.{bulk_fits, bulk_once}
-use Rattle.script_laws.proofs.Sent.{sends_plain}
+use Rattle.session_link_laws.specs.Laws.{IsLinkCall}
+use Rattle.session_perform.proofs.Sendable.{plain_but_for_keys}
 
 -- what a line is asked of a session, so that it stays whole
 abbrev pub Asks : Mapped → Graph → Resolved → Type 0
 Asks mapped graph (resolved.New name class cells) = IsClass mapped class × AllByRecursion (λ (one : AttrNo × Value). IsAttribute mapped class one.0) cells
 Asks mapped graph (resolved.SetCell object attr value) = (class : ClassId) × IsMadeOf graph object class × IsAttribute mapped class attr
-Asks mapped graph (resolved.ChangeLink owner relation call) = (class : ClassId) × IsMadeOf graph owner class × (relation.0 < length (relations_of mapped class))
+Asks mapped graph (resolved.ChangeLink owner relation call) = IsLinkCall mapped graph owner relation call
 Asks mapped graph (resolved.Add object) = IsObject graph object
 Asks mapped graph (resolved.Delete object) = IsObject graph object
 Asks mapped graph (resolved.ShowCell object attr) = IsObject graph object
-Asks mapped graph (resolved.ShowLink object relation) = (class : ClassId) × IsMadeOf graph object class × (relation.0 < length (relations_of mapped class))
 Asks mapped graph (resolved.Bulk statement) = IsPlainButForKeys mapped.schema statement
 Asks mapped graph other = Unit {0}
 
@@ -95,35 +97,31 @@ class_is mapped name class is =
     placed (λ (place : ℕ). let c : ClassId = record { 0 = place } in c) (λ (c : ClassId). c.0) (λ i. refl) (place_of mapped.classes.specs name) (length mapped.classes.specs)
     (λ i at. (position-Some (λ (spec : ClassSpec). same_name spec.name name) mapped.classes.specs i no_class at).0) class (found name (find_class mapped name) class is)
 
--- the class has the member
-abbrev HasMember : Mapped → ClassId → Member → Type 0
-HasMember mapped class (OfAttribute attr) = IsAttribute mapped class attr
-HasMember mapped class (One relation) = relation.0 < length (relations_of mapped class)
-HasMember mapped class (Many relation) = relation.0 < length (relations_of mapped class)
-
 module _ (mapped : Mapped) (class : ClassId) where
-  link_is : (relation : RelNo) (many : Bool) (member : Member) → relation.0 < length (relations_of mapped class) → (let one : Checked Member = Ok (if many then Many relation else One relation) in one ≡ Ok member) → HasMember mapped class member
-  link_is relation true member less is = subst (HasMember mapped class) (same_Ok (Many relation) member is) less
-  link_is relation false member less is = subst (HasMember mapped class) (same_Ok (One relation) member is) less
+  link_is : (relation : RelNo) (many : Bool) (member : Member) → IsRelation mapped class relation many → (let one : Checked Member = Ok (if many then Many relation else One relation) in one ≡ Ok member) → IsMember mapped class member
+  link_is relation true member less is = subst (IsMember mapped class) (same_Ok (Many relation) member is) less
+  link_is relation false member less is = subst (IsMember mapped class) (same_Ok (One relation) member is) less
 
-  link_by : (name : List ℕ) (o : Option RelNo) (member : Member) → find_relation (relations_of mapped class) name ≡ o → link_or_unknown (relations_of mapped class) name o ≡ Ok member → HasMember mapped class member
+  link_by : (name : List ℕ) (o : Option RelNo) (member : Member) → find_relation (relations_of mapped class) name ≡ o → link_or_unknown (relations_of mapped class) name o ≡ Ok member → IsMember mapped class member
   link_by name None member at is = absurd cc
   link_by name (Some relation) member at is =
-      link_is relation (slice_index_or (relations_of mapped class) relation.0 no_relation).many member
-      (placed (λ (place : ℕ). let r : RelNo = record { 0 = place } in r) (λ (r : RelNo). r.0) (λ i. refl) (position (λ (r : Relation). same_name r.name name) (relations_of mapped class)) (length (relations_of mapped class))
-      (λ i here. (position-Some (λ (r : Relation). same_name r.name name) (relations_of mapped class) i no_relation here).0) relation at) is
+      link_is relation (slice_index_or (relations_of mapped class) relation.0 no_relation).many member (
+        placed (λ (place : ℕ). let r : RelNo = record { 0 = place } in r) (λ (r : RelNo). r.0) (λ i. refl) (position (λ (r : Relation). same_name r.name name) (relations_of mapped class)) (length (relations_of mapped class))
+            (λ i here. (position-Some (λ (r : Relation). same_name r.name name) (relations_of mapped class) i no_relation here).0) relation at,
+        refl,
+      ) is
 
-  member_by : (name : List ℕ) (o : Option AttrNo) (member : Member) → find_attribute (attributes_of mapped class) name ≡ o → member_or (relations_of mapped class) name o ≡ Ok member → HasMember mapped class member
+  member_by : (name : List ℕ) (o : Option AttrNo) (member : Member) → find_attribute (attributes_of mapped class) name ≡ o → member_or (relations_of mapped class) name o ≡ Ok member → IsMember mapped class member
   member_by name None member at is = link_by name (find_relation (relations_of mapped class) name) member refl is
   member_by name (Some attr) member at is =
-      subst (HasMember mapped class) (same_Ok (OfAttribute attr) member is)
+      subst (IsMember mapped class) (same_Ok (OfAttribute attr) member is)
       (placed (λ (place : ℕ). let a : AttrNo = record { 0 = place } in a) (λ (a : AttrNo). a.0) (λ i. refl) (position (λ (a : Attribute). same_name a.name name) (attributes_of mapped class)) (length (attributes_of mapped class))
       (λ i here. (position-Some (λ (a : Attribute). same_name a.name name) (attributes_of mapped class) i no_attribute here).0) attr at)
 
-  member_is : (name : List ℕ) (member : Member) → member_named mapped class name ≡ Ok member → HasMember mapped class member
+  member_is : (name : List ℕ) (member : Member) → member_named mapped class name ≡ Ok member → IsMember mapped class member
   member_is name member is = member_by name (find_attribute (attributes_of mapped class) name) member refl is
 
-  attribute_of : (member : Member) (attr : AttrNo) → HasMember mapped class member → as_attribute member ≡ Ok attr → IsAttribute mapped class attr
+  attribute_of : (member : Member) (attr : AttrNo) → IsMember mapped class member → as_attribute member ≡ Ok attr → IsAttribute mapped class attr
   attribute_of (OfAttribute own) attr has is = subst (IsAttribute mapped class) (same_Ok own attr is) has
   attribute_of (One relation) attr has is = absurd cc
   attribute_of (Many relation) attr has is = absurd cc
@@ -146,16 +144,14 @@ module _ (mapped : Mapped) (class : ClassId) where
       subst (AllByRecursion (λ (one : AttrNo × Value). IsAttribute mapped class one.0)) (same_Ok ((one.0, giving.1) ∷ two.0) cells two.2)
       (given_attribute before giving.0 one.0 one.1, cells_are (before ++ giving ∷ []) rest two.0 two.1)
 
-  relation_unless : (wrong : Bool) (own relation : RelNo) → own.0 < length (relations_of mapped class) → link_unless wrong own ≡ Ok relation → relation.0 < length (relations_of mapped class)
-  relation_unless true own relation less is = absurd cc
-  relation_unless false own relation less is = subst (λ (r : RelNo). r.0 < length (relations_of mapped class)) (same_Ok own relation is) less
-
-  relation_of : (many : Bool) (member : Member) (relation : RelNo) → HasMember mapped class member → as_link many member ≡ Ok relation → relation.0 < length (relations_of mapped class)
+  relation_of : (many : Bool) (member : Member) (relation : RelNo) → IsMember mapped class member → as_link many member ≡ Ok relation → IsRelation mapped class relation many
   relation_of many (OfAttribute attr) relation has is = absurd cc
-  relation_of many (One own) relation has is = relation_unless many own relation has is
-  relation_of many (Many own) relation has is = relation_unless (not many) own relation has is
+  relation_of true (One own) relation has is = absurd cc
+  relation_of false (One own) relation has is = subst (λ (r : RelNo). IsRelation mapped class r false) (same_Ok own relation is) has
+  relation_of true (Many own) relation has is = subst (λ (r : RelNo). IsRelation mapped class r true) (same_Ok own relation is) has
+  relation_of false (Many own) relation has is = absurd cc
 
-  link_named_is : (many : Bool) (name : List ℕ) (relation : RelNo) → link_named mapped many class name ≡ Ok relation → relation.0 < length (relations_of mapped class)
+  link_named_is : (many : Bool) (name : List ℕ) (relation : RelNo) → link_named mapped many class name ≡ Ok relation → IsRelation mapped class relation many
   link_named_is many name relation is =
       let one = given (member_named mapped class name) (as_link many) relation is in relation_of many one.0 relation (member_is name one.0 one.1) one.2
 
@@ -202,12 +198,17 @@ module _ (mapped : Mapped) (graph : Graph) (drawn : ℕ) (names : Bindings) (the
         subst (AllByRecursion (λ (one-2 : AttrNo × Value). IsAttribute mapped one.0 one-2.0)) (passes (cells_fault mapped one.0 three.0) three.0 two.0 three.2) (cells_are mapped one.0 [] cells three.0 three.1),
       )
 
-  none_line : (named : Named) (relation : RelNo) (value : Value) (wrong : Bool) (asked : Resolved) → Made named → relation.0 < length (relations_of mapped named.1)
+  link_call : (named : Named) (relation : RelNo) (call : LinkCall) → Made named → IsRelation mapped named.1 relation (is_of_collection call) → IsEnd graph (end_of call) → Fits (resolved.ChangeLink named.0 relation call)
+  link_call named relation call made is end =
+      let own : IsRelation mapped (object_of_graph graph named.0).class relation (is_of_collection call) = subst (λ (class : ClassId). IsRelation mapped class relation (is_of_collection call)) (sym made.1) is in
+      record { made = made.0; there = own.0; form = own.1; end = end }
+
+  none_line : (named : Named) (relation : RelNo) (value : Value) (wrong : Bool) (asked : Resolved) → Made named → IsRelation mapped named.1 relation false
       → (let r : Checked Resolved = if wrong then Ok (resolved.ChangeLink named.0 relation (Set None)) else wrong_kind in r ≡ Ok asked) → Fits asked
-  none_line named relation value true asked made less is = subst Fits (same_Ok (resolved.ChangeLink named.0 relation (Set None)) asked is) (named.1, made, less)
+  none_line named relation value true asked made less is = subst Fits (same_Ok (resolved.ChangeLink named.0 relation (Set None)) asked is) (link_call named relation (Set None) made less tt)
   none_line named relation value false asked made less is = absurd cc
 
-  set_line_by : (named : Named) (value : Value) (member : Member) (asked : Resolved) → Made named → HasMember mapped named.1 member → set_by mapped named value member ≡ Ok asked → Fits asked
+  set_line_by : (named : Named) (value : Value) (member : Member) (asked : Resolved) → Made named → IsMember mapped named.1 member → set_by mapped named value member ≡ Ok asked → Fits asked
   set_line_by named value (OfAttribute attr) asked made has is = subst Fits (passes (value_fault mapped named.1 attr value) (resolved.SetCell named.0 attr value) asked is) (named.1, made, has)
   set_line_by named value (One relation) asked made has is = none_line named relation value (is_none (kind_of_value value)) asked made has is
   set_line_by named value (Many relation) asked made has is = absurd cc
@@ -218,10 +219,10 @@ module _ (mapped : Mapped) (graph : Graph) (drawn : ℕ) (names : Bindings) (the
       let two = given (member_named mapped one.0.1 member) (set_by mapped one.0 value) asked one.2 in
       set_line_by one.0 value two.0 asked (of_term term one.0 one.1) (member_is mapped one.0.1 member two.0 two.1) two.2
 
-  show_line_by : (named : Named) (member : Member) → Made named → HasMember mapped named.1 member → Fits (show_by named.0 member)
+  show_line_by : (named : Named) (member : Member) → Made named → IsMember mapped named.1 member → Fits (show_by named.0 member)
   show_line_by named (OfAttribute attr) made has = made.0
-  show_line_by named (One relation) made has = (named.1, made, has)
-  show_line_by named (Many relation) made has = (named.1, made, has)
+  show_line_by named (One relation) made has = tt
+  show_line_by named (Many relation) made has = tt
 
   show_line : (term : Term) (member : List ℕ) (asked : Resolved) → resolved_show mapped names term member ≡ Ok asked → Fits asked
   show_line term member asked is =
@@ -230,9 +231,9 @@ module _ (mapped : Mapped) (graph : Graph) (drawn : ℕ) (names : Bindings) (the
       subst Fits (same_Ok (show_by one.0.0 two.0) asked two.2) (show_line_by one.0 two.0 (of_term term one.0 one.1) (member_is mapped one.0.1 member two.0 two.1))
 
   -- the ends of a link are those of an object that has it
-  change_line : (many : Bool) (term : Term) (member : List ℕ) (other : Term) (call : ObjId → LinkCall) (asked : Resolved)
+  change_line : (many : Bool) (term : Term) (member : List ℕ) (other : Term) (call : ObjId → LinkCall) (asked : Resolved) → ((end : ObjId) → is_of_collection (call end) ≡ many) → ((end : ObjId) → end_of (call end) ≡ Some end)
       → (ends_of mapped names many term member other >>= λ ends. Ok (resolved.ChangeLink ends.0 ends.1 (call ends.2))) ≡ Ok asked → Fits asked
-  change_line many term member other call asked is =
+  change_line many term member other call asked form names_it is =
       let one = given (ends_of mapped names many term member other) (λ ends. Ok (resolved.ChangeLink ends.0 ends.1 (call ends.2))) asked is in
       let two = given (object_of names term) (λ owner. (link_named mapped many owner.1 member >>= λ relation. (id_of_term names other >>= λ end. Ok (owner.0, relation, end)))) one.0 one.1 in
       let three = given (link_named mapped many two.0.1 member) (λ relation. (id_of_term names other >>= λ end. Ok (two.0.0, relation, end))) one.0 two.2 in
@@ -240,7 +241,9 @@ module _ (mapped : Mapped) (graph : Graph) (drawn : ℕ) (names : Bindings) (the
       let ends : Ends = (two.0.0, three.0, four.0) in
       subst Fits (same_Ok (resolved.ChangeLink one.0.0 one.0.1 (call one.0.2)) asked one.2)
       (subst (λ (e : Ends). Fits (resolved.ChangeLink e.0 e.1 (call e.2))) (same_Ok ends one.0 four.2)
-      (two.0.1, of_term term two.0 two.1, link_named_is mapped two.0.1 many member three.0 three.1))
+      (link_call two.0 three.0 (call four.0) (of_term term two.0 two.1)
+      (subst (IsRelation mapped two.0.1 three.0) (sym (form four.0)) (link_named_is mapped two.0.1 many member three.0 three.1))
+      (subst (IsEnd graph) (sym (names_it four.0)) (of_id other four.0 four.1))))
 
   -- a line that is of one object
   one_object : (term : Term) (call : ObjId → Resolved) (asked : Resolved) → ((object : ObjId) → IsObject graph object → Fits (call object)) → (id_of_term names term >>= λ object. Ok (call object)) ≡ Ok asked → Fits asked
@@ -259,7 +262,7 @@ module _ (mapped : Mapped) (graph : Graph) (drawn : ℕ) (names : Bindings) (the
       let one = given (resolved_bulk mapped.schema written) (λ statement. Ok (resolved.Bulk statement)) asked is in
       let told : Gives (λ (x : Bulk). x) (Ok one.0) (resolved_bulk mapped.schema written) = one.1 in
       subst Fits (same_Ok (resolved.Bulk one.0) asked one.2)
-      (sends_plain mapped.schema one.0 (bulk_fits mapped.schema written (Ok one.0) told sayable) (bulk_once mapped.schema written (Ok one.0) told))
+      (plain_but_for_keys mapped.schema one.0 (bulk_fits mapped.schema written (Ok one.0) told sayable) (bulk_once mapped.schema written (Ok one.0) told))
 
   same_line : (term other : Term) (asked : Resolved) → resolved_same names term other ≡ Ok asked → Fits asked
   same_line term other asked is =
@@ -273,9 +276,9 @@ module _ (mapped : Mapped) (graph : Graph) (drawn : ℕ) (names : Bindings) (the
   asks_what_is_there (line.New name class cells) asked sayable is = new_line name class cells asked is
   asks_what_is_there (line.BeginNested name) asked sayable is = plain (resolved.BeginNested name) asked tt is
   asks_what_is_there (line.SetValue term member value) asked sayable is = set_line term member value asked is
-  asks_what_is_there (line.SetTerm term member other) asked sayable is = change_line false term member other (λ end. Set (Some end)) asked is
-  asks_what_is_there (line.Append term member other) asked sayable is = change_line true term member other Append asked is
-  asks_what_is_there (line.Remove term member other) asked sayable is = change_line true term member other Remove asked is
+  asks_what_is_there (line.SetTerm term member other) asked sayable is = change_line false term member other (λ end. Set (Some end)) asked (λ end. refl) (λ end. refl) is
+  asks_what_is_there (line.Append term member other) asked sayable is = change_line true term member other Append asked (λ end. refl) (λ end. refl) is
+  asks_what_is_there (line.Remove term member other) asked sayable is = change_line true term member other Remove asked (λ end. refl) (λ end. refl) is
   asks_what_is_there (line.Add term) asked sayable is = one_object term resolved.Add asked (λ object made. made) is
   asks_what_is_there (line.Delete term) asked sayable is = one_object term resolved.Delete asked (λ object made. made) is
   asks_what_is_there (line.Show term) asked sayable is = free (shown_of names term) resolved.Show asked (λ thing. tt) is

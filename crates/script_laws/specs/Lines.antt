@@ -1,4 +1,4 @@
--- What the lines of scripts keep of a session of plain classes, whatever they answer.
+-- What the lines of scripts keep of a session, whatever they answer.
 use Rattle.std.specs.Prelude.{Option, None, Some}
 use Rattle.class_types.specs.Rules.{Rules}
 use Rattle.programs.specs.Moment.{Told}
@@ -8,11 +8,13 @@ use Rattle.session_flush_laws.specs.Laws.{world_of}
 use Rattle.session_scopes.specs.SessionState.{SessionState}
 use Rattle.session_perform.specs.Performing.{IsReady, program_of_resolved}
 use Rattle.command_resolve.specs.declared.resolved.Resolved.{Resolved}
+use Rattle.health_laws.specs.Health.{MayFlush}
 use Rattle.whole_laws.specs.Whole.{IsHale}
 
--- whatever a resolved line asks for, and whatever it answers, a healthy session that is whole stays so, where all that it names is there
+-- whatever a resolved line asks for, and whatever it answers, a healthy session that is whole stays so, where all that it names
+-- is there, and the session may be flushed
 abbrev pub LinesKeepWhole : Type 0
-LinesKeepWhole = (rules : Rules) (line : Resolved) (world : World) → IsHale world → IsReady world.own line → IsHale (program_of_resolved rules line world).after
+LinesKeepWhole = (rules : Rules) (line : Resolved) (world : World) → IsHale world → IsReady world.own line → MayFlush world.own → IsHale (program_of_resolved rules line world).after
 
 -- a keeper tells, and beside what it tells the session is so
 abbrev pub IsHaleBeside : SessionState → Option (Told Store) → Type 0

@@ -1,18 +1,27 @@
 //! Whole scripts.
 
-ghost use Rattle.script_laws.specs.Scripts.{ScriptsHaveOneForEachKey, ScriptsStayWhole};
+ghost use Rattle.script_laws.specs.Scripts.{ScriptsEndWhole, ScriptsHaveOneForEachKey, ScriptsStayWhole};
 
 use whole_laws::calls_keep_whole;
 
-/// Whatever the lines of a script are, and whatever each answers: where its declared classes are plain, its session is healthy and whole
-/// behind every line, beside the store that the lines made, and what names stand for is there. It does nothing when it runs.
+/// Whatever the lines of a script are, fewer than 2^32 of them, and whatever each answers, where before each line its classes are plain
+/// roots or nothing is to be taken away (no object has a delete mark, no pair leaves a secondary table): its session is healthy and whole behind every
+/// line, beside the store that the lines made, and what names stand for is there. It does nothing when it runs.
 pub fn scripts_stay_whole()
     ensures { ScriptsStayWhole }
 {
     calls_keep_whole();
 }
 
-/// Behind every line of such a script one object stands for each key. It does nothing when it runs.
+/// Whatever the bytes of a script are: so it is behind its end, where a block that is open is refused and the session is closed. It does
+/// nothing when it runs.
+pub fn scripts_end_whole()
+    ensures { ScriptsEndWhole }
+{
+    calls_keep_whole();
+}
+
+/// Behind every line of a script one object stands for each key. It does nothing when it runs.
 pub fn scripts_have_one_object_for_each_key()
     ensures { ScriptsHaveOneForEachKey }
 {

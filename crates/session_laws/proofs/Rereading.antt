@@ -1,19 +1,22 @@
 -- A bulk statement keeps a session sound, since the objects of its table are to be read again; a query changes nothing.
-use Rattle.std.proofs.Common.{◌≡◌, ◌≢◌, ℕ, ◌<◌, Bool, true, false, ◌&&◌, ◌||◌, List, [], ◌∷◌, length, map, get_or, zero, suc, Option, None, Some, Ok, Err, refl, sym, ap, ◌∙◌, arith}
+use Rattle.std.proofs.Common.{◌≡◌, ◌≢◌, ◌<◌, Bool, true, false, ◌&&◌, List, length, Option, None, Some, Ok, Err, refl, sym, ap, ◌∙◌, arith}
 use Rattle.std.specs.Prelude.{◌==◌}
 use Rattle.std.specs.Cmp.Lexicographic.{as_long}
 use Rattle.std.specs.List.{enumerate_from, list_any}
 use Rattle.std.specs.Option.{option_and_then}
-use Rattle.std.proofs.lemmas.Bool.Decides.{nat_tests}
 use Rattle.std.proofs.lemmas.List.{length-map}
 use Rattle.base_core.specs.declared.ids.AttrNo.{AttrNo}
 use Rattle.base_core.specs.declared.ids.ClassId.{ClassId}
 use Rattle.base_core.specs.declared.ids.TableId.{TableId}
 use Rattle.base_core.specs.declared.value.Value.{Value}
-use Rattle.class_layouts.specs.Columns.{attribute_at}
+use Rattle.class_layouts.specs.Columns.{table_attributes}
 use Rattle.class_types.specs.declared.mapped.Attribute.{Attribute}
-use Rattle.class_mapping.specs.Mapped.{Mapped, attribute_of, attributes_of, no_attribute, root_spec, root_table, tables_of}
-use Rattle.class_mapping.specs.PlainClass.{IsPlainClass}
+use Rattle.class_layouts.specs.Hierarchy.{line_of}
+use Rattle.std.proofs.lemmas.Option.{slice_get-get_or}
+use Rattle.std.proofs.lemmas.Bool.{eq-eqb}
+use Rattle.class_mapping.specs.Mapped.{Mapped, attribute_of, attributes_of, no_attribute, tables_of}
+use Rattle.class_mapping.proofs.Having.{Has, any_has, from_flat, from_numbered, has_at, true_false}
+use Rattle.mapping_laws.proofs.Attributes.{of_column}
 use Rattle.expr_types.specs.declared.select.Bulk.{Bulk}
 use Rattle.expr_types.specs.declared.select.Select.{Select}
 use Rattle.keeper_core.specs.Calls as call
@@ -26,7 +29,6 @@ use Rattle.object_arena.specs.Identity.{is_identified}
 use Rattle.programs.specs.Store.{Store}
 use Rattle.programs.specs.Programs.{Event, ◌>>=◌, continue_from, give}
 use Rattle.programs.specs.Beside.{by_own, changes, on_store}
-use Rattle.schema_core.specs.declared.table.ColumnSpec.{ColumnSpec}
 use Rattle.schema_core.specs.Tables.{Legal, Rows, Tables, row_under, rows_in}
 use Rattle.sql_semantics.specs.Applied as applied
 use Rattle.sql_semantics.specs.Plain.{IsPlainBulk}
@@ -66,47 +68,38 @@ reread_holders mapped table = record {
 
 -- ---- what is known of an object outside the written table
 
-first_false : (b : Bool) → (b || false) ≡ false → b ≡ false
-first_false true is = absurd cc
-first_false false is = refl
-
 pub both_false : (a b : Bool) → (a && b) ≡ false → a ≡ true → b ≡ false
 both_false true b is held = is
 both_false false b is held = absurd cc
 
-not_equal : (a b : ℕ) → (a == b) ≡ false → a ≢ b
-not_equal a b is same = let h : (a == b) ≡ true = grind (arith, nat_tests) in let g : false ≡ true = sym is ∙ h in absurd cc
-
-given_table : (table : TableId) (placed : List (ℕ × ColumnSpec)) (i : ℕ) → i < length placed → (get_or (map (attribute_at table) placed) i no_attribute).table ≡ table
-given_table table [] i less = absurd (omega (arith, less))
-given_table table (one ∷ placed) zero less = refl
-given_table table (one ∷ placed) (suc i) less = given_table table placed i (omega (arith, less))
-
--- each attribute of a plain class stands in its root's table
-own_table : (mapped : Mapped) (class : ClassId) (attr : AttrNo) → IsPlainClass mapped class → attr.0 < length (attributes_of mapped class) → (attribute_of mapped class attr).table ≡ root_table mapped class
-own_table mapped class attr plain less =
-    let placed : List (ℕ × ColumnSpec) = enumerate_from 0 (root_spec mapped class).columns in
-    let within : attr.0 < length placed = omega (arith, less, ap length plain.attributes, length-map placed (attribute_at (root_table mapped class))) in
-    ap (λ (all : List Attribute). (get_or all attr.0 no_attribute).table) plain.attributes ∙ given_table (root_table mapped class) placed attr.0 within
+-- each attribute stands in a table of its class
+own_table : (mapped : Mapped) (class : ClassId) (attr : AttrNo) → attr.0 < length (attributes_of mapped class) → Has (tables_of mapped class) (attribute_of mapped class attr).table
+own_table mapped class attr less =
+    let attribute : Attribute = attribute_of mapped class attr in
+    let line : List ClassId = line_of mapped.classes class.0 in
+    let has : Has (attributes_of mapped class) attribute = has_at (attributes_of mapped class) attr.0 attribute (slice_get-get_or (attributes_of mapped class) attr.0 no_attribute less) in
+    let from = from_flat (table_attributes mapped.schema.tables mapped.classes line) (enumerate_from 0 (tables_of mapped class)) attribute has in
+    let numbered = from_numbered 0 (tables_of mapped class) from.0 from.1 in
+    has_at (tables_of mapped class) numbered.0 attribute.table (numbered.2 ∙ ap (λ (a : Attribute). Some a.table) (of_column mapped line from.0 attribute from.2).is)
 
 row_same : (before after : Tables) (attribute : Attribute) (key : Option (List Value)) → rows_in after attribute.table ≡ rows_in before attribute.table → row_for after attribute key ≡ row_for before attribute key
 row_same before after attribute None same = refl
 row_same before after attribute (Some key) same = ap (λ (found : Option Rows). option_and_then (λ rows. row_under rows key) found) same
 
-kept_fresh : (mapped : Mapped) (before after : Tables) (table : TableId) (o : Object) → IsPlainClass mapped o.class → ObjectFits mapped o → ((other : TableId) → other.0 ≢ table.0 → rows_in after other ≡ rows_in before other) → is_reread mapped table o ≡ false
+kept_fresh : (mapped : Mapped) (before after : Tables) (table : TableId) (o : Object) → ObjectFits mapped o → ((other : TableId) → other.0 ≢ table.0 → rows_in after other ≡ rows_in before other) → is_reread mapped table o ≡ false
     → IsFresh mapped before o → IsFresh mapped after o
-kept_fresh mapped before after table o plain fits beside unread fresh = λ persists attr less base is.
+kept_fresh mapped before after table o fits beside unread fresh = λ persists attr less base is.
     let attribute : Attribute = attribute_of mapped o.class attr in
-    let own : attribute.table ≡ root_table mapped o.class = own_table mapped o.class attr plain (omega (arith, less, as_long cell_fits (attributes_of mapped o.class) o.cells fits.cells)) in
+    let own : Has (tables_of mapped o.class) attribute.table = own_table mapped o.class attr (omega (arith, less, as_long cell_fits (attributes_of mapped o.class) o.cells fits.cells)) in
     let none : list_any (λ (it : TableId). it.0 == table.0) (tables_of mapped o.class) ≡ false = both_false (is_persistent o.state) (list_any (λ (it : TableId). it.0 == table.0) (tables_of mapped o.class)) unread persists in
-    let single : ((root_table mapped o.class).0 == table.0) ≡ false = first_false ((root_table mapped o.class).0 == table.0) (sym (ap (list_any (λ (it : TableId). it.0 == table.0)) plain.tables) ∙ none) in
-    let apart : attribute.table.0 ≢ table.0 = λ same. not_equal (root_table mapped o.class).0 table.0 single (sym (ap (λ (t : TableId). t.0) own) ∙ same) in
+    let apart : attribute.table.0 ≢ table.0 =
+    λ same. true_false (list_any (λ (it : TableId). it.0 == table.0) (tables_of mapped o.class)) (any_has (λ (it : TableId). it.0 == table.0) (tables_of mapped o.class) attribute.table own (eq-eqb attribute.table.0 table.0 same)) none in
     ap (in_row attribute) (row_same before after attribute o.identity (beside attribute.table apart)) ∙ fresh persists attr less base is
 
-if_fresh : (mapped : Mapped) (before after : Tables) (table : TableId) (o : Object) (is_read : Bool) → IsPlainClass mapped o.class → ObjectFits mapped o → ((other : TableId) → other.0 ≢ table.0 → rows_in after other ≡ rows_in before other) → is_reread mapped table o ≡ is_read
+if_fresh : (mapped : Mapped) (before after : Tables) (table : TableId) (o : Object) (is_read : Bool) → ObjectFits mapped o → ((other : TableId) → other.0 ≢ table.0 → rows_in after other ≡ rows_in before other) → is_reread mapped table o ≡ is_read
     → IsFresh mapped before o → IsFresh mapped after (expired_if is_read o)
-if_fresh mapped before after table o true plain fits beside at fresh = λ persists attr less base is. absurd (let h : None ≡ Some base = sym (ap (λ (c : Cell). c.base) (expired_cells o.cells attr.0)) ∙ is in cc)
-if_fresh mapped before after table o false plain fits beside at fresh = kept_fresh mapped before after table o plain fits beside at fresh
+if_fresh mapped before after table o true fits beside at fresh = λ persists attr less base is. absurd (let h : None ≡ Some base = sym (ap (λ (c : Cell). c.base) (expired_cells o.cells attr.0)) ∙ is in cc)
+if_fresh mapped before after table o false fits beside at fresh = kept_fresh mapped before after table o fits beside at fresh
 
 -- ---- the call
 
@@ -119,7 +112,7 @@ reread_sound table own before after ready legal beside sound =
     changed_sound own (record { tables = after; scopes = before.scopes }) (graph_reread own.mapping table own.graph) ready.inside (length-map own.graph.objects change) refl
     (each_graph change own.graph (reread_holders own.mapping table) sound.graph)
     (each_changed IsHeld (IsFresh own.mapping after) change own.graph (λ place less. (ready.fit.objects place no_object less, sound.fresh place less))
-    (λ o held. if_fresh own.mapping before.tables after table o (is_reread own.mapping table o) (ready.plain o.class held.0.class) held.0 beside refl held.1))
+    (λ o held. if_fresh own.mapping before.tables after table o (is_reread own.mapping table o) held.0 beside refl held.1))
     (each_changed IsMarkedRight IsMarkedRight change own.graph sound.marked (λ o right. if_marked (is_reread own.mapping table o) o right))
     legal sound.scopes
 
@@ -127,7 +120,7 @@ noted_sound : (events : List Event) (own : SessionState) (store : Store) → IsS
 noted_sound events own store sound = record { graph = sound.graph; legal = sound.legal; fresh = sound.fresh; marked = sound.marked; scopes = sound.scopes; rest = sound.rest }
 
 noted_fits : (events : List Event) (own : SessionState) → IsFitting own → IsFitting (with_notes events own)
-noted_fits events own ready = record { inside = ready.inside; plain = ready.plain; fit = ready.fit }
+noted_fits events own ready = record { inside = ready.inside; fit = ready.fit }
 
 bulk_from : (outcome : applied.Outcome) (statement : Bulk) (w : World) → applied.bulk_outcome w.own.mapping.schema w.store.tables statement ≡ outcome → IsFitting w.own → IsPlainBulk w.own.mapping.schema statement → IsSound w
     → (let run = call.run_of_bulk statement outcome w.store in

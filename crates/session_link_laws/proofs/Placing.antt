@@ -61,20 +61,27 @@ set_placed graph mapped child place relation old parent child_made old_is_made p
     by true = record { left = tt; joined = tt; own = put_placed graph child place _ child_made }
     by false = record { left = left_placed graph mapped child relation old old_is_made; joined = joined_placed graph child relation parent parent_made; own = put_placed graph child place _ child_made }
 
--- where the change is found
-FoundPlaced : Graph → Result Change Refusal → Type 0
-FoundPlaced graph found = (change : Change) → found ≡ Ok change → IsPlaced graph change
+-- what holds of the change that is found, if one is
+unfoldable pub Found : (Change → Type 0) → Result Change Refusal → Type 0
+Found P found = (change : Change) → found ≡ Ok change → P change
 
-found_ok : (graph : Graph) (one : Change) → IsPlaced graph one → FoundPlaced graph (Ok one)
-unfolding FoundPlaced
-found_ok graph one placed = λ change is. subst (IsPlaced graph) (same one change is) placed
+pub found_ok : (P : Change → Type 0) (one : Change) → P one → Found P (Ok one)
+unfolding Found
+found_ok P one holds = λ change is. subst P (same one change is) holds
   where
     same : (x y : Change) → (let found : Result Change Refusal = Ok x in found ≡ Ok y) → x ≡ y
     same x y is = cc
 
-found_err : (graph : Graph) (fault : Refusal) → FoundPlaced graph (Err fault)
-unfolding FoundPlaced
-found_err graph fault = λ change is. absurd cc
+pub found_err : (P : Change → Type 0) (fault : Refusal) → Found P (Err fault)
+unfolding Found
+found_err P fault = λ change is. absurd cc
+
+pub found_unless : (P : Change → Type 0) (fault : Option Refusal) (found : Result Change Refusal) → (fault ≡ None → Found P found) → Found P (unless_fault fault found)
+found_unless P (Some fault) found holds = found_err P fault
+found_unless P None found holds = holds refl
+
+abbrev FoundPlaced : Graph → Result Change Refusal → Type 0
+FoundPlaced graph found = Found (IsPlaced graph) found
 
 links_set_placed : (graph : Graph) (mapped : Mapped) (child : ObjId) (place : RelNo) (relation : Relation) (parent : Option ObjId) → IsFit mapped graph → IsObject graph child → IsEnd graph parent → FoundPlaced graph (links_set graph mapped child place relation parent)
 unfolding links_set
@@ -84,8 +91,8 @@ links_set_placed graph mapped child place relation parent fit child_made parent_
     old = old_parent graph mapped child place relation
 
     by : (b : Bool) → FoundPlaced graph (if b then Err (InvalidRequestError KeyChange) else Ok (set_change graph mapped child place relation old parent))
-    by true = found_err graph (InvalidRequestError KeyChange)
-    by false = found_ok graph (set_change graph mapped child place relation old parent) (set_placed graph mapped child place relation old parent child_made (old_made mapped graph child place relation fit child_made) parent_made)
+    by true = found_err (IsPlaced graph) (InvalidRequestError KeyChange)
+    by false = found_ok (IsPlaced graph) (set_change graph mapped child place relation old parent) (set_placed graph mapped child place relation old parent child_made (old_made mapped graph child place relation fit child_made) parent_made)
 
 -- ---- a member is appended
 
@@ -93,7 +100,7 @@ none_placed : (graph : Graph) → IsPlaced graph no_change
 none_placed graph = record { left = tt; joined = tt; own = tt }
 
 set_by_placed : (graph : Graph) (mapped : Mapped) (owner : ObjId) (partner : RelNo) (member : ObjId) (link : Option Relation) → IsFit mapped graph → IsObject graph owner → IsObject graph member → FoundPlaced graph (links_set_by graph mapped owner partner member link)
-set_by_placed graph mapped owner partner member None fit owner_made member_made = found_ok graph no_change (none_placed graph)
+set_by_placed graph mapped owner partner member None fit owner_made member_made = found_ok (IsPlaced graph) no_change (none_placed graph)
 set_by_placed graph mapped owner partner member (Some link) fit owner_made member_made = links_set_placed graph mapped member partner link (Some owner) fit member_made owner_made
 
 appended_placed : (graph : Graph) (mapped : Mapped) (owner : ObjId) (place : RelNo) (relation : Relation) (member : ObjId) → IsFit mapped graph → IsObject graph owner → IsObject graph member → FoundPlaced graph (links_appended graph mapped owner place relation member)
@@ -103,8 +110,8 @@ appended_placed graph mapped owner place relation member fit owner_made member_m
     join = join_change graph owner place relation member
 
     by : (there far : Bool) → FoundPlaced graph (if there then Ok no_change else if far then Ok join else links_set_by graph mapped owner relation.partner member (partner_of mapped relation))
-    by true far = found_ok graph no_change (none_placed graph)
-    by false true = found_ok graph join (record { left = tt; joined = put_placed graph owner place _ owner_made; own = put_placed graph member relation.partner _ member_made })
+    by true far = found_ok (IsPlaced graph) no_change (none_placed graph)
+    by false true = found_ok (IsPlaced graph) join (record { left = tt; joined = put_placed graph owner place _ owner_made; own = put_placed graph member relation.partner _ member_made })
     by false false = set_by_placed graph mapped owner relation.partner member (partner_of mapped relation) fit owner_made member_made
 
 -- ---- a member is taken out
@@ -126,8 +133,8 @@ removed_placed : (graph : Graph) (owner : ObjId) (place : RelNo) (relation : Rel
 removed_placed graph owner place relation member owner_made member_made = by (lacks_member graph owner place member)
   where
     by : (b : Bool) → FoundPlaced graph (if b then Err (InvalidRequestError NotAMember) else Ok (remove_change graph owner place relation member))
-    by true = found_err graph (InvalidRequestError NotAMember)
-    by false = found_ok graph (remove_change graph owner place relation member) (out_placed graph owner place relation member owner_made member_made)
+    by true = found_err (IsPlaced graph) (InvalidRequestError NotAMember)
+    by false = found_ok (IsPlaced graph) (remove_change graph owner place relation member) (out_placed graph owner place relation member owner_made member_made)
 
 -- ---- any call
 
@@ -136,12 +143,8 @@ by_call graph mapped owner place relation (Set parent) fit owner_made end_made =
 by_call graph mapped owner place relation (Append member) fit owner_made end_made = appended_placed graph mapped owner place relation member fit owner_made end_made
 by_call graph mapped owner place relation (Remove member) fit owner_made end_made = removed_placed graph owner place relation member owner_made end_made
 
-unless_placed : (graph : Graph) (fault : Option Refusal) (found : Result Change Refusal) → FoundPlaced graph found → FoundPlaced graph (unless_fault fault found)
-unless_placed graph (Some fault) found placed = found_err graph fault
-unless_placed graph None found placed = placed
-
 pub change_placed : (graph : Graph) (mapped : Mapped) (owner : ObjId) (place : RelNo) (call : LinkCall) (change : Change) → IsFit mapped graph → IsObject graph owner → IsEnd graph (end_of call) → link_change graph mapped owner place call ≡ Ok change → IsPlaced graph change
-unfolding FoundPlaced link_change
+unfolding Found link_change
 change_placed graph mapped owner place call change fit owner_made end_made is =
     let relation : Relation = relation_of mapped (object_at graph owner).class place in
-    unless_placed graph (end_fault graph mapped owner relation.target (end_of call)) (links_by graph mapped owner place relation call) (by_call graph mapped owner place relation call fit owner_made end_made) change is
+    found_unless (IsPlaced graph) (end_fault graph mapped owner relation.target (end_of call)) (links_by graph mapped owner place relation call) (λ none. by_call graph mapped owner place relation call fit owner_made end_made) change is

@@ -3,8 +3,7 @@ use Rattle.std.specs.Prelude.{◌≡◌, ◌≢◌, ℕ, ◌-◌, ◌<◌, ◌�
 use Rattle.std.specs.Option.{option_and_then}
 use Rattle.base_core.specs.declared.value.Value.{Value}
 use Rattle.class_types.specs.declared.mapped.Attribute.{Attribute}
-use Rattle.class_mapping.specs.Mapped.{IsClass, Mapped, attribute_of}
-use Rattle.class_mapping.specs.PlainClass.{IsPlainClass}
+use Rattle.class_mapping.specs.Mapped.{Mapped, attribute_of}
 use Rattle.expr_types.specs.declared.select.Bulk.{Bulk}
 use Rattle.sql_semantics.specs.Plain.{IsPlainBulk}
 use Rattle.schema_core.specs.Tables.{Legal, Tables, row_under, rows_in}
@@ -140,10 +139,9 @@ pub record IsCommittable (world : Beside SessionState) : Type 0 where
   pub well : IsWell world
   pub written : IsWritten world
 
--- a transaction is in progress, each class is a plain root, and the objects fit their classes
+-- a transaction is in progress, and the objects fit their classes
 pub record IsFitting (session : SessionState) : Type 0 where
   pub inside : has_scope session.frames.scopes ≡ true
-  pub plain : (class : ClassId) → IsClass session.mapping class → IsPlainClass session.mapping class
   pub fit : IsFit session.mapping session.graph
 
 -- a bulk statement may be sent

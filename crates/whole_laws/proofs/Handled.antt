@@ -5,6 +5,7 @@ use Rattle.std.proofs.lemmas.List.Quantifiers.{position-Some}
 use Rattle.base_core.specs.declared.ids.AttrNo.{AttrNo}
 use Rattle.base_core.specs.declared.ids.ClassId.{ClassId}
 use Rattle.base_core.specs.declared.ids.ObjId.{ObjId}
+use Rattle.base_core.specs.declared.ids.RelNo.{RelNo}
 use Rattle.base_core.specs.Counts.{one_more}
 use Rattle.base_core.specs.declared.refusal.Refusal.{Refusal}
 use Rattle.base_core.specs.declared.refusal.Refusal.TheVariants.{PendingRollbackError}
@@ -14,11 +15,16 @@ use Rattle.expr_types.specs.declared.select.Bulk.{Bulk}
 use Rattle.expr_types.specs.declared.select.Select.{Select}
 use Rattle.keeper_core.specs.Calls as call
 use Rattle.legality_laws.specs.Legality.{Keeps}
-use Rattle.object_arena.specs.Graph.{Graph, key_fault, make, object_at, value_fault, with_object, with_value}
+use Rattle.object_arena.specs.Graph.{Graph, key_fault, make, object_at, value_fault, with_link, with_object, with_value}
 use Rattle.graph_flushed.specs.Flushed.{graph_flushed}
 use Rattle.programs.specs.Programs.{Event, Run, ◌>>=◌, continue_from, give, refuse, undo_on_refusal, with_undo}
 use Rattle.programs.specs.Beside.{by_own, changes, on_own, on_store}
 use Rattle.programs.specs.Store.{Store}
+use Rattle.relations.specs.declared.calls.LinkCall.{LinkCall}
+use Rattle.relations.specs.declared.change.Change.{Change}
+use Rattle.relations.specs.declared.change.LinkPut.{LinkPut}
+use Rattle.relations.specs.Calls.{link_change}
+use Rattle.relations.specs.Mirror.{with_orphan}
 use Rattle.savepoints.specs.declared.scope.Scope.{Scope}
 use Rattle.savepoints.specs.Scopes.{begun_at, scope_released}
 use Rattle.sql_semantics.specs.Applied.{table_of}
@@ -35,6 +41,9 @@ use Rattle.session_calls.proofs.Acting.{no_scope_open, some_scope_open}
 use Rattle.session_savepoints.specs.Steps.{begin_savepoint, check_handle, commit_transaction, commit_whole, enter_nested, handle_fault, limit_fault, release_handle, release_many, release_one}
 use Rattle.session_objects.specs.Steps.{add}
 use Rattle.session_objects.specs.Taking.{added_then, coming_objects, session_added, session_joined, session_taken, taken_under, unmarked}
+use Rattle.session_links.specs.Linking.{change_fault, child_of, coming_along, session_by, session_changed, session_linked, session_orphaned, session_put}
+use Rattle.session_links.specs.Reading.{link_read}
+use Rattle.session_links.specs.Steps.{change_inside, change_link, read_related}
 use Rattle.session_statements.specs.Rewriting.{graph_reread}
 use Rattle.session_statements.specs.Steps as statements
 use Rattle.session_tables.specs.declared.tables.TableChange.{TableChange}
@@ -198,6 +207,43 @@ added_stays object own has =
 
 pub add_handled : (object : ObjId) → Keeps Handled (add object)
 add_handled object = keeping.adds HasHandles noted entered object (added_stays object)
+
+put_handles : (put : Option LinkPut) (own : SessionState) → HasHandles own → HasHandles (session_put put own)
+put_handles None own has = has
+put_handles (Some put) own has = handles_with (with_link own.graph put.object put.relation put.link) own has
+
+orphan_handles : (object : ObjId) (orphan : Option Bool) (own : SessionState) → HasHandles own → HasHandles (session_orphaned object orphan own)
+orphan_handles object None own has = has
+orphan_handles object (Some orphan) own has = handles_with (with_orphan own.graph object (Some orphan)) own has
+
+by_change : (owner : ObjId) (place : RelNo) (call : LinkCall) (own : SessionState) (found : Result Change Refusal) → HasHandles own → HasHandles (session_by owner place call own found)
+by_change owner place call own (Err fault) has = has
+by_change owner place call own (Ok change) has =
+    let marked : SessionState = session_orphaned (child_of owner call) change.orphan own in
+    let left : SessionState = session_put change.left marked in
+    let joins : SessionState = session_put change.joined left in
+    joins_stay (coming_along own owner place call change) (session_linked (child_of owner call) change own)
+    (put_handles change.own joins (put_handles change.joined left (put_handles change.left marked (orphan_handles (child_of owner call) change.orphan own has))))
+
+changed_stays : (owner : ObjId) (place : RelNo) (call : LinkCall) (own : SessionState) → HasHandles own → HasHandles (session_changed owner place call own)
+unfolding session_changed
+changed_stays owner place call own has = by_change owner place call own (link_change own.graph own.mapping owner place call) has
+
+pub link_handled : (owner : ObjId) (place : RelNo) (call : LinkCall) → Keeps Handled (change_link owner place call)
+unfolding change_link
+link_handled owner place call =
+    joined enter (λ u. change_inside owner place call) entered
+    (λ u.
+    joined (checked (change_fault owner place call)) (λ u. changes (session_changed owner place call)) (asked (change_fault owner place call))
+    (λ u. keeping.changed HasHandles noted (session_changed owner place call) (changed_stays owner place call)))
+
+related_stays : (object : ObjId) (place : RelNo) (own : SessionState) → HasHandles own → HasHandles (link_read object place own).after
+unfolding link_read
+related_stays object place own has = has
+
+pub related_handled : (object : ObjId) (place : RelNo) → Keeps Handled (read_related object place)
+unfolding read_related
+related_handled object place = joined enter (λ u. on_own (link_read object place)) entered (λ u. owned (link_read object place) (related_stays object place))
 
 pub tables_handled : (change : TableChange) → Keeps Handled (change_all change)
 tables_handled change = keeping.tables HasHandles noted change

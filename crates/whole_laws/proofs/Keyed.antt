@@ -61,7 +61,7 @@ graph_keyed graph own change keyed = record {
 pub object_keyed : (object : ObjId) (new : Object) (own : SessionState) → new.class ≡ (object_at own.graph object).class → (place_of object < length own.graph.objects → FitsIn own.mapping own.graph.roots new) → IsKeyed own → IsKeyed (with_graph (with_object own.graph object new) own)
 object_keyed object new own class one keyed = graph_keyed (with_object own.graph object new) own (refit_with own.mapping own.graph object new keyed.fit class one) keyed
 
-its_fit : (object : ObjId) (own : SessionState) → IsKeyed own → place_of object < length own.graph.objects → FitsIn own.mapping own.graph.roots (object_at own.graph object)
+pub its_fit : (object : ObjId) (own : SessionState) → IsKeyed own → place_of object < length own.graph.objects → FitsIn own.mapping own.graph.roots (object_at own.graph object)
 its_fit object own keyed less = fits_each own.mapping own.graph keyed.fit (place_of object) less
 
 unless_keyed : (fault : Option Refusal) (graph : Graph) (own : SessionState) → IsKeyed own → (fault ≡ None → IsKeyed (with_graph graph own)) → IsKeyed (changed_unless fault graph own).after
@@ -188,7 +188,7 @@ one_keyed object own keyed =
     object_keyed object (taken_under number o) (record own { added = added_then o.state own.added }) (taken_class o.state number o) (λ less. taken_fits own.mapping own.graph.roots o.state number o (its_fit object own keyed less))
     (record { well = keyed.well; fit = keyed.fit; keys = keyed.keys })
 
-all_joined : (objects : List ObjId) (own : SessionState) → IsKeyed own → IsKeyed (session_joined objects own)
+pub all_joined : (objects : List ObjId) (own : SessionState) → IsKeyed own → IsKeyed (session_joined objects own)
 all_joined [] own keyed = keyed
 all_joined (object ∷ objects) own keyed = all_joined objects (session_taken object own) (one_keyed object own keyed)
 

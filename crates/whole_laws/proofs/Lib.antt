@@ -1,5 +1,6 @@
 pub mod Refit
 pub mod Keyed
+pub mod Linked
 pub mod Keeping
 pub mod Programs
 pub mod Handled

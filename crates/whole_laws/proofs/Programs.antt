@@ -2,6 +2,7 @@
 use Rattle.std.proofs.Common.{◌≡◌, ℕ, ◌+◌, ◌-◌, Bool, true, false, not, ◌&&◌, ◌==◌, List, [], length, Option, None, Some, sym, subst}
 use Rattle.base_core.specs.declared.ids.AttrNo.{AttrNo}
 use Rattle.base_core.specs.declared.ids.ObjId.{ObjId}
+use Rattle.base_core.specs.declared.ids.RelNo.{RelNo}
 use Rattle.base_core.specs.declared.ids.TableId.{TableId}
 use Rattle.base_core.specs.declared.refusal.Refusal.{Refusal}
 use Rattle.base_core.specs.declared.value.Value.{Value}
@@ -18,6 +19,7 @@ use Rattle.object_rows.specs.declared.prepared.Prepared.{Prepared}
 use Rattle.programs.specs.Programs.{Event, Run, ◌>>=◌, give}
 use Rattle.programs.specs.Beside.{by_own, changes, on_own, on_store}
 use Rattle.programs.specs.Store.{Store}
+use Rattle.relations.specs.declared.calls.LinkCall.{LinkCall}
 use Rattle.sql_semantics.specs.Applied.{table_of}
 use Rattle.session_scopes.specs.Changes.{cell_read, deletion_marked, value_put}
 use Rattle.session_scopes.specs.Handles.{place_of_handle}
@@ -28,6 +30,10 @@ use Rattle.session_calls.specs.Steps.{begin_unless, close, delete, enter, go_bac
 use Rattle.session_savepoints.specs.Steps.{begin_savepoint, check_handle, commit_transaction, commit_whole, enter_nested, handle_fault, limit_fault, release_handle, release_many, release_place}
 use Rattle.session_objects.specs.Steps.{add}
 use Rattle.session_objects.specs.Taking.{session_added}
+use Rattle.session_links.specs.Linking.{change_fault, session_changed}
+use Rattle.session_links.specs.Reading.{link_read}
+use Rattle.session_links.specs.Steps.{change_inside, change_link, read_related}
+use Rattle.session_link_laws.specs.Laws.{IsLinkCall}
 use Rattle.session_statements.specs.Rewriting.{session_reread}
 use Rattle.session_statements.specs.Steps as statements
 use Rattle.session_tables.specs.declared.tables.TableChange.{TableChange}
@@ -56,6 +62,7 @@ pub record AreSteps (P : SessionState → Type 0) : Type 0 where
   pub flushed : (prepared : Prepared) → prepared.cleared ≡ [] → (rows : RowChanges) (keys : List (List Value)) (own : SessionState) → P own → P (session_flushed prepared rows keys own)
   pub reread : (table : TableId) (own : SessionState) → P own → P (session_reread table own)
   pub added : (object : ObjId) (own : SessionState) → P own → P (session_added object own)
+  pub linked : (owner : ObjId) (place : RelNo) (call : LinkCall) (own : SessionState) → IsLinkCall own.mapping own.graph owner place call → P own → P (session_changed owner place call own)
   pub marked : (object : ObjId) (own : SessionState) → P own → P (deletion_marked object own).after
   pub put : (object : ObjId) (attr : AttrNo) (value : Value) (own : SessionState) → IsAttribute own.mapping (object_at own.graph object).class attr → value_fault own.mapping (object_at own.graph object) attr value ≡ None → P own → P (value_put object attr value own).after
 
@@ -96,6 +103,14 @@ module _ (P : SessionState → Type 0) (steps : AreSteps P) where
   pub reads : (object : ObjId) (attr : AttrNo) → Keeps (Holds P) (read_cell object attr)
   unfolding read_cell
   reads object attr = joined enter (λ u. on_own (cell_read object attr)) enters (λ u. keeping.owned P steps.notes (cell_read object attr) (read_only object attr))
+
+  related_only : (object : ObjId) (place : RelNo) (own : SessionState) → P own → P (link_read object place own).after
+  unfolding link_read
+  related_only object place own has = has
+
+  pub reads_links : (object : ObjId) (place : RelNo) → Keeps (Holds P) (read_related object place)
+  unfolding read_related
+  reads_links object place = joined enter (λ u. on_own (link_read object place)) enters (λ u. keeping.owned P steps.notes (link_read object place) (related_only object place))
 
   pub deletes : (object : ObjId) → Keeps (Holds P) (delete object)
   unfolding delete
@@ -199,6 +214,30 @@ module _ (P : SessionState → Type 0) (steps : AreSteps P) where
       joined (statements.enter_bulk statement) (λ u. flush_whole >>= λ u. statements.bulk statement)
       (joined enter (λ u. checked (statements.update_fault statement)) enters (λ u. asked (statements.update_fault statement)))
       (λ u. joined flush_whole (λ u. statements.bulk statement) flushes_whole (λ u. keeping.sends_bulk P steps.notes statement (steps.reread (table_of statement))))
+
+  -- ---- links
+
+  module _ (owner : ObjId) (place : RelNo) (call : LinkCall) where
+    record IsOn (w : World) : Type 0 where
+      has : P w.own
+      on : IsLinkCall w.own.mapping w.own.graph owner place call
+
+    changes_link : (w : World) → IsOn w → (Holds P) (changes (session_changed owner place call) w).after
+    unfolding changes
+    changes_link w it = steps.linked owner place call w.own it.on it.has
+
+    pub links : (w : World) → IsLinkCall w.own.mapping w.own.graph owner place call → (Holds P) w → (Holds P) (change_link owner place call w).after
+    unfolding change_link
+    links w on has =
+        let v : World = (enter w).after in
+        let entered : IsOn v = record {
+          has = enters.kept w has;
+          on = subst (λ (m : Mapped). IsLinkCall m v.own.graph owner place call) (sym (entered_mapping w)) (subst (λ (g : Graph). IsLinkCall w.own.mapping g owner place call) (sym (entered_graph w)) on);
+        } in
+        (led_then (Holds P) IsOn (Holds P) enter (λ u. change_inside owner place call) w (record { here = entered.has; told = λ u is. entered })
+        (λ u it.
+        led_then (Holds P) IsOn (Holds P) (checked (change_fault owner place call)) (λ u. changes (session_changed owner place call)) v (led_checked (Holds P) IsOn (change_fault owner place call) v it.has (λ none. it))
+        (λ u ready. let done = changes_link (checked (change_fault owner place call) v).after ready in record { here = done; told = λ u is. done }))).here
 
   -- ---- values
 

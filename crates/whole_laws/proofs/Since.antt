@@ -1,7 +1,6 @@
 -- What sessions keep in each step: that their objects fit, and that the objects that were there are there still.
-use Rattle.std.proofs.Common.{◌≡◌, ◌≤◌, ℕ, true, List, [], ◌∷◌, length, Option, None, Some, refl, arith}
+use Rattle.std.proofs.Common.{◌≡◌, ◌≤◌, ℕ, true, List, length, Option, None, Some, refl, arith}
 use Rattle.std.specs.List.{AllByRecursion}
-use Rattle.base_core.specs.Counts.{one_more}
 use Rattle.base_core.specs.declared.ids.AttrNo.{AttrNo}
 use Rattle.base_core.specs.declared.ids.ClassId.{ClassId}
 use Rattle.base_core.specs.declared.ids.ObjId.{ObjId}
@@ -18,15 +17,16 @@ use Rattle.programs.specs.Beside.{on_own}
 use Rattle.session_parts.specs.Ends.{object_committed, object_left, object_unmarked}
 use Rattle.session_scopes.specs.Changes.{changed_unless, delete_fault, deletion_marked, value_put}
 use Rattle.session_scopes.specs.Scoping.{session_restored}
-use Rattle.session_scopes.specs.SessionState.{SameObjects, SessionState, with_graph}
+use Rattle.session_scopes.specs.SessionState.{SameObjects, SessionState}
 use Rattle.session_calls.specs.Parts.{World}
 use Rattle.session_calls.proofs.Joining.{same_itself, same_more}
-use Rattle.session_objects.specs.Taking.{coming_objects, session_added, session_joined, session_taken, taken_under}
+use Rattle.session_objects.specs.Taking.{coming_objects, session_added, session_joined}
 use Rattle.session_statements.specs.Rewriting.{graph_reread, is_reread, reread_of}
 use Rattle.session_values.specs.Steps.{given_fault, made_unless, valid_made}
 use Rattle.health_laws.proofs.Fits.{classes_written}
 use Rattle.whole_laws.specs.Whole.{IsKeyed}
-use Rattle.whole_laws.proofs.Keyed.{added_keyed, begun_keyed, closed_keyed, committed_keyed, flushed_keyed, if_class, made_keyed, mark_keyed, nested_keyed, released_keyed, reread_keyed, restored_keyed, taken_class, value_keyed}
+use Rattle.whole_laws.proofs.Keyed.{added_keyed, begun_keyed, closed_keyed, committed_keyed, flushed_keyed, if_class, made_keyed, mark_keyed, nested_keyed, released_keyed, reread_keyed, restored_keyed, value_keyed}
+use Rattle.whole_laws.proofs.Linked.{changed_keyed, changed_same, joined_same, regraphed, with_one}
 use Rattle.whole_laws.proofs.Programs.{AreSteps}
 use Rattle.whole_laws.proofs.Refit.{classes_all, committed_class, restored_refit}
 
@@ -50,6 +50,7 @@ keyed_steps = record {
   flushed = flushed_keyed;
   reread = reread_keyed;
   added = added_keyed;
+  linked = changed_keyed;
   marked = mark_keyed;
   put = value_keyed;
 }
@@ -68,22 +69,6 @@ make_keyed rules class given w declared attributes keyed = made_by (given_fault 
 pub record IsKeyedSince (first own : SessionState) : Type 0 where
   pub keyed : IsKeyed own
   pub same : SameObjects first own
-
-regraphed : (own : SessionState) (graph : Graph) → classes_of graph ≡ classes_of own.graph → SameObjects own (with_graph graph own)
-regraphed own graph same = record { mapping = refl; classes = same; drawn = omega arith }
-
-with_one : (own : SessionState) (object : ObjId) (new : Object) → new.class ≡ (object_at own.graph object).class → SameObjects own (with_graph (with_object own.graph object new) own)
-with_one own object new class = regraphed own (with_object own.graph object new) (classes_set own.graph (with_object own.graph object new) object new class refl)
-
-taken_same : (object : ObjId) (own : SessionState) → SameObjects own (session_taken object own)
-taken_same object own =
-    let o : Object = object_at own.graph object in
-    let new : Object = taken_under (one_more own.added) o in
-    record { mapping = refl; classes = classes_set own.graph (with_object own.graph object new) object new (taken_class o.state (one_more own.added) o) refl; drawn = omega arith }
-
-joined_same : (objects : List ObjId) (own : SessionState) → SameObjects own (session_joined objects own)
-joined_same [] own = same_itself own
-joined_same (object ∷ objects) own = same_more (taken_same object own) (joined_same objects (session_taken object own))
 
 added_same : (object : ObjId) (own : SessionState) → SameObjects own (session_added object own)
 added_same object own =
@@ -138,6 +123,7 @@ module _ (first : SessionState) where
     reread = λ table own since.
         goes_on own _ since (reread_keyed table own) (regraphed own (graph_reread own.mapping table own.graph) (classes_all (reread_of own.mapping table) own.graph (λ o. if_class (is_reread own.mapping table o) o)));
     added = λ object own since. goes_on own _ since (added_keyed object own) (added_same object own);
+    linked = λ owner place call own on since. goes_on own _ since (changed_keyed owner place call own on) (changed_same owner place call own on since.keyed);
     marked = λ object own since. goes_on own _ since (mark_keyed object own) (marked_same object own);
     put = λ object attr value own inside none since. goes_on own _ since (value_keyed object attr value own inside none) (put_same object attr value own);
   }

@@ -12,9 +12,10 @@ use Rattle.savepoints.specs.Scopes.{HasKeys}
 use Rattle.session_scopes.specs.SessionState.{SessionState, new_session}
 use Rattle.session_calls.specs.Parts.{World}
 use Rattle.session_acts.specs.Steps.{IsPlainButForKeys}
+use Rattle.session_link_laws.specs.Laws.{IsLinkCall}
 use Rattle.session_sound.specs.Sound.{IsHandled}
 use Rattle.health_laws.specs.Calls.{Call, HasOneForEachKey, after_call, after_calls}
-use Rattle.health_laws.specs.Health.{HasPlainClasses, IsHealthy}
+use Rattle.health_laws.specs.Health.{HasClasses, IsHealthy, MayFlush}
 
 -- The mapping is as every configured one is, with links, classes of several tables and discriminators as they may be. The objects fit
 -- their classes, their links too, and had keys of these at the start of each scope.
@@ -29,13 +30,15 @@ pub record IsHale (world : World) : Type 0 where
   pub keyed : IsKeyed world.own
   pub handled : IsHandled world
 
--- the call names classes, attributes and objects that are there, and a statement that is plain unless it is refused for a key
+-- the call names classes, attributes, relationships and objects that are there, and a statement that is plain unless it is refused for
+-- a key
 abbrev pub IsCallOf : Call → World → Type 0
 IsCallOf (Call.Make class given) world = IsClass world.own.mapping class × AllByRecursion (λ (one : AttrNo × Value). IsAttribute world.own.mapping class one.0) given
 IsCallOf (Call.Add object) world = IsObject world.own.graph object
 IsCallOf (Call.Set object attr value) world = IsObject world.own.graph object × IsAttribute world.own.mapping (object_at world.own.graph object).class attr
 IsCallOf (Call.Read object attr) world = IsObject world.own.graph object
 IsCallOf (Call.Delete object) world = IsObject world.own.graph object
+IsCallOf (Call.ChangeLink owner place call) world = IsLinkCall world.own.mapping world.own.graph owner place call
 IsCallOf (Call.Write statement) world = IsPlainButForKeys world.own.mapping.schema statement
 IsCallOf call world = Unit {0}
 
@@ -44,18 +47,33 @@ abbrev pub AreCallsOf : Rules → List Call → World → Type 0
 AreCallsOf rules [] world = Unit {0}
 AreCallsOf rules (call ∷ calls) world = IsCallOf call world × AreCallsOf rules calls (after_call rules call world)
 
+-- where a call flushes, the session may be flushed
+abbrev pub MayFlushIn : Call → World → Type 0
+MayFlushIn Call.Flush world = MayFlush world.own
+MayFlushIn Call.Commit world = MayFlush world.own
+MayFlushIn Call.BeginNested world = MayFlush world.own
+MayFlushIn (Call.CommitHandle handle) world = MayFlush world.own
+MayFlushIn (Call.Rows select) world = MayFlush world.own
+MayFlushIn (Call.Write statement) world = MayFlush world.own
+MayFlushIn call world = Unit {0}
+
+-- so it is when it is the call's turn
+abbrev pub MayFlushInAll : Rules → List Call → World → Type 0
+MayFlushInAll rules [] world = Unit {0}
+MayFlushInAll rules (call ∷ calls) world = MayFlushIn call world × MayFlushInAll rules calls (after_call rules call world)
+
 -- over classes of any form, whatever is called, and whatever is answered, objects go on to fit
 abbrev pub CallsKeepFit : Type 0
 CallsKeepFit = (rules : Rules) (calls : List Call) (world : World) → IsKeyed world.own → AreCallsOf rules calls world → IsKeyed (after_calls rules calls world).own
 
 -- whatever is called, and whatever is answered, a healthy session that is whole stays so
 abbrev pub CallsKeepWhole : Type 0
-CallsKeepWhole = (rules : Rules) (calls : List Call) (world : World) → IsHale world → AreCallsOf rules calls world → IsHale (after_calls rules calls world)
+CallsKeepWhole = (rules : Rules) (calls : List Call) (world : World) → IsHale world → AreCallsOf rules calls world → MayFlushInAll rules calls world → IsHale (after_calls rules calls world)
 
 -- a session over a mapping that has done nothing, and a store without tables
 abbrev pub new_world : Mapped → World
 new_world mapping = record { own = new_session mapping; store = record { tables = []; scopes = [] } }
 
--- whatever is called of a new session of plain classes, one object stands for each key
+-- whatever is called of a new session, one object stands for each key
 abbrev pub SessionsHaveOneForEachKey : Type 0
-SessionsHaveOneForEachKey = (mapping : Mapped) (rules : Rules) (calls : List Call) → HasPlainClasses mapping → AreCallsOf rules calls (new_world mapping) → HasOneForEachKey (after_calls rules calls (new_world mapping))
+SessionsHaveOneForEachKey = (mapping : Mapped) (rules : Rules) (calls : List Call) → HasClasses mapping → AreCallsOf rules calls (new_world mapping) → MayFlushInAll rules calls (new_world mapping) → HasOneForEachKey (after_calls rules calls (new_world mapping))

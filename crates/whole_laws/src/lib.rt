@@ -1,37 +1,43 @@
-//! Sessions of plain classes that stay whole: healthy, with objects that fit their classes and a handle for each savepoint in progress,
-//! so that nothing is left to be assumed of a session before a call. Each law is the contract of a function that does nothing, so there
+//! Sessions that stay whole: healthy, with objects that fit their classes and a handle for each savepoint in progress, so that nothing
+//! is left to be assumed of a session before a call. Each law is the contract of a function that does nothing, so there
 //! is no body that could be turned into a wrong one.
 #![tactic(auto)]
 
 ghost use Rattle.class_mapping.specs.Mapped.{Mapped};
-ghost use Rattle.health_laws.specs.Health.{HasPlainClasses};
+ghost use Rattle.health_laws.specs.Health.{HasClasses};
 ghost use Rattle.whole_laws.specs.Whole.{CallsKeepFit, CallsKeepWhole, IsHale, SessionsHaveOneForEachKey, new_world};
 
-use flush_sound_laws::{a_flush_keeps_sound, an_answered_flush_leaves_sound};
+use flush_sound_laws::{
+    a_flush_keeps_sound, a_flush_that_takes_nothing_away_keeps_sound,
+    an_answered_flush_leaves_sound, an_answered_flush_of_a_told_session_leaves_sound,
+};
 
 #[tactic(auto, using(crate::proofs::Calls::new_whole))]
-/// A new session over a configured mapping of plain classes is whole beside a store without tables.
+/// A new session over a configured mapping is whole beside a store without tables.
 pub fn a_new_session_is_whole()
-    ensures { (mapping : Mapped) → HasPlainClasses mapping → IsHale (new_world mapping) }
+    ensures { (mapping : Mapped) → HasClasses mapping → IsHale (new_world mapping) }
 {}
 
 /// Over every configured mapping, with links, classes of several tables and discriminators: whatever calls are made one after another, of
-/// classes, attributes and objects that are there, and whatever each answers, the objects go on to fit their classes, and their links
-/// the relationships of these.
+/// classes, attributes, relationships and objects that are there, and whatever each answers, the objects go on to fit their classes,
+/// and their links the relationships of these.
 pub fn calls_keep_objects_fitting()
     ensures { CallsKeepFit }
 {}
 
-/// Whatever calls are made one after another, of classes, attributes and objects that are there, and whatever each answers, a session
-/// stays healthy and whole: its objects fit their classes, and each savepoint in progress has a handle.
+/// Whatever calls are made one after another, of classes, attributes, relationships and objects that are there, and whatever each
+/// answers, a session stays healthy and whole, where it may be flushed when a call flushes it: its classes are plain roots, or nothing
+/// is to be taken away. Its objects fit their classes, and each savepoint in progress has a handle.
 pub fn calls_keep_whole()
     ensures { CallsKeepWhole }
 {
     a_flush_keeps_sound();
+    a_flush_that_takes_nothing_away_keeps_sound();
     an_answered_flush_leaves_sound();
+    an_answered_flush_of_a_told_session_leaves_sound();
 }
 
-/// From a new session of plain classes on, whatever calls are made, one object stands for each key.
+/// From a new session on, whatever calls are made, one object stands for each key.
 pub fn sessions_have_one_object_for_each_key()
     ensures { SessionsHaveOneForEachKey }
 {
