@@ -122,14 +122,14 @@ module _ (mapped : Mapped) (graph : Graph) (prepared : Prepared) (old : Tables) 
 
     placed : ArePlaced mapped.schema old (project mapped graph prepared) order sofar.keys
     placed =
-        let projected = all_projected mapped graph prepared old steady.well told steady.legal in
+        let projected = all_projected mapped graph prepared steady.well (record { fit = told.fit; keyed = told.keyed }) in
         all_are_placed mapped.schema old (project mapped graph prepared) order statements sofar steady.sorted projected.gone_once (order_made mapped.schema (project mapped graph prepared) statements planned).1 planned sent
 
     done : IsDone mapped graph prepared old order placed.placed sofar.tables
     done =
         let changes = project mapped graph prepared in
         let ordered = (order_made mapped.schema changes statements planned).1 in
-        let projected = all_projected mapped graph prepared old steady.well told steady.legal in
+        let projected = all_projected mapped graph prepared steady.well (record { fit = told.fit; keyed = told.keyed }) in
         record {
           plain = steady.plain;
           well = steady.well;

@@ -82,7 +82,7 @@ none_above m (object ∷ objects) all =
     or_none (object.0 == m) (list_any (λ (later : ObjId). later.0 == m) objects) (not_same object.0 m (λ same. omega (arith, all.0, same))) (none_above m objects all.1)
 
 -- no object stands twice among some of all
-ids_once : (test : ObjId → Bool) (n count : ℕ) → some_two (λ (one other : ObjId). one.0 == other.0) (filter test (map id_of_place (range_with_len n count))) ≡ false
+pub ids_once : (test : ObjId → Bool) (n count : ℕ) → some_two (λ (one other : ObjId). one.0 == other.0) (filter test (map id_of_place (range_with_len n count))) ≡ false
 ids_once test n zero = refl
 ids_once test n (suc count) = by (test (id_of_place n)) (ids_once test (n + 1) count)
   where

@@ -10,7 +10,7 @@ use Rattle.flush_plan.specs.Flushing.{Sofar}
 use Rattle.object_rows.specs.declared.prepared.Prepared.{Prepared}
 use Rattle.row_project.specs.Switch.{project}
 use Rattle.plan_laws.proofs.Complete.{IsStated}
-use Rattle.prefix_laws.specs.Laws.{IsTold, IsWellMapped}
+use Rattle.prefix_laws.specs.Laws.{HaveOwnRows, IsWellMapped}
 use Rattle.held_laws.specs.Laws.{HoldsItsRows, IsWhollyKnown, KeepsItsKey}
 
 -- objects held what the old tables had, and the changes were written
@@ -19,7 +19,7 @@ pub record IsDone (mapped : Mapped) (graph : Graph) (prepared : Prepared) (old :
   pub classes : HasHierarchies mapped
   pub legal : Legal mapped.schema old
   pub last : Legal mapped.schema after
-  pub told : IsTold mapped graph prepared old
+  pub own : HaveOwnRows mapped graph prepared
   pub holds : (object : ObjId) → IsObject graph object → is_persistent (object_at graph object).state ≡ true → HoldsItsRows mapped old (object_at graph object)
   pub keyed : (object : ObjId) → IsObject graph object → is_persistent (object_at graph object).state ≡ true → KeepsItsKey mapped (object_at graph object)
   pub known : (object : ObjId) → IsObject graph object → graphs.is_among prepared.deleted object ≡ true → IsWhollyKnown (object_at graph object)

@@ -146,7 +146,7 @@ module _ (mapped : Mapped) (graph : Graph) (prepared : Prepared) (old : Tables) 
       → cell_for mapped (object_at graph object) attribute.table attribute.column.0 ≡ Some (get_or (object_at graph object).cells i expired_cell)
   cell_is object i attribute made at =
       ap (option_and_then (slice_get (object_at graph object).cells)) (column_place mapped (object_at graph object).class (once mapped graph prepared old order placed after done) i attribute at)
-      ∙ slice_get-get_or (object_at graph object).cells i expired_cell (omega (arith, slice_get_within (attributes_of mapped (object_at graph object).class) i attribute at, fit_cells mapped graph object done.told.fit made))
+      ∙ slice_get-get_or (object_at graph object).cells i expired_cell (omega (arith, slice_get_within (attributes_of mapped (object_at graph object).class) i attribute at, fit_cells mapped graph object done.own.fit made))
 
   -- the row of a deleted object in its root's table stands
   root_stands : (object : ObjId) → IsObject graph object → graphs.is_persistent (object_at graph object).state ≡ true → graphs.is_among prepared.deleted object ≡ true
@@ -154,7 +154,7 @@ module _ (mapped : Mapped) (graph : Graph) (prepared : Prepared) (old : Tables) 
   root_stands object made persists deleted =
       let class : ClassId = (object_at graph object).class in
       let table : TableId = root_table mapped class in
-      let known = known_tables mapped graph prepared old order placed after done object (fit_class mapped graph object done.told.fit made) in
+      let known = known_tables mapped graph prepared old order placed after done object (fit_class mapped graph object done.own.fit made) in
       let columns : List ColumnSpec = (spec_of mapped.schema table).columns in
       let key = some_of (λ (c : ColumnSpec). c.key) columns (table_faultless mapped table done.classes (root_declared mapped class known)).keyed in
       let place = has_place columns key.0 key.1 in
@@ -165,7 +165,7 @@ module _ (mapped : Mapped) (graph : Graph) (prepared : Prepared) (old : Tables) 
       subst (λ (list : List Attribute). Has list attribute) (sym (passed_are mapped class done.classes known))
       (has_map (attribute_at table) (filter (λ placed. placed.1.key) (enumerate_from 0 columns)) (0 + place.0, key.0) (has_filter (λ (p : ℕ × ColumnSpec). p.1.key) (enumerate_from 0 columns) (0 + place.0, key.0) listed key.2)) in
       let at = has_place (attributes_of mapped class) attribute (from_filter (is_key mapped.schema.tables) (attributes_of mapped class) attribute keyed).0 in
-      let less : at.0 < length (object_at graph object).cells = omega (arith, slice_get_within (attributes_of mapped class) at.0 attribute at.1, fit_cells mapped graph object done.told.fit made) in
+      let less : at.0 < length (object_at graph object).cells = omega (arith, slice_get_within (attributes_of mapped class) at.0 attribute at.1, fit_cells mapped graph object done.own.fit made) in
       let base = some_option (get_or (object_at graph object).cells at.0 expired_cell).base (done.known object made deleted (record { 0 = at.0 }) less) in
       let held = held_at mapped graph prepared old order placed after done object table (0 + place.0) (get_or (object_at graph object).cells at.0 expired_cell) base.0 made persists (cell_is object at.0 attribute made at.1) base.1 in
       (held.row, held.at)
@@ -204,7 +204,7 @@ module _ (mapped : Mapped) (graph : Graph) (prepared : Prepared) (old : Tables) 
           let class : ClassId = (object_at graph object).class in
           let was : WasRow mapped graph prepared old order placed after done q gone = was_row mapped graph prepared old order placed after done q gone class (subst (Has (tables_of mapped class)) (sym its) own.1) e in
           let other : ClassId = (object_at graph was.object).class in
-          let within : IsClass mapped other = fit_class mapped graph was.object done.told.fit was.made in
+          let within : IsClass mapped other = fit_class mapped graph was.object done.own.fit was.made in
           let table : root_table mapped other ≡ root_table mapped class = shares_root class other own.0 within (subst (Has (tables_of mapped other)) its was.has) in
           let stands = root_stands was.object was.made was.persists was.deleted in
           let key : rows.key_or_none (object_at graph was.object).identity ≡ key_then q = was.key ∙ sym (ap (λ (o : Option ℕ). key_by mapped graph first (whole mapped graph prepared old order placed after done) placed.keys (drawn mapped graph prepared old order placed after done) o q) e) in
@@ -273,7 +273,7 @@ module _ (mapped : Mapped) (graph : Graph) (prepared : Prepared) (old : Tables) 
       let far = if_has (is_some by.0.1.far) (pairs.made_from graph prepared object by.0.1 link) pair.0 by.2 in
       let member = from_map (pairs.pair_of by.0.1 object) (filter (pairs.is_made graph prepared object) (pairs.members_added link)) pair.0 far.1 in
       let table : by.0.1.foreign.0 ≡ row.name.table = ap (λ (p : pairs.Pair). p.0) member.2 ∙ ap (λ (r : NewRow). r.name.table) pair.2 in
-      pair_table class object by.0 (fit_class mapped graph object done.told.fit made) by.1 far.0 (subst (Has (tables_of mapped class)) (sym table) own)
+      pair_table class object by.0 (fit_class mapped graph object done.own.fit made) by.1 far.0 (subst (Has (tables_of mapped class)) (sym table) own)
 
   -- a new row of a table of a class is an object's
   row_within : (q : ℕ) (class : ClassId) → q < length (object_changes mapped graph prepared).fresh → Has (tables_of mapped class) (table_at (object_changes mapped graph prepared) q) → slice_get (new_names mapped graph prepared) q ≡ Some (new_at (object_changes mapped graph prepared) q).name

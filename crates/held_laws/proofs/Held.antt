@@ -71,7 +71,7 @@ module _ (mapped : Mapped) (graph : Graph) (prepared : Prepared) (old : Tables) 
   changed_created : AllByRecursion (λ (row : ChangedRow). (writes_some row.cells || is_created old row.name.table) ≡ true) (project mapped graph prepared).changed
   changed_created =
       let found = partners mapped.schema first in
-      let apart = rows_apart mapped graph prepared (once_law mapped held.well.lined held.well.lines) held.told.keyed in
+      let apart = rows_apart mapped graph prepared (once_law mapped held.well.lined held.well.lines) held.own.keyed in
       all_append (λ (row : ChangedRow). (writes_some row.cells || is_created old row.name.table) ≡ true) (rows_kept mapped graph first found) (rows_switched mapped graph first found)
       (all_from (λ (row : ChangedRow). (writes_some row.cells || is_created old row.name.table) ≡ true) (rows_kept mapped graph first found)
       (λ row has. or_here (writes_some row.cells) (is_created old row.name.table) (some_written row (from_filter has_cells (map (row_kept mapped graph first found) first.changed) row has).1)))
@@ -90,20 +90,20 @@ module _ (mapped : Mapped) (graph : Graph) (prepared : Prepared) (old : Tables) 
 
     put : ArePlaced mapped.schema old (project mapped graph prepared) order sofar.keys
     put =
-        let projected = all_projected mapped graph prepared old held.well held.told held.legal in
+        let projected = all_projected mapped graph prepared held.well held.own in
         all_are_placed mapped.schema old (project mapped graph prepared) order statements sofar held.sorted projected.gone_once (order_made mapped.schema (project mapped graph prepared) statements planned).1 planned sent
 
     done : IsDone mapped graph prepared old order put.placed sofar.tables
     done =
         let changes = project mapped graph prepared in
         let ordered = (order_made mapped.schema changes statements planned).1 in
-        let projected = all_projected mapped graph prepared old held.well held.told held.legal in
+        let projected = all_projected mapped graph prepared held.well held.own in
         record {
           well = held.well;
           classes = held.classes;
           legal = held.legal;
           last = last;
-          told = held.told;
+          own = held.own;
           holds = λ object made persists. held.holds (place_of object) (within object made) persists;
           keyed = λ object made persists. held.keyed (place_of object) (within object made) persists;
           known = known;
@@ -115,7 +115,7 @@ module _ (mapped : Mapped) (graph : Graph) (prepared : Prepared) (old : Tables) 
             keys = put.puts;
             states = accepted_stated mapped.schema old changes order statements sofar projected held.sorted held.legal
                 (record {
-                  declared = each_to (IsInTable mapped.schema) (λ (row : ChangedRow). IsTable mapped.schema row.name.table) (λ row in_table. in_table.declared) changes.changed (project_declared mapped graph prepared held.well.related held.told.fit).changed;
+                  declared = each_to (IsInTable mapped.schema) (λ (row : ChangedRow). IsTable mapped.schema row.name.table) (λ row in_table. in_table.declared) changes.changed (project_declared mapped graph prepared held.well.related held.own.fit).changed;
                   created = changed_created;
                 })
                 ordered planned sent;

@@ -236,11 +236,11 @@ module _ (mapped : Mapped) (graph : Graph) (prepared : Prepared) (old : Tables) 
       let i : ℕ = attr.0 in
       let cells : List (ℕ × Cell) = enumerate_from 0 it.cells in
       let within : i < length it.cells = omega (arith, less, length-map cells (new_cell now object class key), length-enumerate_from 0 it.cells) in
-      let inside : i < length (attributes_of mapped class) = omega (arith, within, fit_cells mapped graph object done.told.fit made) in
+      let inside : i < length (attributes_of mapped class) = omega (arith, within, fit_cells mapped graph object done.own.fit made) in
       let attribute : Attribute = attribute_of mapped class attr in
       let at : slice_get (attributes_of mapped class) i ≡ Some attribute = slice_get-get_or (attributes_of mapped class) i no_attribute inside in
       let stands : HasColumn mapped class attribute = has_column mapped class attribute (has_at (attributes_of mapped class) i attribute at) in
-      let known : HasTables mapped class = known_tables mapped graph prepared old order placed after done object (fit_class mapped graph object done.told.fit made) in
+      let known : HasTables mapped class = known_tables mapped graph prepared old order placed after done object (fit_class mapped graph object done.own.fit made) in
       let cell : Cell = get_or it.cells i expired_cell in
       let place : 0 + i ≡ i = omega arith in
       let flushed_cell : get_or (map (new_cell now object class key) cells) i expired_cell ≡ held_cell (new_value now object class key (i, cell)) =

@@ -177,7 +177,7 @@ module _ (mapped : Mapped) (graph : Graph) (prepared : Prepared) (old : Tables) 
   -- ---- a row in place of a deleted one
 
   kept_apart : AreRowsApart mapped.schema (object_changes mapped graph prepared)
-  kept_apart = rows_apart mapped graph prepared (once mapped graph prepared old order placed after done) done.told.keyed
+  kept_apart = rows_apart mapped graph prepared (once mapped graph prepared old order placed after done) done.own.keyed
 
   -- the object whose row it was, in one of its tables
   pub record WasRow (q gone : ℕ) : Type 0 where
@@ -203,7 +203,7 @@ module _ (mapped : Mapped) (graph : Graph) (prepared : Prepared) (old : Tables) 
           → Has (flat_map (rows.rows_gone mapped graph) prepared.deleted) row ⊎ Has (lost_rows mapped graph prepared) row → WasRow q gone
       by row is place (inr pair) =
           let table : row.name.table ≡ table_at first q = ap (λ (p : Place). p.0) place in
-          absurd (true_false (sym (among_of (tables_of mapped class) row.name.table (subst (Has (tables_of mapped class)) (sym table) own)) ∙ each_has (λ (r : GoneRow). declares.is_among (tables_of mapped class) r.name.table ≡ false) (lost_rows mapped graph prepared) row (done.told.keyed.secondary class) pair))
+          absurd (true_false (sym (among_of (tables_of mapped class) row.name.table (subst (Has (tables_of mapped class)) (sym table) own)) ∙ each_has (λ (r : GoneRow). declares.is_among (tables_of mapped class) r.name.table ≡ false) (lost_rows mapped graph prepared) row (done.own.keyed.secondary class) pair))
       by row is place (inl inside) =
           let from = from_flat (rows.rows_gone mapped graph) prepared.deleted row inside in
           let object : ObjId = from.0 in
@@ -213,12 +213,12 @@ module _ (mapped : Mapped) (graph : Graph) (prepared : Prepared) (old : Tables) 
           let its : gone_row mapped graph object (table_at first q) ≡ row = ap (gone_row mapped graph object) (sym table) ∙ of.2 in
           record {
             object = object;
-            made = each_has (IsObject graph) prepared.deleted object done.told.keyed.made from.1;
-            persists = each_has (λ (o : ObjId). is_persistent (object_at graph o).state ≡ true) prepared.deleted object done.told.keyed.standing from.1;
+            made = each_has (IsObject graph) prepared.deleted object done.own.keyed.made from.1;
+            persists = each_has (λ (o : ObjId). is_persistent (object_at graph o).state ≡ true) prepared.deleted object done.own.keyed.standing from.1;
             deleted = among;
             has = subst (Has (tables_of mapped (object_at graph object).class)) table of.1;
             is = is ∙ sym its;
-            key = sym (done.told.keyed.read object (table_at first q) among (among_of (tables_of mapped (object_at graph object).class) (table_at first q) (subst (Has (tables_of mapped (object_at graph object).class)) table of.1))) ∙ ap (gone_key mapped.schema) its ∙ ap (λ (p : Place). p.1) place;
+            key = sym (done.own.keyed.read object (table_at first q) among (among_of (tables_of mapped (object_at graph object).class) (table_at first q) (subst (Has (tables_of mapped (object_at graph object).class)) table of.1))) ∙ ap (gone_key mapped.schema) its ∙ ap (λ (p : Place). p.1) place;
           }
 
   -- what is known of an object stands in its row

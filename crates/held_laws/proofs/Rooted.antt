@@ -99,7 +99,7 @@ module _ (mapped : Mapped) (graph : Graph) (prepared : Prepared) (old : Tables) 
 
   pub name_own : (q : ℕ) (row : RowName) → slice_get (new_names mapped graph prepared) q ≡ Some row → IsClass mapped (object_at graph row.object).class × Has (tables_of mapped (object_at graph row.object).class) row.table
   name_own q row at =
-      each_has (IsOwn mapped done.well.lined done.well.lines done.well.valid graph prepared done.told.fit) (new_names mapped graph prepared) row (names_own mapped done.well.lined done.well.lines done.well.valid graph prepared done.told.fit)
+      each_has (IsOwn mapped done.well.lined done.well.lines done.well.valid graph prepared done.own.fit) (new_names mapped graph prepared) row (names_own mapped done.well.lined done.well.lines done.well.valid graph prepared done.own.fit)
       (has_at (new_names mapped graph prepared) q row at)
 
   pub known_tables : (object : ObjId) → IsClass mapped (object_at graph object).class → HasTables mapped (object_at graph object).class

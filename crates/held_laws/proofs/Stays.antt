@@ -115,7 +115,7 @@ module _ (mapped : Mapped) (graph : Graph) (prepared : Prepared) (old : Tables) 
   one_object object other table of own its same =
       let tables : of ≡ table = ap (λ (q : Place). q.0) same in
       ap (λ (n : ℕ). let id : ObjId = record { 0 = n } in id)
-      (done.told.keyed.alone table other object (subst (λ (t : TableId). HasRow mapped graph t other) tables its) own (ap (λ (q : Place). q.1) same))
+      (done.own.keyed.alone table other object (subst (λ (t : TableId). HasRow mapped graph t other) tables its) own (ap (λ (q : Place). q.1) same))
 
   -- no deleted row is that of an object that stays
   not_gone : (object : ObjId) (table : TableId) → Keeps object table → (row : GoneRow) → Has (object_changes mapped graph prepared).gone row → place_of_gone mapped.schema row ≡ own_place object table → ⊥
@@ -126,16 +126,16 @@ module _ (mapped : Mapped) (graph : Graph) (prepared : Prepared) (old : Tables) 
       by (inr pair) =
           let its : row.name.table ≡ table = ap (λ (p : Place). p.0) same in
           true_false (declares.is_among (tables_of mapped (object_at graph object).class) row.name.table) (among_of (tables_of mapped (object_at graph object).class) row.name.table (subst (Has (tables_of mapped (object_at graph object).class)) (sym its) keeps.has))
-          (each_has (λ (r : GoneRow). declares.is_among (tables_of mapped (object_at graph object).class) r.name.table ≡ false) (lost_rows mapped graph prepared) row (done.told.keyed.secondary (object_at graph object).class) pair)
+          (each_has (λ (r : GoneRow). declares.is_among (tables_of mapped (object_at graph object).class) r.name.table ≡ false) (lost_rows mapped graph prepared) row (done.own.keyed.secondary (object_at graph object).class) pair)
       by (inl inside) =
           let from = from_flat (rows.rows_gone mapped graph) prepared.deleted row inside in
           let left : ObjId = from.0 in
           let of = from_map (rows.gone_row mapped graph left) (tables_of mapped (object_at graph left).class) row from.2 in
           let among : graphs.is_among prepared.deleted left ≡ true = any_has (λ (other : ObjId). other.0 == left.0) prepared.deleted left from.1 (eq-eqb left.0 left.0 refl) in
           let under : own_place left of.0 ≡ own_place object table =
-          ap (λ (key : List Value). let place : Place = (of.0, key) in place) (sym (done.told.keyed.read left of.0 among (among_of (tables_of mapped (object_at graph left).class) of.0 of.1))) ∙ ap (place_of_gone mapped.schema) of.2 ∙ same in
+          ap (λ (key : List Value). let place : Place = (of.0, key) in place) (sym (done.own.keyed.read left of.0 among (among_of (tables_of mapped (object_at graph left).class) of.0 of.1))) ∙ ap (place_of_gone mapped.schema) of.2 ∙ same in
           let its : HasRow mapped graph of.0 left =
-          has_row left of.0 (each_has (IsObject graph) prepared.deleted left done.told.keyed.made from.1) (each_has (λ (o : ObjId). is_persistent (object_at graph o).state ≡ true) prepared.deleted left done.told.keyed.standing from.1) of.1 in
+          has_row left of.0 (each_has (IsObject graph) prepared.deleted left done.own.keyed.made from.1) (each_has (λ (o : ObjId). is_persistent (object_at graph o).state ≡ true) prepared.deleted left done.own.keyed.standing from.1) of.1 in
           let one : left ≡ object = one_object object left table of.0 (has_row object table keeps.made keeps.persists keeps.has) its under in
           true_false (graphs.is_among prepared.deleted object) (subst (λ (o : ObjId). graphs.is_among prepared.deleted o ≡ true) one among) keeps.stays
 
@@ -219,7 +219,7 @@ module _ (mapped : Mapped) (graph : Graph) (prepared : Prepared) (old : Tables) 
           ∙ filter_twice (changed_cell mapped graph prepared names object table) (cell_kept mapped graph first (partners mapped.schema first) (changed_row mapped graph prepared names object table)) (enumerate_from 0 (columns table))
       by (inr inside) =
           let from = from_filter_map (switch_of mapped graph first (partners mapped.schema first)) (enumerate_from 0 first.fresh) row inside in
-          let apart = rows_apart mapped graph prepared (once mapped graph prepared old order placed after done) done.told.keyed in
+          let apart = rows_apart mapped graph prepared (once mapped graph prepared old order placed after done) done.own.keyed in
           let at = switched_is mapped graph first apart from.0 (place_of_changed row) from.1 (ap (option_map place_of_changed) from.2) in
           absurd (not_gone object table keeps (gone_at first.gone at.0) (has_at first.gone at.0 (gone_at first.gone at.0) (slice_get-get_or first.gone at.0 no_gone at.3)) (at.2 ∙ same))
 
@@ -388,7 +388,7 @@ module _ (mapped : Mapped) (graph : Graph) (prepared : Prepared) (old : Tables) 
       let i : ℕ = attr.0 in
       let cells : List (ℕ × Cell) = enumerate_from 0 it.cells in
       let within : i < length it.cells = omega (arith, less, length-map cells (staying_cell now object class), length-enumerate_from 0 it.cells) in
-      let inside : i < length (attributes_of mapped class) = omega (arith, within, fit_cells mapped graph object done.told.fit made) in
+      let inside : i < length (attributes_of mapped class) = omega (arith, within, fit_cells mapped graph object done.own.fit made) in
       let attribute : Attribute = attribute_of mapped class attr in
       let at : slice_get (attributes_of mapped class) i ≡ Some attribute = slice_get-get_or (attributes_of mapped class) i no_attribute inside in
       let stands : HasColumn mapped class attribute = has_column mapped class attribute (has_at (attributes_of mapped class) i attribute at) in

@@ -20,7 +20,7 @@ use Rattle.object_rows.specs.declared.prepared.Prepared.{Prepared}
 use Rattle.object_rows.specs.Rows.{key_or_none}
 use Rattle.plan_laws.specs.Laws.{before}
 use Rattle.plan_laws.specs.Premises.{IsSorted}
-use Rattle.prefix_laws.specs.Laws.{IsTold, IsWellMapped}
+use Rattle.prefix_laws.specs.Laws.{HaveOwnRows, IsWellMapped}
 use Rattle.row_project.specs.Changes.{rows_lost}
 use Rattle.row_project.specs.Switch.{project}
 use Rattle.graph_flushed.specs.Flushed.{graph_flushed}
@@ -48,15 +48,14 @@ abbrev pub placed_object : Graph → ℕ → Object
 placed_object graph place = slice_index_or graph.objects place no_object
 
 -- What is asked before the flush: the mapping is as every configured one is; tables are legal and ascend; the objects fit their
--- classes, have rows of their own, and those that are to be deleted stand as they were read, and are wholly known; and what is known
--- of persistent objects is what their rows hold, under keys that have not been changed. The tables of rows that are taken away are
--- created.
+-- classes and have rows of their own, and those that are to be deleted are wholly known; and what is known of persistent objects is
+-- what their rows hold, under keys that have not been changed. The tables of rows that are taken away are created.
 pub record AreHeld (mapped : Mapped) (graph : Graph) (prepared : Prepared) (old : Tables) : Type 0 where
   pub well : IsWellMapped mapped
   pub classes : HasHierarchies mapped
   pub legal : Legal mapped.schema old
   pub sorted : IsSorted old
-  pub told : IsTold mapped graph prepared old
+  pub own : HaveOwnRows mapped graph prepared
   pub created : AllByRecursion (λ (row : GoneRow). is_created old row.name.table ≡ true) (rows_lost mapped graph prepared)
   pub holds : (place : ℕ) → place < length graph.objects → is_persistent (placed_object graph place).state ≡ true → HoldsItsRows mapped old (placed_object graph place)
   pub keyed : (place : ℕ) → place < length graph.objects → is_persistent (placed_object graph place).state ≡ true → KeepsItsKey mapped (placed_object graph place)

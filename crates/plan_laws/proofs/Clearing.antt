@@ -17,6 +17,7 @@ use Rattle.flush_order.specs.Sorted.{Place}
 use Rattle.flush_plan.specs.Flushing.{Keys, Sofar, value_of_cell}
 use Rattle.flush_plan.specs.Planning.{Writing, late_cells, late_gone, writes_some}
 use Rattle.flush_plan.specs.Stating.{blend, edit_changed, edit_gone, edit_new, is_present, put_cells, row_at, written_rows}
+use Rattle.plan_laws.specs.Laws.{AreAsRead}
 use Rattle.plan_laws.proofs.Blend.{Long, blend_self, nulls, nulls_are_long, test}
 use Rattle.plan_laws.proofs.Changing.{none_written, step_is, step_of}
 use Rattle.plan_laws.proofs.Complete.{IsStated, cleared_there, stated_edit, told_long, whole_is_long}
@@ -87,7 +88,7 @@ module _ (schema : Catalog) (old : Tables) (changes : RowChanges) (order : List 
   abbrev cs_at : ℕ → List ColumnSpec
   cs_at n = (spec_of schema (gone_at n).name.table).columns
 
-  none_then : (n : ℕ) → n < length changes.gone → row_at after (at n) ≡ None
+  pub none_then : (n : ℕ) → n < length changes.gone → row_at after (at n) ≡ None
   none_then n h =
       stated_edit schema old changes order placed after told (edit_gone schema (gone_at n))
       (member_left (edit_gone schema (gone_at n)) (map (edit_gone schema) changes.gone ++ map (edit_changed old placed.keys) (written_rows changes)) (map (edit_new schema changes placed) order)
@@ -103,66 +104,67 @@ module _ (schema : Catalog) (old : Tables) (changes : RowChanges) (order : List 
   base_long : (n : ℕ) → n < length changes.gone → Long (cs_at n) (gone_at n).base
   base_long n h = whole_is_long (cs_at n) (gone_at n).base (all_at (λ (row : GoneRow). length row.base ≡ length (spec_of schema row.name.table).columns) changes.gone n no_gone told.projected.gone_cells h)
 
-  after_stands : (n : ℕ) (late : List Value) → n < length changes.gone → After schema changes old after placed.keys (at n) late → Stands null_cell (its_late n) (cs_at n) (map Given (gone_at n).base) late (nulls (cs_at n)) × Long (cs_at n) late
-  after_stands n late h (inl (inl was)) =
-      let long : Long (cs_at n) late = told_long schema old changes order placed after told (at n) late (inl was) in (
-        stands_base (its_late n) (cs_at n) (gone_at n).base late (base_long n h) long
-            (all_at (λ (row : GoneRow). (stands : List Value) → row_at old (place_of_gone schema row) ≡ Some stands → blend (is_late schema changes row.name.table) (spec_of schema row.name.table).columns stands row.base ≡ stands) changes.gone n no_gone told.projected.gone_late h late was),
-        long,
-      )
-  after_stands n late h (inl (inr then)) = absurd (none_some late (sym (none_then n h) ∙ then))
-  after_stands n late h (inr none) = (
-    subst (λ l. Stands null_cell (its_late n) (cs_at n) (map Given (gone_at n).base) l (nulls (cs_at n))) (sym none.0) (stands_nulls (its_late n) (cs_at n) (gone_at n).base),
-    subst (Long (cs_at n)) (sym none.0) (nulls_are_long (cs_at n)),
-  )
+  module _ (read : AreAsRead schema old changes) where
+    after_stands : (n : ℕ) (late : List Value) → n < length changes.gone → After schema changes old after placed.keys (at n) late → Stands null_cell (its_late n) (cs_at n) (map Given (gone_at n).base) late (nulls (cs_at n)) × Long (cs_at n) late
+    after_stands n late h (inl (inl was)) =
+        let long : Long (cs_at n) late = told_long schema old changes order placed after told (at n) late (inl was) in (
+          stands_base (its_late n) (cs_at n) (gone_at n).base late (base_long n h) long
+              (all_at (λ (row : GoneRow). (stands : List Value) → row_at old (place_of_gone schema row) ≡ Some stands → blend (is_late schema changes row.name.table) (spec_of schema row.name.table).columns stands row.base ≡ stands) changes.gone n no_gone read.late h late was),
+          long,
+        )
+    after_stands n late h (inl (inr then)) = absurd (none_some late (sym (none_then n h) ∙ then))
+    after_stands n late h (inr none) = (
+      subst (λ l. Stands null_cell (its_late n) (cs_at n) (map Given (gone_at n).base) l (nulls (cs_at n))) (sym none.0) (stands_nulls (its_late n) (cs_at n) (gone_at n).base),
+      subst (Long (cs_at n)) (sym none.0) (nulls_are_long (cs_at n)),
+    )
 
-  writes : (n : ℕ) (early late : List Value) → n < length changes.gone → Long (cs_at n) early → After schema changes old after placed.keys (at n) late → with_cells (Blend schema changes old after placed.keys (at n) early late) (put_cells (value_of_cell placed.keys) (clearing_at n).1) ≡ Blend schema changes old after placed.keys (at n) early (nulls (cs_at n))
-  writes n early late h long then =
-      let s = after_stands n late h then in
-      ap (with_cells (Blend schema changes old after placed.keys (at n) early late)) (nulls_put placed.keys (late_cells schema changes (gone_at n).name.table (map Given (gone_at n).base)))
-      ∙ late_numbered null_cell (its_late n) (cs_at n) (map Given (gone_at n).base) early late (nulls (cs_at n)) long s.1 (nulls_are_long (cs_at n)) (long_base (cs_at n) (gone_at n).base (base_long n h)) s.0
+    writes : (n : ℕ) (early late : List Value) → n < length changes.gone → Long (cs_at n) early → After schema changes old after placed.keys (at n) late → with_cells (Blend schema changes old after placed.keys (at n) early late) (put_cells (value_of_cell placed.keys) (clearing_at n).1) ≡ Blend schema changes old after placed.keys (at n) early (nulls (cs_at n))
+    writes n early late h long then =
+        let s = after_stands n late h then in
+        ap (with_cells (Blend schema changes old after placed.keys (at n) early late)) (nulls_put placed.keys (late_cells schema changes (gone_at n).name.table (map Given (gone_at n).base)))
+        ∙ late_numbered null_cell (its_late n) (cs_at n) (map Given (gone_at n).base) early late (nulls (cs_at n)) long s.1 (nulls_are_long (cs_at n)) (long_base (cs_at n) (gone_at n).base (base_long n h)) s.0
 
-  pub clear_ok : (n : ℕ) → n < length changes.gone → writes_some (clearing_at n).1 ≡ true → IsStep schema changes old after placed.keys (step_of true (clearing_at n))
-  clear_ok n h some =
-      let sp : Place = step_place placed.keys (step_of true (clearing_at n)) in
-      let same : sp ≡ at n = step_is placed.keys true (clearing_at n) in
-      let none : row_at after sp ≡ None = ap (row_at after) same ∙ none_then n h in (
-        inl (ap (is_present old) same ∙ there n h some),
-        (
-          nulls (cs_at n),
-          inr (none, refl),
-          inr (refl, inr none),
-          λ early late comes then.
-              writes n early late h (told_long schema old changes order placed after told sp early comes)
-              (subst (λ q. After schema changes old after placed.keys q late) same then),
-        ),
-      )
+    pub clear_ok : (n : ℕ) → n < length changes.gone → writes_some (clearing_at n).1 ≡ true → IsStep schema changes old after placed.keys (step_of true (clearing_at n))
+    clear_ok n h some =
+        let sp : Place = step_place placed.keys (step_of true (clearing_at n)) in
+        let same : sp ≡ at n = step_is placed.keys true (clearing_at n) in
+        let none : row_at after sp ≡ None = ap (row_at after) same ∙ none_then n h in (
+          inl (ap (is_present old) same ∙ there n h some),
+          (
+            nulls (cs_at n),
+            inr (none, refl),
+            inr (refl, inr none),
+            λ early late comes then.
+                writes n early late h (told_long schema old changes order placed after told sp early comes)
+                (subst (λ q. After schema changes old after placed.keys q late) same then),
+          ),
+        )
 
-  -- a deleted row on its way, where what is cleared of it is to come
-  pub gone_way : (steps : List Step) (n : ℕ) (row : List Value) → n < length changes.gone → row_at old (at n) ≡ Some row → (writes_some (clearing_at n).1 ≡ true → ToCome placed.keys true (at n) steps) → OnWay schema changes old after placed.keys steps (at n) row
-  gone_way steps n row h was come =
-      let long : Long (cs_at n) row = told_long schema old changes order placed after told (at n) row (inl was) in
-      let self : row ≡ Blend schema changes old after placed.keys (at n) row row = sym (blend_self (its_late n) (cs_at n) row long) in
-      let none : row_at after (at n) ≡ None = none_then n h in
-      elim (bool_cases (writes_some (clearing_at n).1)) [
-        | inl some ↦ record {
-          early = row;
-          late = row;
-          is = self;
-          from = inl was;
-          after = inl (inl was);
-          early_done = inl (inr none);
-          late_done = inr (come some);
-        }
-        | inr nothing ↦ record {
-          early = row;
-          late = nulls (cs_at n);
-          is = self
-              ∙ sym (ap (λ cells. with_cells (Blend schema changes old after placed.keys (at n) row row) (put_cells (value_of_cell placed.keys) cells)) (none_written (clearing_at n).1 nothing))
-              ∙ writes n row row h long (inl (inl was));
-          from = inl was;
-          after = inr (refl, inr none);
-          early_done = inl (inr none);
-          late_done = inl (inr (none, refl));
-        }
-      ]
+    -- a deleted row on its way, where what is cleared of it is to come
+    pub gone_way : (steps : List Step) (n : ℕ) (row : List Value) → n < length changes.gone → row_at old (at n) ≡ Some row → (writes_some (clearing_at n).1 ≡ true → ToCome placed.keys true (at n) steps) → OnWay schema changes old after placed.keys steps (at n) row
+    gone_way steps n row h was come =
+        let long : Long (cs_at n) row = told_long schema old changes order placed after told (at n) row (inl was) in
+        let self : row ≡ Blend schema changes old after placed.keys (at n) row row = sym (blend_self (its_late n) (cs_at n) row long) in
+        let none : row_at after (at n) ≡ None = none_then n h in
+        elim (bool_cases (writes_some (clearing_at n).1)) [
+          | inl some ↦ record {
+            early = row;
+            late = row;
+            is = self;
+            from = inl was;
+            after = inl (inl was);
+            early_done = inl (inr none);
+            late_done = inr (come some);
+          }
+          | inr nothing ↦ record {
+            early = row;
+            late = nulls (cs_at n);
+            is = self
+                ∙ sym (ap (λ cells. with_cells (Blend schema changes old after placed.keys (at n) row row) (put_cells (value_of_cell placed.keys) cells)) (none_written (clearing_at n).1 nothing))
+                ∙ writes n row row h long (inl (inl was));
+            from = inl was;
+            after = inr (refl, inr none);
+            early_done = inl (inr none);
+            late_done = inl (inr (none, refl));
+          }
+        ]

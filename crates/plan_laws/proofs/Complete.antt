@@ -93,7 +93,7 @@ edit_row schema edit other row x same e is long =
 
 -- the tables that changes of legal tables state, with the order and the keys of the new rows
 pub record IsStated (schema : Catalog) (old : Tables) (changes : RowChanges) (order : List ℕ) (placed : Sofar) (after : Tables) : Type 0 where
-  pub projected : IsProjected schema old changes
+  pub projected : IsProjected schema changes
   pub sorted : IsSorted old
   pub legal : Legal schema old
   pub ordered : insert_order schema changes ≡ Ok order

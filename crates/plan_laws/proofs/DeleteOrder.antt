@@ -23,6 +23,7 @@ use Rattle.flush_order.specs.Refers.{gone_key, gone_refers, last_base, names}
 use Rattle.flush_order.specs.Sorted.{Place, same_place, sorted_numbers}
 use Rattle.flush_plan.specs.Flushing.{Sofar}
 use Rattle.flush_plan.specs.Stating.{blend, edit_changed, edit_gone, edit_new, edits, is_present, row_at, written_rows}
+use Rattle.plan_laws.specs.Laws.{AreAsRead}
 use Rattle.plan_laws.proofs.Between.{all_forall, early_part, legal_cells}
 use Rattle.plan_laws.proofs.Blend.{Long, blend_early, blend_late, legal_is_long, nulls, nulls_are_long}
 use Rattle.plan_laws.proofs.Complete.{IsStated, all_created, apart, known_facts, stated_edit, whole_is_long}
@@ -30,7 +31,7 @@ use Rattle.plan_laws.proofs.Deleting.{Closed, NamesAmong, Ordered}
 use Rattle.plan_laws.proofs.Differing.{apart_of, apart_other}
 use Rattle.plan_laws.proofs.Editing.{IsEdit, edit_cases}
 use Rattle.plan_laws.proofs.InsertOrder.{get_seam, length_seam, out_before, take_prefix}
-use Rattle.plan_laws.proofs.Items.{Member, all_at, among_member, get_mapped, length_mapped, mapped_member, member_among, member_left, member_map, member_number, member_split, number_member}
+use Rattle.plan_laws.proofs.Items.{Member, all_at, all_map_of, all_members, among_member, get_mapped, length_mapped, mapped_member, member_among, member_left, member_map, member_number, member_split, number_member}
 use Rattle.plan_laws.proofs.Numbers.{AreOther, numbers_distinct, numbers_have, numbers_within, two_at}
 use Rattle.plan_laws.proofs.Ordering.{waits_not}
 use Rattle.plan_laws.proofs.Orders.{order_distinct, order_is, order_within}
@@ -189,99 +190,104 @@ module _ (schema : Catalog) (changes : RowChanges) (gone_once : some_two (λ one
           ]
         ]
 
-    -- ---- what is left is closed
-
-    base_long : (i : ℕ) → i < length rows → Long (spec_of schema (gone_at rows i).name.table).columns (gone_at rows i).base
-    base_long i h =
-        subst (λ (r : GoneRow). Long (spec_of schema r.name.table).columns r.base) (sym (row_is i h))
-        (whole_is_long (spec_of schema (get_or changes.gone (get_or numbers i 0) no_gone).name.table).columns (get_or changes.gone (get_or numbers i 0) no_gone).base
-        (all_at (λ (r : GoneRow). length r.base ≡ length (spec_of schema r.name.table).columns) changes.gone (get_or numbers i 0) no_gone told.projected.gone_cells (number_within i h)))
-
-    base_same : (i : ℕ) (row : List Value) → i < length rows → row_at old (pl i) ≡ Some row → AllByRecursion (λ foreign. cells_of (spec_of schema (gone_at rows i).name.table) row foreign.columns ≡ cells_of (spec_of schema (gone_at rows i).name.table) (gone_at rows i).base foreign.columns) (spec_of schema (gone_at rows i).name.table).foreigns
-    base_same i row h at =
-        subst (λ (r : GoneRow). row_at old (place_of_gone schema r) ≡ Some row → AllByRecursion (λ foreign. cells_of (spec_of schema r.name.table) row foreign.columns ≡ cells_of (spec_of schema r.name.table) r.base foreign.columns) (spec_of schema r.name.table).foreigns)
-        (sym (row_is i h))
-        (all_at (λ (r : GoneRow). (stands : List Value) → row_at old (place_of_gone schema r) ≡ Some stands → AllByRecursion (λ foreign. cells_of (spec_of schema r.name.table) stands foreign.columns ≡ cells_of (spec_of schema r.name.table) r.base foreign.columns) (spec_of schema r.name.table).foreigns) changes.gone (get_or numbers i 0) no_gone told.projected.gone_base (number_within i h) row)
-        at
-
-    cells_same : (i : ℕ) (row : List Value) (foreign : ForeignSpec) → i < length rows → Long (spec_of schema (gone_at rows i).name.table).columns row → cells_of (spec_of schema (gone_at rows i).name.table) row foreign.columns ≡ cells_of (spec_of schema (gone_at rows i).name.table) (gone_at rows i).base foreign.columns → (list_all (late_name schema changes (gone_at rows i).name.table) foreign.columns ≡ true) ⊎ (list_any (late_name schema changes (gone_at rows i).name.table) foreign.columns ≡ false) → cells_of (spec_of schema (gone_at rows i).name.table) (last_base schema changes (gone_at rows i)) foreign.columns ≡ cells_of (spec_of schema (gone_at rows i).name.table) (early_part schema changes (pl i) row) foreign.columns
-    cells_same i row foreign h long same kind =
-        let table : TableId = (gone_at rows i).name.table in
-        let cs : List ColumnSpec = (spec_of schema table).columns in
-        ap (λ r. cells_of (spec_of schema table) r foreign.columns) (cleared_blend (is_late schema changes table) cs (gone_at rows i).base (base_long i h))
-        ∙ elim kind [
-          | inl whole ↦ blend_late (late_name schema changes table) cs (gone_at rows i).base (nulls cs) foreign.columns (base_long i h) (nulls_are_long cs) whole
-              ∙ sym (blend_late (late_name schema changes table) cs row (nulls cs) foreign.columns long (nulls_are_long cs) whole)
-          | inr none ↦ blend_early (late_name schema changes table) cs (gone_at rows i).base (nulls cs) foreign.columns (base_long i h) (nulls_are_long cs) none
-              ∙ sym same ∙ sym (blend_early (late_name schema changes table) cs row (nulls cs) foreign.columns long (nulls_are_long cs) none)
-        ]
-
-    abbrev Went : List ℕ → Type 0
-    Went ahead = (j : ℕ) × (is_among ahead j ≡ true)
-
-    among_named : (ahead rest : List ℕ) (i : ℕ) (row : List Value) (foreign : ForeignSpec) → gone_order ≡ ahead ++ rest → i < length rows → Long (spec_of schema (gone_at rows i).name.table).columns row → cells_of (spec_of schema (gone_at rows i).name.table) row foreign.columns ≡ cells_of (spec_of schema (gone_at rows i).name.table) (gone_at rows i).base foreign.columns → ((list_all (late_name schema changes (gone_at rows i).name.table) foreign.columns ≡ true) ⊎ (list_any (late_name schema changes (gone_at rows i).name.table) foreign.columns ≡ false)) × ((went : Went ahead) → names schema (last_base schema changes (gone_at rows i)) (gone_at rows i).name.table (gone_at rows went.0).name.table (gone_key schema (gone_at rows went.0)) foreign ≡ false) → NamesAmong schema changes old after (map pl rest) (pl i) row foreign
-    among_named ahead rest i row foreign split h long same both t target whole none there =
-        let table : TableId = (gone_at rows i).name.table in
-        let key : List Value = cells_of (spec_of schema table) (early_part schema changes (pl i) row) foreign.columns in
-        let is : cells_of (spec_of schema table) (last_base schema changes (gone_at rows i)) foreign.columns ≡ key = cells_same i row foreign h long same both.0 in
-        let found = gone_cover (t, key) none there in
-        let placed_at : (is_among ahead found.0 || is_among rest found.0) ≡ true = sym (list_any-append (eqb found.0) ahead rest) ∙ ap (λ xs. is_among xs found.0) (sym split) ∙ is_order.each found.0 found.1 in
-        elim (or_cases (is_among ahead found.0) (is_among rest found.0) placed_at) [
-          | inr left ↦ member_mapped pl rest found.0 (t, key) left found.2
-          | inl went ↦
-              let no = both.1 (found.0, went) in
-              let to : target_of schema foreign ≡ Some (gone_at rows found.0).name.table = target ∙ ap Some (sym (ap (λ q. q.0) found.2)) in
-              let named : gone_key schema (gone_at rows found.0) ≡ key = ap (λ q. q.1) found.2 in
-              absurd (true_false (sym ((λ k. table_is schema changes placed.keys (gone_at rows found.0).name.table (target_of schema foreign) to k && not (has_null (is k)) && same_values (is k) (gone_key schema (gone_at rows found.0)))
-              ∙ (λ k. not (whole k) && same_values key (gone_key schema (gone_at rows found.0)))
-              ∙ key_same schema changes placed.keys key (gone_key schema (gone_at rows found.0)) (sym named)) ∙ no))
-        ]
-
-    closed_at : (ahead rest : List ℕ) (i : ℕ) (row : List Value) → gone_order ≡ ahead ++ rest → is_among rest i ≡ true → row_at old (pl i) ≡ Some row → AllByRecursion (NamesAmong schema changes old after (map pl rest) (pl i) row) (spec_of schema (gone_at rows i).name.table).foreigns
-    closed_at ahead rest i row split left at =
-        let h : i < length rows = within i (among_split ahead rest i split left) in
-        let table : TableId = (gone_at rows i).name.table in
-        all_both (λ foreign. cells_of (spec_of schema table) row foreign.columns ≡ cells_of (spec_of schema table) (gone_at rows i).base foreign.columns)
-        (λ foreign. ((list_all (late_name schema changes table) foreign.columns ≡ true) ⊎ (list_any (late_name schema changes table) foreign.columns ≡ false)) × ((went : Went ahead) → names schema (last_base schema changes (gone_at rows i)) table (gone_at rows went.0).name.table (gone_key schema (gone_at rows went.0)) foreign ≡ false))
-        (NamesAmong schema changes old after (map pl rest) (pl i) row)
-        (λ foreign same both. among_named ahead rest i row foreign split h (legal_is_long (spec_of schema table).columns row (legal_cells schema old told.legal (pl i) row at)) same both)
-        (spec_of schema table).foreigns (base_same i row h at)
-        (all_both (λ foreign. (list_all (late_name schema changes table) foreign.columns ≡ true) ⊎ (list_any (late_name schema changes table) foreign.columns ≡ false)) (λ foreign. (went : Went ahead) → names schema (last_base schema changes (gone_at rows i)) table (gone_at rows went.0).name.table (gone_key schema (gone_at rows went.0)) foreign ≡ false)
-        (λ foreign. ((list_all (late_name schema changes table) foreign.columns ≡ true) ⊎ (list_any (late_name schema changes table) foreign.columns ≡ false)) × ((went : Went ahead) → names schema (last_base schema changes (gone_at rows i)) table (gone_at rows went.0).name.table (gone_key schema (gone_at rows went.0)) foreign ≡ false))
-        (λ foreign a b. (a, b)) (spec_of schema table).foreigns (told.projected.fit.foreigns table)
-        (all_forall (λ (went : Went ahead) foreign. names schema (last_base schema changes (gone_at rows i)) table (gone_at rows went.0).name.table (gone_key schema (gone_at rows went.0)) foreign ≡ false) (spec_of schema table).foreigns
-        (λ went. any_none (names schema (last_base schema changes (gone_at rows i)) table (gone_at rows went.0).name.table (gone_key schema (gone_at rows went.0))) (spec_of schema table).foreigns (waits_none ahead rest went.0 i split went.1 left))))
-
-    pub closed_rest : (ahead rest : List ℕ) → gone_order ≡ ahead ++ rest → Closed schema changes old after (map pl rest)
-    closed_rest ahead rest split place row member at =
-        let found = mapped_member pl place rest member in
-        subst (λ q. row_at old q ≡ Some row → AllByRecursion (NamesAmong schema changes old after (map pl rest) q row) (spec_of schema q.0).foreigns) found.2 (closed_at ahead rest found.0 row split (member_among rest found.0 found.1)) at
-
-    distinct_suffix : (ahead rest : List ℕ) → IsDistinct eqb (ahead ++ rest) → IsDistinct eqb rest
-    unfolding IsDistinct
-    distinct_suffix [] rest apart = apart
-    distinct_suffix (x ∷ ahead) rest apart = distinct_suffix ahead rest apart.1
-
-    ordered_rest : (ahead rest : List ℕ) → gone_order ≡ ahead ++ rest → Ordered schema changes old after (map pl rest)
-    ordered_rest ahead [] split = tt
-    ordered_rest ahead (i ∷ rest) split =
-        let h : i < length rows = within i (among_split ahead (i ∷ rest) i split (ap (λ b. b || is_among rest i) (eq-eqb i i refl))) in
-        let next : gone_order ≡ (ahead ++ i ∷ []) ++ rest = split ∙ sym (append_assoc ahead (i ∷ []) rest) in (
-          stated_none i h,
-          all_created schema old changes order placed after told (edit_gone schema (gone_at rows i)) (gone_is i h),
-          (λ member.
-              let found = mapped_member pl (pl i) rest member in
-              let k : found.0 < length rows = within found.0 (among_split (ahead ++ i ∷ []) rest found.0 next (member_among rest found.0 found.1)) in
-              true_false (sym (subst (λ n. is_among rest n ≡ true) (place_once found.0 i k h found.2) (member_among rest found.0 found.1)) ∙ distinct_out schema changes i rest (distinct_suffix ahead (i ∷ rest) (subst (IsDistinct eqb) split once)))),
-          closed_rest (ahead ++ i ∷ []) rest next,
-          ordered_rest (ahead ++ i ∷ []) rest next,
-        )
-
-    pub gone_closed : Closed schema changes old after (map pl gone_order)
-    gone_closed = closed_rest [] gone_order refl
-
-    pub gone_ordered : Ordered schema changes old after (map pl gone_order)
-    gone_ordered = ordered_rest [] gone_order refl
-
     pub gone_covered : (q : Place) → row_at after q ≡ None → is_present old q ≡ true → Member q (map pl gone_order)
     gone_covered q none there = let found = gone_cover q none there in member_mapped pl gone_order found.0 q (is_order.each found.0 found.1) found.2
+
+    -- no row that goes is stated
+    pub gone_unstated : AllByRecursion (λ place. row_at after place ≡ None) (map pl gone_order)
+    gone_unstated = all_map_of (λ place. row_at after place ≡ None) pl gone_order (all_members (λ i. row_at after (pl i) ≡ None) gone_order (λ i among. stated_none i (within i among)))
+
+    -- ---- what is left is closed, where what stands was read
+
+    module _ (read : AreAsRead schema old changes) where
+      base_long : (i : ℕ) → i < length rows → Long (spec_of schema (gone_at rows i).name.table).columns (gone_at rows i).base
+      base_long i h =
+          subst (λ (r : GoneRow). Long (spec_of schema r.name.table).columns r.base) (sym (row_is i h))
+          (whole_is_long (spec_of schema (get_or changes.gone (get_or numbers i 0) no_gone).name.table).columns (get_or changes.gone (get_or numbers i 0) no_gone).base
+          (all_at (λ (r : GoneRow). length r.base ≡ length (spec_of schema r.name.table).columns) changes.gone (get_or numbers i 0) no_gone told.projected.gone_cells (number_within i h)))
+
+      base_same : (i : ℕ) (row : List Value) → i < length rows → row_at old (pl i) ≡ Some row → AllByRecursion (λ foreign. cells_of (spec_of schema (gone_at rows i).name.table) row foreign.columns ≡ cells_of (spec_of schema (gone_at rows i).name.table) (gone_at rows i).base foreign.columns) (spec_of schema (gone_at rows i).name.table).foreigns
+      base_same i row h at =
+          subst (λ (r : GoneRow). row_at old (place_of_gone schema r) ≡ Some row → AllByRecursion (λ foreign. cells_of (spec_of schema r.name.table) row foreign.columns ≡ cells_of (spec_of schema r.name.table) r.base foreign.columns) (spec_of schema r.name.table).foreigns)
+          (sym (row_is i h))
+          (all_at (λ (r : GoneRow). (stands : List Value) → row_at old (place_of_gone schema r) ≡ Some stands → AllByRecursion (λ foreign. cells_of (spec_of schema r.name.table) stands foreign.columns ≡ cells_of (spec_of schema r.name.table) r.base foreign.columns) (spec_of schema r.name.table).foreigns) changes.gone (get_or numbers i 0) no_gone read.base (number_within i h) row)
+          at
+
+      cells_same : (i : ℕ) (row : List Value) (foreign : ForeignSpec) → i < length rows → Long (spec_of schema (gone_at rows i).name.table).columns row → cells_of (spec_of schema (gone_at rows i).name.table) row foreign.columns ≡ cells_of (spec_of schema (gone_at rows i).name.table) (gone_at rows i).base foreign.columns → (list_all (late_name schema changes (gone_at rows i).name.table) foreign.columns ≡ true) ⊎ (list_any (late_name schema changes (gone_at rows i).name.table) foreign.columns ≡ false) → cells_of (spec_of schema (gone_at rows i).name.table) (last_base schema changes (gone_at rows i)) foreign.columns ≡ cells_of (spec_of schema (gone_at rows i).name.table) (early_part schema changes (pl i) row) foreign.columns
+      cells_same i row foreign h long same kind =
+          let table : TableId = (gone_at rows i).name.table in
+          let cs : List ColumnSpec = (spec_of schema table).columns in
+          ap (λ r. cells_of (spec_of schema table) r foreign.columns) (cleared_blend (is_late schema changes table) cs (gone_at rows i).base (base_long i h))
+          ∙ elim kind [
+            | inl whole ↦ blend_late (late_name schema changes table) cs (gone_at rows i).base (nulls cs) foreign.columns (base_long i h) (nulls_are_long cs) whole
+                ∙ sym (blend_late (late_name schema changes table) cs row (nulls cs) foreign.columns long (nulls_are_long cs) whole)
+            | inr none ↦ blend_early (late_name schema changes table) cs (gone_at rows i).base (nulls cs) foreign.columns (base_long i h) (nulls_are_long cs) none
+                ∙ sym same ∙ sym (blend_early (late_name schema changes table) cs row (nulls cs) foreign.columns long (nulls_are_long cs) none)
+          ]
+
+      abbrev Went : List ℕ → Type 0
+      Went ahead = (j : ℕ) × (is_among ahead j ≡ true)
+
+      among_named : (ahead rest : List ℕ) (i : ℕ) (row : List Value) (foreign : ForeignSpec) → gone_order ≡ ahead ++ rest → i < length rows → Long (spec_of schema (gone_at rows i).name.table).columns row → cells_of (spec_of schema (gone_at rows i).name.table) row foreign.columns ≡ cells_of (spec_of schema (gone_at rows i).name.table) (gone_at rows i).base foreign.columns → ((list_all (late_name schema changes (gone_at rows i).name.table) foreign.columns ≡ true) ⊎ (list_any (late_name schema changes (gone_at rows i).name.table) foreign.columns ≡ false)) × ((went : Went ahead) → names schema (last_base schema changes (gone_at rows i)) (gone_at rows i).name.table (gone_at rows went.0).name.table (gone_key schema (gone_at rows went.0)) foreign ≡ false) → NamesAmong schema changes old after (map pl rest) (pl i) row foreign
+      among_named ahead rest i row foreign split h long same both t target whole none there =
+          let table : TableId = (gone_at rows i).name.table in
+          let key : List Value = cells_of (spec_of schema table) (early_part schema changes (pl i) row) foreign.columns in
+          let is : cells_of (spec_of schema table) (last_base schema changes (gone_at rows i)) foreign.columns ≡ key = cells_same i row foreign h long same both.0 in
+          let found = gone_cover (t, key) none there in
+          let placed_at : (is_among ahead found.0 || is_among rest found.0) ≡ true = sym (list_any-append (eqb found.0) ahead rest) ∙ ap (λ xs. is_among xs found.0) (sym split) ∙ is_order.each found.0 found.1 in
+          elim (or_cases (is_among ahead found.0) (is_among rest found.0) placed_at) [
+            | inr left ↦ member_mapped pl rest found.0 (t, key) left found.2
+            | inl went ↦
+                let no = both.1 (found.0, went) in
+                let to : target_of schema foreign ≡ Some (gone_at rows found.0).name.table = target ∙ ap Some (sym (ap (λ q. q.0) found.2)) in
+                let named : gone_key schema (gone_at rows found.0) ≡ key = ap (λ q. q.1) found.2 in
+                absurd (true_false (sym ((λ k. table_is schema changes placed.keys (gone_at rows found.0).name.table (target_of schema foreign) to k && not (has_null (is k)) && same_values (is k) (gone_key schema (gone_at rows found.0)))
+                ∙ (λ k. not (whole k) && same_values key (gone_key schema (gone_at rows found.0)))
+                ∙ key_same schema changes placed.keys key (gone_key schema (gone_at rows found.0)) (sym named)) ∙ no))
+          ]
+
+      closed_at : (ahead rest : List ℕ) (i : ℕ) (row : List Value) → gone_order ≡ ahead ++ rest → is_among rest i ≡ true → row_at old (pl i) ≡ Some row → AllByRecursion (NamesAmong schema changes old after (map pl rest) (pl i) row) (spec_of schema (gone_at rows i).name.table).foreigns
+      closed_at ahead rest i row split left at =
+          let h : i < length rows = within i (among_split ahead rest i split left) in
+          let table : TableId = (gone_at rows i).name.table in
+          all_both (λ foreign. cells_of (spec_of schema table) row foreign.columns ≡ cells_of (spec_of schema table) (gone_at rows i).base foreign.columns)
+          (λ foreign. ((list_all (late_name schema changes table) foreign.columns ≡ true) ⊎ (list_any (late_name schema changes table) foreign.columns ≡ false)) × ((went : Went ahead) → names schema (last_base schema changes (gone_at rows i)) table (gone_at rows went.0).name.table (gone_key schema (gone_at rows went.0)) foreign ≡ false))
+          (NamesAmong schema changes old after (map pl rest) (pl i) row)
+          (λ foreign same both. among_named ahead rest i row foreign split h (legal_is_long (spec_of schema table).columns row (legal_cells schema old told.legal (pl i) row at)) same both)
+          (spec_of schema table).foreigns (base_same i row h at)
+          (all_both (λ foreign. (list_all (late_name schema changes table) foreign.columns ≡ true) ⊎ (list_any (late_name schema changes table) foreign.columns ≡ false)) (λ foreign. (went : Went ahead) → names schema (last_base schema changes (gone_at rows i)) table (gone_at rows went.0).name.table (gone_key schema (gone_at rows went.0)) foreign ≡ false)
+          (λ foreign. ((list_all (late_name schema changes table) foreign.columns ≡ true) ⊎ (list_any (late_name schema changes table) foreign.columns ≡ false)) × ((went : Went ahead) → names schema (last_base schema changes (gone_at rows i)) table (gone_at rows went.0).name.table (gone_key schema (gone_at rows went.0)) foreign ≡ false))
+          (λ foreign a b. (a, b)) (spec_of schema table).foreigns (told.projected.fit.foreigns table)
+          (all_forall (λ (went : Went ahead) foreign. names schema (last_base schema changes (gone_at rows i)) table (gone_at rows went.0).name.table (gone_key schema (gone_at rows went.0)) foreign ≡ false) (spec_of schema table).foreigns
+          (λ went. any_none (names schema (last_base schema changes (gone_at rows i)) table (gone_at rows went.0).name.table (gone_key schema (gone_at rows went.0))) (spec_of schema table).foreigns (waits_none ahead rest went.0 i split went.1 left))))
+
+      pub closed_rest : (ahead rest : List ℕ) → gone_order ≡ ahead ++ rest → Closed schema changes old after (map pl rest)
+      closed_rest ahead rest split place row member at =
+          let found = mapped_member pl place rest member in
+          subst (λ q. row_at old q ≡ Some row → AllByRecursion (NamesAmong schema changes old after (map pl rest) q row) (spec_of schema q.0).foreigns) found.2 (closed_at ahead rest found.0 row split (member_among rest found.0 found.1)) at
+
+      distinct_suffix : (ahead rest : List ℕ) → IsDistinct eqb (ahead ++ rest) → IsDistinct eqb rest
+      unfolding IsDistinct
+      distinct_suffix [] rest apart = apart
+      distinct_suffix (x ∷ ahead) rest apart = distinct_suffix ahead rest apart.1
+
+      ordered_rest : (ahead rest : List ℕ) → gone_order ≡ ahead ++ rest → Ordered schema changes old after (map pl rest)
+      ordered_rest ahead [] split = tt
+      ordered_rest ahead (i ∷ rest) split =
+          let h : i < length rows = within i (among_split ahead (i ∷ rest) i split (ap (λ b. b || is_among rest i) (eq-eqb i i refl))) in
+          let next : gone_order ≡ (ahead ++ i ∷ []) ++ rest = split ∙ sym (append_assoc ahead (i ∷ []) rest) in (
+            stated_none i h,
+            all_created schema old changes order placed after told (edit_gone schema (gone_at rows i)) (gone_is i h),
+            (λ member.
+                let found = mapped_member pl (pl i) rest member in
+                let k : found.0 < length rows = within found.0 (among_split (ahead ++ i ∷ []) rest found.0 next (member_among rest found.0 found.1)) in
+                true_false (sym (subst (λ n. is_among rest n ≡ true) (place_once found.0 i k h found.2) (member_among rest found.0 found.1)) ∙ distinct_out schema changes i rest (distinct_suffix ahead (i ∷ rest) (subst (IsDistinct eqb) split once)))),
+            closed_rest (ahead ++ i ∷ []) rest next,
+            ordered_rest (ahead ++ i ∷ []) rest next,
+          )
+
+      pub gone_closed : Closed schema changes old after (map pl gone_order)
+      gone_closed = closed_rest [] gone_order refl
+
+      pub gone_ordered : Ordered schema changes old after (map pl gone_order)
+      gone_ordered = ordered_rest [] gone_order refl

@@ -28,10 +28,11 @@ use Rattle.plan_laws.proofs.Accepted.{Accepts, accepts_legal, accepts_of, accept
 use Rattle.plan_laws.proofs.Between.{early_part, is_declared}
 use Rattle.plan_laws.proofs.Changing.{step_is, step_of}
 use Rattle.plan_laws.proofs.Complete.{IsStated, known_facts, news, told_long}
-use Rattle.plan_laws.proofs.Deleting.{going_stated, remove_at}
-use Rattle.plan_laws.proofs.DeleteOrder.{gone_covered, gone_ordered, number_of, pl}
+use Rattle.plan_laws.proofs.Clearing.{none_then}
+use Rattle.plan_laws.proofs.Deleting.{remove_at}
+use Rattle.plan_laws.proofs.DeleteOrder.{gone_covered, gone_unstated, number_of, pl}
 use Rattle.plan_laws.proofs.DeleteOrder as deleting
-use Rattle.plan_laws.proofs.FlushSteps.{deletes_created, deletes_end, updates_created, updates_end, updates_sorted, updates_present}
+use Rattle.plan_laws.proofs.FlushSteps.{Arriving, IsRight, Leaving, deletes_created, deletes_end, left_stated, updates_created, updates_end, updates_sorted, updates_present}
 use Rattle.plan_laws.proofs.Inserting.{Stood}
 use Rattle.plan_laws.proofs.Items.{Member, all_at, all_filter, every_at, member_all, member_map, among_member}
 use Rattle.plan_laws.proofs.Newness.{Facts, place_same, same_is}
@@ -40,10 +41,10 @@ use Rattle.plan_laws.proofs.PlanLaw.{in_phases, plan_made}
 use Rattle.plan_laws.proofs.Puts.{Puts, order_put, puts_sorted}
 use Rattle.plan_laws.proofs.PutRows.{none_among, puts_created, puts_fresh, puts_free, puts_leads, puts_rows, puts_stay, puts_table, puts_there, puts_twice}
 use Rattle.plan_laws.proofs.Stated.{stated_created, stated_sorted}
-use Rattle.plan_laws.proofs.Steps.{all_steps, clear_in, comes_up, early_in, late_in_steps, steps_ok}
-use Rattle.plan_laws.proofs.Updating.{Middle, Step, planned_of, step_place}
-use Rattle.plan_laws.proofs.Whole.{going_of, middle_of}
-use Rattle.plan_laws.proofs.Facts.{bool_cases, or_false, true_false, some_of}
+use Rattle.plan_laws.proofs.Steps.{all_steps, clear_in, each_step, early_in, late_in_steps, placed_way, stated_way}
+use Rattle.plan_laws.proofs.Updating.{OnWay, Step, planned_of, step_place}
+use Rattle.plan_laws.proofs.Whole.{whole_row}
+use Rattle.plan_laws.proofs.Facts.{bool_cases, or_false, some_of, some_or_none, true_false}
 
 -- ---- tests on lists
 
@@ -81,7 +82,7 @@ pub record WasAccepted (schema : Catalog) (old : Tables) (changes : RowChanges) 
   pub updates : Accepts schema changes placed (map planned_of (all_steps schema changes order)) middle
   pub deletes : Accepts schema changes middle (map remove_at (map (λ n. place_of_gone schema (get_or (gone_rows schema changes) n no_gone)) gone)) end
 
-module _ (schema : Catalog) (old : Tables) (changes : RowChanges) (order gone : List ℕ) (end : Sofar) (projected : IsProjected schema old changes) (sorted : IsSorted old) (legal : Legal schema old) (named : AreNamed schema old changes) (ordered : insert_order schema changes ≡ Ok order) (gone_order : delete_order schema changes (gone_rows schema changes) ≡ Ok gone) (was : WasAccepted schema old changes order gone end) where
+module _ (schema : Catalog) (old : Tables) (changes : RowChanges) (order gone : List ℕ) (end : Sofar) (projected : IsProjected schema changes) (sorted : IsSorted old) (legal : Legal schema old) (named : AreNamed schema old changes) (ordered : insert_order schema changes ≡ Ok order) (gone_order : delete_order schema changes (gone_rows schema changes) ≡ Ok gone) (was : WasAccepted schema old changes order gone end) where
   abbrev placed : Sofar
   placed = was.placed
 
@@ -138,8 +139,8 @@ module _ (schema : Catalog) (old : Tables) (changes : RowChanges) (order gone : 
   changed_there n h some =
       old_there (place_of_changed (changed_at n)) (changed_stale n h some)
       (elim (halves schema changes (changed_at n) some) [
-        | inl early ↦ ap (is_present placed.tables) (sym (step_is placed.keys false (cells_when schema changes false (changed_at n)))) ∙ step_there (step_of false (cells_when schema changes false (changed_at n))) (early_in schema old changes projected order n h early)
-        | inr late ↦ ap (is_present placed.tables) (sym (step_is placed.keys true (cells_when schema changes true (changed_at n)))) ∙ step_there (step_of true (cells_when schema changes true (changed_at n))) (late_in_steps schema old changes projected order n (all_at (λ (row : ChangedRow). IsTable schema row.name.table) changes.changed n no_changed named.declared h) h late)
+        | inl early ↦ ap (is_present placed.tables) (sym (step_is placed.keys false (cells_when schema changes false (changed_at n)))) ∙ step_there (step_of false (cells_when schema changes false (changed_at n))) (early_in schema changes projected order n h early)
+        | inr late ↦ ap (is_present placed.tables) (sym (step_is placed.keys true (cells_when schema changes true (changed_at n)))) ∙ step_there (step_of true (cells_when schema changes true (changed_at n))) (late_in_steps schema changes projected order n (all_at (λ (row : ChangedRow). IsTable schema row.name.table) changes.changed n no_changed named.declared h) h late)
       ])
 
   gone_created : (n : ℕ) → n < length changes.gone → is_created old (gone_at n).name.table ≡ true
@@ -158,7 +159,7 @@ module _ (schema : Catalog) (old : Tables) (changes : RowChanges) (order gone : 
   gone_there n h some =
       old_there (place_of_gone schema (gone_at n)) (gone_stale n h)
       (ap (is_present placed.tables) (sym (step_is placed.keys true (late_gone schema changes (gone_at n))))
-      ∙ step_there (step_of true (late_gone schema changes (gone_at n))) (clear_in schema old changes projected order n (is_declared schema old legal (gone_at n).name.table (gone_created n h)) h some))
+      ∙ step_there (step_of true (late_gone schema changes (gone_at n))) (clear_in schema changes projected order n (is_declared schema old legal (gone_at n).name.table (gone_created n h)) h some))
 
   changed_created : (n : ℕ) → n < length changes.changed → is_created old (changed_at n).name.table ≡ true
   changed_created n h =
@@ -238,19 +239,61 @@ module _ (schema : Catalog) (old : Tables) (changes : RowChanges) (order gone : 
         ];
   }
 
+  coming : Arriving schema changes old after placed.keys (all_steps schema changes order) placed
+  coming = record {
+    known = refl;
+    sorted = sorted_placed;
+    created = created_placed;
+    there = λ q stands.
+        elim ((news schema old changes order placed after told).cover q stands) [
+          | inl was_old ↦ let row = some_of (row_at old q) was_old in ap is_some (stood.olds q row.0 row.1)
+          | inr new ↦ ap (is_present placed.tables) (sym new.2) ∙ ap is_some (puts_there schema changes order (before old) placed new.0 once sorted was.puts new.1).1
+        ];
+    ways = λ q row at stands.
+        elim (stood.rows q row at) [
+          | inl was_old ↦ stated_way schema old changes order placed after told q row was_old stands
+          | inr new ↦ subst (λ r. OnWay schema changes old after placed.keys (all_steps schema changes order) q r) (sym new.4.2)
+              (subst (λ p. OnWay schema changes old after placed.keys (all_steps schema changes order) p (early_part schema changes p new.4.0)) new.3
+              (placed_way schema old changes order placed after told new.0 new.4.0 new.1 (ap (row_at after) new.3 ∙ new.4.1)))
+        ];
+    others = λ q row at.
+        elim (stood.rows q row at) [
+          | inl was_old ↦ inr (ap is_some was_old)
+          | inr new ↦ inl (ap is_some new.4.1)
+        ];
+  }
+
+  arrived : Arriving schema changes old after placed.keys [] was.middle
+  arrived =
+      updates_end schema changes old after placed.keys (all_steps schema changes order) placed was.middle
+      (each_step schema old changes order placed after told (IsRight schema changes old after placed.keys) (λ step is. inr is)
+      (λ n h some. inl (ap (row_at after) (step_is placed.keys true (late_gone schema changes (gone_at n))) ∙ none_then schema old changes order placed after told n h)))
+      coming was.updates
+
+  leaving : Leaving schema changes after (map (pl schema changes projected.gone_once gone gone_order) gone) was.middle
+  leaving = record {
+    sorted = arrived.sorted;
+    created = λ t. arrived.created t ∙ sym (stated_created schema old changes order placed after sorted (known_facts schema old changes order placed after told) t);
+    rows = λ q written at.
+        let row = some_of (row_at was.middle.tables q) (arrived.there q (ap is_some at)) in
+        row.1 ∙ ap Some (whole_row schema changes old after placed q row.0 written (told_long schema old changes order placed after told q written (inr at)) at (arrived.ways q row.0 row.1 (ap is_some at)));
+    others = λ q there.
+        let row = some_of (row_at was.middle.tables q) there in
+        elim (arrived.others q row.0 row.1) [
+          | inl stands ↦ inl stands
+          | inr was_old ↦ elim (some_or_none (row_at after q)) [
+            | inl written ↦ inl (ap is_some written.1)
+            | inr none ↦ inr (gone_covered schema changes projected.gone_once gone gone_order old order placed after told q none was_old)
+          ]
+        ];
+  }
+
   pub leaves_stated : stated_tables schema old changes order ≡ Some end.tables
   leaves_stated =
-      let middle : Middle schema changes old after placed.keys [] was.middle =
-      updates_end schema changes old after placed.keys (all_steps schema changes order) placed was.middle (steps_ok schema old changes order placed after told)
-      (middle_of schema changes old after placed order (all_steps schema changes order) (news schema old changes order placed after told) (comes_up schema old changes order placed after told) stood) was.updates in
-      let place : ℕ → Place = pl schema changes projected.gone_once gone gone_order in
-      let going =
-      going_of schema changes old after placed (map place gone) was.middle (λ q row at. told_long schema old changes order placed after told q row (inr at))
-      (gone_covered schema changes projected.gone_once gone gone_order old order placed after told) middle in
-      let last = deletes_end schema changes old after (map place gone) was.middle end (gone_ordered schema changes projected.gone_once gone gone_order old order placed after told) going was.deletes in
-      states ∙ ap Some (sym (going_stated schema changes old after end
-      (stated_sorted schema old changes order placed after sorted (known_facts schema old changes order placed after told)) last
-      (stated_created schema old changes order placed after sorted (known_facts schema old changes order placed after told))))
+      let last =
+      deletes_end schema changes after (map (pl schema changes projected.gone_once gone gone_order) gone) was.middle end
+      (gone_unstated schema changes projected.gone_once gone gone_order old order placed after told) leaving was.deletes in
+      states ∙ ap Some (sym (left_stated schema changes after end (stated_sorted schema old changes order placed after sorted (known_facts schema old changes order placed after told)) last))
 
 pub accepted_stated : AcceptedIsStated
 accepted_stated schema old changes order sent sofar projected sorted legal named ordered e done =

@@ -1,5 +1,5 @@
 -- The UPDATEs and DELETEs of an accepted plan.
-use Rattle.std.proofs.Common.{◌≡◌, inl, inr, true, List, [], ◌∷◌, map, None, Some, sym, ap, ◌∙◌, subst}
+use Rattle.std.proofs.Common.{◌≡◌, ◌⊎◌, inl, inr, true, List, [], ◌∷◌, map, Option, None, Some, refl, sym, ap, ◌∙◌, subst}
 use Rattle.std.specs.List.{AllByRecursion}
 use Rattle.std.specs.Option.{is_some}
 use Rattle.base_core.specs.declared.ids.TableId.{TableId}
@@ -14,11 +14,13 @@ use Rattle.flush_plan.specs.Flushing.{Keys, Sofar, value_of_cell}
 use Rattle.flush_plan.specs.Stating.{with_edit, is_present, put_cells, row_at}
 use Rattle.plan_laws.specs.Premises.{IsSorted}
 use Rattle.plan_laws.proofs.Accepted.{Accepts, sent_of}
-use Rattle.plan_laws.proofs.At.{at_other, edited_created, edited_sorted, place_cases}
+use Rattle.plan_laws.proofs.At.{at_edit, at_other, edited_created, edited_sorted, place_cases, same_tables}
 use Rattle.plan_laws.proofs.Between.{at_found}
-use Rattle.plan_laws.proofs.Deleting.{Going, Ordered, gone_then, remove_at}
+use Rattle.plan_laws.proofs.Deleting.{remove_at}
+use Rattle.plan_laws.proofs.Facts.{none_some, true_false}
+use Rattle.plan_laws.proofs.Items.{Member}
 use Rattle.plan_laws.proofs.ReadBack.{delete_read, update_read}
-use Rattle.plan_laws.proofs.Updating.{IsStep, Middle, Step, after_step, planned_of, step_place}
+use Rattle.plan_laws.proofs.Updating.{IsStep, OnWay, Step, elsewhere, pick, planned_of, step_place, still, written}
 
 -- an UPDATE that was accepted
 record Read (sofar : Sofar) (step : Step) (next : Sofar) : Type 0 where
@@ -83,17 +85,49 @@ module _ (schema : Catalog) (changes : RowChanges) where
       )
 
   module _ (old stated : Tables) (keys : Keys) where
-    -- the rows on their way arrive
-    pub updates_end : (steps : List Step) (sofar end : Sofar) → AllByRecursion (IsStep schema changes old stated keys) steps → Middle schema changes old stated keys steps sofar → Accepts schema changes sofar (map planned_of steps) end → Middle schema changes old stated keys [] end
-    updates_end [] sofar end are middle a = subst (Middle schema changes old stated keys []) a middle
-    updates_end (step ∷ steps) sofar end are middle a =
+    -- While UPDATEs are accepted: a stated row stands, and has what it should or an UPDATE of it is still to come. Other rows are old ones.
+    pub record Arriving (steps : List Step) (sofar : Sofar) : Type 0 where
+      pub known : sofar.keys ≡ keys
+      pub sorted : IsSorted sofar.tables
+      pub created : (table : TableId) → is_created sofar.tables table ≡ is_created old table
+      pub there : (place : Place) → is_present stated place ≡ true → is_present sofar.tables place ≡ true
+      pub ways : (place : Place) (row : List Value) → row_at sofar.tables place ≡ Some row → is_present stated place ≡ true → OnWay schema changes old stated keys steps place row
+      pub others : (place : Place) (row : List Value) → row_at sofar.tables place ≡ Some row → (is_present stated place ≡ true) ⊎ (is_present old place ≡ true)
+
+    -- an UPDATE is of a row that is to go, or writes what it should
+    abbrev pub IsRight : Step → Type 0
+    IsRight step = (row_at stated (step_place keys step) ≡ None) ⊎ IsStep schema changes old stated keys step
+
+    arrives : (step : Step) (steps : List Step) (sofar : Sofar) (row : List Value) (rows : Rows) → Arriving (step ∷ steps) sofar → IsRight step → rows_in sofar.tables step.1.0 ≡ Some rows → row_at sofar.tables (step_place keys step) ≡ Some row
+        → Arriving steps (record { tables = with_edit sofar.tables (step_place keys step, Some (with_cells row (put_cells (value_of_cell keys) step.1.2))); keys = keys })
+    arrives step steps sofar row rows coming right table at =
+        let new : List Value = with_cells row (put_cells (value_of_cell keys) step.1.2) in
+        let q : Place = step_place keys step in
+        record {
+          known = refl;
+          sorted = edited_sorted sofar.tables (q, Some new) coming.sorted;
+          created = λ t. edited_created sofar.tables (q, Some new) t ∙ coming.created t;
+          there = λ place was. still schema changes old stated keys sofar.tables q new rows place coming.sorted table (coming.there place was);
+          ways = pick schema changes old stated keys (λ place r. is_present stated place ≡ true → OnWay schema changes old stated keys steps place r) sofar.tables q new rows coming.sorted table
+              (λ stands. elim right [
+                | inl none ↦ absurd (true_false (sym stands ∙ ap is_some none))
+                | inr is ↦ written schema changes old stated keys step steps row is.1 (coming.ways q row at stands)
+              ])
+              (λ place r away is stands. elsewhere schema changes old stated keys step steps place r away (coming.ways place r is stands));
+          others = pick schema changes old stated keys (λ place r. (is_present stated place ≡ true) ⊎ (is_present old place ≡ true)) sofar.tables q new rows coming.sorted table
+              (coming.others q row at) (λ place r away is. coming.others place r is);
+        }
+
+    pub updates_end : (steps : List Step) (sofar end : Sofar) → AllByRecursion IsRight steps → Arriving steps sofar → Accepts schema changes sofar (map planned_of steps) end → Arriving [] end
+    updates_end [] sofar end are coming a = subst (Arriving []) a coming
+    updates_end (step ∷ steps) sofar end are coming a =
         let r = read sofar end step steps a in
-        let at : row_at sofar.tables (step_place keys step) ≡ Some r.row = ap (λ k. row_at sofar.tables (step_place k step)) (sym middle.known) ∙ r.at in
-        let then : Middle schema changes old stated keys steps (record { tables = with_edit sofar.tables (step_place keys step, Some (with_cells r.row (put_cells (value_of_cell keys) step.1.2))); keys = keys }) =
-        after_step schema changes old stated keys step steps sofar r.row r.rows middle are.0.1 r.table at in
+        let at : row_at sofar.tables (step_place keys step) ≡ Some r.row = ap (λ k. row_at sofar.tables (step_place k step)) (sym coming.known) ∙ r.at in
+        let then : Arriving steps (record { tables = with_edit sofar.tables (step_place keys step, Some (with_cells r.row (put_cells (value_of_cell keys) step.1.2))); keys = keys }) =
+        arrives step steps sofar r.row r.rows coming are.0 r.table at in
         let is : a.0 ≡ record { tables = with_edit sofar.tables (step_place keys step, Some (with_cells r.row (put_cells (value_of_cell keys) step.1.2))); keys = keys } =
-        r.is ∙ ap (λ k. record { tables = with_edit sofar.tables (step_place k step, Some (with_cells r.row (put_cells (value_of_cell k) step.1.2))); keys = k }) middle.known in
-        updates_end steps a.0 end are.1 (subst (Middle schema changes old stated keys steps) (sym is) then) a.2
+        r.is ∙ ap (λ k. record { tables = with_edit sofar.tables (step_place k step, Some (with_cells r.row (put_cells (value_of_cell k) step.1.2))); keys = k }) coming.known in
+        updates_end steps a.0 end are.1 (subst (Arriving steps) (sym is) then) a.2
 
   -- ---- DELETEs
 
@@ -119,9 +153,51 @@ module _ (schema : Catalog) (changes : RowChanges) where
             places (deletes_created places a.0 end (subst (λ s. IsSorted s.tables) (sym g.is) (edited_sorted sofar.tables (place, None) sorted)) a.2),
       )
 
-  pub deletes_end : (old stated : Tables) (places : List Place) (sofar end : Sofar) → Ordered schema changes old stated places → Going schema changes old stated places sofar → Accepts schema changes sofar (map remove_at places) end → Going schema changes old stated [] end
-  deletes_end old stated [] sofar end ordered going a = subst (Going schema changes old stated []) a going
-  deletes_end old stated (place ∷ places) sofar end ordered going a =
-      let g = gone sofar end place places going.sorted a in
-      let then = gone_then schema changes old stated place places sofar g.rows going ordered.0 ordered.2 g.table in
-      deletes_end old stated places a.0 end ordered.4 (subst (Going schema changes old stated places) (sym g.is) then) a.2
+  module _ (stated : Tables) where
+    -- While DELETEs are accepted: the stated rows stand, and others are among those that are still to go.
+    pub record Leaving (rest : List Place) (sofar : Sofar) : Type 0 where
+      pub sorted : IsSorted sofar.tables
+      pub created : (table : TableId) → is_created sofar.tables table ≡ is_created stated table
+      pub rows : (place : Place) (row : List Value) → row_at stated place ≡ Some row → row_at sofar.tables place ≡ Some row
+      pub others : (place : Place) → is_present sofar.tables place ≡ true → (is_present stated place ≡ true) ⊎ Member place rest
+
+    left : (place q : Place) (rest : List Place) → (place ≡ q → ⊥) → (is_present stated q ≡ true) ⊎ Member q (place ∷ rest) → (is_present stated q ≡ true) ⊎ Member q rest
+    left place q rest away (inl stands) = inl stands
+    left place q rest away (inr (inl here)) = absurd (away here)
+    left place q rest away (inr (inr more)) = inr more
+
+    leaves : (place : Place) (rest : List Place) (sofar : Sofar) (rows : Rows) → Leaving (place ∷ rest) sofar → row_at stated place ≡ None → rows_in sofar.tables place.0 ≡ Some rows
+        → Leaving rest (record { tables = with_edit sofar.tables (place, None); keys = sofar.keys })
+    leaves place rest sofar rows going none table = record {
+      sorted = edited_sorted sofar.tables (place, None) going.sorted;
+      created = λ t. edited_created sofar.tables (place, None) t ∙ going.created t;
+      rows = λ q row at.
+          elim (place_cases place q) [
+            | inl same ↦ absurd (none_some row (sym none ∙ ap (row_at stated) same ∙ at))
+            | inr away ↦ at_other sofar.tables (place, None) q going.sorted away ∙ going.rows q row at
+          ];
+      others = λ q there.
+          elim (place_cases place q) [
+            | inl same ↦ absurd (true_false (sym there ∙ ap (is_present (with_edit sofar.tables (place, None))) (sym same) ∙ ap is_some (at_edit sofar.tables (place, None) rows going.sorted table)))
+            | inr away ↦ left place q rest away (going.others q (ap is_some (sym (at_other sofar.tables (place, None) q going.sorted away)) ∙ there))
+          ];
+    }
+
+    pub deletes_end : (places : List Place) (sofar end : Sofar) → AllByRecursion (λ place. row_at stated place ≡ None) places → Leaving places sofar → Accepts schema changes sofar (map remove_at places) end → Leaving [] end
+    deletes_end [] sofar end none going a = subst (Leaving []) a going
+    deletes_end (place ∷ places) sofar end none going a =
+        let g = gone sofar end place places going.sorted a in
+        deletes_end places a.0 end none.1 (subst (Leaving places) (sym g.is) (leaves place places sofar g.rows going none.0 g.table)) a.2
+
+    -- at the end the tables are the stated ones
+    pub left_stated : (sofar : Sofar) → IsSorted stated → Leaving [] sofar → sofar.tables ≡ stated
+    left_stated sofar sorted going = same_tables sofar.tables stated going.sorted sorted going.created (λ q. at_end q (row_at sofar.tables q) (row_at stated q) refl refl)
+      where
+        at_end : (q : Place) (o p : Option (List Value)) → row_at sofar.tables q ≡ o → row_at stated q ≡ p → row_at sofar.tables q ≡ row_at stated q
+        at_end q o (Some row) e f = going.rows q row f ∙ sym f
+        at_end q None None e f = e ∙ sym f
+        at_end q (Some row) None e f =
+            elim (going.others q (ap is_some e)) [
+              | inl there ↦ absurd (true_false (sym there ∙ ap is_some f))
+              | inr none ↦ absurd none
+            ]

@@ -3,6 +3,7 @@ use Rattle.std.proofs.Common.{◌≡◌, inl, inr, ℕ, ◌<◌, Bool, true, fal
 use Rattle.std.proofs.lemmas.Bool.{eq-eqb, eqb-true}
 use Rattle.std.proofs.lemmas.List.{map-append}
 use Rattle.std.specs.List.{AllByRecursion, filter, flat_map}
+use Rattle.std.specs.Option.{is_some}
 use Rattle.base_core.specs.declared.ids.TableId.{TableId}
 use Rattle.base_core.specs.declared.value.Value.{Value}
 use Rattle.base_core.proofs.Lists.{every_append}
@@ -21,11 +22,11 @@ use Rattle.flush_order.specs.Places.{is_among}
 use Rattle.flush_order.specs.Sorted.{Place, sorted_numbers}
 use Rattle.flush_plan.specs.Flushing.{Keys, Sofar}
 use Rattle.flush_plan.specs.Planning.{Writing, cells_when, changed_rows, is_of, late_gone, late_in, late_new, late_old, late_updates, late_writings, no_changed, no_writing, place_of_changed, updates, writes_some, writing_some}
-use Rattle.flush_plan.specs.Stating.{edit_changed, edit_gone, edit_new, edits, place_of_new, row_at, written_rows}
-use Rattle.plan_laws.specs.Laws.{IsProjected}
+use Rattle.flush_plan.specs.Stating.{edit_changed, edit_gone, edit_new, edits, is_present, place_of_new, row_at, written_rows}
+use Rattle.plan_laws.specs.Laws.{AreAsRead, IsProjected}
 use Rattle.plan_laws.proofs.Blend.{blend_self}
 use Rattle.plan_laws.proofs.Changing.{changed_way, early_ok, is_written, late_ok, step_is, step_of}
-use Rattle.plan_laws.proofs.Clearing.{clear_ok, gone_way}
+use Rattle.plan_laws.proofs.Clearing.{clear_ok, gone_way, none_then}
 use Rattle.plan_laws.proofs.Complete.{IsStated, created_parts, known_facts, new_created, news, told_long}
 use Rattle.plan_laws.proofs.Differing.{apart_of, apart_other, writings_differ}
 use Rattle.plan_laws.proofs.Editing.{edit_cases}
@@ -35,8 +36,8 @@ use Rattle.plan_laws.proofs.Numbers.{AreOther, numbers_have, numbers_within}
 use Rattle.plan_laws.proofs.Stated.{all_from, new_case, stated_other}
 use Rattle.plan_laws.proofs.Updating.{IsStep, OnWay, Step, ToCome, planned_of, step_place}
 use Rattle.plan_laws.proofs.Whole.{Comes_up}
-use Rattle.plan_laws.proofs.Facts.{none_some}
-use Rattle.plan_laws.proofs.Between.{is_declared}
+use Rattle.plan_laws.proofs.Facts.{none_some, true_false}
+use Rattle.plan_laws.proofs.Between.{early_part, is_declared}
 
 come_of : (keys : Keys) (late : Bool) (place : Place) (step : Step) (steps : List Step) → Member step steps → step.0 ≡ late → step_place keys step ≡ place → ToCome keys late place steps
 come_of keys late place step [] is e f = absurd is
@@ -93,7 +94,7 @@ module _ (schema : Catalog) (changes : RowChanges) (order : List ℕ) where
 
 -- ---- each row that is written has its step
 
-module _ (schema : Catalog) (old : Tables) (changes : RowChanges) (projected : IsProjected schema old changes) (order : List ℕ) where
+module _ (schema : Catalog) (changes : RowChanges) (projected : IsProjected schema changes) (order : List ℕ) where
   abbrev changed_row : ℕ → ChangedRow
   changed_row n = get_or changes.changed n no_changed
 
@@ -179,53 +180,59 @@ module _ (schema : Catalog) (old : Tables) (changes : RowChanges) (order : List 
   changed_within : (n : ℕ) → is_among numbers n ≡ true → n < length changes.changed
   changed_within n among = subst (λ k. n < k) (length_mapped place_of_changed changes.changed) (numbers_within (map place_of_changed changes.changed) (place_of_changed no_changed) n among)
 
-  early_good : AllByRecursion Good (early_steps schema changes order)
-  early_good =
-      all_map_of Good (step_of false) (filter writing_some (map (cells_when schema changes false) (changed_rows changes)))
-      (all_filter (λ w. Good (step_of false w)) writing_some (map (cells_when schema changes false) (changed_rows changes))
-      (all_map_of (λ w. writing_some w ≡ true → Good (step_of false w)) (cells_when schema changes false) (changed_rows changes)
-      (all_map_of (λ row. writing_some (cells_when schema changes false row) ≡ true → Good (step_of false (cells_when schema changes false row))) changed_at numbers
-      (all_members (λ n. writing_some (cells_when schema changes false (changed_at n)) ≡ true → Good (step_of false (cells_when schema changes false (changed_at n)))) numbers
-      (λ n among some. early_ok schema old changes order placed after told n (is_written schema old changes order placed after told false n (changed_within n among) some))))))
+  -- what holds of each step that writes what it should holds of all, where it holds of those that clear what is deleted
+  module _ (P : Step → Type 0) (good : (step : Step) → Good step → P step)
+      (cleared : (n : ℕ) → n < length changes.gone → writing_some (late_gone schema changes (gone_at n)) ≡ true → P (step_of true (late_gone schema changes (gone_at n)))) where
+    early_good : AllByRecursion P (early_steps schema changes order)
+    early_good =
+        all_map_of P (step_of false) (filter writing_some (map (cells_when schema changes false) (changed_rows changes)))
+        (all_filter (λ w. P (step_of false w)) writing_some (map (cells_when schema changes false) (changed_rows changes))
+        (all_map_of (λ w. writing_some w ≡ true → P (step_of false w)) (cells_when schema changes false) (changed_rows changes)
+        (all_map_of (λ row. writing_some (cells_when schema changes false row) ≡ true → P (step_of false (cells_when schema changes false row))) changed_at numbers
+        (all_members (λ n. writing_some (cells_when schema changes false (changed_at n)) ≡ true → P (step_of false (cells_when schema changes false (changed_at n)))) numbers
+        (λ n among some. good (step_of false (cells_when schema changes false (changed_at n))) (early_ok schema old changes order placed after told n (is_written schema old changes order placed after told false n (changed_within n among) some)))))))
 
-  writings_good : AllByRecursion (λ w. Good (step_of true w)) writings
-  writings_good =
-      all_filter (λ w. Good (step_of true w)) writing_some (map (cells_when schema changes true) changes.changed ++ map (late_gone schema changes) changes.gone)
-      (every_append (λ w. writing_some w ≡ true → Good (step_of true w)) (map (cells_when schema changes true) changes.changed) (map (late_gone schema changes) changes.gone)
-      (all_map_of (λ w. writing_some w ≡ true → Good (step_of true w)) (cells_when schema changes true) changes.changed
-      (every_at (λ row. writing_some (cells_when schema changes true row) ≡ true → Good (step_of true (cells_when schema changes true row))) changes.changed no_changed
-      (λ n h some. late_ok schema old changes order placed after told n (is_written schema old changes order placed after told true n h some))))
-      (all_map_of (λ w. writing_some w ≡ true → Good (step_of true w)) (late_gone schema changes) changes.gone
-      (every_at (λ row. writing_some (late_gone schema changes row) ≡ true → Good (step_of true (late_gone schema changes row))) changes.gone no_gone
-      (clear_ok schema old changes order placed after told))))
+    writings_good : AllByRecursion (λ w. P (step_of true w)) writings
+    writings_good =
+        all_filter (λ w. P (step_of true w)) writing_some (map (cells_when schema changes true) changes.changed ++ map (late_gone schema changes) changes.gone)
+        (every_append (λ w. writing_some w ≡ true → P (step_of true w)) (map (cells_when schema changes true) changes.changed) (map (late_gone schema changes) changes.gone)
+        (all_map_of (λ w. writing_some w ≡ true → P (step_of true w)) (cells_when schema changes true) changes.changed
+        (every_at (λ row. writing_some (cells_when schema changes true row) ≡ true → P (step_of true (cells_when schema changes true row))) changes.changed no_changed
+        (λ n h some. good (step_of true (cells_when schema changes true (changed_at n))) (late_ok schema old changes order placed after told n (is_written schema old changes order placed after told true n h some)))))
+        (all_map_of (λ w. writing_some w ≡ true → P (step_of true w)) (late_gone schema changes) changes.gone
+        (every_at (λ row. writing_some (late_gone schema changes row) ≡ true → P (step_of true (late_gone schema changes row))) changes.gone no_gone
+        cleared)))
 
-  old_good : AllByRecursion (λ w. Good (step_of true w)) (late_old schema changes)
-  old_good =
-      all_map_of (λ w. Good (step_of true w)) (λ number. get_or writings number no_writing) its_numbers
-      (all_members (λ k. Good (step_of true (get_or writings k no_writing))) its_numbers
-      (λ k among. all_at (λ w. Good (step_of true w)) writings k no_writing writings_good
-      (subst (λ n. k < n) (length_mapped (λ (row : Writing). row.0) writings) (numbers_within (map (λ (row : Writing). row.0) writings) no_writing.0 k among))))
+    old_good : AllByRecursion (λ w. P (step_of true w)) (late_old schema changes)
+    old_good =
+        all_map_of (λ w. P (step_of true w)) (λ number. get_or writings number no_writing) its_numbers
+        (all_members (λ k. P (step_of true (get_or writings k no_writing))) its_numbers
+        (λ k among. all_at (λ w. P (step_of true w)) writings k no_writing writings_good
+        (subst (λ n. k < n) (length_mapped (λ (row : Writing). row.0) writings) (numbers_within (map (λ (row : Writing). row.0) writings) no_writing.0 k among))))
 
-  new_good : (table : TableId) → AllByRecursion Good (new_steps schema changes order table)
-  new_good table =
-      all_map_of Good (new_step schema changes table) (filter (λ place. is_of table (table_at changes place) && writes_some (late_new schema changes place)) order)
-      (all_filter (λ place. Good (new_step schema changes table place)) (λ place. is_of table (table_at changes place) && writes_some (late_new schema changes place)) order
-      (all_members (λ place. (is_of table (table_at changes place) && writes_some (late_new schema changes place)) ≡ true → Good (new_step schema changes table place)) order
-      (λ place among passes.
-      let same : table_at changes place ≡ table = ap (λ n. record { 0 = n }) (eqb-true (table_at changes place).0 table.0 (and_true (is_of table (table_at changes place)) (writes_some (late_new schema changes place)) passes).0) in
-      subst (λ t. Good (new_step schema changes t place)) same (step_ok schema old changes order placed after told place among))))
+    new_good : (table : TableId) → AllByRecursion P (new_steps schema changes order table)
+    new_good table =
+        all_map_of P (new_step schema changes table) (filter (λ place. is_of table (table_at changes place) && writes_some (late_new schema changes place)) order)
+        (all_filter (λ place. P (new_step schema changes table place)) (λ place. is_of table (table_at changes place) && writes_some (late_new schema changes place)) order
+        (all_members (λ place. (is_of table (table_at changes place) && writes_some (late_new schema changes place)) ≡ true → P (new_step schema changes table place)) order
+        (λ place among passes.
+        let same : table_at changes place ≡ table = ap (λ n. record { 0 = n }) (eqb-true (table_at changes place).0 table.0 (and_true (is_of table (table_at changes place)) (writes_some (late_new schema changes place)) passes).0) in
+        subst (λ t. P (new_step schema changes t place)) same (good (new_step schema changes (table_at changes place) place) (step_ok schema old changes order placed after told place among)))))
 
-  late_good : (table : TableId) → AllByRecursion Good (late_steps schema changes order table)
-  late_good table =
-      every_append Good (new_steps schema changes order table) (old_steps schema changes order table) (new_good table)
-      (all_map_of Good (step_of true) (filter (λ row. is_of table row.0.0) (late_old schema changes))
-      (all_filter (λ w. Good (step_of true w)) (λ row. is_of table row.0.0) (late_old schema changes)
-      (all_map (λ w. Good (step_of true w)) (λ w. is_of table w.0.0 ≡ true → Good (step_of true w)) (λ w good passes. good) (late_old schema changes) old_good)))
+    late_good : (table : TableId) → AllByRecursion P (late_steps schema changes order table)
+    late_good table =
+        every_append P (new_steps schema changes order table) (old_steps schema changes order table) (new_good table)
+        (all_map_of P (step_of true) (filter (λ row. is_of table row.0.0) (late_old schema changes))
+        (all_filter (λ w. P (step_of true w)) (λ row. is_of table row.0.0) (late_old schema changes)
+        (all_map (λ w. P (step_of true w)) (λ w. is_of table w.0.0 ≡ true → P (step_of true w)) (λ w good passes. good) (late_old schema changes) old_good)))
 
-  pub steps_ok : AllByRecursion Good steps
-  steps_ok =
-      every_append Good (early_steps schema changes order) (flat_map (late_steps schema changes order) (table_ids schema)) early_good
-      (all_flat Good (late_steps schema changes order) (table_ids schema) late_good)
+    pub each_step : AllByRecursion P steps
+    each_step =
+        every_append P (early_steps schema changes order) (flat_map (late_steps schema changes order) (table_ids schema)) early_good
+        (all_flat P (late_steps schema changes order) (table_ids schema) late_good)
+
+  pub steps_ok : AreAsRead schema old changes → AllByRecursion Good steps
+  steps_ok read = each_step Good (λ step is. is) (clear_ok schema old changes order placed after told read)
 
   -- ---- what is to come
 
@@ -242,17 +249,17 @@ module _ (schema : Catalog) (old : Tables) (changes : RowChanges) (order : List 
   early_comes : (n : ℕ) → n < length changes.changed → writing_some (cells_when schema changes false (changed_at n)) ≡ true → ToCome placed.keys false (place_of_changed (changed_at n)) steps
   early_comes n h some =
       let w : Writing = cells_when schema changes false (changed_at n) in
-      come_of placed.keys false (place_of_changed (changed_at n)) (step_of false w) steps (early_in schema old changes told.projected order n h some) refl (step_is placed.keys false w)
+      come_of placed.keys false (place_of_changed (changed_at n)) (step_of false w) steps (early_in schema changes told.projected order n h some) refl (step_is placed.keys false w)
 
   late_comes : (n : ℕ) → n < length changes.changed → writing_some (cells_when schema changes true (changed_at n)) ≡ true → ToCome placed.keys true (place_of_changed (changed_at n)) steps
   late_comes n h some =
       let w : Writing = cells_when schema changes true (changed_at n) in
-      come_of placed.keys true (place_of_changed (changed_at n)) (step_of true w) steps (late_in_steps schema old changes told.projected order n (changed_declared n h) h some) refl (step_is placed.keys true w)
+      come_of placed.keys true (place_of_changed (changed_at n)) (step_of true w) steps (late_in_steps schema changes told.projected order n (changed_declared n h) h some) refl (step_is placed.keys true w)
 
   clear_comes : (n : ℕ) → n < length changes.gone → writing_some (late_gone schema changes (gone_at n)) ≡ true → ToCome placed.keys true (place_of_gone schema (gone_at n)) steps
   clear_comes n h some =
       let w : Writing = late_gone schema changes (gone_at n) in
-      come_of placed.keys true (place_of_gone schema (gone_at n)) (step_of true w) steps (clear_in schema old changes told.projected order n (gone_declared n h) h some) refl (step_is placed.keys true w)
+      come_of placed.keys true (place_of_gone schema (gone_at n)) (step_of true w) steps (clear_in schema changes told.projected order n (gone_declared n h) h some) refl (step_is placed.keys true w)
 
   new_comes : (place : ℕ) → is_among order place ≡ true → writes_some (late_new schema changes place) ≡ true → ToCome placed.keys true (place_of_new changes placed.keys place) steps
   new_comes place among some =
@@ -279,33 +286,47 @@ module _ (schema : Catalog) (old : Tables) (changes : RowChanges) (order : List 
     late_done = inl (inl then);
   }
 
-  old_way : (q : Place) (row : List Value) → row_at old q ≡ Some row → Way q row
-  old_way q row was =
-      elim (edit_cases (edits schema old changes order placed) q) [
-        | inr still ↦ unchanged q row was (stated_other schema old changes order placed after told.sorted (known_facts schema old changes order placed after told) q still ∙ was)
-        | inl found ↦ elim (member_split found.0 (map (edit_gone schema) changes.gone ++ map (edit_changed old placed.keys) (written_rows changes)) (map (edit_new schema changes placed) order) found.1) [
-          | inr new ↦
-              let p = new_case schema old changes order placed after told.sorted (known_facts schema old changes order placed after told) order found.0 new in
-              absurd (none_some row (sym ((news schema old changes order placed after told).free p.0 p.1) ∙ ap (row_at old) (ap (λ e. e.0) p.2 ∙ found.2) ∙ was))
-          | inl before ↦ elim (member_split found.0 (map (edit_gone schema) changes.gone) (map (edit_changed old placed.keys) (written_rows changes)) before) [
-            | inl gone ↦
-                let made = mapped_member (edit_gone schema) found.0 changes.gone gone in
-                let n = member_number changes.gone made.0 no_gone made.1 in
-                let is : place_of_gone schema (gone_at n.0) ≡ q = ap (place_of_gone schema) n.2 ∙ ap (λ e. e.0) made.2 ∙ found.2 in
-                subst (λ p. Way p row) is (gone_way schema old changes order placed after told steps n.0 row n.1 (ap (row_at old) is ∙ was) (clear_comes n.0 n.1))
-            | inr changed ↦
-                let made = mapped_member (edit_changed old placed.keys) found.0 (written_rows changes) changed in
-                let both = filtered_member (λ r. writes_some r.cells) made.0 changes.changed made.1 in
-                let n = member_number changes.changed made.0 no_changed both.0 in
-                let is : place_of_changed (changed_at n.0) ≡ q = ap place_of_changed n.2 ∙ ap (λ e. e.0) made.2 ∙ found.2 in
-                subst (λ p. Way p row) is
-                (changed_way schema old changes order placed after told steps n.0 row (n.1, ap (λ (r : ChangedRow). writes_some r.cells) n.2 ∙ both.1) (ap (row_at old) is ∙ was) (either_comes n.0 n.1))
+  -- what holds of the rows on their way holds of each old row, where it holds of those that are deleted
+  module _ (P : Place → List Value → Type 0) (way : (q : Place) (row : List Value) → Way q row → P q row)
+      (gone : (n : ℕ) (row : List Value) → n < length changes.gone → row_at old (place_of_gone schema (gone_at n)) ≡ Some row → P (place_of_gone schema (gone_at n)) row) where
+    old_way : (q : Place) (row : List Value) → row_at old q ≡ Some row → P q row
+    old_way q row was =
+        elim (edit_cases (edits schema old changes order placed) q) [
+          | inr still ↦ way q row (unchanged q row was (stated_other schema old changes order placed after told.sorted (known_facts schema old changes order placed after told) q still ∙ was))
+          | inl found ↦ elim (member_split found.0 (map (edit_gone schema) changes.gone ++ map (edit_changed old placed.keys) (written_rows changes)) (map (edit_new schema changes placed) order) found.1) [
+            | inr new ↦
+                let p = new_case schema old changes order placed after told.sorted (known_facts schema old changes order placed after told) order found.0 new in
+                absurd (none_some row (sym ((news schema old changes order placed after told).free p.0 p.1) ∙ ap (row_at old) (ap (λ e. e.0) p.2 ∙ found.2) ∙ was))
+            | inl before ↦ elim (member_split found.0 (map (edit_gone schema) changes.gone) (map (edit_changed old placed.keys) (written_rows changes)) before) [
+              | inl out ↦
+                  let made = mapped_member (edit_gone schema) found.0 changes.gone out in
+                  let n = member_number changes.gone made.0 no_gone made.1 in
+                  let is : place_of_gone schema (gone_at n.0) ≡ q = ap (place_of_gone schema) n.2 ∙ ap (λ e. e.0) made.2 ∙ found.2 in
+                  subst (λ p. P p row) is (gone n.0 row n.1 (ap (row_at old) is ∙ was))
+              | inr changed ↦
+                  let made = mapped_member (edit_changed old placed.keys) found.0 (written_rows changes) changed in
+                  let both = filtered_member (λ r. writes_some r.cells) made.0 changes.changed made.1 in
+                  let n = member_number changes.changed made.0 no_changed both.0 in
+                  let is : place_of_changed (changed_at n.0) ≡ q = ap place_of_changed n.2 ∙ ap (λ e. e.0) made.2 ∙ found.2 in
+                  way q row (subst (λ p. Way p row) is
+                  (changed_way schema old changes order placed after told steps n.0 row (n.1, ap (λ (r : ChangedRow). writes_some r.cells) n.2 ∙ both.1) (ap (row_at old) is ∙ was) (either_comes n.0 n.1)))
+            ]
           ]
         ]
-      ]
 
-  pub comes_up : Comes_up schema changes old after placed order steps
-  comes_up = record {
-    old_rows = old_way;
-    new_rows = λ place written among stated. new_way schema old changes order placed after told steps place written among (new_comes place among) stated;
+  -- an old row that is stated is on its way
+  pub stated_way : (q : Place) (row : List Value) → row_at old q ≡ Some row → is_present after q ≡ true → Way q row
+  stated_way =
+      old_way (λ q row. is_present after q ≡ true → Way q row) (λ q row way there. way)
+      (λ n row h at there. absurd (true_false (sym there ∙ ap is_some (none_then schema old changes order placed after told n h))))
+
+  -- and so is a new one
+  pub placed_way : (place : ℕ) (written : List Value) → is_among order place ≡ true → row_at after (place_of_new changes placed.keys place) ≡ Some written
+      → Way (place_of_new changes placed.keys place) (early_part schema changes (place_of_new changes placed.keys place) written)
+  placed_way place written among stated = new_way schema old changes order placed after told steps place written among (new_comes place among) stated
+
+  pub comes_up : AreAsRead schema old changes → Comes_up schema changes old after placed order steps
+  comes_up read = record {
+    old_rows = old_way Way (λ q row way. way) (λ n row h at. gone_way schema old changes order placed after told read steps n row h at (clear_comes n h));
+    new_rows = placed_way;
   }

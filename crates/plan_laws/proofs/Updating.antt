@@ -86,7 +86,7 @@ module _ (schema : Catalog) (changes : RowChanges) (old stated : Tables) (keys :
   come_later late place step steps apart (inr (inl here)) = absurd (apart here.1)
   come_later late place step steps apart (inr (inr there)) = inr there
 
-  elsewhere : (step : Step) (steps : List Step) (place : Place) (row : List Value) → (step_place keys step ≡ place → ⊥) → OnWay (step ∷ steps) place row → OnWay steps place row
+  pub elsewhere : (step : Step) (steps : List Step) (place : Place) (row : List Value) → (step_place keys step ≡ place → ⊥) → OnWay (step ∷ steps) place row → OnWay steps place row
   elsewhere step steps place row apart way = record {
     early = way.early;
     late = way.late;
@@ -107,7 +107,7 @@ module _ (schema : Catalog) (changes : RowChanges) (old stated : Tables) (keys :
   other_tag_late X place update steps (inr (inl here)) = absurd (true_false here.0)
   other_tag_late X place update steps (inr (inr there)) = inr there
 
-  written : (step : Step) (steps : List Step) (row : List Value) → Writes step → OnWay (step ∷ steps) (step_place keys step) row → OnWay steps (step_place keys step) (with_cells row (put_cells (value_of_cell keys) step.1.2))
+  pub written : (step : Step) (steps : List Step) (row : List Value) → Writes step → OnWay (step ∷ steps) (step_place keys step) row → OnWay steps (step_place keys step) (with_cells row (put_cells (value_of_cell keys) step.1.2))
   written (false, update) steps row writes way = record {
     early = writes.0;
     late = way.late;
@@ -127,14 +127,14 @@ module _ (schema : Catalog) (changes : RowChanges) (old stated : Tables) (keys :
     late_done = inl writes.1;
   }
 
-  pick : (P : Place → List Value → Type 0) (tables : Tables) (at : Place) (row : List Value) (rows : Rows) → IsSorted tables → rows_in tables at.0 ≡ Some rows → P at row → ((place : Place) (r : List Value) → (at ≡ place → ⊥) → row_at tables place ≡ Some r → P place r) → (place : Place) (r : List Value) → row_at (with_edit tables (at, Some row)) place ≡ Some r → P place r
+  pub pick : (P : Place → List Value → Type 0) (tables : Tables) (at : Place) (row : List Value) (rows : Rows) → IsSorted tables → rows_in tables at.0 ≡ Some rows → P at row → ((place : Place) (r : List Value) → (at ≡ place → ⊥) → row_at tables place ≡ Some r → P place r) → (place : Place) (r : List Value) → row_at (with_edit tables (at, Some row)) place ≡ Some r → P place r
   pick P tables at row rows sorted e here there place r is =
       elim (place_cases at place) [
         | inl same ↦ subst (λ q. P q r) same (subst (P at) (same_some row r (sym (at_edit tables (at, Some row) rows sorted e) ∙ ap (row_at (with_edit tables (at, Some row))) same ∙ is)) here)
         | inr apart ↦ there place r apart (sym (at_other tables (at, Some row) place sorted apart) ∙ is)
       ]
 
-  still : (tables : Tables) (at : Place) (row : List Value) (rows : Rows) (place : Place) → IsSorted tables → rows_in tables at.0 ≡ Some rows → is_present tables place ≡ true → is_present (with_edit tables (at, Some row)) place ≡ true
+  pub still : (tables : Tables) (at : Place) (row : List Value) (rows : Rows) (place : Place) → IsSorted tables → rows_in tables at.0 ≡ Some rows → is_present tables place ≡ true → is_present (with_edit tables (at, Some row)) place ≡ true
   still tables at row rows place sorted e was =
       elim (place_cases at place) [
         | inl same ↦ ap (λ q. is_present (with_edit tables (at, Some row)) q) (sym same) ∙ ap is_some (at_edit tables (at, Some row) rows sorted e)

@@ -54,7 +54,7 @@ module _ (schema : Catalog) (changes : RowChanges) (old stated : Tables) (placed
   }
 
   -- a stated row is whole when all UPDATEs are done
-  whole_row : (q : Place) (row written : List Value) → Long (columns schema q) written → row_at stated q ≡ Some written → OnWay schema changes old stated placed.keys [] q row → row ≡ written
+  pub whole_row : (q : Place) (row written : List Value) → Long (columns schema q) written → row_at stated q ≡ Some written → OnWay schema changes old stated placed.keys [] q row → row ≡ written
   whole_row q row written long at way =
       let first : way.early ≡ written = elim way.early_done [
         | inl done ↦ elim done [

@@ -68,7 +68,7 @@ are_at place [] (cell ∷ cells) = false
 are_at place (column ∷ columns) (cell ∷ cells) = (nat_lt place cell.0.0 && are_at (suc place) columns (cell ∷ cells)) || (nat_eq place cell.0.0 && not column.key && are_at (suc place) columns cells)
 
 -- what the projection of a graph gives
-pub record IsProjected (schema : Catalog) (old : Tables) (changes : RowChanges) : Type 0 where
+pub record IsProjected (schema : Catalog) (changes : RowChanges) : Type 0 where
   pub fit : IsFit schema changes
   -- a new row has a cell for each column, and each foreign key is of one kind
   pub new_cells : AllByRecursion (λ (row : NewRow). length row.cells ≡ length (spec_of schema row.name.table).columns) changes.fresh
@@ -82,14 +82,16 @@ pub record IsProjected (schema : Catalog) (old : Tables) (changes : RowChanges) 
   pub gone_cells : AllByRecursion (λ (row : GoneRow). length row.base ≡ length (spec_of schema row.name.table).columns) changes.gone
   pub gone_once : some_two (λ one other. same_place (place_of_gone schema one) (place_of_gone schema other)) changes.gone ≡ false
   pub gone_apart : list_any (λ row. list_any (λ other. same_place (place_of_gone schema row) (place_of_changed other)) changes.changed) changes.gone ≡ false
-  -- the foreign keys of a deleted row are those of its base
-  pub gone_base : AllByRecursion (λ (row : GoneRow). (stands : List Value) → row_at old (place_of_gone schema row) ≡ Some stands → AllByRecursion (λ foreign. cells_of (spec_of schema row.name.table) stands foreign.columns ≡ cells_of (spec_of schema row.name.table) row.base foreign.columns) (spec_of schema row.name.table).foreigns) changes.gone
-  -- and what is written late of it is that of its base
-  pub gone_late : AllByRecursion (λ (row : GoneRow). (stands : List Value) → row_at old (place_of_gone schema row) ≡ Some stands → blend (is_late schema changes row.name.table) (spec_of schema row.name.table).columns stands row.base ≡ stands) changes.gone
+
+-- the deleted rows that stand are as they were read: in their foreign keys, and in what is written late
+pub record AreAsRead (schema : Catalog) (old : Tables) (changes : RowChanges) : Type 0 where
+  pub base : AllByRecursion (λ (row : GoneRow). (stands : List Value) → row_at old (place_of_gone schema row) ≡ Some stands → AllByRecursion (λ foreign. cells_of (spec_of schema row.name.table) stands foreign.columns ≡ cells_of (spec_of schema row.name.table) row.base foreign.columns) (spec_of schema row.name.table).foreigns) changes.gone
+  pub late : AllByRecursion (λ (row : GoneRow). (stands : List Value) → row_at old (place_of_gone schema row) ≡ Some stands → blend (is_late schema changes row.name.table) (spec_of schema row.name.table).columns stands row.base ≡ stands) changes.gone
 
 -- what completeness asks
 pub record IsComplete (schema : Catalog) (old : Tables) (changes : RowChanges) (order : List ℕ) (placed : Sofar) (after : Tables) : Type 0 where
-  pub projected : IsProjected schema old changes
+  pub projected : IsProjected schema changes
+  pub read : AreAsRead schema old changes
   pub sorted : IsSorted old
   pub legal : Legal schema old
   pub ordered : insert_order schema changes ≡ Ok order
@@ -142,7 +144,7 @@ pub record AreNamed (schema : Catalog) (old : Tables) (changes : RowChanges) : T
 abbrev pub AcceptedIsStated : Type 0
 AcceptedIsStated =
     (schema : Catalog) (old : Tables) (changes : RowChanges) (order : List ℕ) (statements : List Planned) (sofar : Sofar)
-    → IsProjected schema old changes → IsSorted old → Legal schema old → AreNamed schema old changes
+    → IsProjected schema changes → IsSorted old → Legal schema old → AreNamed schema old changes
     → insert_order schema changes ≡ Ok order → plan schema changes ≡ Ok statements
     → send_all schema changes (Ok (before old)) statements ≡ Ok sofar
     → stated_tables schema old changes order ≡ Some sofar.tables

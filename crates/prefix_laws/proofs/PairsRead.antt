@@ -1,6 +1,6 @@
 -- The row of a pair is all key, so what stands under its key is the row that was read.
-use Rattle.std.proofs.Common.{◌≡◌, ◌⊎◌, inl, inr, ℕ, Bool, true, false, cond, ◌&&◌, ◌==◌, List, [], ◌∷◌, length, map, fold, Option, None, Some, is_some, refl, sym, subst, ap, ◌∙◌}
-use Rattle.std.proofs.lemmas.List.{length-map}
+use Rattle.std.proofs.Common.{◌≡◌, ℕ, Bool, true, false, cond, ◌&&◌, ◌==◌, List, [], ◌∷◌, ◌++◌, length, map, fold, Option, None, Some, is_some, refl, sym, subst, ap, ◌∙◌}
+use Rattle.std.proofs.lemmas.List.{length-map, map-append}
 use Rattle.std.proofs.lemmas.List.Elements.{All-nil, recursion_from_All}
 use Rattle.std.proofs.lemmas.Map.Views.{All-insert_key}
 use Rattle.std.specs.BTreeSet.{insert_key}
@@ -20,7 +20,7 @@ use Rattle.class_sides.specs.Sides.{is_all_keys}
 use Rattle.class_mapping.specs.Mapped.{Mapped, layout_of, relations_of}
 use Rattle.class_mapping.specs.Related.{AreRelated, IsRelated, has_keys}
 use Rattle.class_mapping.specs.Valid.{refers_to_class}
-use Rattle.class_mapping.proofs.Having.{Has, all_from, from_flat, from_map, from_numbered, has_at, has_either}
+use Rattle.class_mapping.proofs.Having.{Has, all_from, from_flat, from_map, from_numbered, has_at}
 use Rattle.class_mapping.proofs.Lists.{and_both, and_left, and_right}
 use Rattle.object_arena.specs.Fit.{IsFit}
 use Rattle.object_arena.specs.Graph.{Graph, IsObject, object_at}
@@ -46,7 +46,7 @@ key_step : (key : Bool) (v : Value) (parts row : List Value) → key ≡ true �
 key_step true v parts row e same = ap (λ (vs : List Value). v ∷ vs) same
 key_step false v parts row e same = absurd (cc)
 
-key_is_row : (columns : List ColumnSpec) (row : List Value) → is_all_key columns ≡ true → Long columns row → key_cells columns row ≡ row
+pub key_is_row : (columns : List ColumnSpec) (row : List Value) → is_all_key columns ≡ true → Long columns row → key_cells columns row ≡ row
 key_is_row [] [] all long = refl
 key_is_row [] (v ∷ row) all long = absurd long
 key_is_row (column ∷ columns) [] all long = absurd long
@@ -90,40 +90,64 @@ all_in_set : (P : pairs.Pair → Type 0) (set list : List pairs.Pair) → All P 
 all_in_set P set [] all each = all
 all_in_set P set (pair ∷ list) all each = all_in_set P (insert_key pairs.pair_cmp set pair) list (All-insert_key pairs.pair_cmp pair P set all each.0) each.1
 
+-- ---- where pairs that are taken away come from
+
+module _ (mapped : Mapped) (graph : Graph) (prepared : Prepared) where
+  abbrev held_by : ObjId → ℕ × Relation → List ObjId
+  held_by object placed =
+      let link = link_of (object_at graph object) (record { 0 = placed.0 }) in
+      filter (pairs.is_lost graph prepared object) (pairs.members_before link) ++ filter (pairs.is_parted graph prepared) (pairs.members_removed link)
+
+  -- an object with rows, and a member that its collection had or lost
+  pub record IsParted (pair : pairs.Pair) : Type 0 where
+    pub object : ObjId
+    pub there : Has (object_ids graph) object
+    pub in_session : pairs.is_parted graph prepared object ≡ true
+    pub placed : ℕ × Relation
+    pub of : Has (pairs.relations_at mapped graph object) placed
+    pub far : is_some placed.1.far ≡ true
+    pub member : ObjId
+    pub held : Has (held_by object placed) member
+    pub is : pairs.pair_of placed.1 object member ≡ pair
+
+  parted_of : (object : ObjId) → Has (object_ids graph) object → (pair : pairs.Pair) → Has (pairs.lost_of mapped graph prepared object) pair → IsParted pair
+  parted_of object there pair inside =
+      let all = has_if (pairs.is_parted graph prepared object) (flat_map (pairs.lost_by graph prepared object) (pairs.relations_at mapped graph object)) pair inside in
+      let from = from_flat (pairs.lost_by graph prepared object) (pairs.relations_at mapped graph object) pair all.1 in
+      let link = link_of (object_at graph object) (record { 0 = from.0.0 }) in
+      let far = has_if (is_some from.0.1.far) (pairs.lost_from graph prepared object from.0.1 link) pair from.2 in
+      let before : List ObjId = filter (pairs.is_lost graph prepared object) (pairs.members_before link) in
+      let removed : List ObjId = filter (pairs.is_parted graph prepared) (pairs.members_removed link) in
+      let made = from_map (pairs.pair_of from.0.1 object) (before ++ removed) pair (subst (λ (list : List pairs.Pair). Has list pair) (sym (map-append (pairs.pair_of from.0.1 object) before removed)) far.1) in
+      record { object = object; there = there; in_session = all.0; placed = from.0; of = from.1; far = far.0; member = made.0; held = made.1; is = made.2 }
+
+  pub lost_parted : AllByRecursion IsParted (pairs.lost_pairs mapped graph prepared)
+  unfolding pairs.lost_pairs
+  lost_parted =
+      let list = flat_map (pairs.lost_of mapped graph prepared) (object_ids graph) in
+      recursion_from_All IsParted (pairs.as_set list)
+      (all_in_set IsParted [] list (All-nil IsParted)
+      (all_from IsParted list (λ pair has. let from = from_flat (pairs.lost_of mapped graph prepared) (object_ids graph) pair has in parted_of from.0 from.1 pair from.2)))
+
 module _ (mapped : Mapped) (graph : Graph) (prepared : Prepared) (related : AreRelated mapped) (fit : IsFit mapped graph) where
   abbrev IsKeyed : pairs.Pair → Type 0
   IsKeyed pair = is_all_key (columns_in mapped.schema.tables pair.0) ≡ true
 
-  related_keyed : (object : ObjId) → Has (object_ids graph) object → (placed : ℕ × Relation) → Has (pairs.relations_at mapped graph object) placed → is_some placed.1.far ≡ true → is_all_key (columns_in mapped.schema.tables placed.1.foreign.0) ≡ true
-  related_keyed object has placed inside far =
-      let list = relations_of mapped (object_at graph object).class in
-      let made = each_has (IsObject graph) (object_ids graph) object (recursion_from_All (IsObject graph) (object_ids graph) (all_made graph (object_ids graph) refl)) has in
-      let at = from_numbered 0 list placed inside in
-      let is = each_has (IsRelated mapped) list placed.1 (recursion_from_All (IsRelated mapped) list (related.each (object_at graph object).class (fit_class mapped graph object fit made))) (has_at list at.0 placed.1 at.2) in
-      far_keyed mapped placed.1 placed.1.far is.keys far
+  pub parted_related : (pair : pairs.Pair) (it : IsParted mapped graph prepared pair) → IsRelated mapped it.placed.1
+  parted_related pair it =
+      let list = relations_of mapped (object_at graph it.object).class in
+      let made = each_has (IsObject graph) (object_ids graph) it.object (recursion_from_All (IsObject graph) (object_ids graph) (all_made graph (object_ids graph) refl)) it.there in
+      let at = from_numbered 0 list it.placed it.of in
+      each_has (IsRelated mapped) list it.placed.1 (recursion_from_All (IsRelated mapped) list (related.each (object_at graph it.object).class (fit_class mapped graph it.object fit made))) (has_at list at.0 it.placed.1 at.2)
 
-  lost_keyed : (object : ObjId) → Has (object_ids graph) object → (pair : pairs.Pair) → Has (pairs.lost_of mapped graph prepared object) pair → IsKeyed pair
-  lost_keyed object has pair inside =
-      let all = has_if (pairs.is_parted graph prepared object) (flat_map (pairs.lost_by graph prepared object) (pairs.relations_at mapped graph object)) pair inside in
-      let from = from_flat (pairs.lost_by graph prepared object) (pairs.relations_at mapped graph object) pair all.1 in
-      let placed : ℕ × Relation = from.0 in
-      let link = link_of (object_at graph object) (record { 0 = placed.0 }) in
-      let far = has_if (is_some placed.1.far) (pairs.lost_from graph prepared object placed.1 link) pair from.2 in
-      by placed (related_keyed object has placed from.1 far.0)
-      (has_either (map (pairs.pair_of placed.1 object) (filter (pairs.is_lost graph prepared object) (pairs.members_before link))) (map (pairs.pair_of placed.1 object) (filter (pairs.is_parted graph prepared) (pairs.members_removed link))) pair far.1)
-    where
-      by : (placed : ℕ × Relation) → is_all_key (columns_in mapped.schema.tables placed.1.foreign.0) ≡ true
-          → Has (map (pairs.pair_of placed.1 object) (filter (pairs.is_lost graph prepared object) (pairs.members_before (link_of (object_at graph object) (record { 0 = placed.0 }))))) pair
-          ⊎ Has (map (pairs.pair_of placed.1 object) (filter (pairs.is_parted graph prepared) (pairs.members_removed (link_of (object_at graph object) (record { 0 = placed.0 }))))) pair → IsKeyed pair
-      by placed all (inl h) = let one = from_map (pairs.pair_of placed.1 object) (filter (pairs.is_lost graph prepared object) (pairs.members_before (link_of (object_at graph object) (record { 0 = placed.0 })))) pair h in subst IsKeyed one.2 all
-      by placed all (inr h) = let one = from_map (pairs.pair_of placed.1 object) (filter (pairs.is_parted graph prepared) (pairs.members_removed (link_of (object_at graph object) (record { 0 = placed.0 })))) pair h in subst IsKeyed one.2 all
+  -- all columns of the table of a pair are of its key
+  pub lost_keyed : (pair : pairs.Pair) → IsParted mapped graph prepared pair → IsKeyed pair
+  lost_keyed pair it = subst IsKeyed it.is (far_keyed mapped it.placed.1 it.placed.1.far (parted_related pair it).keys it.far)
 
   -- what stands under the key of a pair is the pair's row
   pub pairs_read : (old : Tables) → Legal mapped.schema old → AllByRecursion (IsAsRead mapped.schema old) (pairs.lost_rows mapped graph prepared)
-  unfolding pairs.lost_rows pairs.lost_pairs
+  unfolding pairs.lost_rows
   pairs_read old legal =
-      let list = flat_map (pairs.lost_of mapped graph prepared) (object_ids graph) in
-      let keyed : AllByRecursion IsKeyed list = all_from IsKeyed list (λ pair has. let from = from_flat (pairs.lost_of mapped graph prepared) (object_ids graph) pair has in lost_keyed from.0 from.1 pair from.2) in
-      all_map IsKeyed (IsAsRead mapped.schema old) (pairs.lost_row mapped graph)
-      (λ pair all. key_as_read mapped.schema old (pairs.lost_row mapped graph pair) legal all (length-map (columns_in mapped.schema.tables pair.0) (λ column. given_value (pairs.pair_cell mapped graph [] pair column))))
-      (pairs.as_set list) (recursion_from_All IsKeyed (pairs.as_set list) (all_in_set IsKeyed [] list (All-nil IsKeyed) keyed))
+      all_map (IsParted mapped graph prepared) (IsAsRead mapped.schema old) (pairs.lost_row mapped graph)
+      (λ pair it. key_as_read mapped.schema old (pairs.lost_row mapped graph pair) legal (lost_keyed pair it) (length-map (columns_in mapped.schema.tables pair.0) (λ column. given_value (pairs.pair_cell mapped graph [] pair column))))
+      (pairs.lost_pairs mapped graph prepared) (lost_parted mapped graph prepared)

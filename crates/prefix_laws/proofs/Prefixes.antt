@@ -15,12 +15,13 @@ use Rattle.plan_laws.specs.Laws.{IsComplete}
 use Rattle.plan_laws.proofs.FlushLaw.{accepted_stated as plan_stated}
 use Rattle.plan_laws.proofs.PlanLaw.{prefixes, whole}
 use Rattle.prefix_laws.specs.Laws.{AcceptedFlushIsStated, AreStated, FlushPrefixesAreLegal, IsTold, IsWellMapped, WholeFlushIsStated}
-use Rattle.prefix_laws.proofs.Projected.{all_projected}
+use Rattle.prefix_laws.proofs.Projected.{all_projected, all_read}
 
 complete_of : (mapped : Mapped) (graph : Graph) (prepared : Prepared) (old : Tables) (order : List ℕ) (placed : Sofar) (after : Tables) → IsWellMapped mapped → IsTold mapped graph prepared old
     → AreStated mapped.schema old (project mapped graph prepared) order placed after → IsComplete mapped.schema old (project mapped graph prepared) order placed after
 complete_of mapped graph prepared old order placed after well told stated = record {
-  projected = all_projected mapped graph prepared old well told stated.legal;
+  projected = all_projected mapped graph prepared well (record { fit = told.fit; keyed = told.keyed });
+  read = all_read mapped graph prepared old well told stated.legal;
   sorted = stated.sorted;
   legal = stated.legal;
   ordered = stated.ordered;
@@ -40,11 +41,11 @@ whole_stated mapped graph prepared old order placed after sent well told stated 
     whole mapped.schema old (project mapped graph prepared) order placed after sent (complete_of mapped graph prepared old order placed after well told stated) e
 
 pub accepted_stated : AcceptedFlushIsStated
-accepted_stated mapped graph prepared old order sent sofar well told sorted legal created ordered e accepted =
+accepted_stated mapped graph prepared old order sent sofar well own sorted legal created ordered e accepted =
     let changes = project mapped graph prepared in
-    plan_stated mapped.schema old changes order sent sofar (all_projected mapped graph prepared old well told legal) sorted legal
+    plan_stated mapped.schema old changes order sent sofar (all_projected mapped graph prepared well own) sorted legal
     (record {
-      declared = each_to (IsInTable mapped.schema) (λ (row : ChangedRow). IsTable mapped.schema row.name.table) (λ row in_table. in_table.declared) changes.changed (project_declared mapped graph prepared well.related told.fit).changed;
+      declared = each_to (IsInTable mapped.schema) (λ (row : ChangedRow). IsTable mapped.schema row.name.table) (λ row in_table. in_table.declared) changes.changed (project_declared mapped graph prepared well.related own.fit).changed;
       created = created;
     })
     ordered e accepted

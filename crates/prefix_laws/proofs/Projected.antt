@@ -24,7 +24,7 @@ use Rattle.project_laws.proofs.Apart.{switches_keep_apart}
 use Rattle.project_laws.proofs.LateKeys.{each_has, late_keys_fit, taken}
 use Rattle.project_laws.proofs.Loose.{parts_are_foreign}
 use Rattle.project_laws.proofs.Rows.{bases_whole, cells_in_order, rows_keyed, rows_whole}
-use Rattle.prefix_laws.specs.Laws.{ChangesAreProjected, IsAsRead, IsTold, IsWellMapped}
+use Rattle.prefix_laws.specs.Laws.{ChangesAreProjected, DeletedAreAsRead, IsAsRead, IsTold, IsWellMapped}
 use Rattle.prefix_laws.proofs.AsRead.{late_as_read}
 use Rattle.prefix_laws.proofs.MappingFacts.{once_law}
 use Rattle.prefix_laws.proofs.NewKinds.{foreigns_of_one_kind}
@@ -44,24 +44,26 @@ late_read mapped graph prepared old well told legal read =
     (each_has (IsWholeBase mapped.schema) changes.gone row (bases_whole mapped graph prepared) has) (each_has (IsAsRead mapped.schema old) changes.gone row read has))
 
 pub all_projected : ChangesAreProjected
-all_projected mapped graph prepared old well told legal =
-    let schema = mapped.schema in
-    let plain = object_changes mapped graph prepared in
-    let apart = switches_keep_apart mapped graph plain (rows_apart mapped graph prepared (once_law mapped well.lined well.lines) told.keyed) in
-    let read : AllByRecursion (IsAsRead schema old) (project mapped graph prepared).gone =
-    all_left (IsAsRead schema old) plain (partners schema plain)
-    (all_append (IsAsRead schema old) (gone_rows mapped graph prepared) (lost_rows mapped graph prepared) told.read (pairs_read mapped graph prepared well.related told.fit old legal)) in
+all_projected mapped graph prepared well own =
+    let apart = switches_keep_apart mapped graph (object_changes mapped graph prepared) (rows_apart mapped graph prepared (once_law mapped well.lined well.lines) own.keyed) in
     record {
       fit = late_keys_fit mapped graph prepared well.lined well.lines well.valid well.declared well.posts;
       new_cells = rows_whole mapped graph prepared;
-      new_loose = parts_are_foreign mapped graph prepared well.lined well.lines well.valid told.fit;
-      new_keyed = rows_keyed mapped graph prepared well.related told.fit well.declared;
-      new_foreigns = foreigns_of_one_kind mapped graph prepared well told.fit;
+      new_loose = parts_are_foreign mapped graph prepared well.lined well.lines well.valid own.fit;
+      new_keyed = rows_keyed mapped graph prepared well.related own.fit well.declared;
+      new_foreigns = foreigns_of_one_kind mapped graph prepared well own.fit;
       changed_cells = cells_in_order mapped graph prepared;
       changed_once = apart.changed;
       gone_cells = bases_whole mapped graph prepared;
       gone_once = apart.gone;
       gone_apart = apart.both;
-      gone_base = read;
-      gone_late = late_read mapped graph prepared old well told legal read;
     }
+
+pub all_read : DeletedAreAsRead
+all_read mapped graph prepared old well told legal =
+    let schema = mapped.schema in
+    let plain = object_changes mapped graph prepared in
+    let read : AllByRecursion (IsAsRead schema old) (project mapped graph prepared).gone =
+    all_left (IsAsRead schema old) plain (partners schema plain)
+    (all_append (IsAsRead schema old) (gone_rows mapped graph prepared) (lost_rows mapped graph prepared) told.read (pairs_read mapped graph prepared well.related told.fit old legal)) in
+    record { base = read; late = late_read mapped graph prepared old well told legal read }

@@ -31,7 +31,7 @@ use Rattle.flush_plan.specs.Stating.{all_placed, guess, row_at, stated_tables}
 use Rattle.object_rows.specs.declared.prepared.Prepared.{Prepared}
 use Rattle.object_rows.specs.Rows.{gone_row, gone_rows, is_discriminator, key_or_none}
 use Rattle.pair_rows.specs.Pairs.{lost_rows}
-use Rattle.plan_laws.specs.Laws.{IsOneKind, IsProjected, before, cells_named}
+use Rattle.plan_laws.specs.Laws.{AreAsRead, IsOneKind, IsProjected, before, cells_named}
 use Rattle.plan_laws.specs.Premises.{IsClear, IsSorted}
 use Rattle.row_project.specs.Switch.{project}
 use Rattle.project_laws.specs.Laws.{PostsAreLinks}
@@ -95,6 +95,11 @@ pub record AreKeyed (mapped : Mapped) (graph : Graph) (prepared : Prepared) : Ty
   pub pairs : some_two (λ one other. same_place (place_of_gone mapped.schema one) (place_of_gone mapped.schema other)) (lost_rows mapped graph prepared) ≡ false
   pub secondary : (class : ClassId) → AllByRecursion (λ (row : GoneRow). is_among (tables_of mapped class) row.name.table ≡ false) (lost_rows mapped graph prepared)
 
+-- the objects fit the mapping and have their own rows
+pub record HaveOwnRows (mapped : Mapped) (graph : Graph) (prepared : Prepared) : Type 0 where
+  pub fit : object_fit.IsFit mapped graph
+  pub keyed : AreKeyed mapped graph prepared
+
 -- the objects fit the mapping and have their own rows, and the tables hold the rows of those that are to be deleted as they were
 -- read
 pub record IsTold (mapped : Mapped) (graph : Graph) (prepared : Prepared) (old : Tables) : Type 0 where
@@ -130,8 +135,13 @@ ForeignKeysAreOfOneKind =
 -- what a plan needs of changes holds of what a flush changes
 abbrev pub ChangesAreProjected : Type 0
 ChangesAreProjected =
+    (mapped : Mapped) (graph : Graph) (prepared : Prepared) → IsWellMapped mapped → HaveOwnRows mapped graph prepared → IsProjected mapped.schema (project mapped graph prepared)
+
+-- and the deleted rows that stand are as they were read, where those of objects are
+abbrev pub DeletedAreAsRead : Type 0
+DeletedAreAsRead =
     (mapped : Mapped) (graph : Graph) (prepared : Prepared) (old : Tables) → IsWellMapped mapped → IsTold mapped graph prepared old → Legal mapped.schema old
-    → IsProjected mapped.schema old (project mapped graph prepared)
+    → AreAsRead mapped.schema old (project mapped graph prepared)
 
 -- every prefix of the plan of what a flush changes is accepted and leaves legal tables
 abbrev pub FlushPrefixesAreLegal : Type 0
@@ -149,12 +159,12 @@ WholeFlushIsStated =
     → plan mapped.schema (project mapped graph prepared) ≡ Ok statements
     → (sofar : Sofar) × (send_all mapped.schema (project mapped graph prepared) (Ok (before old)) statements ≡ Ok sofar) × (sofar.tables ≡ after)
 
--- where a plan of what a flush changes is accepted, it leaves the stated tables; a changed row without cells, of which nothing
--- is sent, is of a created table
+-- Where a plan of what a flush changes is accepted, it leaves the stated tables, whatever the rows that are deleted held. A changed
+-- row without cells, of which nothing is sent, is of a created table.
 abbrev pub AcceptedFlushIsStated : Type 0
 AcceptedFlushIsStated =
     (mapped : Mapped) (graph : Graph) (prepared : Prepared) (old : Tables) (order : List ℕ) (statements : List Planned) (sofar : Sofar)
-    → IsWellMapped mapped → IsTold mapped graph prepared old → IsSorted old → Legal mapped.schema old
+    → IsWellMapped mapped → HaveOwnRows mapped graph prepared → IsSorted old → Legal mapped.schema old
     → AllByRecursion (λ (row : ChangedRow). (writes_some row.cells || is_created old row.name.table) ≡ true) (project mapped graph prepared).changed
     → insert_order mapped.schema (project mapped graph prepared) ≡ Ok order → plan mapped.schema (project mapped graph prepared) ≡ Ok statements
     → send_all mapped.schema (project mapped graph prepared) (Ok (before old)) statements ≡ Ok sofar

@@ -1,7 +1,7 @@
 //! What a flush of a prepared graph sends goes through: laws of the plan of what the graph changes.
 #![tactic(auto, using(crate::proofs::MappingFacts::once_law, crate::proofs::MappingFacts::free_law, crate::proofs::NewKinds::foreigns_of_one_kind, crate::proofs::Prefixes::whole_stated, crate::proofs::Prefixes::accepted_stated))]
 
-ghost use Rattle.prefix_laws.specs.Laws.{AcceptedFlushIsStated, ChangesAreProjected, DiscriminatorsStandFree, FlushPrefixesAreLegal, ForeignKeysAreOfOneKind, TablesStandOnce, WholeFlushIsStated};
+ghost use Rattle.prefix_laws.specs.Laws.{AcceptedFlushIsStated, ChangesAreProjected, DeletedAreAsRead, DiscriminatorsStandFree, FlushPrefixesAreLegal, ForeignKeysAreOfOneKind, TablesStandOnce, WholeFlushIsStated};
 
 /// A class has no table twice, and the discriminator of a hierarchy is a column of no foreign key, in every mapping.
 pub fn tables_and_discriminators()
@@ -19,11 +19,12 @@ pub fn foreign_keys_are_of_one_kind()
 ///
 /// What is asked of the graph, beside that it fits: two persistent objects have no row in common, and those that are to be
 /// deleted stand there once, with their rows as they were read under their keys; no two pairs that are taken away have one key.
-/// Of the tables: the rows of objects that are to be deleted stand with the foreign keys that were read. Of the mapping, beside
-/// that it is configured: only links of many-to-one are written late, as the language has it, and no class has the table of a
-/// pair.
+/// Of the mapping, beside that it is configured: only links of many-to-one are written late, as the language has it, and no class
+/// has the table of a pair. Where the rows of objects that are to be deleted stand with the foreign keys that were read, so do all
+/// deleted rows, and what is written late of them is what was read.
 pub fn changes_are_projected()
-    ensures { ChangesAreProjected }
+    ensures projected { ChangesAreProjected }
+    ensures read { DeletedAreAsRead }
 {}
 
 /// Where the tables that a flush states are legal, every prefix of its plan is accepted and leaves legal tables, and the whole
@@ -33,7 +34,8 @@ pub fn flush_prefixes_are_legal()
     ensures whole { WholeFlushIsStated }
 {}
 
-/// Where the plan of a flush is accepted, it leaves the stated tables.
+/// Where the plan of a flush is accepted, it leaves the stated tables, also where the rows of deleted objects held what no attribute
+/// tells.
 pub fn accepted_flushes_are_stated()
     ensures { AcceptedFlushIsStated }
 {}
