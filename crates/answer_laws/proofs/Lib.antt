@@ -1,0 +1,5 @@
+pub mod Totals
+pub mod Values
+pub mod Conditions
+pub mod Answered
+pub mod Filters
