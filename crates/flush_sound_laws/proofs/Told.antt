@@ -24,6 +24,8 @@ use Rattle.session_flush_laws.proofs.Flushing.{IsFlushSent, flush_sent}
 use Rattle.session_sound.specs.Sound.{EachObject, IsFresh, IsSound, in_row, row_for}
 use Rattle.fresh_laws.specs.Laws.{column_in}
 use Rattle.fresh_laws.proofs.Fresh.{ascending_sorted}
+use Rattle.told_laws.specs.Laws.{ObjectsHaveOwnRows, StandInTables}
+use Rattle.told_laws.proofs.Standing.{hierarchies}
 use Rattle.held_laws.specs.Laws.{AreHeld, FlushedObjectsHold, HoldsItsRows, IsWhollyKnown, held_in}
 use Rattle.flush_sound_laws.specs.Laws.{IsToldSession, RefusedFlushIsSound, ToldFlushIsSound, ToldFlushKeepsSound}
 use Rattle.flush_sound_laws.proofs.Answered.{answered, in_row_is, is, left_legal, persists_there, row_is, written}
@@ -46,6 +48,9 @@ module _ (w : World) (steady : IsToldSession w) (sound : IsSound w) where
   abbrev it_at : ℕ → Object
   it_at place = get_or w.own.graph.objects place no_object
 
+  held_before : (place : ℕ) → place < length w.own.graph.objects → is_persistent (it_at place).state ≡ true → HoldsItsRows mapped w.store.tables (it_at place)
+  held_before place less persists = fresh_holds mapped w.store.tables (it_at place) persists (persists_there (it_at place) (sound.graph.identified place no_object less) persists) (sound.fresh place less)
+
   marked_known : (place : ℕ) → place < length w.own.graph.objects → is_among (prepared_of w.own.graph).deleted (id_of_place place) ≡ true → IsWhollyKnown (it_at place)
   marked_known place less among =
       let test : ObjId → Bool = λ object. is_persistent (object_at w.own.graph object).state && (object_at w.own.graph object).marked in
@@ -54,30 +59,41 @@ module _ (w : World) (steady : IsToldSession w) (sound : IsSound w) where
       let passes : test (id_of_place place) ≡ true = ap test (sym same) ∙ (from_filter test (object_ids w.own.graph) some.0 some.1).1 in
       steady.known place less (ap (λ (o : Object). o.marked) (sym (here_at w.own.graph place)) ∙ (and_parts (is_persistent (object_at w.own.graph (id_of_place place)).state) (object_at w.own.graph (id_of_place place)).marked passes).1)
 
-  all_held : AreHeld mapped w.own.graph (prepared_of w.own.graph) w.store.tables
-  all_held = record {
+  stand : StandInTables mapped w.own.graph (prepared_of w.own.graph) w.store.tables
+  stand = record {
     well = steady.well;
-    classes = steady.classes;
+    fit = steady.fit;
+    is = sound.graph;
+    only = refl;
+    legal = sound.legal;
+    holds = held_before;
+    known = steady.known;
+  }
+
+  all_held : ObjectsHaveOwnRows → AreHeld mapped w.own.graph (prepared_of w.own.graph) w.store.tables
+  all_held own = record {
+    well = steady.well;
+    classes = hierarchies mapped steady.well;
     legal = sound.legal;
     sorted = ascending_sorted w.store.tables steady.ascending.tables;
-    told = steady.told;
+    own = own mapped w.own.graph (prepared_of w.own.graph) w.store.tables stand steady.once;
     created = steady.created;
-    holds = λ place less persists. fresh_holds mapped w.store.tables (it_at place) persists (persists_there (it_at place) (sound.graph.identified place no_object less) persists) (sound.fresh place less);
+    holds = held_before;
     keyed = steady.keyed;
     known = marked_known;
   }
 
-  held_at : FlushedObjectsHold → (now : World) (sent : IsFlushSent w now) (legal : Legal mapped.schema now.store.tables) → EachObject (IsFresh mapped now.store.tables) (graph_written (written w steady.inside sound now sent legal))
-  held_at hold now sent legal place less =
+  held_at : FlushedObjectsHold → ObjectsHaveOwnRows → (now : World) (sent : IsFlushSent w now) (legal : Legal mapped.schema now.store.tables) → EachObject (IsFresh mapped now.store.tables) (graph_written (written w steady.inside sound now sent legal))
+  held_at hold own now sent legal place less =
       let after : Written = written w steady.inside sound now sent legal in
       holds_fresh mapped now.store.tables (get_or (graph_written after).objects place no_object) (persists_there (get_or (graph_written after).objects place no_object) ((is w steady.inside sound now sent legal).identified place no_object less))
-      (hold mapped w.own.graph (prepared_of w.own.graph) w.store.tables sent.statements (record { tables = now.store.tables; keys = sent.keys }) sent.given all_held sent.planned sent.sent legal sent.known place (omega (arith, less, flushed_long after)))
+      (hold mapped w.own.graph (prepared_of w.own.graph) w.store.tables sent.statements (record { tables = now.store.tables; keys = sent.keys }) sent.given (all_held own) sent.planned sent.sent legal sent.known place (omega (arith, less, flushed_long after)))
 
-pub told_answered : FlushedObjectsHold → LeavesLegalTables → ToldFlushIsSound
-told_answered hold leaves w steady sound is =
+pub told_answered : FlushedObjectsHold → ObjectsHaveOwnRows → LeavesLegalTables → ToldFlushIsSound
+told_answered hold own leaves w steady sound is =
     let sent : IsFlushSent w (flush w).after = flush_sent w is in
     let legal = left_legal leaves w steady.ascending sound in
-    answered w steady.inside sound (flush w).after sent legal (held_at w steady sound hold (flush w).after sent legal)
+    answered w steady.inside sound (flush w).after sent legal (held_at w steady sound hold own (flush w).after sent legal)
 
 pub told_keeps : ToldFlushIsSound → RefusedFlushIsSound → ToldFlushKeepsSound
 told_keeps answers refused w steady sound = by (flush w).answer refl

@@ -3,7 +3,8 @@ use Rattle.std.specs.Prelude.{◌≡◌, ◌<◌, true, false, List, [], length,
 use Rattle.base_core.specs.declared.refusal.Refusal.{Refusal}
 use Rattle.object_arena.specs.declared.object.Object.{Object}
 use Rattle.object_arena.specs.Graph.{is_persistent}
-use Rattle.prefix_laws.specs.Laws.{IsTold, IsWellMapped}
+use Rattle.prefix_laws.specs.Laws.{IsWellMapped}
+use Rattle.told_laws.specs.Laws.{ArePairsOnce}
 use Rattle.schema_core.specs.declared.changes.GoneRow.{GoneRow}
 use Rattle.schema_core.specs.Tables.{is_created}
 use Rattle.std.specs.List.{AllByRecursion}
@@ -33,18 +34,18 @@ pub record IsSteady (world : World) : Type 0 where
   pub kept : EachObject (λ (object : Object). is_persistent object.state ≡ true → IsKept world.own.mapping object) world.own.graph
 
 -- A session in a transaction, whose mapping is as every configured one is, with links, classes of several tables and
--- discriminators as they may be, over tables that ascend, as do those at the start of each scope. Its objects are told by the
--- tables: they fit their classes and have rows of their own, and the rows of those that are to be deleted stand as they were read,
--- in created tables. The key of a persistent object has not been changed, and where it is to be deleted all of it is known.
+-- discriminators as they may be, over tables that ascend, as do those at the start of each scope. Its objects fit their classes; the
+-- key of a persistent object has not been changed, and of one that is to be deleted all is known. No two pairs that are taken away
+-- are one row, and the tables of rows that are taken away are created.
 pub record IsToldSession (world : World) : Type 0 where
   pub inside : 0 < length world.own.frames.scopes
   pub well : IsWellMapped world.own.mapping
-  pub classes : HasHierarchies world.own.mapping
   pub ascending : IsAscendingStore world.store
-  pub told : IsTold world.own.mapping world.own.graph (prepared_of world.own.graph) world.store.tables
-  pub created : AllByRecursion (λ (row : GoneRow). is_created world.store.tables row.name.table ≡ true) (rows_lost world.own.mapping world.own.graph (prepared_of world.own.graph))
+  pub fit : IsFit world.own.mapping world.own.graph
   pub keyed : EachObject (λ (object : Object). is_persistent object.state ≡ true → KeepsItsKey world.own.mapping object) world.own.graph
   pub known : EachObject (λ (object : Object). object.marked ≡ true → IsWhollyKnown object) world.own.graph
+  pub once : ArePairsOnce world.own.mapping world.own.graph (prepared_of world.own.graph)
+  pub created : AllByRecursion (λ (row : GoneRow). is_created world.store.tables row.name.table ≡ true) (rows_lost world.own.mapping world.own.graph (prepared_of world.own.graph))
 
 -- a flush that answers leaves a sound session, with nothing to be written
 abbrev pub ToldFlushIsSound : Type 0

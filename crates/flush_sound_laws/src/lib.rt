@@ -7,6 +7,7 @@ ghost use Rattle.flush_sound_laws.specs.Laws.{AddingFlushKeepsSound, AnsweredFlu
 use fresh_laws::flushed_objects_hold_their_rows;
 use held_laws::flushed_objects_hold;
 use session_flush_laws::a_flush_leaves_legal_tables;
+use told_laws::objects_have_own_rows;
 
 /// Whatever a flush is refused for, in the transaction or in a savepoint, and whatever it wrote before: the session is sound
 /// then. The tables are those of the start of the scope, and each object stands where it stood then.
@@ -33,11 +34,13 @@ pub fn a_flush_keeps_sound()
 }
 
 /// A flush that answers leaves a sound session, over a mapping of any form: with links over foreign keys and secondary tables, with
-/// classes of several tables and with discriminators. The objects are told by the tables before it.
+/// classes of several tables and with discriminators; with objects that are to be deleted, and pairs that are taken away. That no two
+/// such pairs are one row, and that their tables are created, is asked; no script is known that breaks either.
 pub fn an_answered_flush_of_a_told_session_leaves_sound()
     ensures { ToldFlushIsSound }
 {
     flushed_objects_hold();
+    objects_have_own_rows();
     a_flush_leaves_legal_tables();
 }
 
