@@ -6,7 +6,6 @@ use Rattle.base_core.specs.declared.refusal.LimitKind.TheVariants.{Savepoints}
 use Rattle.base_core.specs.declared.refusal.Refusal.{Refusal}
 use Rattle.base_core.specs.declared.refusal.Refusal.TheVariants.{LimitReached, PendingRollbackError}
 use Rattle.schema_core.specs.Tables.{Tables}
-use Rattle.class_mapping.specs.Mapped.{Mapped}
 use Rattle.keeper_core.specs.Calls as call
 use Rattle.object_arena.specs.Graph.{Graph}
 use Rattle.programs.specs.Programs.{Event, Run, ◌>>=◌, continue_from, give, refuse}
@@ -21,10 +20,11 @@ use Rattle.session_savepoints.specs.Steps.{begin_savepoint, commit_transaction, 
 use Rattle.session_flush.specs.Flush.{flush}
 use Rattle.session_acts.specs.Steps as acts
 use Rattle.session_acts.specs.Steps.{flush_now, flush_whole, orphan_fault}
-use Rattle.session_sound.proofs.Beginning.{entered_graph, entered_mapping}
+use Rattle.session_sound.proofs.Beginning.{entered_graph}
 use Rattle.session_sound.proofs.Programs.{checked_same}
 use Rattle.stated_flush_laws.specs.Laws.{AnswersWhereStated}
 use Rattle.sendable_laws.specs.Sending.{ChangesFit, FitPlansAreSendable}
+use Rattle.health_laws.proofs.Acts.{once_begun}
 use Rattle.complete_laws.specs.Complete.{BeginAnswersWhere, CommitAnswersWhere, FlushAnswersWhere, IsWritable}
 use Rattle.complete_laws.proofs.Written.{IsReady, flush_written}
 
@@ -65,20 +65,6 @@ unless_answers false w well = begin_answers (in_transaction w.own) w
 pub enter_answers : (w : World) → w.own.failed ≡ false → (enter w).answer ≡ Ok tt
 unfolding enter checked by_own ◌>>=◌
 enter_answers w well = unless_answers w.own.failed w well
-
-begin_tables : (begun : Bool) (w : World) → (begin_unless begun w).after.store.tables ≡ w.store.tables
-unfolding ◌>>=◌ give changes on_store call.begin
-begin_tables true w = refl
-begin_tables false w = refl
-
-unless_tables : (failed : Bool) (w : World) → ((unless (fault_if failed PendingRollbackError) >>= λ u. by_own (λ session. begin_unless (in_transaction session))) w).after.store.tables ≡ w.store.tables
-unfolding ◌>>=◌ give refuse by_own
-unless_tables true w = refl
-unless_tables false w = begin_tables (in_transaction w.own) w
-
-entered_tables : (w : World) → (enter w).after.store.tables ≡ w.store.tables
-unfolding enter checked by_own ◌>>=◌
-entered_tables w = unless_tables w.own.failed w
 
 begin_few : (begun : Bool) (w : World) → in_transaction w.own ≡ begun → length w.own.frames.scopes < scope_limit → length (begin_unless begun w).after.own.frames.scopes < scope_limit
 unfolding ◌>>=◌ give changes on_store call.begin
@@ -143,13 +129,6 @@ pub record IsOpened (w : World) (after : Tables) : Type 0 where
   pub no_orphan : orphan_fault w.own ≡ None
   pub ready : IsReady (enter w).after.own.mapping (enter w).after.own.graph (enter w).after.store.tables
   pub writable : IsWritable w.own.mapping w.own.graph w.store.tables after
-
--- what holds of the mapping, the objects and the tables does so once the transaction has begun
-pub once_begun : (P : Mapped → Graph → Tables → Type 0) (w : World) → P w.own.mapping w.own.graph w.store.tables → P (enter w).after.own.mapping (enter w).after.own.graph (enter w).after.store.tables
-once_begun P w holds =
-    let v : World = (enter w).after in
-    subst (λ (m : Mapped). P m v.own.graph v.store.tables) (sym (entered_mapping w))
-    (subst (λ (g : Graph). P w.own.mapping g v.store.tables) (sym (entered_graph w)) (subst (λ (t : Tables). P w.own.mapping w.own.graph t) (sym (entered_tables w)) holds))
 
 module _ (answers : AnswersWhereStated) (sendable : FitPlansAreSendable) (fits : ChangesFit) where
   flush_done : (w : World) (after : Tables) → IsOpened w after → IsAnswered (flush_whole (enter w).after) tt after

@@ -35,11 +35,11 @@ use Rattle.session_calls.specs.Steps.{enter}
 use Rattle.session_flush.specs.Flush.{is_to_delete, prepared_of}
 use Rattle.session_sound.specs.Sound.{EachObject, IsSound}
 use Rattle.session_sound.proofs.Beginning.{entered_mapping}
-use Rattle.health_laws.proofs.Acts.{IsInside, enter_led, steady}
-use Rattle.health_laws.proofs.Fits.{hierarchies}
+use Rattle.health_laws.proofs.Acts.{IsInside, enter_led, once_begun, steady}
+use Rattle.told_laws.proofs.Standing.{hierarchies}
 use Rattle.sendable_laws.proofs.Roots.{alone}
 use Rattle.complete_laws.specs.Complete.{HoldsLinks, LinksMayBeWritten, MayBeWritten}
-use Rattle.complete_laws.proofs.Answering.{IsOpened, enter_answers, once_begun}
+use Rattle.complete_laws.proofs.Answering.{IsOpened, enter_answers}
 use Rattle.complete_laws.proofs.Written.{IsReady}
 
 -- ---- nothing is to be deleted

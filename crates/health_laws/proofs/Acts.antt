@@ -9,7 +9,7 @@ use Rattle.std.specs.List.{list_all}
 use Rattle.class_mapping.specs.Mapped.{Mapped}
 use Rattle.class_mapping.specs.Plain.{is_plain_root}
 use Rattle.class_mapping.specs.PlainClass.{ArePlain}
-use Rattle.pair_rows.specs.Pairs.{lost_pairs}
+use Rattle.schema_core.specs.Tables.{Tables}
 use Rattle.expr_types.specs.declared.select.Bulk.{Bulk}
 use Rattle.expr_types.specs.declared.select.Select.{Select}
 use Rattle.keeper_core.specs.Calls as call
@@ -43,10 +43,9 @@ use Rattle.session_sound.proofs.Programs.{checked_none, checked_same}
 use Rattle.session_laws.proofs.Nesting.{nest_sound}
 use Rattle.session_laws.proofs.Rereading.{bulk_sound, rows_sound}
 use Rattle.session_laws.proofs.Whole.{handle_released, whole_sound}
-use Rattle.flush_sound_laws.specs.Laws.{AddingFlushKeepsSound, AnsweredFlushIsSound, FlushKeepsSound, IsSteady, TakesNothingAway, ToldFlushIsSound}
-use Rattle.flush_sound_laws.proofs.Adding.{told_session}
-use Rattle.health_laws.specs.Health.{HoldsItsKey, IsHealthy, IsWhole, KeepsHealthWhole, MayFlush, TakesNothing, is_named}
-use Rattle.health_laws.proofs.Fits.{flushed_fit, hierarchies}
+use Rattle.flush_sound_laws.specs.Laws.{AnsweredFlushIsSound, FlushKeepsSound, IsSteady, IsToldSession, ToldFlushIsSound, ToldFlushKeepsSound}
+use Rattle.health_laws.specs.Health.{HoldsItsKey, IsHealthy, IsWhole, KeepsHealthWhole, CanTakeAway, MayFlush, is_named}
+use Rattle.health_laws.proofs.Fits.{flushed_fit}
 use Rattle.health_laws.proofs.Flushes.{answered_as, flush_tidy}
 use Rattle.health_laws.proofs.Programs.{IsClean, IsReady, bulk_clean, commit_clean, enter_tidy, release_clean, rows_tidy, savepoint_clean}
 
@@ -80,7 +79,7 @@ pub record IsInside (mapped : Mapped) (world : World) : Type 0 where
   pub fit : IsFit world.own.mapping world.own.graph
   pub well : IsWell world
   pub inside : 0 < length world.own.frames.scopes
-  pub may : MayFlush world.own
+  pub may : MayFlush world
   pub same : world.own.mapping ≡ mapped
 
 some_scopes : (scopes : List Scope) → has_scope scopes ≡ true → 0 < length scopes
@@ -112,18 +111,35 @@ entered_well : (w : World) (u : Unit {0}) → IsHandled w → (enter w).answer �
 unfolding enter checked by_own ◌>>=◌
 entered_well w u handled is = unless_well w.own.failed w u refl handled is
 
-may_entered : (w : World) → MayFlush w.own → MayFlush (enter w).after.own
+begin_tables : (begun : Bool) (w : World) → (begin_unless begun w).after.store.tables ≡ w.store.tables
+unfolding ◌>>=◌ give changes on_store call.begin
+begin_tables true w = refl
+begin_tables false w = refl
+
+unless_tables : (failed : Bool) (w : World) → ((unless (fault_if failed PendingRollbackError) >>= λ u. by_own (λ session. begin_unless (in_transaction session))) w).after.store.tables ≡ w.store.tables
+unfolding ◌>>=◌ give refuse by_own
+unless_tables true w = refl
+unless_tables false w = begin_tables (in_transaction w.own) w
+
+pub entered_tables : (w : World) → (enter w).after.store.tables ≡ w.store.tables
+unfolding enter checked by_own ◌>>=◌
+entered_tables w = unless_tables w.own.failed w
+
+-- what holds of the mapping, the objects and the tables does so once the transaction has begun
+pub once_begun : (P : Mapped → Graph → Tables → Type 0) (w : World) → P w.own.mapping w.own.graph w.store.tables → P (enter w).after.own.mapping (enter w).after.own.graph (enter w).after.store.tables
+once_begun P w holds =
+    let v : World = (enter w).after in
+    subst (λ (m : Mapped). P m v.own.graph v.store.tables) (sym (entered_mapping w))
+    (subst (λ (g : Graph). P w.own.mapping g v.store.tables) (sym (entered_graph w)) (subst (λ (t : Tables). P w.own.mapping w.own.graph t) (sym (entered_tables w)) holds))
+
+may_entered : (w : World) → MayFlush w → MayFlush (enter w).after
 may_entered w (inl plain) = inl (ap (λ (m : Mapped). list_all is_plain_root m.classes.specs) (entered_mapping w) ∙ plain)
-may_entered w (inr none) = inr (record {
-  unmarked = subst (EachObject (λ (object : Object). object.marked ≡ false)) (sym (entered_graph w)) none.unmarked;
-  paired = ap (λ (m : Mapped). lost_pairs m (enter w).after.own.graph (prepared_of (enter w).after.own.graph)) (entered_mapping w)
-      ∙ ap (λ (g : Graph). lost_pairs w.own.mapping g (prepared_of g)) (entered_graph w) ∙ none.paired;
-})
+may_entered w (inr away) = inr (once_begun CanTakeAway w away)
 
 enter_healthy : (w : World) → IsHealthy w → IsHealthy (enter w).after
 enter_healthy w healthy = record { sound = enter_sound w healthy.sound; tidy = enter_tidy.kept w healthy.tidy }
 
-pub enter_led : (w : World) → MayFlush w.own → IsWhole w → IsHealthy w → IsLed IsHealthy (IsInside w.own.mapping) (enter w)
+pub enter_led : (w : World) → MayFlush w → IsWhole w → IsHealthy w → IsLed IsHealthy (IsInside w.own.mapping) (enter w)
 enter_led w may whole healthy = record {
   here = enter_healthy w healthy;
   told = λ u is. record {
@@ -169,16 +185,16 @@ module _ (mapped : Mapped) (w : World) (it : IsInside mapped w) where
     kept = λ place less persists. let keyed = keyed_at place less persists in record { keyed = keyed.0 keyed.1; known = (it.healthy.tidy.own.objects place less).known };
   }
 
-  adding : TakesNothing w.own → TakesNothingAway w
-  adding none = record {
+  told : CanTakeAway w.own.mapping w.own.graph w.store.tables → IsToldSession w
+  told away = record {
     inside = it.inside;
     well = it.healthy.tidy.own.classes.well;
-    classes = hierarchies w.own.mapping it.healthy.tidy.own.classes.well;
     ascending = it.healthy.tidy.ascending;
     fit = it.fit;
     keyed = λ place less persists. let keyed = keyed_at place less persists in keyed.0 keyed.1;
-    unmarked = none.unmarked;
-    paired = none.paired;
+    known = λ place less. (it.healthy.tidy.own.objects place less).known;
+    once = away.once;
+    created = away.created;
   }
 
 -- a flush of a session that may be flushed leaves it sound
@@ -189,19 +205,19 @@ FlushLeavesSound = (mapped : Mapped) (w : World) → IsInside mapped w → IsSou
 abbrev pub FlushWritesAll : Type 0
 FlushWritesAll = (mapped : Mapped) (w : World) → IsInside mapped w → (flush w).answer ≡ Ok tt → IsSound (flush w).after × IsWritten (flush w).after
 
-pub leaves_sound : FlushKeepsSound → AddingFlushKeepsSound → FlushLeavesSound
-leaves_sound plain adds mapped w it = by it.may
+pub leaves_sound : FlushKeepsSound → ToldFlushKeepsSound → FlushLeavesSound
+leaves_sound plain keeps mapped w it = by it.may
   where
-    by : MayFlush w.own → IsSound (flush w).after
+    by : MayFlush w → IsSound (flush w).after
     by (inl all) = plain w (steady mapped w it all) it.healthy.sound
-    by (inr none) = adds w (adding mapped w it none) it.healthy.sound
+    by (inr away) = keeps w (told mapped w it away) it.healthy.sound
 
 pub writes_all : AnsweredFlushIsSound → ToldFlushIsSound → FlushWritesAll
-writes_all plain told mapped w it is = by it.may
+writes_all plain answers mapped w it is = by it.may
   where
-    by : MayFlush w.own → IsSound (flush w).after × IsWritten (flush w).after
+    by : MayFlush w → IsSound (flush w).after × IsWritten (flush w).after
     by (inl all) = plain w (steady mapped w it all) it.healthy.sound is
-    by (inr none) = told w (told_session w (adding mapped w it none) it.healthy.sound) it.healthy.sound is
+    by (inr away) = answers w (told mapped w it away) it.healthy.sound is
 
 pub identified_objects : (w : World) → IsHealthy w → EachObject (λ (o : Object). is_identified o ≡ true) w.own.graph
 identified_objects w healthy place less = healthy.sound.graph.identified place no_object less
@@ -248,7 +264,7 @@ module _ (keeps : FlushLeavesSound) (answers : FlushWritesAll) where
       led_then IsHealthy (IsInside mapped) (IsFlushed mapped) (checked orphan_fault) (λ u. flush) w (led_checked IsHealthy (IsInside mapped) orphan_fault w it.healthy (λ none. it))
       (λ u inside. record { here = flush_healthy mapped (checked orphan_fault w).after inside; told = λ v is. flush_done mapped (checked orphan_fault w).after v inside is })
 
-  pub now_led : (w : World) → MayFlush w.own → IsWhole w → IsHealthy w → IsLed IsHealthy (IsFlushed w.own.mapping) (flush_now w)
+  pub now_led : (w : World) → MayFlush w → IsWhole w → IsHealthy w → IsLed IsHealthy (IsFlushed w.own.mapping) (flush_now w)
   unfolding flush_now
   now_led w may whole healthy =
       led_then IsHealthy (IsInside w.own.mapping) (IsFlushed w.own.mapping) enter (λ u. flush_whole) w (enter_led w may whole healthy) (λ u inside. flush_led w.own.mapping (enter w).after inside)
@@ -290,12 +306,12 @@ module _ (keeps : FlushLeavesSound) (answers : FlushWritesAll) where
       let v : World = (asked w).after in
       led_then IsHealthy (IsFlushed mapped) IsHealthy flush_whole (λ u. act) v (flush_led mapped v inside) (λ u done. acted act (flush_whole v).after (later (flush_whole v).after done)))).here
 
-  pub asked_led : (fault : SessionState → Option Refusal) (w : World) → MayFlush w.own → IsWhole w → IsHealthy w → IsLed IsHealthy (IsInside w.own.mapping) ((enter >>= λ u. checked fault) w)
+  pub asked_led : (fault : SessionState → Option Refusal) (w : World) → MayFlush w → IsWhole w → IsHealthy w → IsLed IsHealthy (IsInside w.own.mapping) ((enter >>= λ u. checked fault) w)
   asked_led fault w may whole healthy =
       led_then IsHealthy (IsInside w.own.mapping) (IsInside w.own.mapping) enter (λ u. checked fault) w (enter_led w may whole healthy)
       (λ u inside. led_checked IsHealthy (IsInside w.own.mapping) fault (enter w).after inside.healthy (λ none. inside))
 
-  nested_led : (w : World) → MayFlush w.own → IsWhole w → IsHealthy w → IsLed IsHealthy (IsInside w.own.mapping) (enter_nested w)
+  nested_led : (w : World) → MayFlush w → IsWhole w → IsHealthy w → IsLed IsHealthy (IsInside w.own.mapping) (enter_nested w)
   unfolding enter_nested
   nested_led w may whole healthy = asked_led limit_fault w may whole healthy
 
@@ -322,10 +338,10 @@ module _ (keeps : FlushLeavesSound) (answers : FlushWritesAll) where
     healthy : IsHealthy w
     whole : IsWhole w
     well : w.own.failed ≡ false
-    may : MayFlush w.own
+    may : MayFlush w
     same : w.own.mapping ≡ mapped
 
-  check_led : (handle : ℕ) (w : World) → MayFlush w.own → IsWhole w → IsHealthy w → IsLed IsHealthy (IsInside w.own.mapping) (check_handle handle w)
+  check_led : (handle : ℕ) (w : World) → MayFlush w → IsWhole w → IsHealthy w → IsLed IsHealthy (IsInside w.own.mapping) (check_handle handle w)
   unfolding check_handle
   check_led handle w may whole healthy =
       led_then IsHealthy (IsAwake w.own.mapping) (IsInside w.own.mapping) (checked pending_fault) (λ u. checked (handle_fault handle)) w
@@ -355,7 +371,7 @@ module _ (keeps : FlushLeavesSound) (answers : FlushWritesAll) where
   no_key false second none = refl
 
   -- of a statement that is sent it is known that it writes no key
-  bulk_led : (statement : Bulk) (w : World) → IsPlainButForKeys w.own.mapping.schema statement → MayFlush w.own → IsWhole w → IsHealthy w
+  bulk_led : (statement : Bulk) (w : World) → IsPlainButForKeys w.own.mapping.schema statement → MayFlush w → IsWhole w → IsHealthy w
       → IsLed IsHealthy (λ v. IsInside w.own.mapping v × IsPlainBulk w.own.mapping.schema statement) (statements.enter_bulk statement w)
   unfolding statements.enter_bulk
   bulk_led statement w plain may whole healthy =
@@ -365,7 +381,7 @@ module _ (keeps : FlushLeavesSound) (answers : FlushWritesAll) where
       led_checked IsHealthy (λ v. IsInside w.own.mapping v × IsPlainBulk w.own.mapping.schema statement) (statements.update_fault statement) v inside.healthy
       (λ none. (inside, plain (ap (λ (m : Mapped). statements.writes_key m.schema statement) (sym inside.same) ∙ no_key (statements.writes_key v.own.mapping.schema statement) _ none))))
 
-  pub bulk_healthy : (statement : Bulk) (w : World) → IsPlainButForKeys w.own.mapping.schema statement → MayFlush w.own → IsWhole w → IsHealthy w → IsHealthy (acts.bulk statement w).after
+  pub bulk_healthy : (statement : Bulk) (w : World) → IsPlainButForKeys w.own.mapping.schema statement → MayFlush w → IsWhole w → IsHealthy w → IsHealthy (acts.bulk statement w).after
   unfolding acts.bulk
   bulk_healthy statement w plain may whole healthy =
       (led_then IsHealthy (λ v. IsInside w.own.mapping v × IsPlainBulk w.own.mapping.schema statement) IsHealthy (statements.enter_bulk statement) (λ u. flush_whole >>= λ u. statements.bulk statement) w

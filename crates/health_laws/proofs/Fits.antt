@@ -20,9 +20,8 @@ use Rattle.object_rows.specs.declared.prepared.Prepared.{Prepared}
 use Rattle.graph_flushed.specs.Flushed.{Written, deleted_object, graph_flushed, graph_written, key_of, new_object, object_flushed, object_in, staying_object, written_with}
 use Rattle.graph_flushed.proofs.FitSteps.{flushed_fits}
 use Rattle.fitting_flushes.proofs.Fitting.{flushes_fit}
-use Rattle.mapping_laws.specs.Hierarchies.{HasHierarchies}
-use Rattle.class_mapping.proofs.PairedLemmas.{paired_seen}
 use Rattle.prefix_laws.specs.Laws.{IsWellMapped}
+use Rattle.told_laws.proofs.Standing.{hierarchies}
 
 -- ---- the objects keep their classes
 
@@ -58,10 +57,6 @@ same_classes mapped old new same =
     sym (map-map (root_of mapped) (λ (o : Object). o.class) old.objects)
     ∙ ap (λ (all : List ClassId × List ClassId). map (root_of mapped) all.0) (sym same)
     ∙ map-map (root_of mapped) (λ (o : Object). o.class) new.objects
-
--- a configured mapping's classes stand in hierarchies
-pub hierarchies : (mapped : Mapped) → IsWellMapped mapped → HasHierarchies mapped
-hierarchies mapped well = record { lined = well.lined; lines = well.lines; valid = well.valid; paired = paired_seen mapped.schema mapped.classes mapped.configured mapped refl well.lined well.lines well.valid; declared = well.declared }
 
 -- over a configured mapping, with links, classes of several tables and discriminators, where no link is cleared
 pub flushed_fit : (mapped : Mapped) (graph : Graph) (prepared : Prepared) (rows : RowChanges) (keys : List (List Value)) → IsWellMapped mapped → prepared.cleared ≡ [] → IsFit mapped graph → IsFit mapped (graph_flushed mapped prepared rows keys graph)

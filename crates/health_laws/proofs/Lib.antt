@@ -9,3 +9,4 @@ pub mod Fits
 pub mod Acts
 pub mod Calls
 mod Telling
+pub mod Taking

@@ -74,12 +74,12 @@ MayCall (Set object attr value) world = IsObject world.own.graph object
 MayCall (Read object attr) world = IsObject world.own.graph object
 MayCall (Delete object) world = IsObject world.own.graph object
 MayCall (ChangeLink owner place call) world = IsObject world.own.graph owner × IsEnd world.own.graph (end_of call)
-MayCall Flush world = MayFlush world.own
-MayCall Commit world = MayFlush world.own
-MayCall BeginNested world = MayFlush world.own
-MayCall (CommitHandle handle) world = MayFlush world.own
-MayCall (Rows select) world = MayFlush world.own
-MayCall (Write statement) world = acts.IsPlainButForKeys world.own.mapping.schema statement × MayFlush world.own
+MayCall Flush world = MayFlush world
+MayCall Commit world = MayFlush world
+MayCall BeginNested world = MayFlush world
+MayCall (CommitHandle handle) world = MayFlush world
+MayCall (Rows select) world = MayFlush world
+MayCall (Write statement) world = acts.IsPlainButForKeys world.own.mapping.schema statement × MayFlush world
 MayCall call world = Unit {0}
 
 -- the session and the store after calls, in order

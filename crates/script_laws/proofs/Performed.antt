@@ -226,7 +226,7 @@ module _ (law : CallsKeepWhole) (rules : Rules) (names : Bindings) where
       }
 
   -- a savepoint begins, and is bound
-  nested_left : (name : List ℕ) (w : World) → MayFlush w.own → IsHale w → AreBound (Configured w.own) names → IsLeft names (program_of_resolved rules (resolved.BeginNested name) w)
+  nested_left : (name : List ℕ) (w : World) → MayFlush w → IsHale w → AreBound (Configured w.own) names → IsLeft names (program_of_resolved rules (resolved.BeginNested name) w)
   nested_left name w may hale bound =
       let m : World → Run World ℕ = acts.begin_nested in
       let tell : ℕ → Answer = λ handle. answer.Bind name (Saved handle) in
@@ -257,7 +257,7 @@ module _ (law : CallsKeepWhole) (rules : Rules) (names : Bindings) where
   unfolding give
   as_it_was a w binds hale bound = record { hale = hale; bound = bound; told = λ b is. subst (IsBound w.own) (let same : a ≡ b = cc in same) (binds w.own) }
 
-  module _ (w : World) (may : MayFlush w.own) (hale : IsHale w) (bound : AreBound (Configured w.own) names) where
+  module _ (w : World) (may : MayFlush w) (hale : IsHale w) (bound : AreBound (Configured w.own) names) where
     abbrev P : SessionState → Type 0
     P = IsKeyedSince w.own
 

@@ -1,5 +1,5 @@
 -- Every line of a script keeps its shell whole, and so does its end.
-use Rattle.std.proofs.Common.{◌≡◌, ◌+◌, arith, ◌≤◌, ℕ, zero, suc, Bool, true, false, List, [], ◌∷◌, length, Option, None, Some, Result, Ok, Err, refl, sym, subst}
+use Rattle.std.proofs.Common.{◌≡◌, inl, inr, ◌+◌, arith, ◌≤◌, ℕ, zero, suc, Bool, true, false, List, [], ◌∷◌, length, Option, None, Some, Result, Ok, Err, refl, sym, subst}
 use Rattle.std.specs.Prelude.{if◌then◌else◌}
 use Rattle.base_core.specs.declared.refusal.Refusal.{Refusal}
 use Rattle.class_types.specs.Rules.{Rules}
@@ -45,6 +45,7 @@ use Rattle.sqla_shell.specs.declared.ending.Ending.TheVariants.{Finished}
 use Rattle.sqla_shell.specs.Reference.{close_and_tell, do_and_reply, end_script, end_unless_too_long, script, start, writes}
 use Rattle.health_laws.specs.Health.{HasClasses, MayFlush}
 use Rattle.health_laws.specs.Calls.{Call}
+use Rattle.health_laws.proofs.Taking.{takes_away}
 use Rattle.whole_laws.specs.Whole.{CallsKeepWhole, IsHale}
 use Rattle.whole_laws.proofs.Calls.{new_whole}
 use Rattle.whole_laws.proofs.Programs as keeps
@@ -159,6 +160,10 @@ declares count rules block (Configured session) names store next whole late is =
 
 -- ---- commands
 
+may_flush : (v : Beside SessionState) → MayFlushAt (Configured v.own) v.store → IsHale v → MayFlush v
+may_flush v (inl simple) hale = takes_away v simple.0 simple.1 (record { fit = hale.keyed.fit; handled = hale.handled }) hale.healthy
+may_flush v (inr may) hale = may
+
 module _ (law : CallsKeepWhole) (rules : Rules) where
   -- a command that was asked of a session
   asked_left : (names : Bindings) (v : Beside SessionState) (r : Result Resolved Refusal) → IsHale v → AreBound (Configured v.own) names → ((line : Resolved) → r ≡ Ok line → IsLeft names (program_of_resolved rules line v))
@@ -166,7 +171,7 @@ module _ (law : CallsKeepWhole) (rules : Rules) where
   asked_left names v (Ok line) hale bound left = let one = left line refl in record { hale = one.hale; bound = one.bound; told = one.told }
   asked_left names v (Err e) hale bound left = record { hale = hale; bound = bound; told = λ a is. absurd cc }
 
-  performed_left : (dialect : Dialect) (names : Bindings) (command : Command) (v : Beside SessionState) → MayFlush v.own → IsSayable command → IsHale v → AreBound (Configured v.own) names → IsLeft names (performed rules dialect names command v)
+  performed_left : (dialect : Dialect) (names : Bindings) (command : Command) (v : Beside SessionState) → MayFlush v → IsSayable command → IsHale v → AreBound (Configured v.own) names → IsLeft names (performed rules dialect names command v)
   unfolding performed on_own ask ◌>>=◌
   performed_left dialect names command v may sayable hale bound =
       asked_left names v (asked dialect v.own.mapping names command) hale bound
@@ -185,22 +190,22 @@ module _ (law : CallsKeepWhole) (rules : Rules) where
   command_told count shell run (Ok a) at late left = (told_whole count shell.names run.after.own run.after.store a left.hale left.bound (left.told a at), late)
   command_told count shell run (Err e) at late left = ((left.hale, left.bound), late)
 
-  command_at : (count : ℕ) (stage : Stage) (command : Command) (w : Shells) → MayFlushAt stage → IsSayable command → w.own.stage ≡ stage → IsWholeAt count stage w.own.names w.store → IsLateBlock w.own.desk.block
+  command_at : (count : ℕ) (stage : Stage) (command : Command) (w : Shells) → MayFlushAt stage w.store → IsSayable command → w.own.stage ≡ stage → IsWholeAt count stage w.own.names w.store → IsLateBlock w.own.desk.block
       → IsWholeShell count (continue_from (run_at stage (performed rules w.own.options.dialect w.own.names command) w).events (run_at stage (performed rules w.own.options.dialect w.own.names command) w).after
       (run_at stage (performed rules w.own.options.dialect w.own.names command) w).answer (λ a. on_own (tell_answer a))).after
   command_at count (Declaring mapping) command w may sayable at whole late = (subst (λ (s : Stage). IsWholeAt count s w.own.names w.store) (sym at) whole, late)
   command_at count (Configured session) command w may sayable at whole late =
       let v : Beside SessionState = record { own = session; store = w.store } in
       let run : Run (Beside SessionState) Answer = performed rules w.own.options.dialect w.own.names command v in
-      command_told count w.own run run.answer refl late (performed_left w.own.options.dialect w.own.names command v may sayable whole.0 whole.1)
+      command_told count w.own run run.answer refl late (performed_left w.own.options.dialect w.own.names command v (may_flush v may whole.0) sayable whole.0 whole.1)
 
-  command_whole : (count : ℕ) (command : Command) (w : Shells) → MayFlushAt w.own.stage → IsSayable command → IsWholeShell count w → IsWholeShell count (do_command rules command w).after
+  command_whole : (count : ℕ) (command : Command) (w : Shells) → MayFlushAt w.own.stage w.store → IsSayable command → IsWholeShell count w → IsWholeShell count (do_command rules command w).after
   unfolding do_command perform by_own in_session ◌>>=◌
   command_whole count command w may sayable whole = command_at count w.own.stage command w may sayable refl whole.0 whole.1
 
   -- ---- a line
 
-  said_whole : (count : ℕ) (said : Said) (w : Shells) → MayFlushAt w.own.stage → CanBeDone said → IsLateSaid said → count ≤ 4294967295 → IsWholeShell count w → IsWholeShell (count + 1) (do_said rules said w).after
+  said_whole : (count : ℕ) (said : Said) (w : Shells) → MayFlushAt w.own.stage w.store → CanBeDone said → IsLateSaid said → count ≤ 4294967295 → IsWholeShell count w → IsWholeShell (count + 1) (do_said rules said w).after
   unfolding give on_own compile ask
   said_whole count Nothing w may can late few whole = wider count (count + 1) w (omega arith) whole
   said_whole count Configure w may can late few whole = turned count (count + 1) opened_stage w (omega arith) whole (λ next is. configures count (count + 1) w.own.stage w.own.names w.store next whole.0 few is)
@@ -209,12 +214,12 @@ module _ (law : CallsKeepWhole) (rules : Rules) where
   said_whole count (Compile command) w may can late few whole = wider count (count + 1) w (omega arith) whole
   said_whole count (Do command) w may can late few whole = wider count (count + 1) (do_command rules command w).after (omega arith) (command_whole count command w may can whole)
 
-  said_by_desk : (count : ℕ) (w : Shells) → MayFlushAt w.own.stage → (run : Run DeskState Said) (r : Result Said Refusal) → run.answer ≡ r → ((said : Said) → run.answer ≡ Ok said → CanBeDone said) → IsLateRun run → count ≤ 4294967295 → IsWholeShell count w
+  said_by_desk : (count : ℕ) (w : Shells) → MayFlushAt w.own.stage w.store → (run : Run DeskState Said) (r : Result Said Refusal) → run.answer ≡ r → ((said : Said) → run.answer ≡ Ok said → CanBeDone said) → IsLateRun run → count ≤ 4294967295 → IsWholeShell count w
       → IsWholeShell (count + 1) (continue_from run.events (record { own = record w.own { desk = run.after }; store = w.store }) r (do_said rules)).after
   said_by_desk count w may run (Ok said) is can late few whole = said_whole count said (record { own = record w.own { desk = run.after }; store = w.store }) may (can said is) (late.told said is) few (whole.0, late.block)
   said_by_desk count w may run (Err e) is can late few whole = wider count (count + 1) (record { own = record w.own { desk = run.after }; store = w.store }) (omega arith) (whole.0, late.block)
 
-  line_whole : (count : ℕ) (bytes : List ℕ) (w : Shells) → MayFlushAt w.own.stage → count ≤ 4294967295 → IsWholeShell count w → IsWholeShell (count + 1) (line_step rules bytes w).after
+  line_whole : (count : ℕ) (bytes : List ℕ) (w : Shells) → MayFlushAt w.own.stage w.store → count ≤ 4294967295 → IsWholeShell count w → IsWholeShell (count + 1) (line_step rules bytes w).after
   unfolding line_step on_own at_desk ◌>>=◌
   line_whole count bytes w may few whole =
       let run : Run DeskState Said = said_line bytes w.own.desk in
@@ -230,7 +235,7 @@ module _ (law : CallsKeepWhole) (rules : Rules) where
   recovered count events w (Ok reply) whole = whole
   recovered count events w (Err e) whole = told_here count e w whole
 
-  answered_whole : (count : ℕ) (bytes : List ℕ) (w : Shells) → MayFlushAt w.own.stage → count ≤ 4294967295 → IsWholeShell count w → IsWholeShell (count + 1) (answer_to rules bytes w).after
+  answered_whole : (count : ℕ) (bytes : List ℕ) (w : Shells) → MayFlushAt w.own.stage w.store → count ≤ 4294967295 → IsWholeShell count w → IsWholeShell (count + 1) (answer_to rules bytes w).after
   unfolding answer_to handle_refusal
   answered_whole count bytes w may few whole = let run = line_step rules bytes w in recovered (count + 1) run.events run.after run.answer (line_whole count bytes w may few whole)
 
@@ -259,7 +264,7 @@ module _ (law : CallsKeepWhole) (rules : Rules) where
   noted_whole count events w (Ok reply) whole = notes_told count reply w whole
   noted_whole count events w (Err e) whole = whole
 
-  replied_whole : (count : ℕ) (bytes : List ℕ) (w : Shells) → MayFlushAt w.own.stage → count ≤ 4294967295 → IsWholeShell count w → IsWholeShell (count + 1) (reply_to rules bytes w).after
+  replied_whole : (count : ℕ) (bytes : List ℕ) (w : Shells) → MayFlushAt w.own.stage w.store → count ≤ 4294967295 → IsWholeShell count w → IsWholeShell (count + 1) (reply_to rules bytes w).after
   unfolding reply_to ◌>>=◌
   replied_whole count bytes w may few whole = let run = answer_to rules bytes w in noted_whole (count + 1) run.events run.after run.answer (answered_whole count bytes w may few whole)
 
@@ -268,7 +273,7 @@ module _ (law : CallsKeepWhole) (rules : Rules) where
   written_whole count events w (Ok bytes) whole = whole
   written_whole count events w (Err e) whole = whole
 
-  done_whole : (count : ℕ) (bytes : List ℕ) (u : Unit {0}) (w : Shells) → MayFlushAt w.own.stage → count ≤ 4294967295 → IsWholeShell count w → IsWholeShell (count + 1) (do_and_reply rules bytes u w).after
+  done_whole : (count : ℕ) (bytes : List ℕ) (u : Unit {0}) (w : Shells) → MayFlushAt w.own.stage w.store → count ≤ 4294967295 → IsWholeShell count w → IsWholeShell (count + 1) (do_and_reply rules bytes u w).after
   unfolding do_and_reply ◌>>=◌
   done_whole count bytes u w may few whole = let run = reply_to rules bytes w in written_whole (count + 1) run.events run.after run.answer (replied_whole count bytes w may few whole)
 

@@ -14,9 +14,14 @@ use Rattle.whole_laws.specs.Whole.{IsHale}
 -- whatever a resolved line asks for, and whatever it answers, a healthy session that is whole stays so, where all that it names
 -- is there, and the session may be flushed
 abbrev pub LinesKeepWhole : Type 0
-LinesKeepWhole = (rules : Rules) (line : Resolved) (world : World) → IsHale world → IsReady world.own line → MayFlush world.own → IsHale (program_of_resolved rules line world).after
+LinesKeepWhole = (rules : Rules) (line : Resolved) (world : World) → IsHale world → IsReady world.own line → MayFlush world → IsHale (program_of_resolved rules line world).after
 
 -- a keeper tells, and beside what it tells the session is so
 abbrev pub IsHaleBeside : SessionState → Option (Told Store) → Type 0
 IsHaleBeside session None = ⊥
 IsHaleBeside session (Some told) = IsHale (world_of session told)
+
+-- and beside what it tells the session may be flushed
+abbrev pub MayFlushBeside : SessionState → Option (Told Store) → Type 0
+MayFlushBeside session None = ⊥
+MayFlushBeside session (Some told) = MayFlush (world_of session told)

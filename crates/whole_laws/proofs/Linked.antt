@@ -29,7 +29,7 @@ use Rattle.session_links.proofs.PutLemmas.{fits_there, placed_later, relinked_mo
 use Rattle.session_link_laws.specs.Laws.{IsLinkCall}
 use Rattle.session_link_laws.proofs.Fitting.{change_fits}
 use Rattle.session_link_laws.proofs.Placing.{change_placed}
-use Rattle.health_laws.proofs.Fits.{hierarchies}
+use Rattle.told_laws.proofs.Standing.{hierarchies}
 use Rattle.whole_laws.specs.Whole.{IsKeyed}
 use Rattle.whole_laws.proofs.Keyed.{all_joined, its_fit, object_keyed, taken_class}
 use Rattle.whole_laws.proofs.Refit.{FitsIn}

@@ -49,12 +49,12 @@ AreCallsOf rules (call ∷ calls) world = IsCallOf call world × AreCallsOf rule
 
 -- where a call flushes, the session may be flushed
 abbrev pub MayFlushIn : Call → World → Type 0
-MayFlushIn Call.Flush world = MayFlush world.own
-MayFlushIn Call.Commit world = MayFlush world.own
-MayFlushIn Call.BeginNested world = MayFlush world.own
-MayFlushIn (Call.CommitHandle handle) world = MayFlush world.own
-MayFlushIn (Call.Rows select) world = MayFlush world.own
-MayFlushIn (Call.Write statement) world = MayFlush world.own
+MayFlushIn Call.Flush world = MayFlush world
+MayFlushIn Call.Commit world = MayFlush world
+MayFlushIn Call.BeginNested world = MayFlush world
+MayFlushIn (Call.CommitHandle handle) world = MayFlush world
+MayFlushIn (Call.Rows select) world = MayFlush world
+MayFlushIn (Call.Write statement) world = MayFlush world
 MayFlushIn call world = Unit {0}
 
 -- so it is when it is the call's turn
