@@ -109,12 +109,32 @@ fn take_shifted(wide: &mut Select, alloc: Global, own: &Select) -> Result<(), Re
     Ok(())
 }
 
+/// A copy of a query's own select becomes its main select.
+#[tactic(auto, unfolding(crate::specs::MainSelect::main_select))]
+fn widen(
+    wide: &mut Select,
+    alloc: Global,
+    mapping: &Mapping,
+    query: &ObjectQuery,
+) -> Result<(), Refusal>
+    requires own { wide.old ≡ query.now.select }
+    requires class { IsClass mapping.now query.now.class }
+    requires configured { mapping.now.configured ≡ true }
+    requires options { All
+        (λ place. place.0 < length (relations_of mapping.now query.now.class))
+        query.now.joined }
+    ensures select { OnOk result (wide.new ≡ spec.main_select mapping.now query.now) }
+    ensures cause { IfErr result (λ e. e ≡ Memory) }
+{
+    push_options(wide, alloc, mapping, query.class, query.joined.as_slice())?;
+    take_shifted(wide, alloc, &query.select)
+}
+
 /// A query's main select: its own, with the sources and columns of its joined options. These are left-joined under aliases that
 /// no table, no source and no source of an `exists` has; conditions and order speak of the same sources as before.
 ///
 /// # Errors
 /// `Memory` alone.
-#[tactic(auto, unfolding(crate::specs::MainSelect::main_select))]
 pub fn main_select(alloc: Global, mapping: &Mapping, query: &ObjectQuery) -> Result<Select, Refusal>
     requires class { IsClass mapping.now query.now.class }
     requires configured { mapping.now.configured ≡ true }
@@ -125,13 +145,5 @@ pub fn main_select(alloc: Global, mapping: &Mapping, query: &ObjectQuery) -> Res
     ensures cause { IfErr result (λ e. e ≡ Memory) }
 {
     let mut wide = query.select.copied_in(alloc)?;
-    push_options(
-        &mut wide,
-        alloc,
-        mapping,
-        query.class,
-        query.joined.as_slice(),
-    )?;
-    take_shifted(&mut wide, alloc, &query.select)?;
-    Ok(wide)
+    widen(&mut wide, alloc, mapping, query).and(Ok(wide))
 }
