@@ -1,0 +1,57 @@
+//! What is done over a keeper in memory by those that do not own it.
+
+ghost use Rattle.std.specs.Prelude.{◌≡◌, None, IfErr};
+ghost use Rattle.base_core.specs.declared.refusal.Refusal.TheVariants.{Memory};
+ghost use Rattle.keeper_mem.specs.Kept.{moment_of};
+
+use crate::keeper::MemKeeper;
+use base_core::Refusal;
+use keeper_core::Keeper;
+use std::alloc::Global;
+
+/// What is done over a keeper that was given no target, whichever it is.
+pub trait OverKeepers {
+    /// Does it.
+    fn run<K: Keeper>(&mut self, keeper: &mut K)
+        requires { (K.moment keeper.old).target ≡ None };
+}
+
+/// What is done over a keeper in memory that was given no target.
+pub trait OverMemory {
+    /// Does it.
+    fn run(&mut self, keeper: &mut MemKeeper)
+        requires { (moment_of keeper.old).target ≡ None };
+}
+
+/// Does it over a new keeper in memory that fails the calls of these numbers. Who does it does not own the keeper, and knows nothing of
+/// it but that it is one, so the drops of what it holds are proved here alone.
+///
+/// # Errors
+/// `Memory`, and then nothing is done.
+pub fn over_memory<P: OverKeepers>(
+    alloc: Global,
+    failing: &[u64],
+    program: &mut P,
+) -> Result<(), Refusal>
+    ensures { IfErr result (λ e. e ≡ Memory) }
+{
+    let mut keeper = Box::new(alloc, MemKeeper::new(alloc, failing)?)?;
+    program.run(&mut *keeper);
+    Ok(())
+}
+
+/// Does it over a new keeper in memory that fails the calls of these numbers, of which all is shown.
+///
+/// # Errors
+/// `Memory`, and then nothing is done.
+pub fn over_new<P: OverMemory>(
+    alloc: Global,
+    failing: &[u64],
+    program: &mut P,
+) -> Result<(), Refusal>
+    ensures { IfErr result (λ e. e ≡ Memory) }
+{
+    let mut keeper = Box::new(alloc, MemKeeper::new(alloc, failing)?)?;
+    program.run(&mut *keeper);
+    Ok(())
+}
