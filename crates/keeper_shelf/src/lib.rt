@@ -2,6 +2,9 @@
 #![tactic(auto)]
 
 mod acting;
+mod over;
 mod shelf;
 
+pub use keeper_mem::OverKeepers;
+pub use over::over_shelf;
 pub use shelf::Shelf;
