@@ -7,7 +7,7 @@ use base_core::{Kind, Name, Refusal, Value};
 use byte_streams::{StdSink, StdSource};
 use class_types::{Hooks, Rule, Validator, has_at, is_nonempty, is_positive, is_short};
 use keeper_core::Keeper;
-use keeper_shelf::Shelf;
+use keeper_shelf::{OverKeepers, over_shelf};
 use sqla_shell::{Status, refuse_words, run};
 use sqlite_database::{Database, OverDatabases, over_sqlite};
 use std::alloc::Global;
@@ -54,24 +54,32 @@ fn status_without_words(rt: &(impl Print + AllocGlobal), kind: io::ErrorKind) ->
     }
 }
 
-/// Runs the script of standard input with these words.
-fn run_words<D: Database + Drop>(rt: HostRuntime, words: &Vec<String>) -> Status {
-    match Shelf::<D>::new(rt, rt.alloc()) {
-        Ok(keeper) => run_over(&rt, words, keeper),
-        Err(_) => Status::Memory,
+/// A run with these words, and how it ended.
+#[derive(Drop)]
+struct ScriptRun<'x> {
+    rt: HostRuntime,
+    words: &'x Vec<String>,
+    status: Status,
+}
+
+impl OverKeepers for ScriptRun<'_> {
+    fn run<K: Keeper>(&mut self, keeper: &mut K) {
+        self.status = match run_with_hooks(&self.rt, self.words, keeper) {
+            Ok(status) => status,
+            Err(_) => Status::Memory,
+        };
     }
 }
 
-/// Runs it over a keeper that was given no target.
-fn run_over<K: Keeper + Drop>(
-    rt: &(impl Input + Print + AllocGlobal),
-    words: &Vec<String>,
-    mut keeper: K,
-) -> Status
-    requires { (K.moment keeper).target ≡ None }
-{
-    match run_with_hooks(rt, words, &mut keeper) {
-        Ok(status) => status,
+/// Runs the script of standard input with these words.
+fn run_words<D: Database + Drop>(rt: HostRuntime, words: &Vec<String>) -> Status {
+    let mut program = ScriptRun {
+        rt,
+        words,
+        status: Status::Memory,
+    };
+    match over_shelf::<D, _>(rt, &mut program) {
+        Ok(()) => program.status,
         Err(_) => Status::Memory,
     }
 }
