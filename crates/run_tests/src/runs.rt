@@ -3,7 +3,8 @@
 use base_core::Refusal;
 use byte_streams::{MemSink, MemSource};
 use class_types::Hooks;
-use keeper_mem::MemKeeper;
+use keeper_core::Keeper;
+use keeper_mem::{OverKeepers, over_memory};
 use sqla_shell::{Status, run};
 use std::alloc::Global;
 
@@ -42,31 +43,52 @@ fn only(alloc: Global, kind: &str, number: u64) -> Result<Failing, Refusal> {
     Ok(failing)
 }
 
-/// Runs a script over a new keeper in memory.
-fn run_over(
+/// A script with its words, what it is read from and what it is answered to, and how it ended.
+#[derive(Drop)]
+struct Script<'x> {
     alloc: Global,
-    words: &Vec<String>,
-    script: &str,
-    failing: &Failing,
-    sink: &mut MemSink,
-) -> Result<Status, Refusal> {
-    let mut source = MemSource::new(alloc, script.as_bytes(), failing.reads.as_slice())?;
-    let mut keeper = Box::new(alloc, MemKeeper::new(alloc, failing.calls.as_slice())?)?;
-    let hooks = Hooks::new(alloc);
-    Ok(run(alloc, words, &mut source, sink, &mut *keeper, &hooks))
+    words: &'x Vec<String>,
+    source: MemSource,
+    sink: MemSink,
+    status: Status,
 }
 
-/// Runs a script with these words, where these calls fail.
+impl OverKeepers for Script<'_> {
+    fn run<K: Keeper>(&mut self, keeper: &mut K) {
+        let hooks = Hooks::new(self.alloc);
+        self.status = run(
+            self.alloc,
+            self.words,
+            &mut self.source,
+            &mut self.sink,
+            keeper,
+            &hooks,
+        );
+    }
+}
+
+/// Runs a script with these words over a new keeper in memory, where these calls fail.
 pub(crate) fn run_once(
     alloc: Global,
     words: &Vec<String>,
     script: &str,
     failing: &Failing,
 ) -> Result<Outcome, Refusal> {
-    let mut sink = MemSink::new(alloc, failing.writes.as_slice())?;
-    let status = run_over(alloc, words, script, failing, &mut sink)?;
-    let written = Vec::from_slice(alloc, sink.bytes())?;
-    Ok(Outcome { written, status })
+    let source = MemSource::new(alloc, script.as_bytes(), failing.reads.as_slice())?;
+    let sink = MemSink::new(alloc, failing.writes.as_slice())?;
+    let mut script = Script {
+        alloc,
+        words,
+        source,
+        sink,
+        status: Status::Memory,
+    };
+    over_memory(alloc, failing.calls.as_slice(), &mut script)?;
+    let written = Vec::from_slice(alloc, script.sink.bytes())?;
+    Ok(Outcome {
+        written,
+        status: script.status,
+    })
 }
 
 /// How a run differs from the one in which nothing fails.
