@@ -1,12 +1,13 @@
 //! Calls that are drawn, played on a keeper and on plain lists.
 
-ghost use Rattle.std.specs.Prelude.{◌<◌};
+ghost use Rattle.std.specs.Prelude.{◌≡◌, ◌<◌, None};
+ghost use Rattle.keeper_mem.specs.Kept.{moment_of};
 
 use crate::model::Model;
 use crate::play::call as answer_of;
 use base_core::{Refusal, TableId};
 use keeper_core::{Keeper, Target};
-use keeper_mem::MemKeeper;
+use keeper_mem::{MemKeeper, OverMemory, over_new};
 use notations::number;
 use schema_core::Schema;
 use std::alloc::{AllocError, Global};
@@ -119,18 +120,60 @@ fn first_other(
     Ok(None)
 }
 
+/// How so many calls went on both.
+#[derive(Clone, Copy)]
+enum Played {
+    Refused,
+    Alike,
+    DiffersAt(u32),
+}
+
+/// So many calls that are drawn from a seed, and how they went.
+#[derive(Drop)]
+struct Drawn<'x> {
+    alloc: Global,
+    schema: &'x Schema,
+    draw: Draw,
+    count: u32,
+    played: Played,
+}
+
+/// Plays so many calls on a new keeper and on plain lists.
+fn play(alloc: Global, schema: &Schema, keeper: &mut MemKeeper, draw: Draw, count: u32) -> Played
+    requires { (moment_of keeper.old).target ≡ None }
+{
+    let _taken = keeper.attach(alloc, Target::Memory);
+    let _first = answer_of(alloc, schema, keeper, "create 0");
+    let _second = answer_of(alloc, schema, keeper, "create 1");
+    match first_other(alloc, schema, keeper, draw, count) {
+        Ok(Some(place)) => Played::DiffersAt(place),
+        Ok(None) => Played::Alike,
+        Err(_) => Played::Refused,
+    }
+}
+
+impl OverMemory for Drawn<'_> {
+    fn run(&mut self, keeper: &mut MemKeeper) {
+        self.played = play(self.alloc, self.schema, keeper, self.draw, self.count);
+    }
+}
+
 /// Plays so many calls from a seed, and tells whether both go on alike.
 pub(crate) fn played_alike(alloc: Global, schema: &Schema, words: &str) -> Result<String, Refusal> {
     let (seed, count) = words.split_once(' ').unwrap_or((words, ""));
-    let mut keeper = MemKeeper::new(alloc, &[])?;
-    let _taken = keeper.attach(alloc, Target::Memory);
-    let _first = answer_of(alloc, schema, &mut keeper, "create 0");
-    let _second = answer_of(alloc, schema, &mut keeper, "create 1");
-    let draw = Draw {
-        state: number(seed),
+    let mut drawn = Drawn {
+        alloc,
+        schema,
+        draw: Draw {
+            state: number(seed),
+        },
+        count: number(count),
+        played: Played::Refused,
     };
-    match first_other(alloc, schema, &mut keeper, draw, number(count))? {
-        Some(place) => Ok(format!(in alloc; "differs at {place}")?),
-        None => Ok(String::from_str(alloc, "alike")?),
+    over_new(alloc, &[], &mut drawn)?;
+    match drawn.played {
+        Played::DiffersAt(place) => Ok(format!(in alloc; "differs at {place}")?),
+        Played::Alike => Ok(String::from_str(alloc, "alike")?),
+        Played::Refused => Err(Refusal::Memory),
     }
 }
