@@ -1,0 +1,110 @@
+//! The objects of the parts of a row.
+
+ghost use Rattle.std.specs.Prelude.{◌≡◌, ◌++◌, ◌∷◌, [], true, length, IfErr, IfOk, OnOk};
+ghost use Rattle.std.specs.List.{All, AllByRecursion};
+ghost use Rattle.base_core.specs.declared.refusal.Refusal.TheVariants.{Memory};
+ghost use Rattle.class_mapping.specs.Mapped.{IsClass};
+ghost use Rattle.object_arena.specs.Fit.{IsFit};
+ghost use Rattle.programs.specs.Alone.{alone};
+ghost use Rattle.programs.specs.Moment.{Runs};
+ghost use Rattle.load_filling.specs.Growing.{Grows};
+ghost use Rattle.load_rows.specs.Loading.{loading};
+ghost use Rattle.load_rows.specs.Reading.{AreOfKinds};
+ghost use Rattle.load_collections.specs.Refusals.{CanRefuseRow};
+ghost use Rattle.joined_parts.specs.Parts.{values_from};
+ghost use Rattle.joined_rows.specs.Taking as spec;
+
+use crate::parting::{has_target, values_from};
+use base_core::{ListOf, ObjId, Refusal, Value};
+use class_mapping::Mapping;
+use joined_parts::Part;
+use keeper_core::Notes;
+use load_rows::take_row;
+use mapping_laws::has_hierarchies;
+use object_arena::Arena;
+use std::alloc::Global;
+
+/// The object of an option's part of a row, if the row has one.
+#[tactic(auto, unfolding(crate::specs::Taking::take_member))]
+fn take_member(
+    alloc: Global,
+    arena: &mut Arena,
+    mapping: &Mapping,
+    row: &[Value],
+    part: Part,
+    notes: &mut Notes,
+) -> Result<Option<ObjId>, Refusal>
+    requires target { IsClass mapping.now part.target }
+    requires configured { mapping.now.configured ≡ true }
+    requires fit { IsFit mapping.now arena.old }
+    requires kinds { AreOfKinds mapping.now part.target (values_from part row.now) }
+    ensures step { Runs alone (λ member. member) (spec.take_member mapping.now row.now part)
+        (loading arena.old notes.old) result (loading arena.new notes.new) }
+    ensures of { IfOk result (spec.IsMember mapping.now arena.new.roots part) }
+    ensures grows { Grows arena.old arena.new }
+    ensures fits { IsFit mapping.now arena.new }
+    ensures refuses { IfErr result CanRefuseRow }
+{
+    has_hierarchies(mapping);
+    let is_there = has_target(alloc, mapping, part, row)?;
+    if !is_there {
+        return Ok(None);
+    }
+    let values = values_from(part, row);
+    let object = take_row(alloc, arena, mapping, part.target, values, notes)?;
+    Ok(Some(object))
+}
+
+/// The object of an option's part goes behind those of the options before.
+fn take_next(
+    alloc: Global,
+    arena: &mut Arena,
+    mapping: &Mapping,
+    row: &[Value],
+    part: Part,
+    members: &mut ListOf<Option<ObjId>>,
+    notes: &mut Notes,
+) -> Result<(), Refusal>
+    requires target { IsClass mapping.now part.target }
+    requires configured { mapping.now.configured ≡ true }
+    requires fit { IsFit mapping.now arena.old }
+    requires kinds { AreOfKinds mapping.now part.target (values_from part row.now) }
+    ensures step { Runs alone (λ _. members.new) (spec.take_next mapping.now row.now part members.old)
+        (loading arena.old notes.old) result (loading arena.new notes.new) }
+    ensures of { OnOk result (spec.IsOneMore mapping.now arena.new.roots part members.old members.new) }
+    ensures grows { Grows arena.old arena.new }
+    ensures fits { IsFit mapping.now arena.new }
+    ensures refuses { IfErr result CanRefuseRow }
+{
+    let member = take_member(alloc, arena, mapping, row, part, notes)?;
+    members.push(member)
+}
+
+/// The objects of the parts that a row has of joined options, one for each.
+#[tactic(auto, unfolding(crate::specs::Taking::take_members))]
+pub(crate) fn take_members(
+    alloc: Global,
+    arena: &mut Arena,
+    mapping: &Mapping,
+    row: &[Value],
+    parts: &[Part],
+    notes: &mut Notes,
+) -> Result<ListOf<Option<ObjId>>, Refusal>
+    requires targets { All (λ part. IsClass mapping.now part.target) parts.now }
+    requires configured { mapping.now.configured ≡ true }
+    requires fit { IsFit mapping.now arena.old }
+    requires kinds { AllByRecursion
+        (λ part. AreOfKinds mapping.now part.target (values_from part row.now)) parts.now }
+    ensures step { Runs alone (λ members. members) (spec.take_members mapping.now parts.now row.now)
+        (loading arena.old notes.old) result (loading arena.new notes.new) }
+    ensures of { IfOk result (spec.AreMembers mapping.now arena.new.roots parts.now) }
+    ensures grows { Grows arena.old arena.new }
+    ensures fits { IsFit mapping.now arena.new }
+    ensures refuses { IfErr result CanRefuseRow }
+{
+    let mut members = ListOf::new(alloc);
+    for part in parts {
+        take_next(alloc, arena, mapping, row, *part, &mut members, notes)?;
+    }
+    Ok(members)
+}
