@@ -1,5 +1,5 @@
 -- The selects of batches, and the programs that read them.
-use Rattle.std.proofs.Common.{◌≡◌, ℕ, ◌<◌, ◌==◌, true, false, List, [], ◌∷◌, length, map, Option, None, Some, Result, Ok, Err, IfOk, refl, sym, ap, subst, ◌∙◌, arith}
+use Rattle.std.proofs.Common.{◌≡◌, ℕ, ◌<◌, ◌==◌, true, false, List, [], ◌∷◌, length, Result, Ok, Err, IfOk, refl, sym, ap, subst, ◌∙◌, arith}
 use Rattle.std.specs.List.{All, AllByRecursion}
 use Rattle.std.proofs.lemmas.Bool.{eqb-true}
 use Rattle.std.proofs.lemmas.List.{length-map}
@@ -13,26 +13,24 @@ use Rattle.expr_types.specs.declared.select.Select.{Select}
 use Rattle.sql_semantics.specs.Plain.{IsPlainSelect}
 use Rattle.sql_semantics.specs.Shapes.{AreGiven, AreOfItems}
 use Rattle.class_types.specs.declared.mapped.Relation.{Relation}
-use Rattle.class_sides.specs.Keys.{TableKey}
 use Rattle.class_mapping.specs.Mapped.{Mapped, root_spec}
 use Rattle.class_mapping.specs.Related.{IsRelated}
 use Rattle.mapping_laws.specs.Hierarchies.{HasHierarchies}
 use Rattle.object_arena.specs.Graph.{Graph}
 use Rattle.programs.specs.Alone.{alone}
-use Rattle.programs.specs.Beside.{Beside, by_own, moment_beside, on_own}
+use Rattle.programs.specs.Beside.{moment_beside, on_own}
 use Rattle.programs.specs.Moment.{Moment, Reaches, Runs}
-use Rattle.programs.specs.Programs.{Run, each, give}
+use Rattle.programs.specs.Programs.{Run, each}
 use Rattle.programs.specs.Store.{Store}
 use Rattle.programs.proofs.AloneLemmas.{beside_alone}
 use Rattle.programs.proofs.Lifting.{chosen}
 use Rattle.programs.proofs.Sequence.{done, reaches_start, then_err, then_ok}
 use Rattle.keeper_core.specs.declared.notes.Note.{Note}
-use Rattle.load_columns.specs.Conditions.{has_one_of}
-use Rattle.collection_selects.specs.Collections.{batch_by, batch_select, owner_columns}
-use Rattle.load_laws.proofs.MemberLemmas.{batches_are_plain}
+use Rattle.collection_selects.specs.Collections.{batch_select}
 use Rattle.load_rows.specs.Loading.{Loading, loading}
-use Rattle.load_rows.specs.Reading.{IsRowOf}
-use Rattle.row_laws.proofs.RowKeys.{are_rows}
+use Rattle.pair_laws.specs.Members.{IsMemberRow}
+use Rattle.pair_laws.proofs.Plainness.{batch_is_plain}
+use Rattle.pair_laws.proofs.Rows.{batch_rows_are_members}
 use Rattle.load_calls.specs.Reading.{World, read}
 use Rattle.load_batches.specs.Batches.{IsKeyed, batch_at, batch_starts, fill_batch, fill_owners, filled_by_batch, keys_of, load_batch, load_batches, load_each, load_from, load_members, read_batch, take_members, unloaded_owners}
 use Rattle.load_batches.specs.declared.members.Member.{Member}
@@ -48,30 +46,27 @@ keys_all mapped relation [] h = tt
 keys_all mapped relation (owner ∷ owners) h = (h.0, keys_all mapped relation owners h.1)
 
 -- it is plain
-pub batch_plain : (mapped : Mapped) (relation : Relation) (owners : List Owner) (r : Result Select Refusal) → HasHierarchies mapped → IsRelated mapped relation → relation.many ≡ true → relation.far ≡ None → 0 < length owners
+pub batch_plain : (mapped : Mapped) (relation : Relation) (owners : List Owner) (r : Result Select Refusal) → HasHierarchies mapped → IsRelated mapped relation → relation.many ≡ true → 0 < length owners
     → All (IsKeyed mapped relation) owners → IfOk r (λ s. s ≡ batch_select mapped relation (keys_of owners)) → IfOk r (IsPlainSelect mapped.schema)
-batch_plain mapped relation owners (Ok s) has related many far some keyed is =
+batch_plain mapped relation owners (Ok s) has related many some keyed is =
     let long : length (keys_of owners) ≡ length owners = length-map owners (λ (owner : Owner). owner.key) in
     let every : List Value → Type 0 = λ key. is_key (root_spec mapped relation.class) key ≡ true in
     subst (IsPlainSelect mapped.schema) (sym is)
-    (batches_are_plain mapped relation (keys_of owners) has related many far (subst (λ (n : ℕ). 0 < n) (sym long) some)
+    (batch_is_plain mapped relation (keys_of owners) has related many (subst (λ (n : ℕ). 0 < n) (sym long) some)
     (All-from_recursion every (keys_of owners) (keys_all mapped relation owners (recursion_from_All (IsKeyed mapped relation) owners keyed))))
-batch_plain mapped relation owners (Err e) has related many far some keyed is = tt
+batch_plain mapped relation owners (Err e) has related many some keyed is = tt
 
 pub named_select : (mapped : Mapped) (relation : Relation) (owners : List Owner) (keys shown : Rows) (r : Result Select Refusal) → keys ≡ keys_of owners → shown ≡ keys → IfOk r (λ s. s ≡ batch_select mapped relation shown)
     → IfOk r (λ s. s ≡ batch_select mapped relation (keys_of owners))
 named_select mapped relation owners keys shown (Ok s) named seen is = is ∙ ap (batch_select mapped relation) (seen ∙ named)
 named_select mapped relation owners keys shown (Err e) named seen is = tt
 
--- what is answered to it are rows of the target
-pub batch_rows : (mapped : Mapped) (relation : Relation) (owners : List Owner) (select : Select) (r : Result Rows Refusal) → HasHierarchies mapped → IsRelated mapped relation → relation.far ≡ None → select ≡ batch_select mapped relation (keys_of owners)
-    → IfOk r (λ rows. AreOfItems mapped.schema select rows) → IfOk r (λ rows. AreGiven mapped.schema select rows) → IfOk r (AllByRecursion (IsRowOf mapped relation.target))
-unfolding batch_select
-batch_rows mapped relation owners select (Ok rows) has related far is kinds given =
-    let referring : select ≡ batch_by mapped relation (keys_of owners) None = is ∙ ap (batch_by mapped relation (keys_of owners)) far in
-    are_rows mapped relation.target (has_one_of (owner_columns mapped relation) (keys_of owners)) rows has related.target
-    (subst (λ (s : Select). AreOfItems mapped.schema s rows) referring kinds) (subst (λ (s : Select). AreGiven mapped.schema s rows) referring given)
-batch_rows mapped relation owners select (Err e) has related far is kinds given = tt
+-- what is answered to it are the rows of members
+pub batch_rows : (mapped : Mapped) (relation : Relation) (owners : List Owner) (select : Select) (r : Result Rows Refusal) → HasHierarchies mapped → IsRelated mapped relation → select ≡ batch_select mapped relation (keys_of owners)
+    → IfOk r (λ rows. AreOfItems mapped.schema select rows) → IfOk r (λ rows. AreGiven mapped.schema select rows) → IfOk r (AllByRecursion (IsMemberRow mapped relation))
+batch_rows mapped relation owners select (Ok rows) has related is kinds given =
+    batch_rows_are_members mapped relation (keys_of owners) rows has related (subst (λ (s : Select). AreOfItems mapped.schema s rows) is kinds) (subst (λ (s : Select). AreGiven mapped.schema s rows) is given)
+batch_rows mapped relation owners select (Err e) has related is kinds given = tt
 
 -- the select of a batch was sent
 pub batch_read : {K : Type 0} (moment : K → Moment Store) (mapped : Mapped) (relation : Relation) (owners : List Owner) (graph : Graph) (select : Select) {before after : List Note} {old new : K} {r : Result Rows Refusal}

@@ -1,5 +1,5 @@
 -- Members that are taken of rows, and put into the collections of their owners.
-use Rattle.std.proofs.Common.{◌≡◌, true, false, Bool, cond, List, [], ◌∷◌, ◌++◌, drop, filter, map, Result, Ok, Err, IfErr, OnOk, refl, sym, ap, subst, ◌∙◌}
+use Rattle.std.proofs.Common.{◌≡◌, ℕ, true, false, Bool, cond, List, [], ◌∷◌, ◌++◌, drop, filter, Result, Ok, Err, IfErr, OnOk, sym, ap, subst, ◌∙◌}
 use Rattle.std.specs.List.{All, AllByRecursion}
 use Rattle.std.proofs.lemmas.List.{map-append}
 use Rattle.std.proofs.lemmas.List.Elements.{All-from_recursion, recursion_from_All}
@@ -21,27 +21,36 @@ use Rattle.programs.specs.Programs.{each, give}
 use Rattle.programs.proofs.AloneLemmas.{change_ok, lost_alone, quietly_alone}
 use Rattle.programs.proofs.Sequence.{done, reaches_start, then_err, then_ok}
 use Rattle.load_rows.specs.Loading.{Loading, take_row}
+use Rattle.pair_laws.specs.Members.{owner_width}
 use Rattle.load_links.specs.Links.{collection_filled}
-use Rattle.load_batches.specs.Batches.{fill_owner, fill_owners, member_of, members_under, objects_in, owner_key_in, take_member, take_members}
+use Rattle.load_batches.specs.Batches.{fill_owner, fill_owners, member_of, members_under, objects_in, owner_key_in, take_member, take_members, target_values}
 use Rattle.load_batches.specs.declared.members.Member.{Member}
 use Rattle.load_batches.specs.declared.owners.Owner.{Owner}
 
 -- ---- the objects of rows
 
 -- the object of a row was taken, and goes behind the others with the key of its owner
-pub member_taken : (mapped : Mapped) (relation : Relation) (row : List Value) (members new : List Member) (own mid : Loading) (object : ObjId) (owner : List Value) (r : Result (Unit {0}) Refusal)
-    → owner ≡ owner_key_in mapped relation row → IsQuiet (λ (o : ObjId). o) (take_row mapped relation.target row own) (Ok object) mid
+pub member_taken : (mapped : Mapped) (relation : Relation) (row values : List Value) (members new : List Member) (own mid : Loading) (object : ObjId) (owner : List Value) (r : Result (Unit {0}) Refusal)
+    → values ≡ target_values mapped relation row → owner ≡ owner_key_in mapped relation row → IsQuiet (λ (o : ObjId). o) (take_row mapped relation.target values own) (Ok object) mid
     → OnOk r (new ≡ members ++ member_of owner object ∷ []) → IfErr r (λ e. e ≡ Memory) → Runs alone (λ (u : Unit {0}). new) (take_member mapped relation row members) own r mid
-member_taken mapped relation row members new own mid object owner (Ok u) keyed taken is cause =
-    then_ok (λ (o : ObjId). give (members ++ member_of (owner_key_in mapped relation row) o ∷ [])) (quietly_alone {v = λ (o : ObjId). o} (take_row mapped relation.target row) {r = Ok object} taken)
+member_taken mapped relation row values members new own mid object owner (Ok u) behind keyed taken is cause =
+    then_ok (λ (o : ObjId). give (members ++ member_of (owner_key_in mapped relation row) o ∷ []))
+    (quietly_alone {v = λ (o : ObjId). o} (take_row mapped relation.target (target_values mapped relation row)) {r = Ok object}
+    (subst (λ (xs : List Value). IsQuiet (λ (o : ObjId). o) (take_row mapped relation.target xs own) (Ok object) mid) behind taken))
     (done (sym (is ∙ ap (λ (key : List Value). members ++ member_of key object ∷ []) keyed)))
-member_taken mapped relation row members new own mid object owner (Err e) keyed taken is cause = lost_alone cause
+member_taken mapped relation row values members new own mid object owner (Err e) behind keyed taken is cause = lost_alone cause
 
 -- it was refused
-pub member_refused : {X : Type 0} (v : X → List Member) (mapped : Mapped) (relation : Relation) (row : List Value) (members : List Member) (own mid : Loading) (e : Refusal)
-    → IsQuiet {X = ObjId} (λ (o : ObjId). o) (take_row mapped relation.target row own) (Err e) mid → Runs alone v (take_member mapped relation row members) own (Err e) mid
-member_refused v mapped relation row members own mid e refused =
-    then_err (λ (o : ObjId). give (members ++ member_of (owner_key_in mapped relation row) o ∷ [])) (quietly_alone {v = λ (o : ObjId). o} (take_row mapped relation.target row) {r = Err e} refused)
+pub member_refused : {X : Type 0} (v : X → List Member) (mapped : Mapped) (relation : Relation) (row values : List Value) (members : List Member) (own mid : Loading) (e : Refusal)
+    → values ≡ target_values mapped relation row → IsQuiet {X = ObjId} (λ (o : ObjId). o) (take_row mapped relation.target values own) (Err e) mid → Runs alone v (take_member mapped relation row members) own (Err e) mid
+member_refused v mapped relation row values members own mid e behind refused =
+    then_err (λ (o : ObjId). give (members ++ member_of (owner_key_in mapped relation row) o ∷ []))
+    (quietly_alone {v = λ (o : ObjId). o} (take_row mapped relation.target (target_values mapped relation row)) {r = Err e}
+    (subst (λ (xs : List Value). IsQuiet {X = ObjId} (λ (o : ObjId). o) (take_row mapped relation.target xs own) (Err e) mid) behind refused))
+
+-- the values behind the first ones
+pub values_behind : (mapped : Mapped) (relation : Relation) (row values : List Value) (width : ℕ) → width ≡ owner_width mapped relation → values ≡ drop width row → values ≡ target_values mapped relation row
+values_behind mapped relation row values width wide is = is ∙ ap (λ (n : ℕ). drop n row) wide
 
 pub objects_pushed : (members new : List Member) (owner : List Value) (object : ObjId) (r : Result (Unit {0}) Refusal) → OnOk r (new ≡ members ++ member_of owner object ∷ []) → OnOk r (objects_in new ≡ objects_in members ++ object ∷ [])
 objects_pushed members new owner object (Ok u) is = ap objects_in is ∙ map-append (λ (member : Member). member.object) members (member_of owner object ∷ [])

@@ -1,5 +1,5 @@
 -- The owners of collections, with the keys of their rows.
-use Rattle.std.proofs.Common.{◌≡◌, ℕ, ◌+◌, ◌<◌, Bool, true, false, List, [], ◌∷◌, ◌++◌, length, get_or, drop, fold, Result, Ok, Err, IfOk, OnOk, if◌then◌else◌, refl, sym, ap, subst, ◌∙◌, append_assoc}
+use Rattle.std.proofs.Common.{◌≡◌, ℕ, ◌+◌, ◌<◌, Bool, true, List, [], ◌∷◌, ◌++◌, length, get_or, drop, fold, Result, Ok, Err, OnOk, if◌then◌else◌, sym, ap, subst, ◌∙◌, append_assoc}
 use Rattle.std.specs.List.{All, flat_map}
 use Rattle.std.proofs.lemmas.List.{drop_more}
 use Rattle.std.proofs.lemmas.List.Elements.{All-drop, All-from_recursion, All-take, recursion_from_All}
@@ -15,7 +15,7 @@ use Rattle.class_mapping.specs.Mapped.{IsClass, Mapped, relations_of, root_spec}
 use Rattle.class_mapping.specs.Related.{AreRelated}
 use Rattle.mapping_laws.specs.Hierarchies.{HasHierarchies}
 use Rattle.object_arena.specs.declared.object.Object.{Object}
-use Rattle.object_arena.specs.Fit.{ObjectFits, key_fits, relation_of}
+use Rattle.object_arena.specs.Fit.{ObjectFits, key_fits}
 use Rattle.object_arena.specs.Graph.{Graph, object_at}
 use Rattle.object_arena.specs.Identity.{is_identified}
 use Rattle.load_filling.specs.Growing.{Grows}

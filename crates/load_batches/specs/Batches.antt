@@ -1,8 +1,9 @@
--- The reading of the one-to-many collections of several owners, by one select for each batch of keys.
-use Rattle.std.specs.Prelude.{◌≡◌, ℕ, ◌+◌, ◌*◌, ◌/◌, ◌<◌, Bool, true, false, List, [], ◌∷◌, ◌++◌, drop, filter, length, map, take, if◌then◌else◌}
+-- The reading of the collections of several owners, by one select for each batch of keys.
+use Rattle.std.specs.Prelude.{◌≡◌, ℕ, ◌+◌, ◌*◌, ◌/◌, ◌<◌, Bool, true, false, List, [], ◌∷◌, ◌++◌, drop, filter, length, map, take, Option, None, Some, if◌then◌else◌}
 use Rattle.std.specs.BTreeMap.{BTreeMap, get}
 use Rattle.std.specs.List.{flat_map, range_with_len}
 use Rattle.std.specs.Option.{unwrap_or}
+use Rattle.base_core.specs.declared.ids.AttrNo.{AttrNo}
 use Rattle.base_core.specs.declared.ids.ObjId.{ObjId}
 use Rattle.base_core.specs.declared.ids.RelNo.{RelNo}
 use Rattle.base_core.specs.declared.value.Value.{Value}
@@ -10,6 +11,7 @@ use Rattle.base_core.specs.Order.{values_cmp}
 use Rattle.schema_core.specs.Tables.{same_values}
 use Rattle.schema_core.specs.WellFormed.{is_key}
 use Rattle.class_types.specs.declared.mapped.Relation.{Relation}
+use Rattle.class_sides.specs.Keys.{TableKey}
 use Rattle.class_mapping.specs.Mapped.{Mapped, relations_of, root_spec}
 use Rattle.programs.specs.Programs.{Run, ◌>>=◌, change, each, give}
 use Rattle.programs.specs.Beside.{by_own, on_own}
@@ -22,6 +24,7 @@ use Rattle.collection_selects.specs.Collections.{batch_select}
 use Rattle.load_filling.specs.Rows.{value_in}
 use Rattle.load_rows.specs.Loading.{Loading, take_row}
 use Rattle.load_rows.specs.Reading.{identity_key}
+use Rattle.pair_laws.specs.Members.{owner_width}
 use Rattle.load_links.specs.Links.{collection_filled, link_at}
 use Rattle.load_calls.specs.Reading.{World, read}
 use Rattle.load_targets.specs.ForeignKeys.{foreign_attrs}
@@ -69,9 +72,29 @@ pub record IsOwned (mapped : Mapped) (graph : Graph) (relation : Relation) (plac
 abbrev pub objects_in : List Member → List ObjId
 objects_in members = map (λ member. member.object) members
 
--- the key of the owner to whom a row of the target refers
+abbrev pub place_numbered : ℕ → AttrNo
+place_numbered number = record { 0 = number }
+
+-- the first places of a row
+abbrev pub first_places : ℕ → List AttrNo
+first_places count = map place_numbered (range_with_len 0 count)
+
+abbrev pub owner_places_by : Mapped → Relation → Option TableKey → List AttrNo
+owner_places_by mapped relation None = foreign_attrs mapped relation.target relation
+owner_places_by mapped relation (Some far) = first_places (owner_width mapped relation)
+
+-- where in a member's row the key of its owner stands: before the target's values where there is a secondary table, else it is the
+-- foreign key among them
+abbrev pub owner_places : Mapped → Relation → List AttrNo
+owner_places mapped relation = owner_places_by mapped relation relation.far
+
+-- the key of the owner in a member's row
 abbrev pub owner_key_in : Mapped → Relation → List Value → List Value
-owner_key_in mapped relation row = map (value_in row) (foreign_attrs mapped relation.target relation)
+owner_key_in mapped relation row = map (value_in row) (owner_places mapped relation)
+
+-- the values of the target in it
+abbrev pub target_values : Mapped → Relation → List Value → List Value
+target_values mapped relation row = drop (owner_width mapped relation) row
 
 -- an object with the key of its owner
 abbrev pub member_of : List Value → ObjId → Member
@@ -79,9 +102,9 @@ member_of owner object = record { owner = owner; object = object }
 
 abbrev pub take_member : Mapped → Relation → List Value → List Member → Loading → Run Loading (List Member)
 take_member mapped relation row members =
-    take_row mapped relation.target row >>= λ object. give (members ++ member_of (owner_key_in mapped relation row) object ∷ [])
+    take_row mapped relation.target (target_values mapped relation row) >>= λ object. give (members ++ member_of (owner_key_in mapped relation row) object ∷ [])
 
--- the objects of rows of the target, each with the key of its owner
+-- the objects of members' rows, each with the key of its owner
 unfoldable pub take_members : Mapped → Relation → List (List Value) → Loading → Run Loading (List Member)
 take_members mapped relation rows = each (take_member mapped relation) [] rows
 

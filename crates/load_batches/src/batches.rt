@@ -1,6 +1,6 @@
 //! The reading of collections by batches of keys.
 
-ghost use Rattle.std.specs.Prelude.{◌≡◌, ◌<◌, None, true, length, IfErr, IfOk};
+ghost use Rattle.std.specs.Prelude.{◌≡◌, ◌<◌, true, length, IfErr, IfOk};
 ghost use Rattle.std.specs.List.{All, AllByRecursion};
 ghost use Rattle.base_core.specs.declared.refusal.Refusal.TheVariants.{Memory};
 ghost use Rattle.class_mapping.specs.Related.{IsRelated};
@@ -13,7 +13,7 @@ ghost use Rattle.mapping_laws.specs.Hierarchies.{HasHierarchies};
 ghost use Rattle.collection_selects.specs.Collections.{batch_select};
 ghost use Rattle.load_filling.specs.Growing.{Grows};
 ghost use Rattle.load_rows.specs.Loading.{loading};
-ghost use Rattle.load_rows.specs.Reading.{IsRowOf};
+ghost use Rattle.pair_laws.specs.Members.{IsMemberRow};
 ghost use Rattle.load_calls.specs.Reading.{IsReady, StaysReady};
 ghost use Rattle.load_collections.specs.Refusals.{CanRefuseRows};
 ghost use Rattle.load_batches.specs.Batches as spec;
@@ -42,7 +42,6 @@ fn select_of_batch(
     requires configured { mapping.now.configured ≡ true }
     requires related { IsRelated mapping.now relation.now }
     requires many { relation.now.many ≡ true }
-    requires far { relation.now.far ≡ None }
     requires some { 0 < length owners.now }
     requires keyed { All (spec.IsKeyed mapping.now relation.now) owners.now }
     ensures select { IfOk result
@@ -68,7 +67,6 @@ fn read_batch<K: Keeper>(
     requires configured { mapping.now.configured ≡ true }
     requires related { IsRelated mapping.now relation.now }
     requires many { relation.now.many ≡ true }
-    requires far { relation.now.far ≡ None }
     requires some { 0 < length owners.now }
     requires keyed { All (spec.IsKeyed mapping.now relation.now) owners.now }
     requires ready { IsReady mapping.now.schema (K.moment keeper.old) }
@@ -76,7 +74,7 @@ fn read_batch<K: Keeper>(
         (spec.read_batch mapping.now relation.now owners.now)
         (loading graph notes.old, keeper.old) result (loading graph notes.new, keeper.new) }
     ensures stays { StaysReady mapping.now.schema result (K.moment keeper.new) }
-    ensures rows { IfOk result (AllByRecursion (IsRowOf mapping.now relation.now.target)) }
+    ensures rows { IfOk result (AllByRecursion (IsMemberRow mapping.now relation.now)) }
     ensures refuses { IfErr result (CanRefuseRows mapping.now) }
 {
     let wanted = select_of_batch(alloc, mapping, relation, owners)?;
@@ -98,7 +96,6 @@ fn load_batch<K: Keeper>(
     requires fit { IsFit mapping.now arena.old }
     requires related { IsRelated mapping.now relation.now }
     requires many { relation.now.many ≡ true }
-    requires far { relation.now.far ≡ None }
     requires owned { All (spec.IsOwned mapping.now arena.old relation.now place) owners.now }
     requires ready { IsReady mapping.now.schema (K.moment keeper.old) }
     ensures step { Runs (moment_beside K.moment) (λ u. u)
@@ -144,7 +141,6 @@ fn load_each<K: Keeper>(
     requires fit { IsFit mapping.now arena.old }
     requires related { IsRelated mapping.now relation.now }
     requires many { relation.now.many ≡ true }
-    requires far { relation.now.far ≡ None }
     requires owned { All (spec.IsOwned mapping.now arena.old relation.now place) owners.now }
     requires ready { IsReady mapping.now.schema (K.moment keeper.old) }
     ensures step { Runs (moment_beside K.moment) (λ u. u)
@@ -178,7 +174,6 @@ fn load_batches<K: Keeper>(
     requires fit { IsFit mapping.now arena.old }
     requires related { IsRelated mapping.now relation.now }
     requires many { relation.now.many ≡ true }
-    requires far { relation.now.far ≡ None }
     requires owned { All (spec.IsOwned mapping.now arena.old relation.now place) owners.now }
     requires ready { IsReady mapping.now.schema (K.moment keeper.old) }
     ensures step { Runs (moment_beside K.moment) (λ u. u)
@@ -204,14 +199,15 @@ fn load_batches<K: Keeper>(
     )
 }
 
-/// Loads the collections of persistent owners at the place of a one-to-many relationship: those that are unloaded are read, by one
-/// select for the keys of each 500 owners and none where there is no owner, and hold their members in the order of their keys
-/// then, with the changes that were kept for them. Each owner is noted, and each member of which a cell was filled.
+/// Loads the collections of persistent owners at the place of a relationship to many, with a secondary table or without: those that
+/// are unloaded are read, by one select for the keys of each 500 owners and none where there is no owner, and hold their members in
+/// the order of their keys then, with the changes that were kept for them. Each owner is noted, and each member of which a cell was
+/// filled.
 ///
 /// # Errors
-/// `OperationalError` where a table of the target was not created, `KeeperFault`, `InvalidRequestError(NoSuchIdentity)`,
-/// `LimitReached(Objects)`, `Memory`. The collections of the batches before the refused one are loaded; the members of its rows
-/// before the refusal stay.
+/// `OperationalError` where a table of the target, or the secondary one, was not created, `KeeperFault`,
+/// `InvalidRequestError(NoSuchIdentity)`, `LimitReached(Objects)`, `Memory`. The collections of the batches before the refused one
+/// are loaded; the members of its rows before the refusal stay.
 pub fn load_members<K: Keeper>(
     alloc: Global,
     arena: &mut Arena,
@@ -226,7 +222,6 @@ pub fn load_members<K: Keeper>(
     requires fit { IsFit mapping.now arena.old }
     requires related { IsRelated mapping.now relation.now }
     requires many { relation.now.many ≡ true }
-    requires far { relation.now.far ≡ None }
     requires owners { All (spec.IsOwner mapping.now arena.old relation.now place) owners.now }
     requires ready { IsReady mapping.now.schema (K.moment keeper.old) }
     ensures step { Runs (moment_beside K.moment) (λ u. u)

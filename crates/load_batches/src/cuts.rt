@@ -1,6 +1,6 @@
 //! What is asked for in batches.
 
-ghost use Rattle.std.specs.Prelude.{◌≡◌, IfErr, IfOk};
+ghost use Rattle.std.specs.Prelude.{◌≡◌, drop, IfErr, IfOk};
 ghost use Rattle.base_core.specs.declared.refusal.Refusal.TheVariants.{Memory};
 ghost use Rattle.load_batches.specs.Batches as spec;
 
@@ -25,10 +25,17 @@ pub fn batch_starts(alloc: Global, count: usize) -> Result<Vec<usize>, Refusal>
     Ok(starts)
 }
 
+/// The items from a place on; none where the list ends before it.
+pub(crate) fn rest_from<T>(items: &[T], start: usize) -> &[T]
+    ensures { result.now ≡ drop start items.now }
+{
+    &items[start.min(items.len())..]
+}
+
 /// The batch that begins at a place.
 pub fn batch_at<T>(items: &[T], start: usize) -> &[T]
     ensures { result.now ≡ spec.batch_at items.now start }
 {
-    let rest = &items[start.min(items.len())..];
+    let rest = rest_from(items, start);
     &rest[..BATCH.min(rest.len())]
 }

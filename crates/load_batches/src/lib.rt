@@ -1,4 +1,5 @@
-//! The reading of the one-to-many collections of several owners over any keeper, by one select for each 500 keys.
+//! The reading of the collections of several owners over any keeper, with a secondary table and without, by one select for each 500
+//! keys.
 #![tactic(auto)]
 
 mod batches;

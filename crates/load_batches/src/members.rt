@@ -10,14 +10,16 @@ ghost use Rattle.programs.specs.Moment.{Runs};
 ghost use Rattle.load_filling.specs.Growing.{Grows};
 ghost use Rattle.load_filling.specs.Rows.{value_in};
 ghost use Rattle.load_rows.specs.Loading.{loading};
-ghost use Rattle.load_rows.specs.Reading.{IsRowOf};
 ghost use Rattle.load_collections.specs.Refusals.{CanRefuseRow};
-ghost use Rattle.load_targets.specs.ForeignKeys.{foreign_attrs};
+ghost use Rattle.pair_laws.specs.Members as member_rows;
 ghost use Rattle.load_batches.specs.Batches as spec;
 
+use crate::cuts::rest_from;
 use base_core::{AttrNo, Copied, Key, ListOf, ObjId, Refusal, RowValues, Value};
+use class_layouts::number_of;
 use class_mapping::{Mapping, Relation};
 use keeper_core::Notes;
+use load_columns::foreign_numbers;
 use load_rows::take_row;
 use load_targets::foreign_attrs;
 use object_arena::Arena;
@@ -53,13 +55,58 @@ fn values_in(alloc: Global, attrs: &[AttrNo], row: &[Value]) -> Result<Key, Refu
     Ok(values)
 }
 
-/// The object of a row goes behind those of the rows before, with the key of its owner.
+/// How many values of a member's row stand before those of the target.
+fn owner_width(alloc: Global, mapping: &Mapping, relation: &Relation) -> Result<u32, Refusal>
+    ensures width { IfOk result (λ width. width ≡ member_rows.owner_width mapping.now relation.now) }
+    ensures cause { IfErr result (λ e. e ≡ Memory) }
+{
+    match relation.far {
+        Some(_far) => number_of(foreign_numbers(alloc, mapping, relation.foreign)?.len()),
+        None => Ok(0),
+    }
+}
+
+/// The first places of a row.
+#[tactic(auto, using(load_selects::proofs::Steps::number_steps))]
+fn first_places(alloc: Global, count: u32) -> Result<ListOf<AttrNo>, Refusal>
+    ensures places { IfOk result (λ places. places ≡ spec.first_places count) }
+    ensures cause { IfErr result (λ e. e ≡ Memory) }
+{
+    let mut places = ListOf::new(alloc);
+    for number in 0..count {
+        places.push(AttrNo(number))?;
+    }
+    Ok(places)
+}
+
+/// Where in a member's row the key of its owner stands, where so many values stand before those of the target.
+fn owner_places(
+    alloc: Global,
+    mapping: &Mapping,
+    relation: &Relation,
+    width: u32,
+) -> Result<ListOf<AttrNo>, Refusal>
+    requires target { IsClass mapping.now relation.now.target }
+    requires configured { mapping.now.configured ≡ true }
+    requires width { width ≡ member_rows.owner_width mapping.now relation.now }
+    ensures places { IfOk result
+        (λ places. places ≡ spec.owner_places mapping.now relation.now) }
+    ensures cause { IfErr result (λ e. e ≡ Memory) }
+{
+    match relation.far {
+        Some(_far) => first_places(alloc, width),
+        None => foreign_attrs(alloc, mapping, relation.target, relation),
+    }
+}
+
+/// The object of a member's row goes behind those of the rows before, with the key of its owner.
 fn take_member(
     alloc: Global,
     arena: &mut Arena,
     mapping: &Mapping,
     relation: &Relation,
-    attrs: &[AttrNo],
+    places: &[AttrNo],
+    width: u32,
     row: &[Value],
     members: &mut ListOf<Member>,
     notes: &mut Notes,
@@ -67,8 +114,9 @@ fn take_member(
     requires target { IsClass mapping.now relation.now.target }
     requires configured { mapping.now.configured ≡ true }
     requires fit { IsFit mapping.now arena.old }
-    requires row { IsRowOf mapping.now relation.now.target row.now }
-    requires attrs { attrs.now ≡ foreign_attrs mapping.now relation.now.target relation.now }
+    requires row { member_rows.IsMemberRow mapping.now relation.now row.now }
+    requires places { places.now ≡ spec.owner_places mapping.now relation.now }
+    requires width { width ≡ member_rows.owner_width mapping.now relation.now }
     ensures step { Runs alone (λ _. members.new)
         (spec.take_member mapping.now relation.now row.now members.old)
         (loading arena.old notes.old) result (loading arena.new notes.new) }
@@ -80,12 +128,13 @@ fn take_member(
     ensures fits { IsFit mapping.now arena.new }
     ensures refuses { IfErr result CanRefuseRow }
 {
-    let owner = values_in(alloc, attrs, row)?;
-    let object = take_row(alloc, arena, mapping, relation.target, row, notes)?;
+    let owner = values_in(alloc, places, row)?;
+    let values = rest_from(row, width as usize);
+    let object = take_row(alloc, arena, mapping, relation.target, values, notes)?;
     members.push(Member { owner, object })
 }
 
-/// The objects of rows of a relationship's target, in order and each filled by its row, with the keys of their owners.
+/// The objects of the rows of a relationship's members, in order and each filled by its row, with the keys of their owners.
 ///
 /// # Errors
 /// `InvalidRequestError(NoSuchIdentity)`, `LimitReached(Objects)`, `Memory`. The objects of the rows before stay.
@@ -101,7 +150,7 @@ pub(crate) fn take_members(
     requires target { IsClass mapping.now relation.now.target }
     requires configured { mapping.now.configured ≡ true }
     requires fit { IsFit mapping.now arena.old }
-    requires rows { AllByRecursion (IsRowOf mapping.now relation.now.target) rows.now }
+    requires rows { AllByRecursion (member_rows.IsMemberRow mapping.now relation.now) rows.now }
     ensures step { Runs alone (λ members. members)
         (spec.take_members mapping.now relation.now rows.now)
         (loading arena.old notes.old) result (loading arena.new notes.new) }
@@ -111,7 +160,8 @@ pub(crate) fn take_members(
     ensures fits { IsFit mapping.now arena.new }
     ensures refuses { IfErr result CanRefuseRow }
 {
-    let attrs = foreign_attrs(alloc, mapping, relation.target, relation)?;
+    let width = owner_width(alloc, mapping, relation)?;
+    let places = owner_places(alloc, mapping, relation, width)?;
     let mut members = ListOf::new(alloc);
     for row in rows {
         take_member(
@@ -119,7 +169,8 @@ pub(crate) fn take_members(
             arena,
             mapping,
             relation,
-            attrs.as_slice(),
+            places.as_slice(),
+            width,
             row.as_slice(),
             &mut members,
             notes,

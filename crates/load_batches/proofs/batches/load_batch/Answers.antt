@@ -5,7 +5,7 @@ use Rattle.object_arena.specs.Fit.{is_of_root}
 use Rattle.programs.proofs.Sequence.{passed_on}
 use Rattle.load_filling.proofs.LoadedLemmas.{grows_same}
 use Rattle.load_rows.proofs.TakenLemmas.{grows_filled}
-use Rattle.load_rows.specs.Reading.{IsRowOf}
+use Rattle.pair_laws.specs.Members.{IsMemberRow}
 use Rattle.load_calls.proofs.ReadLemmas.{passed_refusal, ready_stays}
 use Rattle.load_collections.specs.Refusals.{CanRefuseRows}
 use Rattle.load_collections.proofs.RefusalLemmas.{lost_alone_refuses, of_row}
@@ -36,7 +36,7 @@ pub returns-in_err-rows-clause-grows : goal.returns-in_err-rows-clause-grows
 returns-in_err-rows-clause-grows g c = grows_same c.args.arena.now c.args.arena.now refl
 
 pub take_members-requires-clause-rows : goal.take_members-requires-clause-rows
-take_members-requires-clause-rows g c = subst (AllByRecursion (IsRowOf c.args.mapping.now c.args.relation.now.target)) (sym c.as_slice.ensures) c.in_ok-rows.ensures.rows
+take_members-requires-clause-rows g c = subst (AllByRecursion (IsMemberRow c.args.mapping.now c.args.relation.now)) (sym c.as_slice.ensures) c.in_ok-rows.ensures.rows
 
 pub returns-in_err-members-clause-step : goal.returns-in_err-members-clause-step
 returns-in_err-members-clause-step g c =

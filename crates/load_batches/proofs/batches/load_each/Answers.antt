@@ -1,4 +1,4 @@
-use Rattle.std.proofs.Common.{◌≡◌, refl, rules, subst, sym, List}
+use Rattle.std.proofs.Common.{refl, rules, subst, sym, List}
 use Rattle.std.specs.List.{All}
 use Rattle.programs.proofs.Sequence.{each_end, each_err, each_turn, passed_on}
 use Rattle.load_filling.proofs.LoadedLemmas.{grows_same}

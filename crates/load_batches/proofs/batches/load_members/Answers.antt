@@ -1,4 +1,4 @@
-use Rattle.std.proofs.Common.{◌≡◌, refl, subst, sym, List}
+use Rattle.std.proofs.Common.{refl, subst, sym, List}
 use Rattle.std.specs.List.{All}
 use Rattle.programs.proofs.Lifting.{no_room}
 use Rattle.programs.proofs.Sequence.{passed_on}

@@ -18,7 +18,7 @@ returns-clause-step g c = λ graph.
 
 pub returns-clause-rows : goal.returns-clause-rows
 returns-clause-rows g c =
-    batch_rows c.args.mapping.now c.args.relation.now c.args.owners.now c.in_ok-wanted.wanted c.read.result c.in_ok-wanted.ensures.hierarchies c.requires.related c.requires.far c.in_ok-wanted.ensures.select c.read.ensures.kinds c.read.ensures.given
+    batch_rows c.args.mapping.now c.args.relation.now c.args.owners.now c.in_ok-wanted.wanted c.read.result c.in_ok-wanted.ensures.hierarchies c.requires.related c.in_ok-wanted.ensures.select c.read.ensures.kinds c.read.ensures.given
 
 pub returns-in_err-wanted-clause-refuses : goal.returns-in_err-wanted-clause-refuses
 returns-in_err-wanted-clause-refuses g c = passed_memory (CanRefuseRows c.args.mapping.now) _ c.from_residual.result c.from_residual.ensures.1 c.in_err-wanted.ensures.cause tt

@@ -7,7 +7,7 @@ returns-clause-select c = named_select c.args.mapping.now c.args.relation.now c.
 
 pub returns-clause-plain : goal.returns-clause-plain
 returns-clause-plain c =
-    batch_plain c.args.mapping.now c.args.relation.now c.args.owners.now c.batch_select.result (c.has_hierarchies.ensures.hierarchies c.requires.configured) c.requires.related c.requires.many c.requires.far c.requires.some c.requires.keyed
+    batch_plain c.args.mapping.now c.args.relation.now c.args.owners.now c.batch_select.result (c.has_hierarchies.ensures.hierarchies c.requires.configured) c.requires.related c.requires.many c.requires.some c.requires.keyed
     (returns-clause-select c)
 
 pub returns-clause-hierarchies : goal.returns-clause-hierarchies

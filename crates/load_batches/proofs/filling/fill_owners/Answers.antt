@@ -1,4 +1,4 @@
-use Rattle.std.proofs.Common.{◌≡◌, ◌∙◌, refl, rules}
+use Rattle.std.proofs.Common.{◌∙◌, refl, rules}
 use Rattle.class_mapping.specs.Mapped.{root_of}
 use Rattle.programs.proofs.Lifting.{no_room}
 use Rattle.programs.proofs.Sequence.{each_end, each_err, each_turn, passed_on}

@@ -1,4 +1,4 @@
-use Rattle.std.proofs.Common.{◌≡◌, ◌∙◌, ap, map, refl, List}
+use Rattle.std.proofs.Common.{◌∙◌, ap, map, refl, subst, sym, List}
 use Rattle.base_core.specs.declared.ids.AttrNo.{AttrNo}
 use Rattle.class_mapping.specs.Mapped.{root_of}
 use Rattle.programs.proofs.Lifting.{no_room}
@@ -6,12 +6,13 @@ use Rattle.programs.proofs.Sequence.{passed_on}
 use Rattle.load_filling.proofs.LoadedLemmas.{grows_same}
 use Rattle.load_filling.specs.Rows.{value_in}
 use Rattle.load_rows.specs.Loading.{loading}
+use Rattle.load_rows.specs.Reading.{IsRowOf}
 use Rattle.load_calls.proofs.ReadLemmas.{passed_memory, passed_refusal}
 use Rattle.load_collections.specs.Refusals.{CanRefuseRow}
 use Rattle.load_collections.proofs.RefusalLemmas.{lost_alone_refuses, row_refuses}
 use Rattle.load_collections.proofs.RowsLemmas.{more_of}
 use Rattle.load_batches.specs.Batches.{objects_in}
-use Rattle.load_batches.proofs.MemberSteps.{member_refused, member_taken, objects_pushed}
+use Rattle.load_batches.proofs.MemberSteps.{member_refused, member_taken, objects_pushed, values_behind}
 use Rattle.load_batches.proofs.members.take_member.Goals as goal
 
 pub returns-in_err-owner-clause-step : goal.returns-in_err-owner-clause-step
@@ -20,15 +21,22 @@ returns-in_err-owner-clause-step c = passed_on c.from_residual.ensures.1 (no_roo
 pub returns-in_err-owner-clause-grows : goal.returns-in_err-owner-clause-grows
 returns-in_err-owner-clause-grows c = grows_same c.args.arena.now c.args.arena.now refl
 
+pub take_row-requires-clause-row : goal.take_row-requires-clause-row
+take_row-requires-clause-row c =
+    subst (IsRowOf c.args.mapping.now c.args.relation.now.target)
+    (sym (values_behind c.args.mapping.now c.args.relation.now c.args.row.now c.rest_from-values.result.now c.args.width c.requires.width c.rest_from-values.ensures)) c.requires.row
+
 pub returns-in_err-object-clause-step : goal.returns-in_err-object-clause-step
 returns-in_err-object-clause-step c =
     passed_on c.from_residual-in_err-object.ensures.1
-    (member_refused (λ (u : Unit {0}). c.args.members.now) c.args.mapping.now c.args.relation.now c.args.row.now c.args.members.now (loading c.args.arena.now c.args.notes.now) (loading c.take_row.new.arena c.take_row.new.notes) _ c.in_err-object.ensures.step)
+    (member_refused (λ (u : Unit {0}). c.args.members.now) c.args.mapping.now c.args.relation.now c.args.row.now c.rest_from-values.result.now c.args.members.now (loading c.args.arena.now c.args.notes.now)
+    (loading c.take_row.new.arena c.take_row.new.notes) _ (values_behind c.args.mapping.now c.args.relation.now c.args.row.now c.rest_from-values.result.now c.args.width c.requires.width c.rest_from-values.ensures) c.in_err-object.ensures.step)
 
 pub returns-clause-step : goal.returns-clause-step
 returns-clause-step c =
-    member_taken c.args.mapping.now c.args.relation.now c.args.row.now c.args.members.now c.push.new.self (loading c.args.arena.now c.args.notes.now) (loading c.take_row.new.arena c.take_row.new.notes) c.in_ok-object.object c.in_ok-owner.owner c.push.result
-    (c.in_ok-owner.ensures.values ∙ ap (λ (attrs : List AttrNo). map (value_in c.args.row.now) attrs) c.requires.attrs) c.in_ok-object.ensures.step c.push.ensures.ok c.push.ensures.cause
+    member_taken c.args.mapping.now c.args.relation.now c.args.row.now c.rest_from-values.result.now c.args.members.now c.push.new.self (loading c.args.arena.now c.args.notes.now) (loading c.take_row.new.arena c.take_row.new.notes) c.in_ok-object.object c.in_ok-owner.owner c.push.result
+    (values_behind c.args.mapping.now c.args.relation.now c.args.row.now c.rest_from-values.result.now c.args.width c.requires.width c.rest_from-values.ensures)
+    (c.in_ok-owner.ensures.values ∙ ap (λ (places : List AttrNo). map (value_in c.args.row.now) places) c.requires.places) c.in_ok-object.ensures.step c.push.ensures.ok c.push.ensures.cause
 
 pub returns-clause-of : goal.returns-clause-of
 returns-clause-of c = λ all.
@@ -42,7 +50,7 @@ returns-in_err-owner-clause-refuses c = passed_memory CanRefuseRow _ c.from_resi
 pub returns-in_err-object-clause-refuses : goal.returns-in_err-object-clause-refuses
 returns-in_err-object-clause-refuses c =
     passed_refusal CanRefuseRow _ c.from_residual-in_err-object.result c.from_residual-in_err-object.ensures.1
-    (row_refuses c.args.mapping.now c.args.relation.now.target c.args.row.now (loading c.args.arena.now c.args.notes.now) (loading c.take_row.new.arena c.take_row.new.notes) _ c.in_err-object.ensures.step)
+    (row_refuses c.args.mapping.now c.args.relation.now.target c.rest_from-values.result.now (loading c.args.arena.now c.args.notes.now) (loading c.take_row.new.arena c.take_row.new.notes) _ c.in_err-object.ensures.step)
 
 pub returns-clause-refuses : goal.returns-clause-refuses
 returns-clause-refuses c = lost_alone_refuses CanRefuseRow c.push.result c.push.ensures.cause tt

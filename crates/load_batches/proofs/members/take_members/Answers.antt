@@ -1,4 +1,4 @@
-use Rattle.std.proofs.Common.{◌≡◌, ap, refl, rules}
+use Rattle.std.proofs.Common.{ap, refl, rules}
 use Rattle.programs.proofs.Lifting.{no_room}
 use Rattle.programs.proofs.Sequence.{each_end, each_err, each_turn, passed_on}
 use Rattle.class_mapping.specs.Mapped.{root_of}
@@ -11,11 +11,17 @@ use Rattle.load_batches.specs.Batches.{objects_in, take_member}
 use Rattle.load_batches.proofs.MemberSteps.{members_start}
 use Rattle.load_batches.proofs.members.take_members.Goals as goal
 
-pub returns-in_err-attrs-clause-step : goal.returns-in_err-attrs-clause-step
-returns-in_err-attrs-clause-step c = passed_on c.from_residual.ensures.1 (no_room c.in_err-attrs.ensures.cause)
+pub returns-in_err-width-clause-step : goal.returns-in_err-width-clause-step
+returns-in_err-width-clause-step c = passed_on c.from_residual.ensures.1 (no_room c.in_err-width.ensures.cause)
 
-pub returns-in_err-attrs-clause-grows : goal.returns-in_err-attrs-clause-grows
-returns-in_err-attrs-clause-grows c = grows_same c.args.arena.now c.args.arena.now refl
+pub returns-in_err-width-clause-grows : goal.returns-in_err-width-clause-grows
+returns-in_err-width-clause-grows c = grows_same c.args.arena.now c.args.arena.now refl
+
+pub returns-in_err-places-clause-step : goal.returns-in_err-places-clause-step
+returns-in_err-places-clause-step c = passed_on c.from_residual-in_err-places.ensures.1 (no_room c.in_err-places.ensures.cause)
+
+pub returns-in_err-places-clause-grows : goal.returns-in_err-places-clause-grows
+returns-in_err-places-clause-grows c = grows_same c.args.arena.now c.args.arena.now refl
 
 pub loop-row-init : goal.loop-row-init
 loop-row-init c = record {
@@ -44,8 +50,11 @@ loop-row-preserved c = record {
 pub returns-clause-step : goal.returns-clause-step
 returns-clause-step c = each_end (take_member c.args.mapping.now c.args.relation.now) c.args.rows.now c.loop-row.row-index c.loop-row.invariant.step c.loop-row-test.false refl
 
-pub returns-in_err-attrs-clause-refuses : goal.returns-in_err-attrs-clause-refuses
-returns-in_err-attrs-clause-refuses c = passed_memory CanRefuseRow _ c.from_residual.result c.from_residual.ensures.1 c.in_err-attrs.ensures.cause tt
+pub returns-in_err-width-clause-refuses : goal.returns-in_err-width-clause-refuses
+returns-in_err-width-clause-refuses c = passed_memory CanRefuseRow _ c.from_residual.result c.from_residual.ensures.1 c.in_err-width.ensures.cause tt
+
+pub returns-in_err-places-clause-refuses : goal.returns-in_err-places-clause-refuses
+returns-in_err-places-clause-refuses c = passed_memory CanRefuseRow _ c.from_residual-in_err-places.result c.from_residual-in_err-places.ensures.1 c.in_err-places.ensures.cause tt
 
 pub returns-in_err-take_member-clause-refuses : goal.returns-in_err-take_member-clause-refuses
 returns-in_err-take_member-clause-refuses c = passed_refusal CanRefuseRow _ c.from_residual-in_err-take_member.result c.from_residual-in_err-take_member.ensures.1 c.in_err-take_member.ensures.refuses

@@ -1,5 +1,5 @@
 use Rattle.load_batches.specs.Batches.{IsOwned}
-use Rattle.load_batches.proofs.OwnerSteps.{owned_more, owner_pushed}
+use Rattle.load_batches.proofs.OwnerSteps.{owned_more}
 use Rattle.load_batches.proofs.owners.push_unloaded.Goals as goal
 
 pub returns-clause-owned : goal.returns-clause-owned
