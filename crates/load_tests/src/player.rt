@@ -12,7 +12,7 @@ use base_core::{ClassId, ListOf, ObjId, ObjList, Refusal, RelNo};
 use class_mapping::Mapping;
 use class_types::Hooks;
 use keeper_core::{Keeper, Notes, calls};
-use keeper_mem::MemKeeper;
+use keeper_mem::{OverKeepers, over_memory};
 use load_batches::load_members;
 use load_calls::refresh;
 use load_ends::load_ends;
@@ -83,16 +83,19 @@ fn load_together<K: Keeper>(
         return Err(Refusal::NotBuilt);
     }
     let relation = related(mapping, class, place);
-    if relation.far.is_some() || !are_owners(&*arena, mapping, class, place, owners) {
+    if !are_owners(&*arena, mapping, class, place, owners) {
         return Err(Refusal::NotBuilt);
     }
-    if !relation.many {
-        return load_ends(
-            alloc, arena, mapping, keeper, owners, relation, place, notes,
+    if relation.many {
+        return load_members(
+            alloc, arena, mapping, keeper, relation, place, owners, notes,
         );
     }
-    load_members(
-        alloc, arena, mapping, keeper, relation, place, owners, notes,
+    if relation.far.is_some() {
+        return Err(Refusal::NotBuilt);
+    }
+    load_ends(
+        alloc, arena, mapping, keeper, owners, relation, place, notes,
     )
 }
 
@@ -275,6 +278,23 @@ fn play_over<K: Keeper>(
     play(alloc, mapping, &mut arena, keeper, acts, shown)
 }
 
+/// A line over a mapping, what it has told when it was played, and whether it was refused.
+#[derive(Drop)]
+struct Line<'x> {
+    alloc: Global,
+    mapping: &'x Mapping,
+    line: &'x str,
+    shown: String,
+    refused: bool,
+}
+
+impl OverKeepers for Line<'_> {
+    fn run<K: Keeper>(&mut self, keeper: &mut K) {
+        self.refused = !self.mapping.is_configured()
+            || play_over(self.alloc, self.mapping, keeper, self.line, &mut self.shown).is_err();
+    }
+}
+
 /// Plays a line over a keeper in memory.
 fn play_line(
     alloc: Global,
@@ -282,11 +302,18 @@ fn play_line(
     line: &str,
     shown: &mut String,
 ) -> Result<(), Refusal> {
-    if !mapping.is_configured() {
+    let mut played = Line {
+        alloc,
+        mapping,
+        line,
+        shown: String::new(alloc),
+        refused: false,
+    };
+    over_memory(alloc, &[], &mut played)?;
+    if played.refused {
         return Err(Refusal::NotBuilt);
     }
-    let mut keeper = MemKeeper::new(alloc, &[])?;
-    play_over(alloc, mapping, &mut keeper, line, shown)
+    Ok(shown.push_str(played.shown.as_str())?)
 }
 
 impl Player {
