@@ -18,7 +18,6 @@ use shell_lines::{Desk, Said};
 use shell_parts::Names;
 use shell_replies::{Reply, SessionNames, reply_of};
 use std::alloc::Global;
-use std::mem::drop;
 
 /// Does what a line comes to.
 #[tactic(auto, using(crate::proofs::Naming::naming))]
@@ -28,18 +27,18 @@ fn perform_said<K: Keeper>(
     names: &Names,
     session: &mut Session,
     keeper: &mut K,
-    said: &Said,
+    said: Said,
 ) -> Result<Answer, Refusal>
     requires in_step { IsInStep session.old (K.moment keeper.old) }
     requires named { AreNamed session.old names.now }
-    requires done { CanBeDone said.now }
+    requires done { CanBeDone said }
     ensures stays { StaysReady result (Configured session.new) (K.moment keeper.new) }
     ensures named { AreNamed session.new names.now }
     ensures answer { IfOk result (IsAnswerAt (Configured session.new)) }
 {
     match said {
         Said::Do(command) => {
-            let resolved = resolve(alloc, session.mapping(), names, command)?;
+            let resolved = resolve(alloc, session.mapping(), names, &command)?;
             perform(session, keeper, hooks, resolved)
         }
         _ => Ok(Answer::Nothing),
@@ -63,9 +62,7 @@ fn answer_to<K: Keeper>(
     ensures answer { IfOk result (IsAnswerAt (Configured session.new)) }
 {
     let said = desk.say(alloc, line.as_bytes())?;
-    let answer = perform_said(alloc, hooks, names, session, keeper, &said);
-    drop(said);
-    answer
+    perform_said(alloc, hooks, names, session, keeper, said)
 }
 
 /// A reply goes behind what is shown.
@@ -106,11 +103,7 @@ fn take(
             names.bind(&name, thing)?;
             Ok(())
         }
-        told => {
-            let done = tell(alloc, session, &told, shown);
-            drop(told);
-            done
-        }
+        told => tell(alloc, session, &told, shown),
     }
 }
 
@@ -134,10 +127,7 @@ fn bind_told(
             names.bind(&name, thing)?;
             Ok(())
         }
-        other => {
-            drop(other);
-            Err(Refusal::NotBuilt)
-        }
+        _ => Err(Refusal::NotBuilt),
     }
 }
 
@@ -226,9 +216,7 @@ fn tell_line<K: Keeper>(
             if calls::ends_early(&refusal) {
                 return Err(refusal);
             }
-            let done = tell_refusal(alloc, session, desk.line(), &refusal, shown);
-            drop(refusal);
-            done
+            tell_refusal(alloc, session, desk.line(), &refusal, shown)
         }
     }
 }
