@@ -1,32 +1,28 @@
 -- Sessions whose objects can be written: those of which nothing is to be deleted, and those of plain classes.
-use Rattle.std.proofs.Common.{◌≡◌, inl, ◌<◌, Bool, true, false, cond, ◌&&◌, ◌==◌, List, [], ◌∷◌, length, map, filter, refl, sym, ap, ◌∙◌, subst, arith}
+use Rattle.std.proofs.Common.{◌≡◌, inl, ◌<◌, Bool, true, false, cond, ◌&&◌, ◌==◌, List, [], ◌∷◌, length, filter, refl, sym, ap, ◌∙◌, subst, arith}
 use Rattle.std.specs.List.{AllByRecursion, flat_map, list_all}
 use Rattle.std.proofs.lemmas.List.Elements.{recursion_from_All}
 use Rattle.base_core.specs.declared.ids.ObjId.{ObjId}
-use Rattle.schema_core.specs.declared.changes.GoneRow.{GoneRow}
 use Rattle.schema_core.specs.Declaration.{some_two}
 use Rattle.schema_core.specs.DependencyOrder.{is_among}
 use Rattle.schema_core.specs.Tables.{Tables}
-use Rattle.class_mapping.specs.Mapped.{Mapped, tables_of}
+use Rattle.class_mapping.specs.Mapped.{Mapped}
 use Rattle.class_mapping.specs.Plain.{is_plain_root}
 use Rattle.class_mapping.specs.PlainClass.{ArePlain}
+use Rattle.class_mapping.specs.Related.{AreRelated}
 use Rattle.mapping_laws.specs.Hierarchies.{HasHierarchies}
 use Rattle.object_arena.specs.declared.object.Object.{Object}
 use Rattle.object_arena.specs.Fit.{IsFit}
 use Rattle.object_arena.specs.Graph as graphs
 use Rattle.object_arena.specs.Graph.{Graph, IsObject, is_persistent, object_at, place_of}
 use Rattle.object_arena.specs.Identity.{IsGraph}
-use Rattle.flush_order.specs.Orders.{place_of_gone}
-use Rattle.flush_order.specs.Sorted.{same_place}
 use Rattle.object_rows.specs.declared.prepared.Prepared.{Prepared}
 use Rattle.object_rows.specs.Rows as rows
 use Rattle.object_rows.specs.Seen.{object_ids}
 use Rattle.object_rows.proofs.ObjectSteps.{all_made}
-use Rattle.pair_rows.specs.Pairs as pairs
 use Rattle.prefix_laws.specs.Laws.{IsAsRead, IsTold}
 use Rattle.fresh_laws.specs.Laws.{AreSteady}
 use Rattle.fresh_laws.proofs.Fresh.{ascending_sorted}
-use Rattle.fresh_laws.proofs.Plain.{none_lost}
 use Rattle.fresh_laws.proofs.Told.{all_told}
 use Rattle.flush_sound_laws.specs.Laws.{IsSteady}
 use Rattle.flush_sound_laws.proofs.Answered.{all_steady}
@@ -36,7 +32,8 @@ use Rattle.session_flush.specs.Flush.{is_to_delete, prepared_of}
 use Rattle.session_sound.specs.Sound.{EachObject, IsSound}
 use Rattle.session_sound.proofs.Beginning.{entered_mapping}
 use Rattle.health_laws.proofs.Acts.{IsInside, enter_led, once_begun, steady}
-use Rattle.told_laws.proofs.Standing.{hierarchies}
+use Rattle.told_laws.proofs.PairsOnce.{unmarked_once}
+use Rattle.told_laws.proofs.Standing.{hierarchies, pairs_unmapped}
 use Rattle.sendable_laws.proofs.Roots.{alone}
 use Rattle.complete_laws.specs.Complete.{HoldsLinks, LinksMayBeWritten, MayBeWritten}
 use Rattle.complete_laws.proofs.Answering.{IsOpened, enter_answers}
@@ -63,9 +60,9 @@ none_deleted graph unmarked =
     (λ object made. never (is_persistent (object_at graph object).state) (object_at graph object).marked (unmarked (place_of object) (let within : place_of object < length graph.objects = omega (arith, made.0, made.1) in within)))
     (recursion_from_All (IsObject graph) (object_ids graph) (all_made graph (object_ids graph) refl)))
 
-unmarked_told : (mapped : Mapped) (graph : Graph) (old : Tables) → HasHierarchies mapped → IsFit mapped graph → IsGraph graph.objects graph.roots → (prepared : Prepared) → prepared.deleted ≡ [] → pairs.lost_pairs mapped graph prepared ≡ [] → IsTold mapped graph prepared old
-unfolding rows.gone_rows pairs.lost_rows
-unmarked_told mapped graph old has fit is prepared none lost = record {
+unmarked_told : (mapped : Mapped) (graph : Graph) (old : Tables) → HasHierarchies mapped → IsFit mapped graph → IsGraph graph.objects graph.roots → AreRelated mapped → (prepared : Prepared) → prepared.deleted ≡ [] → IsTold mapped graph prepared old
+unfolding rows.gone_rows
+unmarked_told mapped graph old has fit is related prepared none = record {
   fit = fit;
   keyed = record {
     made = subst (AllByRecursion (IsObject graph)) (sym none) tt;
@@ -73,14 +70,14 @@ unmarked_told mapped graph old has fit is prepared none lost = record {
     once = ap (some_two (λ (one other : ObjId). one.0 == other.0)) none;
     alone = alone mapped has graph fit is;
     read = λ object table among inside. absurd (let e : false ≡ true = sym (ap (λ (objects : List ObjId). graphs.is_among objects object) none) ∙ among in cc);
-    pairs = ap (λ (found : List pairs.Pair). some_two (λ one other. same_place (place_of_gone mapped.schema one) (place_of_gone mapped.schema other)) (map (pairs.lost_row mapped graph) found)) lost;
-    secondary = λ class. subst (λ (found : List pairs.Pair). AllByRecursion (λ (row : GoneRow). is_among (tables_of mapped class) row.name.table ≡ false) (map (pairs.lost_row mapped graph) found)) (sym lost) tt;
+    pairs = unmarked_once mapped has related graph prepared fit is none;
+    secondary = pairs_unmapped mapped graph prepared related fit;
   };
   read = subst (λ (objects : List ObjId). AllByRecursion (IsAsRead mapped.schema old) (flat_map (rows.rows_gone mapped graph) objects)) (sym none) tt;
 }
 
 pub links_told : (w : World) → HoldsLinks w → IsTold w.own.mapping w.own.graph (prepared_of w.own.graph) w.store.tables
-links_told w holds = unmarked_told w.own.mapping w.own.graph w.store.tables holds.hierarchies holds.fit holds.sound.graph (prepared_of w.own.graph) (none_deleted w.own.graph holds.unmarked) holds.none_lost
+links_told w holds = unmarked_told w.own.mapping w.own.graph w.store.tables holds.hierarchies holds.fit holds.sound.graph holds.mapped.related (prepared_of w.own.graph) (none_deleted w.own.graph holds.unmarked)
 
 links_ready : (w : World) → HoldsLinks w → IsReady w.own.mapping w.own.graph w.store.tables
 links_ready w holds = record {
@@ -90,21 +87,12 @@ links_ready w holds = record {
   legal = holds.sound.legal;
   sorted = ascending_sorted w.store.tables holds.ascending.tables;
   told = links_told w holds;
-  none_lost = holds.none_lost;
 }
 
 pub links_opened : (w : World) (after : Tables) → LinksMayBeWritten w after → IsOpened w after
 links_opened w after may = record { well = may.well; no_orphan = may.no_orphan; ready = once_begun IsReady w (links_ready w may.holds); writable = may.writable }
 
 -- ---- plain classes
-
-none_mapped : {A B : Type 0} (f : A → B) (xs : List A) → map f xs ≡ [] → xs ≡ []
-none_mapped f [] none = refl
-none_mapped f (x ∷ xs) none = absurd cc
-
-lost_none : (mapped : Mapped) (graph : Graph) (prepared : Prepared) → pairs.lost_rows mapped graph prepared ≡ [] → pairs.lost_pairs mapped graph prepared ≡ []
-unfolding pairs.lost_rows
-lost_none mapped graph prepared none = none_mapped (pairs.lost_row mapped graph) (pairs.lost_pairs mapped graph prepared) none
 
 plain_ready : (w : World) → IsSteady w → IsSound w → IsReady w.own.mapping w.own.graph w.store.tables
 plain_ready w steady sound =
@@ -119,7 +107,6 @@ plain_ready w steady sound =
       told = all_told w.own.mapping w.own.graph steady.plain steady.well w.store.tables sound.legal prepared all.only sound.graph
           (λ object made persists. all.holds (place_of object) (let within : place_of object < length w.own.graph.objects = omega (arith, made.0, made.1) in within) persists)
           (λ object made persists. all.kept (place_of object) (let within : place_of object < length w.own.graph.objects = omega (arith, made.0, made.1) in within) persists);
-      none_lost = lost_none w.own.mapping w.own.graph prepared (none_lost w.own.mapping w.own.graph steady.plain prepared);
     }
 
 pub plain_opened : (w : World) (after : Tables) → MayBeWritten w after → IsOpened w after

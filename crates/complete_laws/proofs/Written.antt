@@ -11,7 +11,6 @@ use Rattle.object_arena.specs.Identity.{IsGraph}
 use Rattle.flush_order.specs.Orders.{delete_order, gone_rows, insert_order}
 use Rattle.flush_plan.specs.Flushing.{Sofar}
 use Rattle.flush_plan.specs.Planning.{plan, statements, unless_gone_cycle, unless_new_cycle}
-use Rattle.pair_rows.specs.Pairs.{lost_pairs}
 use Rattle.plan_laws.specs.Laws.{before}
 use Rattle.plan_laws.specs.Premises.{IsSorted}
 use Rattle.plan_statements.specs.Known.{is_sendable}
@@ -24,8 +23,7 @@ use Rattle.stated_flush_laws.specs.Laws.{AnswersWhereStated}
 use Rattle.sendable_laws.specs.Sending.{ChangesFit, FitPlansAreSendable, HoldWhenSent}
 use Rattle.complete_laws.specs.Complete.{IsWritable}
 
--- What the objects rest on: they fit the mapping, one stands for each key, and the tables tell what is to be deleted of them. No pair of
--- a secondary table is taken away.
+-- What the objects rest on: they fit the mapping, one stands for each key, and the tables tell what is to be deleted of them.
 pub record IsReady (mapped : Mapped) (graph : Graph) (old : Tables) : Type 0 where
   pub well : IsWellMapped mapped
   pub hierarchies : HasHierarchies mapped
@@ -33,7 +31,6 @@ pub record IsReady (mapped : Mapped) (graph : Graph) (old : Tables) : Type 0 whe
   pub legal : Legal mapped.schema old
   pub sorted : IsSorted old
   pub told : IsTold mapped graph (prepared_of graph) old
-  pub none_lost : lost_pairs mapped graph (prepared_of graph) ≡ []
 
 sendable_then : (schema : Catalog) (changes : RowChanges) (planned : List Planned) (sofar : Sofar) → HoldWhenSent (λ sent one. is_sendable schema changes sent.keys one ≡ true) schema changes sofar planned → AreSendable schema changes sofar planned
 sendable_then schema changes [] sofar all = tt
@@ -49,7 +46,7 @@ flush_written answers sendable fits w after ready writable =
     let changes : RowChanges = changes_of w.own in
     let planned : List Planned = statements w.own.mapping.schema changes writable.order writable.gone in
     let is : plan w.own.mapping.schema changes ≡ Ok planned = planned_is w.own.mapping.schema changes writable.order writable.gone writable.ordered writable.gone_ordered in
-    let fit = fits w.own.mapping w.own.graph (prepared_of w.own.graph) ready.well ready.hierarchies ready.told.fit ready.is ready.told.keyed ready.none_lost in
+    let fit = fits w.own.mapping w.own.graph (prepared_of w.own.graph) ready.well ready.hierarchies ready.told.fit ready.is ready.told.keyed in
     answers w writable.order writable.placed after planned ready.well ready.told
     (record {
       sorted = ready.sorted;

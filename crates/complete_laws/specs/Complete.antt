@@ -1,6 +1,8 @@
 -- When a flush answers, and the calls that flush.
-use Rattle.std.specs.Prelude.{◌≡◌, ◌<◌, ℕ, false, List, [], length, None, Some, Ok}
-use Rattle.schema_core.specs.Tables.{Legal, Tables}
+use Rattle.std.specs.Prelude.{◌≡◌, ◌<◌, ℕ, true, false, List, length, None, Some, Ok}
+use Rattle.schema_core.specs.declared.changes.GoneRow.{GoneRow}
+use Rattle.schema_core.specs.Tables.{Legal, Tables, is_created}
+use Rattle.std.specs.List.{AllByRecursion}
 use Rattle.class_mapping.specs.Mapped.{Mapped}
 use Rattle.class_mapping.specs.PlainClass.{ArePlain}
 use Rattle.mapping_laws.specs.Hierarchies.{HasHierarchies}
@@ -10,7 +12,7 @@ use Rattle.object_arena.specs.Graph.{Graph}
 use Rattle.flush_order.specs.Orders.{delete_order, gone_rows, insert_order}
 use Rattle.flush_plan.specs.Flushing.{Sofar}
 use Rattle.flush_plan.specs.Stating.{all_placed, guess, stated_tables}
-use Rattle.pair_rows.specs.Pairs.{lost_pairs}
+use Rattle.pair_rows.specs.Pairs.{lost_rows}
 use Rattle.plan_laws.specs.Premises.{IsClear}
 use Rattle.prefix_laws.specs.Laws.{IsWellMapped}
 use Rattle.legality_laws.specs.Legality.{IsAscendingStore}
@@ -47,8 +49,7 @@ pub record MayBeWritten (world : World) (after : Tables) : Type 0 where
   pub no_orphan : orphan_fault world.own ≡ None
   pub writable : IsWritable world.own.mapping world.own.graph world.store.tables after
 
--- A sound session over a configured mapping, whatever its classes, links among them, whose objects fit it: no object is to be deleted,
--- and no pair of a secondary table is taken away.
+-- A sound session over a configured mapping, whatever its classes, links among them, whose objects fit it: no object is to be deleted.
 pub record HoldsLinks (world : World) : Type 0 where
   pub sound : IsSound world
   pub ascending : IsAscendingStore world.store
@@ -56,12 +57,16 @@ pub record HoldsLinks (world : World) : Type 0 where
   pub hierarchies : HasHierarchies world.own.mapping
   pub fit : IsFit world.own.mapping world.own.graph
   pub unmarked : EachObject (λ (object : Object). object.marked ≡ false) world.own.graph
-  pub none_lost : lost_pairs world.own.mapping world.own.graph (prepared_of world.own.graph) ≡ []
 
--- a flush that answers leaves the rows that the objects of such a session state, whose new rows have an order
+-- the tables of pairs that are taken away are created
+abbrev pub HavePairsTables : World → Type 0
+HavePairsTables world = AllByRecursion (λ (row : GoneRow). is_created world.store.tables row.name.table ≡ true) (lost_rows world.own.mapping world.own.graph (prepared_of world.own.graph))
+
+-- a flush that answers leaves the rows that the objects of such a session state, whose new rows have an order, where the tables of
+-- pairs that are taken away are created
 abbrev pub LinkedFlushesLeaveStatedRows : Type 0
 LinkedFlushesLeaveStatedRows =
-    (world : World) → HoldsLinks world → (flush world).answer ≡ Ok tt
+    (world : World) → HoldsLinks world → HavePairsTables world → (flush world).answer ≡ Ok tt
     → (order : List ℕ) × (insert_order world.own.mapping.schema (changes_of world.own) ≡ Ok order)
     × (stated_tables world.own.mapping.schema world.store.tables (changes_of world.own) order ≡ Some (flush world).after.store.tables)
 

@@ -22,7 +22,7 @@ pub fn stated_objects_are_written()
 }
 
 /// So they do in every sound session over a configured mapping whose objects fit it, with links over foreign keys and secondary tables,
-/// joined and single-table classes, where no object is to be deleted and no pair of a secondary table is taken away.
+/// joined and single-table classes, where no object is to be deleted, also where pairs of secondary tables are taken away.
 pub fn stated_links_are_written()
     ensures flush { FlushAnswersWhere LinksMayBeWritten }
     ensures commit { CommitAnswersWhere LinksMayBeWritten }
@@ -33,8 +33,8 @@ pub fn stated_links_are_written()
     changes_fit();
 }
 
-/// In such a session a flush that answers leaves exactly the rows that the objects state: the old ones, with the changed cells written and
-/// the new rows put in.
+/// In such a session a flush that answers leaves exactly the rows that the objects state: the old ones without those of pairs that are
+/// taken away, with the changed cells written and the new rows put in.
 pub fn linked_flushes_leave_the_stated_rows()
     ensures { LinkedFlushesLeaveStatedRows }
 {

@@ -18,7 +18,7 @@ use Rattle.object_arena.specs.declared.object.Object.{Object}
 use Rattle.object_arena.specs.declared.object.State.{State}
 use Rattle.object_arena.specs.declared.object.State.TheVariants.{Transient, Pending, Persistent, Deleted, Detached}
 use Rattle.object_arena.specs.Graph as graphs
-use Rattle.object_arena.specs.Graph.{Graph, IsObject, is_pending, is_persistent, no_object, object_at, place_of}
+use Rattle.object_arena.specs.Graph.{Graph, IsObject, is_persistent, no_object, object_at, place_of}
 use Rattle.object_arena.specs.Identity.{id_of_place}
 use Rattle.flush_order.specs.Orders.{gone_at, no_gone}
 use Rattle.flush_order.specs.Sorted.{Place}
@@ -30,7 +30,7 @@ use Rattle.graph_flushed.proofs.ObjectSteps.{flushed_at}
 use Rattle.object_rows.specs.declared.prepared.Prepared.{Prepared}
 use Rattle.object_rows.specs.Seen.{is_new}
 use Rattle.object_rows.specs.Rows.{has_cells}
-use Rattle.row_project.specs.Changes.{object_changes}
+use Rattle.row_project.specs.Changes.{object_changes, rows_lost}
 use Rattle.flush_order.specs.Ready.{IsInTable}
 use Rattle.row_project.specs.Switch.{partners, project, row_kept, rows_kept, rows_switched, switch_of}
 use Rattle.row_project.proofs.Each.{all_append, each_to}
@@ -41,6 +41,7 @@ use Rattle.plan_laws.proofs.FlushLaw.{accepted_stated}
 use Rattle.project_laws.proofs.Apart.{switched_is}
 use Rattle.project_laws.proofs.LateKeys.{each_has}
 use Rattle.mapping_laws.proofs.Tables.{from_filter_map}
+use Rattle.prefix_laws.specs.Laws.{AreKeyed, IsWellMapped}
 use Rattle.prefix_laws.proofs.MappingFacts.{once_law}
 use Rattle.prefix_laws.proofs.ObjectsApart.{rows_apart}
 use Rattle.prefix_laws.proofs.Projected.{all_projected}
@@ -51,6 +52,25 @@ use Rattle.held_laws.proofs.Done.{IsDone}
 use Rattle.held_laws.proofs.Given.{given, key_given, written}
 use Rattle.held_laws.proofs.New.{new_holds}
 use Rattle.held_laws.proofs.Stays.{staying_holds}
+
+-- a changed row without cells stands for a deleted one
+pub changed_created : (mapped : Mapped) (graph : Graph) (prepared : Prepared) (old : Tables) → IsWellMapped mapped → AreKeyed mapped graph prepared → AllByRecursion (λ (row : GoneRow). is_created old row.name.table ≡ true) (rows_lost mapped graph prepared)
+    → AllByRecursion (λ (row : ChangedRow). (writes_some row.cells || is_created old row.name.table) ≡ true) (project mapped graph prepared).changed
+changed_created mapped graph prepared old well keyed created =
+    let first : RowChanges = object_changes mapped graph prepared in
+    let found = partners mapped.schema first in
+    let apart = rows_apart mapped graph prepared (once_law mapped well.lined well.lines) keyed in
+    all_append (λ (row : ChangedRow). (writes_some row.cells || is_created old row.name.table) ≡ true) (rows_kept mapped graph first found) (rows_switched mapped graph first found)
+    (all_from (λ (row : ChangedRow). (writes_some row.cells || is_created old row.name.table) ≡ true) (rows_kept mapped graph first found)
+    (λ row has. or_here (writes_some row.cells) (is_created old row.name.table) (some_written row (from_filter has_cells (map (row_kept mapped graph first found) first.changed) row has).1)))
+    (all_from (λ (row : ChangedRow). (writes_some row.cells || is_created old row.name.table) ≡ true) (rows_switched mapped graph first found)
+    (λ row has.
+    let from = from_filter_map (switch_of mapped graph first found) (enumerate_from 0 first.fresh) row has in
+    let at = switched_is mapped graph first apart from.0 (place_of_changed row) from.1 (ap (option_map place_of_changed) from.2) in
+    let gone : GoneRow = gone_at first.gone at.0 in
+    let its : gone.name.table ≡ row.name.table = ap (λ (q : Place). q.0) at.2 in
+    or_true (writes_some row.cells) (is_created old row.name.table)
+    (ap (is_created old) (sym its) ∙ each_has (λ (r : GoneRow). is_created old r.name.table ≡ true) first.gone gone created (has_at first.gone at.0 gone (slice_get-get_or first.gone at.0 no_gone at.3)))))
 
 module _ (mapped : Mapped) (graph : Graph) (prepared : Prepared) (old : Tables) (held : AreHeld mapped graph prepared old) where
   abbrev first : RowChanges
@@ -66,23 +86,6 @@ module _ (mapped : Mapped) (graph : Graph) (prepared : Prepared) (old : Tables) 
   known object made among =
       let same : id_of_place (place_of object) ≡ object = ap (λ (n : ℕ). let id : ObjId = record { 0 = n } in id) (let at : place_of object + 1 ≡ object.0 = omega (arith, made.0) in at) in
       held.known (place_of object) (within object made) (ap (graphs.is_among prepared.deleted) same ∙ among)
-
-  -- a changed row without cells stands for a deleted one
-  changed_created : AllByRecursion (λ (row : ChangedRow). (writes_some row.cells || is_created old row.name.table) ≡ true) (project mapped graph prepared).changed
-  changed_created =
-      let found = partners mapped.schema first in
-      let apart = rows_apart mapped graph prepared (once_law mapped held.well.lined held.well.lines) held.own.keyed in
-      all_append (λ (row : ChangedRow). (writes_some row.cells || is_created old row.name.table) ≡ true) (rows_kept mapped graph first found) (rows_switched mapped graph first found)
-      (all_from (λ (row : ChangedRow). (writes_some row.cells || is_created old row.name.table) ≡ true) (rows_kept mapped graph first found)
-      (λ row has. or_here (writes_some row.cells) (is_created old row.name.table) (some_written row (from_filter has_cells (map (row_kept mapped graph first found) first.changed) row has).1)))
-      (all_from (λ (row : ChangedRow). (writes_some row.cells || is_created old row.name.table) ≡ true) (rows_switched mapped graph first found)
-      (λ row has.
-      let from = from_filter_map (switch_of mapped graph first found) (enumerate_from 0 first.fresh) row has in
-      let at = switched_is mapped graph first apart from.0 (place_of_changed row) from.1 (ap (option_map place_of_changed) from.2) in
-      let gone : GoneRow = gone_at first.gone at.0 in
-      let its : gone.name.table ≡ row.name.table = ap (λ (q : Place). q.0) at.2 in
-      or_true (writes_some row.cells) (is_created old row.name.table)
-      (ap (is_created old) (sym its) ∙ each_has (λ (r : GoneRow). is_created old r.name.table ≡ true) first.gone gone held.created (has_at first.gone at.0 gone (slice_get-get_or first.gone at.0 no_gone at.3)))))
 
   module _ (statements : List Planned) (sofar : Sofar) (planned : plan mapped.schema (project mapped graph prepared) ≡ Ok statements) (sent : send_all mapped.schema (project mapped graph prepared) (Ok (before old)) statements ≡ Ok sofar) (last : Legal mapped.schema sofar.tables) where
     abbrev order : List ℕ
@@ -116,7 +119,7 @@ module _ (mapped : Mapped) (graph : Graph) (prepared : Prepared) (old : Tables) 
             states = accepted_stated mapped.schema old changes order statements sofar projected held.sorted held.legal
                 (record {
                   declared = each_to (IsInTable mapped.schema) (λ (row : ChangedRow). IsTable mapped.schema row.name.table) (λ row in_table. in_table.declared) changes.changed (project_declared mapped graph prepared held.well.related held.own.fit).changed;
-                  created = changed_created;
+                  created = changed_created mapped graph prepared old held.well held.own.keyed held.created;
                 })
                 ordered planned sent;
           };

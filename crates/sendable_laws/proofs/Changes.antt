@@ -58,6 +58,7 @@ use Rattle.flush_order.specs.Orders.{gone_at}
 use Rattle.sendable_laws.specs.Sending.{ChangesFit, IsFitChanged, IsFitGone, IsFitNew, are_fit, cell_fits}
 use Rattle.sendable_laws.proofs.EndKeys.{key_everywhere}
 use Rattle.sendable_laws.proofs.ObjectRows.{changed_fits, link_change_is, new_cell_fits}
+use Rattle.sendable_laws.proofs.LostRows.{lost_rows_fit}
 use Rattle.sendable_laws.proofs.PairRows.{made_rows_fit}
 use Rattle.sendable_laws.proofs.Roots.{persistent_keyed}
 use Rattle.sendable_laws.proofs.Switching.{after_fits, all_fit, cells_after, key_held as known_held}
@@ -127,8 +128,7 @@ still_fit schema changes final kept keeps place (column ∷ columns) (cell ∷ c
         with_first schema final place column columns other (filter_map kept cells) (filter_map kept cells)
         (record { at = ap (λ (c : ColumnNo). nat_eq place c.0) (sym same.0) ∙ here; free = is.free; fits = same.1; rest = rest }) rest
 
-module _ (mapped : Mapped) (well : IsWellMapped mapped) (has : HasHierarchies mapped) (graph : Graph) (prepared : Prepared) (fit : IsFit mapped graph) (is : IsGraph graph.objects graph.roots) (keyed : AreKeyed mapped graph prepared)
-    (none_lost : pairs.lost_pairs mapped graph prepared ≡ []) where
+module _ (mapped : Mapped) (well : IsWellMapped mapped) (has : HasHierarchies mapped) (graph : Graph) (prepared : Prepared) (fit : IsFit mapped graph) (is : IsGraph graph.objects graph.roots) (keyed : AreKeyed mapped graph prepared) where
   abbrev schema : Catalog
   schema = mapped.schema
 
@@ -329,15 +329,15 @@ module _ (mapped : Mapped) (well : IsWellMapped mapped) (has : HasHierarchies ma
       let persists : is_persistent (object_at graph from.0).state ≡ true = each_has (λ (object : ObjId). is_persistent (object_at graph object).state ≡ true) prepared.deleted from.0 keyed.standing from.1 in
       let table = from_map (rows.gone_row mapped graph from.0) (tables_of mapped (object_at graph from.0).class) row from.2 in
       subst (IsFitGone schema) table.2 (gone_row_fits from.0 table.0 made persists (among_objects prepared.deleted from.0 from.1) table.1)))
-      (subst (λ (lost : List pairs.Pair). AllByRecursion (IsFitGone schema) (map (pairs.lost_row mapped graph) lost)) (sym none_lost) tt)
+      (lost_rows_fit mapped has well.related graph prepared fit)
 
   final_gone : AllByRecursion (IsFitGone schema) final.gone
   final_gone = all_left (IsFitGone schema) first found first_gone
 
 pub changes_fit_law : ChangesFit
-changes_fit_law mapped graph prepared well has fit is keyed none_lost = record {
-  fresh = staying_fit mapped well has graph prepared fit is keyed none_lost;
-  changed = final_changed mapped well has graph prepared fit is keyed none_lost;
-  gone = final_gone mapped well has graph prepared fit is keyed none_lost;
+changes_fit_law mapped graph prepared well has fit is keyed = record {
+  fresh = staying_fit mapped well has graph prepared fit is keyed;
+  changed = final_changed mapped well has graph prepared fit is keyed;
+  gone = final_gone mapped well has graph prepared fit is keyed;
   late = (late_keys_fit mapped graph prepared well.lined well.lines well.valid well.declared well.posts).no_key;
 }

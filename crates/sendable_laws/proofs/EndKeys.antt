@@ -1,5 +1,5 @@
 -- The keys of objects are keys of each table of their hierarchy, and fit the foreign keys that refer there.
-use Rattle.std.proofs.Common.{◌≡◌, ℕ, zero, suc, ◌<◌, Bool, true, false, not, ◌&&◌, ◌||◌, ◌==◌, List, [], ◌∷◌, length, get_or, Option, None, Some, refl, sym, ap, ◌∙◌, subst, arith}
+use Rattle.std.proofs.Common.{◌≡◌, ℕ, zero, suc, ◌<◌, true, ◌&&◌, ◌==◌, List, [], ◌∷◌, length, get_or, Option, None, Some, is_some, refl, sym, ap, ◌∙◌, subst, arith}
 use Rattle.std.specs.Prelude.{nat_lt, slice_get}
 use Rattle.std.specs.Cmp.Lexicographic.{pointwise}
 use Rattle.std.specs.List.{AllByRecursion, filter, list_all}
@@ -21,7 +21,7 @@ use Rattle.schema_core.specs.declared.table.ForeignSpec.{ForeignSpec}
 use Rattle.schema_core.specs.declared.table.TableSpec.{TableSpec}
 use Rattle.schema_core.specs.Catalog.{IsTable, key_columns, kind_of, no_table, same_kind, same_name, spec_of, target_of}
 use Rattle.schema_core.specs.Declaration.{fits_key, has_kind, has_target, refers_to}
-use Rattle.schema_core.specs.Tables.{fits}
+use Rattle.schema_core.specs.Tables.{fits, given_value}
 use Rattle.schema_core.specs.WellFormed.{is_key, may_hold}
 use Rattle.schema_core.proofs.Names.{same_names}
 use Rattle.class_layouts.specs.Columns.{own_table}
@@ -40,7 +40,7 @@ use Rattle.object_rows.specs.Places.{is_row_of}
 use Rattle.prefix_laws.proofs.Named.{opposite, two_places}
 use Rattle.project_laws.proofs.Loose.{has_place}
 use Rattle.sendable_laws.specs.Sending.{cell_fits, takes_part}
-use Rattle.sendable_laws.proofs.Parts.{not_required, taken_by}
+use Rattle.sendable_laws.proofs.Parts.{IsTaken, not_required, taken_by}
 
 -- ---- keys of the same kinds
 
@@ -123,7 +123,7 @@ module _ (mapped : Mapped) (has : HasHierarchies mapped) where
         let all : list_all (has_target tables spec) spec.foreigns ≡ true = all_of (λ (one : TableSpec). list_all (has_target tables one) one.foreigns) tables spec has.valid.targets here in
         sym (ap (refers_to tables spec foreign) is) ∙ all_of (has_target tables spec) spec.foreigns foreign all there
 
-    module _ (graph : Graph) (fit : IsFit mapped graph) (changes : RowChanges) (names : List RowName) (stands : (q : ℕ) (row : RowName) → slice_get names q ≡ Some row → (q < length changes.fresh) × (table_at changes q ≡ row.table)) where
+    module _ (graph : Graph) (fit : IsFit mapped graph) where
       -- the object stands for rows of the table
       pub record IsEndIn (target : TableId) (end : ObjId) : Type 0 where
         pub class : ClassId
@@ -132,35 +132,50 @@ module _ (mapped : Mapped) (has : HasHierarchies mapped) where
         pub made : IsObject graph end
         pub root : root_of mapped (object_at graph end).class ≡ root_of mapped class
 
-      identity_part : (target : TableId) (end : ObjId) (column part : ColumnSpec) (i : ℕ) (identity : Option (List Value)) → IsEndIn target end → (object_at graph end).identity ≡ identity → slice_get (key_columns (spec_of mapped.schema target)) i ≡ Some part
-          → same_kind (kind_of column.kind) (kind_of part.kind) ≡ true → may_hold column (key_value identity i) ≡ true
-      identity_part target end column part i None ends is at alike = refl
-      identity_part target end column part i (Some key) ends is at alike =
+      -- a part of the key that it has is taken by a column of the part's kind
+      identity_taken : (target : TableId) (end : ObjId) (column part : ColumnSpec) (i : ℕ) (identity : Option (List Value)) → IsEndIn target end → (object_at graph end).identity ≡ identity → is_some identity ≡ true
+          → slice_get (key_columns (spec_of mapped.schema target)) i ≡ Some part → same_kind (kind_of column.kind) (kind_of part.kind) ≡ true → IsTaken column (key_value identity i)
+      identity_taken target end column part i None ends is some at alike = absurd cc
+      identity_taken target end column part i (Some key) ends is some at alike =
           let object = object_at graph end in
           let whole : is_key (spec_of mapped.schema target) key ≡ true =
           key_everywhere object.class ends.class target key (fit_class mapped graph end fit ends.made) ends.is ends.root ends.there (ap (identity_fits mapped object.class) (sym is) ∙ (fit_at mapped graph end fit ends.made).identity) in
           let value = opposite fits (key_columns (spec_of mapped.schema target)) key i part whole at in
           let keyed : part.key ≡ true = (from_filter (λ (c : ColumnSpec). c.key) (spec_of mapped.schema target).columns part (has_at (key_columns (spec_of mapped.schema target)) i part at)).1 in
-          ap (may_hold column) (get_or_from_slice_get key i value.0 Null value.1) ∙ (taken_by column part value.0 keyed alike value.2).0
+          subst (IsTaken column) (sym (get_or_from_slice_get key i value.0 Null value.1)) (taken_by column part value.0 keyed alike value.2)
 
-      key_part_fits : (target : TableId) (end : ObjId) (column part : ColumnSpec) (i : ℕ) (found : Option ℕ) → IsEndIn target end → place_among names (Some target) end ≡ found → slice_get (key_columns (spec_of mapped.schema target)) i ≡ Some part
-          → same_kind (kind_of column.kind) (kind_of part.kind) ≡ true → cell_fits mapped.schema changes column (key_cell found (object_at graph end).identity i) ≡ true
-      key_part_fits target end column part i None ends e at alike = identity_part target end column part i (object_at graph end).identity ends refl at alike
-      key_part_fits target end column part i (Some q) ends e at alike =
-          let none : RowName = record { table = target; object = end } in
-          let row : RowName = get_or names q none in
-          let found = position-Some (is_row_of target end) names q none e in
-          let new = stands q row (slice_get-get_or names q none found.0) in
-          let same : table_at changes q ≡ target = new.1 ∙ same_table row.table target (and_parts (row.table.0 == target.0) (row.object.0 == end.0) found.1).0 in
-          let less : q < length changes.fresh = new.0 in
-          let first : nat_lt q (length changes.fresh) ≡ true = grind (arith, nat_tests) in
-          and_from (nat_lt q (length changes.fresh)) (takes_part column (slice_get (key_columns (spec_of mapped.schema (table_at changes q))) i)) first
-          (ap (λ (t : TableId). takes_part column (slice_get (key_columns (spec_of mapped.schema t)) i)) same ∙ ap (takes_part column) at ∙ alike)
-
-      -- what a link to an object gives a column of its foreign key
-      pub end_fits : (foreign : ForeignSpec) → Has (spec_of mapped.schema table).foreigns foreign → (target : TableId) → target_of mapped.schema foreign ≡ Some target → (end : ObjId) → IsEndIn target end
-          → (column : ColumnSpec) → Has columns column → (i : ℕ) → slice_get foreign.columns i ≡ Some column.name → cell_fits mapped.schema changes column (end_cell graph names (target_of mapped.schema foreign) i (Some end)) ≡ true
-      end_fits foreign there target is end ends column of i at =
+      -- a row that is taken away has in a column of a foreign key a part of the key of the object there
+      pub end_taken : (foreign : ForeignSpec) → Has (spec_of mapped.schema table).foreigns foreign → (target : TableId) → target_of mapped.schema foreign ≡ Some target → (end : ObjId) → IsEndIn target end → is_some (object_at graph end).identity ≡ true
+          → (column : ColumnSpec) → Has columns column → (i : ℕ) → slice_get foreign.columns i ≡ Some column.name → IsTaken column (given_value (end_cell graph [] (target_of mapped.schema foreign) i (Some end)))
+      end_taken foreign there target is end ends some column of i at =
           let part = opposite (has_kind columns) foreign.columns (key_columns (spec_of mapped.schema target)) i column.name (target_fits foreign target there is) at in
-          ap (λ (t : Option TableId). cell_fits mapped.schema changes column (end_cell graph names t i (Some end))) is
-          ∙ key_part_fits target end column part.0 i (place_among names (Some target) end) ends refl part.1 (column_kind column of part.0 part.2)
+          subst (λ (t : Option TableId). IsTaken column (given_value (end_cell graph [] t i (Some end)))) (sym is)
+          (identity_taken target end column part.0 i (object_at graph end).identity ends refl some part.1 (column_kind column of part.0 part.2))
+
+      identity_part : (target : TableId) (end : ObjId) (column part : ColumnSpec) (i : ℕ) (identity : Option (List Value)) → IsEndIn target end → (object_at graph end).identity ≡ identity → slice_get (key_columns (spec_of mapped.schema target)) i ≡ Some part
+          → same_kind (kind_of column.kind) (kind_of part.kind) ≡ true → may_hold column (key_value identity i) ≡ true
+      identity_part target end column part i None ends is at alike = refl
+      identity_part target end column part i (Some key) ends is at alike = (identity_taken target end column part i (Some key) ends is refl at alike).0
+
+      module _ (changes : RowChanges) (names : List RowName) (stands : (q : ℕ) (row : RowName) → slice_get names q ≡ Some row → (q < length changes.fresh) × (table_at changes q ≡ row.table)) where
+        key_part_fits : (target : TableId) (end : ObjId) (column part : ColumnSpec) (i : ℕ) (found : Option ℕ) → IsEndIn target end → place_among names (Some target) end ≡ found → slice_get (key_columns (spec_of mapped.schema target)) i ≡ Some part
+            → same_kind (kind_of column.kind) (kind_of part.kind) ≡ true → cell_fits mapped.schema changes column (key_cell found (object_at graph end).identity i) ≡ true
+        key_part_fits target end column part i None ends e at alike = identity_part target end column part i (object_at graph end).identity ends refl at alike
+        key_part_fits target end column part i (Some q) ends e at alike =
+            let none : RowName = record { table = target; object = end } in
+            let row : RowName = get_or names q none in
+            let found = position-Some (is_row_of target end) names q none e in
+            let new = stands q row (slice_get-get_or names q none found.0) in
+            let same : table_at changes q ≡ target = new.1 ∙ same_table row.table target (and_parts (row.table.0 == target.0) (row.object.0 == end.0) found.1).0 in
+            let less : q < length changes.fresh = new.0 in
+            let first : nat_lt q (length changes.fresh) ≡ true = grind (arith, nat_tests) in
+            and_from (nat_lt q (length changes.fresh)) (takes_part column (slice_get (key_columns (spec_of mapped.schema (table_at changes q))) i)) first
+            (ap (λ (t : TableId). takes_part column (slice_get (key_columns (spec_of mapped.schema t)) i)) same ∙ ap (takes_part column) at ∙ alike)
+
+        -- what a link to an object gives a column of its foreign key
+        pub end_fits : (foreign : ForeignSpec) → Has (spec_of mapped.schema table).foreigns foreign → (target : TableId) → target_of mapped.schema foreign ≡ Some target → (end : ObjId) → IsEndIn target end
+            → (column : ColumnSpec) → Has columns column → (i : ℕ) → slice_get foreign.columns i ≡ Some column.name → cell_fits mapped.schema changes column (end_cell graph names (target_of mapped.schema foreign) i (Some end)) ≡ true
+        end_fits foreign there target is end ends column of i at =
+            let part = opposite (has_kind columns) foreign.columns (key_columns (spec_of mapped.schema target)) i column.name (target_fits foreign target there is) at in
+            ap (λ (t : Option TableId). cell_fits mapped.schema changes column (end_cell graph names t i (Some end))) is
+            ∙ key_part_fits target end column part.0 i (place_among names (Some target) end) ends refl part.1 (column_kind column of part.0 part.2)

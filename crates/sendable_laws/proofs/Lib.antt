@@ -9,6 +9,7 @@ pub mod Told
 pub mod Links
 pub mod PairEnds
 pub mod PairRows
+pub mod LostRows
 pub mod ObjectRows
 pub mod Switching
 pub mod Changes

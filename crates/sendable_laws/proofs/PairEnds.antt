@@ -1,7 +1,7 @@
 -- The two keys of a secondary table: one is its first foreign key, the other its second.
-use Rattle.std.proofs.Common.{◌≡◌, ◌⊎◌, inl, inr, ℕ, Bool, true, false, not, ◌&&◌, List, [], ◌∷◌, map, Option, None, Some, refl, sym, ap, ◌∙◌, subst}
+use Rattle.std.proofs.Common.{◌≡◌, ◌⊎◌, inl, inr, ℕ, Bool, true, false, not, ◌&&◌, List, [], ◌∷◌, length, map, Option, None, Some, refl, sym, ap, ◌∙◌, subst}
 use Rattle.std.specs.Prelude.{IfSome, find, if◌then◌else◌, slice_get}
-use Rattle.std.specs.List.{enumerate_from, filter, flat_map}
+use Rattle.std.specs.List.{enumerate_from, filter}
 use Rattle.std.specs.Option.{option_map}
 use Rattle.std.proofs.lemmas.Bool.{and_parts}
 use Rattle.std.proofs.lemmas.Option.{same_Some, slice_get-map}
@@ -33,46 +33,58 @@ use Rattle.sendable_laws.proofs.Links.{same_class}
 abbrev pub AreBoth : ℕ → ℕ → Type 0
 AreBoth one other = ((one ≡ 0) × (other ≡ 1)) ⊎ ((one ≡ 1) × (other ≡ 0))
 
-abbrev AreEnds : Option Ends → Type 0
-AreEnds ends = IfSome ends (λ keys. AreBoth keys.0.1 keys.1.1)
+-- so are these two foreign keys of one table, and it has no third
+pub record AreTwo (tables : List TableSpec) (one other : TableKey) : Type 0 where
+  pub both : AreBoth one.1 other.1
+  pub here : length (foreigns_in tables one.0) ≡ 2
+  pub there : length (foreigns_in tables other.0) ≡ 2
+
+turned : (tables : List TableSpec) (one other : TableKey) → AreTwo tables one other → AreTwo tables other one
+turned tables one other are = record { both = by are.both; here = are.there; there = are.here }
+  where
+    by : AreBoth one.1 other.1 → AreBoth other.1 one.1
+    by (inl is) = inr (is.1, is.0)
+    by (inr is) = inl (is.1, is.0)
+
+abbrev AreEnds : List TableSpec → Option Ends → Type 0
+AreEnds tables ends = IfSome ends (λ keys. AreTwo tables keys.0 keys.1)
 
 -- ---- those of a declaration
 
-ends_either : (tables : List TableSpec) (table : TableId) (first second : ForeignSpec) (near far : List TableId) → AreEnds (ends_by tables table first second near far)
-ends_either tables table first second near far = by (refers_into tables first near && refers_into tables second far) (refers_into tables second near && refers_into tables first far)
+ends_either : (tables : List TableSpec) (table : TableId) (first second : ForeignSpec) (near far : List TableId) → length (foreigns_in tables table) ≡ 2 → AreEnds tables (ends_by tables table first second near far)
+ends_either tables table first second near far two = by (refers_into tables first near && refers_into tables second far) (refers_into tables second near && refers_into tables first far)
   where
-    by : (a b : Bool) → AreEnds (if a then Some ((table, 0), (table, 1)) else if b then Some ((table, 1), (table, 0)) else None)
-    by true b = inl (refl, refl)
-    by false true = inr (refl, refl)
+    by : (a b : Bool) → AreEnds tables (if a then Some ((table, 0), (table, 1)) else if b then Some ((table, 1), (table, 0)) else None)
+    by true b = record { both = inl (refl, refl); here = two; there = two }
+    by false true = record { both = inr (refl, refl); here = two; there = two }
     by false false = tt
 
-ends_two : (tables : List TableSpec) (table : TableId) (foreigns : List ForeignSpec) (near far : List TableId) → AreEnds (ends_among tables table foreigns near far)
-ends_two tables table [] near far = tt
-ends_two tables table (first ∷ []) near far = tt
-ends_two tables table (first ∷ second ∷ third ∷ more) near far = tt
-ends_two tables table (first ∷ second ∷ []) near far = by (is_all_keys (columns_in tables table) (first ∷ second ∷ []) && not (same_name first.target second.target)) (ends_either tables table first second near far)
+ends_two : (tables : List TableSpec) (table : TableId) (foreigns : List ForeignSpec) (near far : List TableId) → foreigns_in tables table ≡ foreigns → AreEnds tables (ends_among tables table foreigns near far)
+ends_two tables table [] near far is = tt
+ends_two tables table (first ∷ []) near far is = tt
+ends_two tables table (first ∷ second ∷ third ∷ more) near far is = tt
+ends_two tables table (first ∷ second ∷ []) near far is = by (is_all_keys (columns_in tables table) (first ∷ second ∷ []) && not (same_name first.target second.target)) (ends_either tables table first second near far (ap length is))
   where
-    by : (b : Bool) → AreEnds (ends_by tables table first second near far) → AreEnds (if b then ends_by tables table first second near far else None)
+    by : (b : Bool) → AreEnds tables (ends_by tables table first second near far) → AreEnds tables (if b then ends_by tables table first second near far else None)
     by true are = are
     by false are = tt
 
-ends_there : (tables : List TableSpec) (table : Option TableId) (near far : Option Layout) → AreEnds (ends_in tables table near far)
+ends_there : (tables : List TableSpec) (table : Option TableId) (near far : Option Layout) → AreEnds tables (ends_in tables table near far)
 ends_there tables None near far = tt
 ends_there tables (Some table) None far = tt
 ends_there tables (Some table) (Some near) None = tt
-ends_there tables (Some table) (Some near) (Some far) = ends_two tables table (foreigns_in tables table) near.tables far.tables
+ends_there tables (Some table) (Some near) (Some far) = ends_two tables table (foreigns_in tables table) near.tables far.tables refl
 
-ends_declared : (tables : List TableSpec) (specs : List ClassSpec) (secondary : Option (List ℕ)) (near far : Option Layout) → AreEnds (ends_of tables specs secondary near far)
+ends_declared : (tables : List TableSpec) (specs : List ClassSpec) (secondary : Option (List ℕ)) (near far : Option Layout) → AreEnds tables (ends_of tables specs secondary near far)
 ends_declared tables specs secondary near far = by (maps_name specs secondary) (ends_there tables (named_table tables secondary) near far)
   where
-    by : (b : Bool) → AreEnds (ends_in tables (named_table tables secondary) near far) → AreEnds (if b then None else ends_in tables (named_table tables secondary) near far)
+    by : (b : Bool) → AreEnds tables (ends_in tables (named_table tables secondary) near far) → AreEnds tables (if b then None else ends_in tables (named_table tables secondary) near far)
     by true are = tt
     by false are = are
 
-swapped : (ends : Option Ends) → AreEnds ends → AreEnds (swapped_ends ends)
-swapped None are = tt
-swapped (Some keys) (inl is) = inr (is.1, is.0)
-swapped (Some keys) (inr is) = inl (is.1, is.0)
+swapped : (tables : List TableSpec) (ends : Option Ends) → AreEnds tables ends → AreEnds tables (swapped_ends ends)
+swapped tables None are = tt
+swapped tables (Some keys) are = turned tables keys.0 keys.1 are
 
 module _ (mapped : Mapped) (has : HasHierarchies mapped) where
   abbrev sides : List Side
@@ -81,22 +93,22 @@ module _ (mapped : Mapped) (has : HasHierarchies mapped) where
   abbrev names : List (List (List ℕ))
   names = linking.all_names mapped.classes sides
 
-  side_ends : (side : Side) → Has sides side → AreEnds side.ends
+  side_ends : (side : Side) → Has sides side → AreEnds mapped.schema.tables side.ends
   side_ends side there =
       let layouts = layouts_of mapped.schema.tables mapped.classes in
       let from = from_flat (sides_at mapped.schema.tables mapped.classes layouts) (enumerate_from 0 mapped.classes.specs) side there in
       let one = from_map (side_of mapped.schema.tables mapped.classes layouts from.0.0) from.0.1.relations side from.2 in
-      subst (λ (s : Side). AreEnds s.ends) one.2
+      subst (λ (s : Side). AreEnds mapped.schema.tables s.ends) one.2
       (ends_declared mapped.schema.tables mapped.classes.specs one.0.secondary (layout_at layouts (Some (record { 0 = from.0.0 }))) (layout_at layouts (target_of mapped.classes.specs one.0)))
 
-  found_ends : (side : Side) → Has sides side → AreEnds (ends_on sides side)
+  found_ends : (side : Side) → Has sides side → AreEnds mapped.schema.tables (ends_on sides side)
   found_ends side there = by (find (is_same_pair side) sides) refl
     where
-      either : (b : Bool) (first : Side) → AreEnds first.ends → AreEnds (if b then first.ends else swapped_ends first.ends)
+      either : (b : Bool) (first : Side) → AreEnds mapped.schema.tables first.ends → AreEnds mapped.schema.tables (if b then first.ends else swapped_ends first.ends)
       either true first are = are
-      either false first are = swapped first.ends are
+      either false first are = swapped mapped.schema.tables first.ends are
 
-      by : (found : Option Side) → find (is_same_pair side) sides ≡ found → AreEnds (ends_from side found)
+      by : (found : Option Side) → find (is_same_pair side) sides ≡ found → AreEnds mapped.schema.tables (ends_from side found)
       by None e = side_ends side there
       by (Some first) e = either (same_side side first) first (side_ends first (find_has (is_same_pair side) sides first e).0)
 
@@ -105,19 +117,15 @@ module _ (mapped : Mapped) (has : HasHierarchies mapped) where
   -- it stands in a class of the hierarchy of its own class, and its two keys are the two of the secondary table, if it has one
   pub record IsOf (class : ClassId) (relation : Relation) : Type 0 where
     pub root : root_of mapped relation.class ≡ root_of mapped class
-    pub ends : (far : TableKey) → relation.far ≡ Some far → AreBoth relation.foreign.1 far.1
+    pub ends : (far : TableKey) → relation.far ≡ Some far → AreTwo mapped.schema.tables relation.foreign far
 
-  near_first : (ends : Option Ends) (key far : TableKey) → AreEnds ends → far_key ends ≡ Some far → AreBoth (near_or ends key).1 far.1
+  near_first : (ends : Option Ends) (key far : TableKey) → AreEnds mapped.schema.tables ends → far_key ends ≡ Some far → AreTwo mapped.schema.tables (near_or ends key) far
   near_first None key far are is = absurd cc
-  near_first (Some keys) key far are is = subst (λ (k : TableKey). AreBoth keys.0.1 k.1) (same_Some keys.1 far is) are
+  near_first (Some keys) key far are is = subst (AreTwo mapped.schema.tables keys.0) (same_Some keys.1 far is) are
 
-  far_first : (ends : Option Ends) (key far : TableKey) → AreEnds ends → near_key ends ≡ Some far → AreBoth (far_or ends key).1 far.1
+  far_first : (ends : Option Ends) (key far : TableKey) → AreEnds mapped.schema.tables ends → near_key ends ≡ Some far → AreTwo mapped.schema.tables (far_or ends key) far
   far_first None key far are is = absurd cc
-  far_first (Some keys) key far are is = by are (same_Some keys.0 far is)
-    where
-      by : AreBoth keys.0.1 keys.1.1 → keys.0 ≡ far → AreBoth keys.1.1 far.1
-      by (inl both) same = inr (both.1, ap (λ (k : TableKey). k.1) (sym same) ∙ both.0)
-      by (inr both) same = inl (both.1, ap (λ (k : TableKey). k.1) (sym same) ∙ both.0)
+  far_first (Some keys) key far are is = subst (AreTwo mapped.schema.tables keys.1) (same_Some keys.0 far is) (turned mapped.schema.tables keys.0 keys.1 are)
 
   -- the class that declares it stands in the line of the class
   root_above : (class above : ClassId) → Has (line_of mapped.classes class.0) above → root_of mapped above ≡ root_of mapped class
@@ -128,9 +136,6 @@ module _ (mapped : Mapped) (has : HasHierarchies mapped) where
   pub relation_of_class : (class : ClassId) (relation : Relation) → Has (relations_of mapped class) relation → IsOf class relation
   relation_of_class class relation there = by (slice_get mapped.classes.lines class.0) refl
     where
-      tables : List TableSpec
-      tables = mapped.schema.tables
-
       key : Side → TableKey
       key side = key_or_none (join_of mapped.schema.tables mapped.classes sides side)
 

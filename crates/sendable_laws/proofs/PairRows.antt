@@ -1,10 +1,10 @@
 -- The rows of secondary tables that are made fit: each of their two foreign keys is given the key of the object at its end.
-use Rattle.std.proofs.Common.{◌≡◌, ◌⊎◌, inl, inr, ℕ, ◌<◌, Bool, true, false, not, ◌&&◌, ◌||◌, ◌==◌, length, arith, List, [], ◌∷◌, map, Option, None, Some, unwrap_or, refl, sym, ap, ◌∙◌, subst}
+use Rattle.std.proofs.Common.{◌≡◌, inl, inr, ℕ, ◌<◌, Bool, true, false, not, ◌&&◌, ◌||◌, ◌==◌, length, arith, List, [], ◌∷◌, map, Option, None, Some, unwrap_or, refl, sym, ap, ◌∙◌, subst}
 use Rattle.std.specs.Prelude.{fold, if◌then◌else◌, is_some, slice_get}
 use Rattle.std.specs.BTreeSet.{insert_key}
 use Rattle.std.specs.Cmp.Lexicographic.{pointwise}
-use Rattle.std.specs.List.{All, AllByRecursion, enumerate_from, filter, flat_map, list_all}
-use Rattle.std.proofs.lemmas.Bool.{and_from, and_parts, eq-eqb, eqb-true}
+use Rattle.std.specs.List.{All, AllByRecursion, filter, flat_map, list_all}
+use Rattle.std.proofs.lemmas.Bool.{and_from, and_parts, eq-eqb}
 use Rattle.std.proofs.lemmas.List.Elements.{All-nil, recursion_from_All}
 use Rattle.std.proofs.lemmas.Map.Views.{All-insert_key}
 use Rattle.std.proofs.lemmas.Option.{get_or_from_slice_get}
@@ -76,7 +76,7 @@ of_columns schema changes value (column ∷ columns) each =
 
 module _ (mapped : Mapped) (has : HasHierarchies mapped) (related : AreRelated mapped) (graph : Graph) (prepared : Prepared) (fit : IsFit mapped graph) where
   -- the object is of a class to which the foreign key of this number refers
-  abbrev IsAtEnd : TableId → ℕ → ObjId → Type 0
+  abbrev pub IsAtEnd : TableId → ℕ → ObjId → Type 0
   IsAtEnd table number object =
       (foreign : ForeignSpec) → slice_get (foreigns_in mapped.schema.tables table) number ≡ Some foreign
       → (class : ClassId) × IsClass mapped class × (refers_into mapped.schema.tables foreign (tables_of mapped class) ≡ true) × IsUnder mapped graph (root_of mapped class) object
@@ -109,7 +109,7 @@ module _ (mapped : Mapped) (has : HasHierarchies mapped) (related : AreRelated m
       let third = and_parts (one && all) near last.0 in
       let table : relation.foreign.0 ≡ far.0 = same_table relation.foreign.0 far.0 (and_parts one all third.0).0 in
       let foreign = there_is tables (tables_of mapped relation.class) relation.foreign third.1 in
-      by own of.root table third.1 last.1 (is_table_of mapped relation.foreign.0 foreign.0 relation.foreign.1 foreign.1) (of.ends far is)
+      by own of.root table third.1 last.1 (is_table_of mapped relation.foreign.0 foreign.0 relation.foreign.1 foreign.1) (of.ends far is).both
     where
       object_end : IsRelated mapped relation → root_of mapped relation.class ≡ root_of mapped (object_at graph object).class → refers_by mapped.schema.tables (tables_of mapped relation.class) (foreign_at mapped.schema.tables relation.foreign) ≡ true → (n : ℕ) → relation.foreign.1 ≡ n → IsAtEnd relation.foreign.0 n object
       object_end own root refers n number foreign at =

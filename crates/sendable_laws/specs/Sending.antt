@@ -27,7 +27,6 @@ use Rattle.object_arena.specs.Fit.{IsFit}
 use Rattle.object_arena.specs.Graph.{Graph}
 use Rattle.object_arena.specs.Identity.{IsGraph}
 use Rattle.object_rows.specs.declared.prepared.Prepared.{Prepared}
-use Rattle.pair_rows.specs.Pairs.{lost_pairs}
 use Rattle.prefix_laws.specs.Laws.{AreKeyed, IsWellMapped}
 use Rattle.row_project.specs.Switch.{project}
 
@@ -77,9 +76,8 @@ FitPlansAreSendable =
     (schema : Catalog) (changes : RowChanges) (statements : List Planned) (tables : Tables) → HasFitRows schema changes → plan schema changes ≡ Ok statements
     → HoldWhenSent (λ sofar planned. is_sendable schema changes sofar.keys planned ≡ true) schema changes (before tables) statements
 
--- what objects of a configured mapping change is of rows that fit, where they have their own rows and no pair of a
--- secondary table is taken away
+-- what objects of a configured mapping change is of rows that fit, where they have their own rows
 abbrev pub ChangesFit : Type 0
 ChangesFit =
     (mapped : Mapped) (graph : Graph) (prepared : Prepared) → IsWellMapped mapped → HasHierarchies mapped → IsFit mapped graph → IsGraph graph.objects graph.roots → AreKeyed mapped graph prepared
-    → lost_pairs mapped graph prepared ≡ [] → HasFitRows mapped.schema (project mapped graph prepared)
+    → HasFitRows mapped.schema (project mapped graph prepared)

@@ -13,7 +13,7 @@ pub fn fit_plans_are_sendable()
 {}
 
 /// What the objects of a configured mapping change is such rows, links over foreign keys, pairs of secondary tables, joined tables,
-/// discriminators and switched rows among them, where the objects fit, have their own rows, and no pair is taken away.
+/// discriminators and switched rows among them, where the objects fit and have their own rows.
 pub fn changes_fit()
     ensures { ChangesFit }
 {}

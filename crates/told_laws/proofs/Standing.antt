@@ -1,5 +1,5 @@
 -- Objects that stand in the tables as they were read have their own rows.
-use Rattle.std.proofs.Common.{◌≡◌, ℕ, zero, suc, ◌+◌, ◌<◌, Bool, true, false, cond, not, ◌&&◌, ◌||◌, ◌==◌, if◌then◌else◌, List, [], ◌∷◌, length, map, filter, take, get_or, Option, None, Some, is_some, is_none, refl, sym, subst, ap, ◌∙◌, arith}
+use Rattle.std.proofs.Common.{◌≡◌, ℕ, suc, ◌+◌, ◌<◌, Bool, true, false, cond, not, ◌&&◌, ◌||◌, ◌==◌, if◌then◌else◌, List, [], ◌∷◌, length, map, filter, take, get_or, Option, None, Some, is_some, is_none, refl, sym, subst, ap, ◌∙◌, arith}
 use Rattle.std.specs.Prelude.{slice_get}
 use Rattle.std.specs.Cmp.Lexicographic.{as_long}
 use Rattle.std.specs.List.{AllByRecursion, count_by, enumerate_from}
@@ -10,7 +10,6 @@ use Rattle.std.proofs.lemmas.List.Elements.{recursion_from_All}
 use Rattle.std.proofs.lemmas.List.FromFn.{get_or-enumerate_from, length-enumerate_from}
 use Rattle.std.proofs.lemmas.List.Sums.{sum_by-cons}
 use Rattle.std.proofs.lemmas.Option.{get_or_from_slice_get, same_Some, slice_get-get_or, slice_get_within}
-use Rattle.base_core.specs.declared.ids.AttrNo.{AttrNo}
 use Rattle.base_core.specs.declared.ids.ClassId.{ClassId}
 use Rattle.base_core.specs.declared.ids.ObjId.{ObjId}
 use Rattle.base_core.specs.declared.ids.TableId.{TableId}
@@ -28,8 +27,8 @@ use Rattle.class_types.specs.declared.mapped.Relation.{Relation}
 use Rattle.class_layouts.specs.Columns.{attribute_at, is_key}
 use Rattle.class_layouts.specs.Faults.{maps_name}
 use Rattle.class_mapping.specs.Mapped.{Mapped, attribute_of, attributes_of, no_attribute, root_table, tables_of}
-use Rattle.class_mapping.specs.Related.{IsRelated}
-use Rattle.class_mapping.proofs.Having.{Has, all_from, any_has, from_filter, has_at, has_filter, has_map, has_numbered, some_of, true_false}
+use Rattle.class_mapping.specs.Related.{AreRelated, IsRelated}
+use Rattle.class_mapping.proofs.Having.{Has, all_from, any_has, from_filter, has_filter, has_map, has_numbered, some_of, true_false}
 use Rattle.class_mapping.proofs.PairedLemmas.{paired_seen}
 use Rattle.class_mapping.proofs.RelatedKeys.{same_table}
 use Rattle.mapping_laws.specs.Hierarchies.{HasHierarchies, HasTables, name_in}
@@ -38,7 +37,7 @@ use Rattle.mapping_laws.proofs.Ties.{class_tables, table_faultless}
 use Rattle.key_laws.proofs.KeyKinds.{root_declared}
 use Rattle.object_arena.specs.declared.object.Cell.{Cell}
 use Rattle.object_arena.specs.declared.object.Object.{Object}
-use Rattle.object_arena.specs.Fit.{identity_fits}
+use Rattle.object_arena.specs.Fit.{IsFit, identity_fits}
 use Rattle.object_arena.specs.Graph as graphs
 use Rattle.object_arena.specs.Graph.{Graph, IsObject, expired_cell, is_persistent, no_object, object_at, place_of}
 use Rattle.object_arena.proofs.FitLemmas.{fit_at, fit_cells, fit_class}
@@ -47,7 +46,7 @@ use Rattle.flush_plan.specs.Planning.{no_column}
 use Rattle.flush_plan.specs.Stating.{row_at}
 use Rattle.object_rows.specs.declared.prepared.Prepared.{Prepared}
 use Rattle.object_rows.specs.Cells.{key_value}
-use Rattle.object_rows.specs.Rows.{cell_for, columns_at, gone_cell, gone_row, is_at, is_joined, key_or_none, key_part, value_before}
+use Rattle.object_rows.specs.Rows.{cell_for, columns_at, gone_cell, gone_row, is_joined, key_or_none, key_part, value_before}
 use Rattle.object_rows.specs.Seen.{object_ids}
 use Rattle.object_rows.proofs.ObjectSteps.{kept_made}
 use Rattle.pair_rows.specs.Pairs as pairs
@@ -64,7 +63,7 @@ use Rattle.held_laws.specs.Laws.{held_in}
 use Rattle.held_laws.proofs.Attributes.{column_place, passed_are}
 use Rattle.sendable_laws.proofs.EndKeys.{key_everywhere}
 use Rattle.sendable_laws.proofs.Roots.{alone, persistent_keyed}
-use Rattle.told_laws.specs.Laws.{ArePairsOnce, ObjectsHaveOwnRows, StandInTables}
+use Rattle.told_laws.specs.Laws.{ObjectsHaveOwnRows, StandInTables}
 
 -- a configured mapping's classes stand in hierarchies
 pub hierarchies : (mapped : Mapped) → IsWellMapped mapped → HasHierarchies mapped
@@ -136,6 +135,42 @@ row_of (Some row) c base e = (row, refl, get_or_from_slice_get row c base Null e
 known_value : (o : Option Value) → is_some o ≡ true → (v : Value) × (o ≡ Some v)
 known_value None there = true_false false there refl
 known_value (Some v) there = (v, refl)
+
+-- ---- no class has the table of a pair
+
+module _ (mapped : Mapped) (graph : Graph) (prepared : Prepared) (related : AreRelated mapped) (fit : IsFit mapped graph) where
+  unmapped : (class : ClassId) (pair : pairs.Pair) → IsParted mapped graph prepared pair → is_among (tables_of mapped class) pair.0 ≡ false
+  unmapped class pair it =
+      let relation : Relation = it.placed.1 in
+      let own : IsRelated mapped relation = parted_related mapped graph prepared related fit pair it in
+      let free : maps_name mapped.classes.specs (Some (name_in mapped relation.foreign.0)) ≡ false = by (is_none relation.far) (maps_name mapped.classes.specs (Some (name_in mapped relation.foreign.0))) (no_none relation.far it.far) own.unmapped in
+      let none : is_among (tables_of mapped class) relation.foreign.0 ≡ false = not_among relation.foreign.0 (unmapped_named mapped class (name_in mapped relation.foreign.0) free) in
+      ap (λ (p : pairs.Pair). is_among (tables_of mapped class) p.0) (sym it.is) ∙ none
+    where
+      no_none : {A : Type 0} (o : Option A) → is_some o ≡ true → is_none o ≡ false
+      no_none None some = true_false false some refl
+      no_none (Some a) some = refl
+
+      by : (none maps : Bool) → none ≡ false → (none || not maps) ≡ true → maps ≡ false
+      by true maps n h = true_false true refl n
+      by false true n h = true_false false h refl
+      by false false n h = refl
+
+      not_among : (table : TableId) → has_name (map (name_in mapped) (tables_of mapped class)) (name_in mapped table) ≡ false → is_among (tables_of mapped class) table ≡ false
+      not_among table free = absent (is_among (tables_of mapped class) table) refl
+        where
+          absent : (b : Bool) → is_among (tables_of mapped class) table ≡ b → b ≡ false
+          absent false e = refl
+          absent true e =
+              true_false (has_name (map (name_in mapped) (tables_of mapped class)) (name_in mapped table))
+              (any_has (λ (other : List ℕ). same_name other (name_in mapped table)) (map (name_in mapped) (tables_of mapped class)) (name_in mapped table)
+              (has_map (name_in mapped) (tables_of mapped class) table (among_has (tables_of mapped class) table e)) (name_itself (name_in mapped table))) free
+
+  pub pairs_unmapped : (class : ClassId) → AllByRecursion (λ (row : GoneRow). is_among (tables_of mapped class) row.name.table ≡ false) (pairs.lost_rows mapped graph prepared)
+  unfolding pairs.lost_rows
+  pairs_unmapped class =
+      all_map (IsParted mapped graph prepared) (λ (row : GoneRow). is_among (tables_of mapped class) row.name.table ≡ false) (pairs.lost_row mapped graph) (λ pair it. unmapped class pair it)
+      (pairs.lost_pairs mapped graph prepared) (lost_parted mapped graph prepared)
 
 module _ (mapped : Mapped) (graph : Graph) (prepared : Prepared) (old : Tables) (stand : StandInTables mapped graph prepared old) where
   pub classes : HasHierarchies mapped
@@ -252,42 +287,13 @@ module _ (mapped : Mapped) (graph : Graph) (prepared : Prepared) (old : Tables) 
         by true same = subst (λ (t : TableId). gone_key mapped.schema (gone_row mapped graph object t) ≡ key_held graph object) (same_table root table same) root_key
         by false differs = joined_by table it.identity refl (persistent_keyed it go.persists (stand.is.identified (place_of object) no_object inside)) has (ap not differs)
 
-  -- ---- no class has the table of a pair
-
-  unmapped : (class : ClassId) (pair : pairs.Pair) → IsParted mapped graph prepared pair → is_among (tables_of mapped class) pair.0 ≡ false
-  unmapped class pair it =
-      let relation : Relation = it.placed.1 in
-      let own : IsRelated mapped relation = parted_related mapped graph prepared stand.well.related stand.fit pair it in
-      let free : maps_name mapped.classes.specs (Some (name_in mapped relation.foreign.0)) ≡ false = by (is_none relation.far) (maps_name mapped.classes.specs (Some (name_in mapped relation.foreign.0))) (no_none relation.far it.far) own.unmapped in
-      let none : is_among (tables_of mapped class) relation.foreign.0 ≡ false = not_among relation.foreign.0 (unmapped_named mapped class (name_in mapped relation.foreign.0) free) in
-      ap (λ (p : pairs.Pair). is_among (tables_of mapped class) p.0) (sym it.is) ∙ none
-    where
-      no_none : {A : Type 0} (o : Option A) → is_some o ≡ true → is_none o ≡ false
-      no_none None some = true_false false some refl
-      no_none (Some a) some = refl
-
-      by : (none maps : Bool) → none ≡ false → (none || not maps) ≡ true → maps ≡ false
-      by true maps n h = true_false true refl n
-      by false true n h = true_false false h refl
-      by false false n h = refl
-
-      not_among : (table : TableId) → has_name (map (name_in mapped) (tables_of mapped class)) (name_in mapped table) ≡ false → is_among (tables_of mapped class) table ≡ false
-      not_among table free = absent (is_among (tables_of mapped class) table) refl
-        where
-          absent : (b : Bool) → is_among (tables_of mapped class) table ≡ b → b ≡ false
-          absent false e = refl
-          absent true e =
-              true_false (has_name (map (name_in mapped) (tables_of mapped class)) (name_in mapped table))
-              (any_has (λ (other : List ℕ). same_name other (name_in mapped table)) (map (name_in mapped) (tables_of mapped class)) (name_in mapped table)
-              (has_map (name_in mapped) (tables_of mapped class) table (among_has (tables_of mapped class) table e)) (name_itself (name_in mapped table))) free
-
   among_deleted : (object : ObjId) → graphs.is_among prepared.deleted object ≡ true → Has prepared.deleted object
   among_deleted object among =
       let some = some_of (λ (other : ObjId). other.0 == object.0) prepared.deleted among in
       subst (Has prepared.deleted) (same_object some.0 object some.2) some.1
 
 pub own_rows : ObjectsHaveOwnRows
-unfolding object_ids pairs.lost_rows
+unfolding object_ids
 own_rows mapped graph prepared old stand once = record {
   fit = stand.fit;
   keyed = record {
@@ -299,7 +305,6 @@ own_rows mapped graph prepared old stand once = record {
         let has = among_deleted mapped graph prepared old stand object among in
         keyed_there mapped graph prepared old stand object (to_go mapped graph prepared old stand object has) table (among_has (tables_of mapped (object_at graph object).class) table there);
     pairs = once;
-    secondary = λ class. all_map (IsParted mapped graph prepared) (λ (row : GoneRow). is_among (tables_of mapped class) row.name.table ≡ false) (pairs.lost_row mapped graph)
-        (λ pair it. unmapped mapped graph prepared old stand class pair it) (pairs.lost_pairs mapped graph prepared) (lost_parted mapped graph prepared);
+    secondary = pairs_unmapped mapped graph prepared stand.well.related stand.fit;
   };
 }
