@@ -4,3 +4,4 @@ mod FirstRows
 pub mod FoundRows
 pub mod Sure
 pub mod Surveys
+mod Thinned

@@ -27,7 +27,7 @@ pub every_more : {A : Type 0} (P : A → Type 0) (xs : List A) (x : A) → AllBy
 every_more P [] x h p = (p, tt)
 every_more P (y ∷ ys) x h p = (h.0, every_more P ys x h.1 p)
 
-more_by : {A : Type 0} (P : A → Type 0) (b : Bool) (done : List A) (x : A) → AllByRecursion P done → P x → AllByRecursion P (if b then done ++ x ∷ [] else done)
+pub more_by : {A : Type 0} (P : A → Type 0) (b : Bool) (done : List A) (x : A) → AllByRecursion P done → P x → AllByRecursion P (if b then done ++ x ∷ [] else done)
 more_by P true done x h p = every_more P done x h p
 more_by P false done x h p = h
 

@@ -1,6 +1,7 @@
 //! The rows of a select's sources: the tables that its text names, its joins, and its condition on rows.
 #![tactic(auto)]
 
+mod before;
 mod filter;
 mod first;
 mod found;
