@@ -35,6 +35,7 @@ use Rattle.class_mapping.proofs.Having.{Has, all_from, any_has, from_filter, has
 use Rattle.mapping_laws.specs.Hierarchies.{HasHierarchies}
 use Rattle.mapping_laws.proofs.Ties.{class_tables}
 use Rattle.object_arena.specs.declared.object.Link.{Link}
+use Rattle.object_arena.specs.declared.object.Link.TheVariants.{Unset}
 use Rattle.object_arena.specs.declared.object.State.{State}
 use Rattle.object_arena.specs.declared.object.State.TheVariants.{Deleted, Detached, Pending, Persistent, Transient}
 use Rattle.object_arena.specs.Fit.{IsFit, identity_fits}
@@ -66,7 +67,8 @@ use Rattle.sendable_laws.proofs.Links.{into_class}
 use Rattle.sendable_laws.proofs.LostRows.{IsKeyedPair, of_both, parted_keyed}
 use Rattle.sendable_laws.proofs.PairRows.{IsAtEnd}
 use Rattle.sendable_laws.proofs.Roots.{alone, one_root}
-use Rattle.told_laws.specs.Laws.{ArePairsOnce}
+use Rattle.told_laws.specs.Laws.{ArePairsOnce, LeavesUnlinked, UnlinkedPairsAreOnce}
+use Rattle.told_laws.proofs.Standing.{hierarchies}
 
 -- ---- a set of pairs ascends
 
@@ -295,7 +297,7 @@ module _ (mapped : Mapped) (has : HasHierarchies mapped) (related : AreRelated m
       rows_once (λ one other. same_place (place_of_gone mapped.schema one) (place_of_gone mapped.schema other)) (pairs.lost_row mapped graph) list (set_ascends (flat_map (pairs.lost_of mapped graph prepared) (object_ids graph)) [] tt)
       (λ one other here there same. one_pair one other (each_has IsStanding list one all here) (each_has IsStanding list other all there) same)
 
-  -- ---- nothing is to be deleted
+  -- ---- who is to be deleted has no links
 
   -- an object in the session that has a key is persistent
   session_persists : (state : State) (keyed b : Bool) → (if has_identity state then keyed else not keyed) ≡ true → (is_persistent state || (is_pending state && b)) ≡ true → keyed ≡ true → is_persistent state ≡ true
@@ -311,26 +313,53 @@ module _ (mapped : Mapped) (has : HasHierarchies mapped) (related : AreRelated m
       session_persists (object_at graph object).state (is_some (object_at graph object).identity) (not (graphs.is_among prepared.transient object))
       (is.identified (place_of object) no_object (let within : place_of object < length graph.objects = omega (arith, made.0, made.1) in within)) both.0 both.1
 
-  stands : prepared.deleted ≡ [] → (pair : pairs.Pair) → IsParted mapped graph prepared pair → IsStanding pair
-  stands none pair it =
-      let keyed = parted_keyed mapped has related graph prepared fit pair it in
-      let link : Link = link_of (object_at graph it.object) (record { 0 = it.placed.0 }) in
-      let before : List ObjId = filter (pairs.is_lost graph prepared it.object) (pairs.members_before link) in
-      let removed : List ObjId = filter (pairs.is_parted graph prepared) (pairs.members_removed link) in
-      let parted : pairs.is_parted graph prepared it.member ≡ true = by it.object it.member link (has_either before removed it.member it.held) in
-      let each = of_both mapped has related graph prepared fit (λ (object : ObjId). pairs.is_parted graph prepared object ≡ true) (it.placed.1.foreign.1 == 0) it.object it.member it.in_session parted in
-      let both : (pairs.is_parted graph prepared pair.1.0 ≡ true) × (pairs.is_parted graph prepared pair.1.1 ≡ true) =
-      subst (λ (p : pairs.Pair). (pairs.is_parted graph prepared p.1.0 ≡ true) × (pairs.is_parted graph prepared p.1.1 ≡ true)) it.is each in
-      record { parted = it; first = parted_persists pair.1.0 keyed.first_made both.0; second = parted_persists pair.1.1 keyed.second_made both.1 }
-    where
-      by : (object member : ObjId) (link : Link) → Has (filter (pairs.is_lost graph prepared object) (pairs.members_before link)) member ⊎ Has (filter (pairs.is_parted graph prepared) (pairs.members_removed link)) member → pairs.is_parted graph prepared member ≡ true
-      by object member link (inl h) =
-          let from = from_filter (pairs.is_lost graph prepared object) (pairs.members_before link) member h in
-          let left = and_parts (pairs.is_leaving prepared object || pairs.is_leaving prepared member) (pairs.has_key graph member) from.1 in
-          absurd (let e : false ≡ true = sym (ap (λ (deleted : List ObjId). graphs.is_among deleted object || graphs.is_among deleted member) none) ∙ left.0 in cc)
-      by object member link (inr h) = (from_filter (pairs.is_parted graph prepared) (pairs.members_removed link) member h).1
+  module _ (leave : LeavesUnlinked graph prepared) where
+    -- it is in the session and has a key, or is to be deleted
+    abbrev Stays : ObjId → Type 0
+    Stays object = (pairs.is_parted graph prepared object ≡ true) ⊎ (is_persistent (object_at graph object).state ≡ true)
+
+    stays_persistent : (object : ObjId) → IsObject graph object → Stays object → is_persistent (object_at graph object).state ≡ true
+    stays_persistent object made (inl inside) = parted_persists object made inside
+    stays_persistent object made (inr persists) = persists
+
+    no_members : (object : ObjId) (number : ℕ) (links : List Link) → (object_at graph object).links ≡ links → links ≡ [] → pairs.members_before (link_of (object_at graph object) (record { 0 = number })) ≡ []
+    no_members object number links is none = ap (λ (own : List Link). pairs.members_before (get_or own number Unset)) (is ∙ none)
+
+    -- an object that is to be deleted has no members, so that a pair that it leaves is of another's collection
+    leaving : (object member : ObjId) (number : ℕ) → Has (pairs.members_before (link_of (object_at graph object) (record { 0 = number }))) member
+        → (one other : Bool) → pairs.is_leaving prepared object ≡ one → pairs.is_leaving prepared member ≡ other → (one || other) ≡ true → is_persistent (object_at graph member).state ≡ true
+    leaving object member number there one true a b either = (leave member b).0
+    leaving object member number there true false a b either =
+        absurd (subst (λ (members : List ObjId). Has members member) (no_members object number (object_at graph object).links refl (leave object a).1) there)
+    leaving object member number there false false a b either = absurd cc
+
+    member_stays : (object member : ObjId) (number : ℕ)
+        → Has (filter (pairs.is_lost graph prepared object) (pairs.members_before (link_of (object_at graph object) (record { 0 = number })))) member ⊎ Has (filter (pairs.is_parted graph prepared) (pairs.members_removed (link_of (object_at graph object) (record { 0 = number })))) member
+        → Stays member
+    member_stays object member number (inl h) =
+        let from = from_filter (pairs.is_lost graph prepared object) (pairs.members_before (link_of (object_at graph object) (record { 0 = number }))) member h in
+        inr (leaving object member number from.0 (pairs.is_leaving prepared object) (pairs.is_leaving prepared member) refl refl
+        (and_parts (pairs.is_leaving prepared object || pairs.is_leaving prepared member) (pairs.has_key graph member) from.1).0)
+    member_stays object member number (inr h) = inl (from_filter (pairs.is_parted graph prepared) (pairs.members_removed (link_of (object_at graph object) (record { 0 = number }))) member h).1
+
+    stands : (pair : pairs.Pair) → IsParted mapped graph prepared pair → IsStanding pair
+    stands pair it =
+        let keyed = parted_keyed mapped has related graph prepared fit pair it in
+        let link : Link = link_of (object_at graph it.object) (record { 0 = it.placed.0 }) in
+        let before : List ObjId = filter (pairs.is_lost graph prepared it.object) (pairs.members_before link) in
+        let removed : List ObjId = filter (pairs.is_parted graph prepared) (pairs.members_removed link) in
+        let member : Stays it.member = member_stays it.object it.member it.placed.0 (has_either before removed it.member it.held) in
+        let each = of_both mapped has related graph prepared fit Stays (it.placed.1.foreign.1 == 0) it.object it.member (inl it.in_session) member in
+        let both : Stays pair.1.0 × Stays pair.1.1 = subst (λ (p : pairs.Pair). Stays p.1.0 × Stays p.1.1) it.is each in
+        record { parted = it; first = stays_persistent pair.1.0 keyed.first_made both.0; second = stays_persistent pair.1.1 keyed.second_made both.1 }
+
+    leaves_once : ArePairsOnce mapped graph prepared
+    leaves_once =
+        let list : List pairs.Pair = pairs.lost_pairs mapped graph prepared in
+        pairs_once (all_from IsStanding list (λ pair there. stands pair (each_has (IsParted mapped graph prepared) list pair (lost_parted mapped graph prepared) there)))
 
   pub unmarked_once : prepared.deleted ≡ [] → ArePairsOnce mapped graph prepared
-  unmarked_once none =
-      let list : List pairs.Pair = pairs.lost_pairs mapped graph prepared in
-      pairs_once (all_from IsStanding list (λ pair there. stands none pair (each_has (IsParted mapped graph prepared) list pair (lost_parted mapped graph prepared) there)))
+  unmarked_once none = leaves_once (λ object among. absurd (let e : false ≡ true = sym (ap (λ (deleted : List ObjId). graphs.is_among deleted object) none) ∙ among in cc))
+
+pub unlinked_once : UnlinkedPairsAreOnce
+unlinked_once mapped graph prepared well fit is leave = leaves_once mapped (hierarchies mapped well) well.related graph prepared fit is leave

@@ -1,11 +1,12 @@
 -- Objects that stand in the tables as they were read have their own rows.
-use Rattle.std.specs.Prelude.{◌≡◌, ◌<◌, ℕ, true, false, ◌&&◌, length}
+use Rattle.std.specs.Prelude.{◌≡◌, ◌<◌, ℕ, true, false, ◌&&◌, [], length}
 use Rattle.std.specs.List.{filter}
+use Rattle.base_core.specs.declared.ids.ObjId.{ObjId}
 use Rattle.schema_core.specs.Declaration.{some_two}
 use Rattle.schema_core.specs.Tables.{Legal, Tables}
 use Rattle.class_mapping.specs.Mapped.{Mapped}
 use Rattle.object_arena.specs.Fit.{IsFit}
-use Rattle.object_arena.specs.Graph.{Graph, is_persistent, object_at}
+use Rattle.object_arena.specs.Graph.{Graph, is_among, is_persistent, object_at}
 use Rattle.object_arena.specs.Identity.{IsGraph}
 use Rattle.flush_order.specs.Orders.{place_of_gone}
 use Rattle.flush_order.specs.Sorted.{same_place}
@@ -34,3 +35,13 @@ ArePairsOnce mapped graph prepared = some_two (λ one other. same_place (place_o
 abbrev pub ObjectsHaveOwnRows : Type 0
 ObjectsHaveOwnRows =
     (mapped : Mapped) (graph : Graph) (prepared : Prepared) (old : Tables) → StandInTables mapped graph prepared old → ArePairsOnce mapped graph prepared → HaveOwnRows mapped graph prepared
+
+-- an object that is to be deleted is persistent, and has no links
+abbrev pub LeavesUnlinked : Graph → Prepared → Type 0
+LeavesUnlinked graph prepared =
+    (object : ObjId) → is_among prepared.deleted object ≡ true → (is_persistent (object_at graph object).state ≡ true) × ((object_at graph object).links ≡ [])
+
+-- where such objects alone are deleted, no two pairs that are taken away are one row
+abbrev pub UnlinkedPairsAreOnce : Type 0
+UnlinkedPairsAreOnce =
+    (mapped : Mapped) (graph : Graph) (prepared : Prepared) → IsWellMapped mapped → IsFit mapped graph → IsGraph graph.objects graph.roots → LeavesUnlinked graph prepared → ArePairsOnce mapped graph prepared
