@@ -1,4 +1,4 @@
-mod Adding
+pub mod Adding
 pub mod Answered
 pub mod Refused
 pub mod Told

@@ -1,5 +1,5 @@
 -- A flush of a session whose objects the tables tell, over a mapping of any form, leaves a sound session.
-use Rattle.std.proofs.Common.{◌≡◌, ℕ, ◌<◌, Bool, true, false, ◌&&◌, ◌==◌, List, length, filter, get_or, Option, Some, Ok, Err, Result, is_some, refl, sym, ap, ◌∙◌, arith}
+use Rattle.std.proofs.Common.{◌≡◌, ℕ, ◌<◌, Bool, true, ◌&&◌, ◌==◌, List, length, filter, get_or, Option, Ok, Err, Result, is_some, refl, sym, ap, ◌∙◌, arith}
 use Rattle.std.proofs.lemmas.Bool.{and_parts, eqb-true}
 use Rattle.base_core.specs.declared.ids.ObjId.{ObjId}
 use Rattle.base_core.specs.declared.refusal.Refusal.{Refusal}
@@ -11,8 +11,6 @@ use Rattle.class_mapping.proofs.Having.{from_filter, some_of}
 use Rattle.object_arena.specs.declared.object.Object.{Object}
 use Rattle.object_arena.specs.Graph.{is_among, is_persistent, no_object, object_at}
 use Rattle.object_arena.specs.Identity.{id_of_place}
-use Rattle.flush_plan.specs.Stating.{row_at}
-use Rattle.object_rows.specs.Rows.{key_or_none}
 use Rattle.object_rows.specs.Seen.{object_ids}
 use Rattle.graph_flushed.specs.Flushed.{Written, graph_written}
 use Rattle.graph_flushed.proofs.ObjectSteps.{flushed_long}
@@ -59,7 +57,7 @@ module _ (w : World) (steady : IsToldSession w) (sound : IsSound w) where
       let passes : test (id_of_place place) ≡ true = ap test (sym same) ∙ (from_filter test (object_ids w.own.graph) some.0 some.1).1 in
       steady.known place less (ap (λ (o : Object). o.marked) (sym (here_at w.own.graph place)) ∙ (and_parts (is_persistent (object_at w.own.graph (id_of_place place)).state) (object_at w.own.graph (id_of_place place)).marked passes).1)
 
-  stand : StandInTables mapped w.own.graph (prepared_of w.own.graph) w.store.tables
+  pub stand : StandInTables mapped w.own.graph (prepared_of w.own.graph) w.store.tables
   stand = record {
     well = steady.well;
     fit = steady.fit;
@@ -77,7 +75,6 @@ module _ (w : World) (steady : IsToldSession w) (sound : IsSound w) where
     legal = sound.legal;
     sorted = ascending_sorted w.store.tables steady.ascending.tables;
     own = own mapped w.own.graph (prepared_of w.own.graph) w.store.tables stand steady.once;
-    created = steady.created;
     holds = held_before;
     keyed = steady.keyed;
     known = marked_known;

@@ -1,17 +1,11 @@
 -- What a flush leaves of a session that is sound.
-use Rattle.std.specs.Prelude.{◌≡◌, ◌<◌, true, false, List, [], length, Ok, Err}
+use Rattle.std.specs.Prelude.{◌≡◌, ◌<◌, true, false, length, Ok, Err}
 use Rattle.base_core.specs.declared.refusal.Refusal.{Refusal}
 use Rattle.object_arena.specs.declared.object.Object.{Object}
 use Rattle.object_arena.specs.Graph.{is_persistent}
 use Rattle.prefix_laws.specs.Laws.{IsWellMapped}
 use Rattle.told_laws.specs.Laws.{ArePairsOnce}
-use Rattle.schema_core.specs.declared.changes.GoneRow.{GoneRow}
-use Rattle.schema_core.specs.Tables.{is_created}
-use Rattle.std.specs.List.{AllByRecursion}
-use Rattle.mapping_laws.specs.Hierarchies.{HasHierarchies}
-use Rattle.pair_rows.specs.Pairs.{lost_pairs}
 use Rattle.object_arena.specs.Fit.{IsFit}
-use Rattle.row_project.specs.Changes.{rows_lost}
 use Rattle.held_laws.specs.Laws.{IsWhollyKnown, KeepsItsKey}
 use Rattle.fresh_laws.specs.Laws.{ArePlainObjects, IsKept}
 use Rattle.legality_laws.specs.Legality.{IsAscendingStore}
@@ -36,7 +30,7 @@ pub record IsSteady (world : World) : Type 0 where
 -- A session in a transaction, whose mapping is as every configured one is, with links, classes of several tables and
 -- discriminators as they may be, over tables that ascend, as do those at the start of each scope. Its objects fit their classes; the
 -- key of a persistent object has not been changed, and of one that is to be deleted all is known. No two pairs that are taken away
--- are one row, and the tables of rows that are taken away are created.
+-- are one row.
 pub record IsToldSession (world : World) : Type 0 where
   pub inside : 0 < length world.own.frames.scopes
   pub well : IsWellMapped world.own.mapping
@@ -45,7 +39,6 @@ pub record IsToldSession (world : World) : Type 0 where
   pub keyed : EachObject (λ (object : Object). is_persistent object.state ≡ true → KeepsItsKey world.own.mapping object) world.own.graph
   pub known : EachObject (λ (object : Object). object.marked ≡ true → IsWhollyKnown object) world.own.graph
   pub once : ArePairsOnce world.own.mapping world.own.graph (prepared_of world.own.graph)
-  pub created : AllByRecursion (λ (row : GoneRow). is_created world.store.tables row.name.table ≡ true) (rows_lost world.own.mapping world.own.graph (prepared_of world.own.graph))
 
 -- a flush that answers leaves a sound session, with nothing to be written
 abbrev pub ToldFlushIsSound : Type 0
@@ -55,21 +48,18 @@ ToldFlushIsSound = (world : World) → IsToldSession world → IsSound world →
 abbrev pub ToldFlushKeepsSound : Type 0
 ToldFlushKeepsSound = (world : World) → IsToldSession world → IsSound world → IsSound (flush world).after
 
--- Such a session of which nothing is taken away: its objects fit their classes, none has a delete mark, and no pair leaves a
--- secondary table.
-pub record TakesNothingAway (world : World) : Type 0 where
+-- Such a session of which no object has a delete mark; pairs may leave secondary tables.
+pub record DeletesNothing (world : World) : Type 0 where
   pub inside : 0 < length world.own.frames.scopes
   pub well : IsWellMapped world.own.mapping
-  pub classes : HasHierarchies world.own.mapping
   pub ascending : IsAscendingStore world.store
   pub fit : IsFit world.own.mapping world.own.graph
   pub keyed : EachObject (λ (object : Object). is_persistent object.state ≡ true → KeepsItsKey world.own.mapping object) world.own.graph
   pub unmarked : EachObject (λ (object : Object). object.marked ≡ false) world.own.graph
-  pub paired : lost_pairs world.own.mapping world.own.graph (prepared_of world.own.graph) ≡ []
 
--- a flush keeps a session sound, of which nothing is taken away
+-- a flush keeps a session sound, of which no object is to be deleted
 abbrev pub AddingFlushKeepsSound : Type 0
-AddingFlushKeepsSound = (world : World) → TakesNothingAway world → IsSound world → IsSound (flush world).after
+AddingFlushKeepsSound = (world : World) → DeletesNothing world → IsSound world → IsSound (flush world).after
 
 -- ---- of plain classes
 

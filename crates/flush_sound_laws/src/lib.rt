@@ -35,7 +35,7 @@ pub fn a_flush_keeps_sound()
 
 /// A flush that answers leaves a sound session, over a mapping of any form: with links over foreign keys and secondary tables, with
 /// classes of several tables and with discriminators; with objects that are to be deleted, and pairs that are taken away. That no two
-/// such pairs are one row, and that their tables are created, is asked; no script is known that breaks either.
+/// such pairs are one row is asked; no script is known that breaks it.
 pub fn an_answered_flush_of_a_told_session_leaves_sound()
     ensures { ToldFlushIsSound }
 {
@@ -52,9 +52,9 @@ pub fn a_flush_keeps_a_told_session_sound()
     a_refused_flush_leaves_sound();
 }
 
-/// A flush keeps a session sound over a mapping of any form, whatever it answers, where nothing is taken away: no object has a delete
-/// mark, and no pair leaves a secondary table. The objects fit their classes, and their keys have not been changed.
-pub fn a_flush_that_takes_nothing_away_keeps_sound()
+/// A flush keeps a session sound over a mapping of any form, whatever it answers, where no object has a delete mark; pairs may leave
+/// secondary tables. The objects fit their classes, and their keys have not been changed.
+pub fn a_flush_that_deletes_nothing_keeps_sound()
     ensures { AddingFlushKeepsSound }
 {
     a_flush_keeps_a_told_session_sound();

@@ -1,5 +1,5 @@
 -- After a flush that was accepted the cells of every persistent object hold what its row holds.
-use Rattle.std.proofs.Common.{◌≡◌, ℕ, ◌+◌, ◌-◌, ◌<◌, Bool, true, false, T, ◌&&◌, ◌||◌, if◌then◌else◌, List, [], ◌∷◌, length, map, get_or, Option, None, Some, Ok, refl, sym, ap, ◌∙◌, subst, arith}
+use Rattle.std.proofs.Common.{◌≡◌, ℕ, ◌+◌, ◌-◌, ◌<◌, Bool, true, false, T, ◌&&◌, if◌then◌else◌, List, [], ◌∷◌, length, map, get_or, Option, None, Some, Ok, refl, sym, ap, ◌∙◌, subst, arith}
 use Rattle.std.specs.FinMap.Entries.{below_all, is_sorted}
 use Rattle.std.specs.List.{AllByRecursion, range_with_len}
 use Rattle.std.specs.List.Sorted.{IsStrictlySortedBy}
@@ -13,46 +13,37 @@ use Rattle.base_core.specs.declared.value.Value.{Value}
 use Rattle.schema_core.specs.declared.changes.ChangedRow.{ChangedRow}
 use Rattle.schema_core.specs.declared.changes.Planned.{Planned}
 use Rattle.schema_core.specs.Catalog.{IsTable}
-use Rattle.schema_core.specs.Tables.{AreAscending, Rows, Tables, is_created, table_cmp}
+use Rattle.schema_core.specs.Tables.{AreAscending, Rows, Tables, table_cmp}
 use Rattle.base_core.specs.Order.{values_cmp}
-use Rattle.class_mapping.specs.Mapped.{Mapped, root_table}
-use Rattle.class_mapping.proofs.Having.{all_from, from_filter}
+use Rattle.class_mapping.specs.Mapped.{Mapped}
 use Rattle.object_arena.specs.declared.object.Object.{Object}
 use Rattle.object_arena.specs.declared.object.State.{State}
 use Rattle.object_arena.specs.declared.object.State.TheVariants.{Transient, Pending, Persistent, Deleted, Detached}
 use Rattle.object_arena.specs.Graph as graphs
 use Rattle.object_arena.specs.Graph.{Graph, IsObject, is_persistent, no_object, object_at, place_of}
 use Rattle.object_arena.specs.Identity.{id_of_place}
-use Rattle.flush_order.specs.Orders.{place_of_gone}
 use Rattle.flush_order.specs.Ready.{IsInTable}
 use Rattle.flush_plan.specs.Flushing.{Keys, Sofar, key_of_new, send_all}
-use Rattle.flush_plan.specs.Planning.{place_of_changed, plan, writes_some}
-use Rattle.flush_plan.specs.Stating.{row_at}
+use Rattle.flush_plan.specs.Planning.{plan}
 use Rattle.object_rows.specs.declared.prepared.Prepared.{Prepared}
-use Rattle.object_rows.specs.Rows.{has_cells}
 use Rattle.plan_laws.specs.Laws.{before}
 use Rattle.plan_laws.specs.Premises.{IsSorted}
 use Rattle.plan_laws.proofs.FlushLaw.{accepted_stated as plan_stated}
 use Rattle.plan_laws.proofs.Facts.{true_false}
-use Rattle.prefix_laws.specs.Laws.{IsTold, key_held}
-use Rattle.prefix_laws.proofs.MappingFacts.{once_law}
-use Rattle.prefix_laws.proofs.ObjectsApart.{rows_apart}
+use Rattle.prefix_laws.specs.Laws.{IsTold}
 use Rattle.prefix_laws.proofs.Projected.{all_projected}
-use Rattle.project_laws.proofs.LateKeys.{each_has}
-use Rattle.row_project.specs.Changes.{object_changes}
-use Rattle.row_project.specs.Switch.{partners, project, row_kept, rows_kept, rows_switched}
-use Rattle.row_project.proofs.Each.{all_append, each_to}
+use Rattle.row_project.specs.Switch.{project}
+use Rattle.row_project.proofs.Each.{each_to}
 use Rattle.row_project.proofs.Range.{project_declared}
 use Rattle.graph_flushed.specs.Flushed.{Written, deleted_object, graph_written, key_of, new_object, object_flushed, object_in, staying_object, written_with}
 use Rattle.graph_flushed.proofs.ObjectSteps.{flushed_at}
 use Rattle.fresh_laws.specs.Laws.{AreSteady, FlushedObjectsHoldTheirRows, HoldsItsRow, IsKept}
 use Rattle.fresh_laws.proofs.After.{ArePlaced, all_are_placed}
 use Rattle.fresh_laws.proofs.Done.{IsDone}
-use Rattle.fresh_laws.proofs.Planned.{or_here, or_true, order_made, row_created, some_written}
+use Rattle.fresh_laws.proofs.Planned.{order_made}
 use Rattle.fresh_laws.proofs.Pending.{new_holds, written}
-use Rattle.fresh_laws.proofs.Rows.{IsGoneRow, IsSwitchedRow, gone_own, switched_rows}
 use Rattle.fresh_laws.proofs.Staying.{staying_holds}
-use Rattle.fresh_laws.proofs.Told.{all_keyed, all_told, deleted_made, deleted_read, key_read}
+use Rattle.fresh_laws.proofs.Told.{all_told}
 
 -- ---- tables that ascend are sorted
 
@@ -94,28 +85,6 @@ module _ (mapped : Mapped) (graph : Graph) (prepared : Prepared) (old : Tables) 
   told : IsTold mapped graph prepared old
   told = all_told mapped graph steady.plain steady.well old steady.legal prepared steady.only steady.is holds kept
 
-  created : AllByRecursion (λ (row : ChangedRow). (writes_some row.cells || is_created old row.name.table) ≡ true) (project mapped graph prepared).changed
-  created =
-      let first = object_changes mapped graph prepared in
-      let found = partners mapped.schema first in
-      let keyed = all_keyed mapped graph steady.plain steady.well old steady.legal prepared steady.only steady.is holds kept in
-      let apart = rows_apart mapped graph prepared (once_law mapped steady.well.lined steady.well.lines) keyed in
-      all_append (λ (row : ChangedRow). (writes_some row.cells || is_created old row.name.table) ≡ true) (rows_kept mapped graph first found) (rows_switched mapped graph first found)
-      (all_from (λ (row : ChangedRow). (writes_some row.cells || is_created old row.name.table) ≡ true) (rows_kept mapped graph first found)
-      (λ row has. or_here (writes_some row.cells) (is_created old row.name.table) (some_written row (from_filter has_cells (map (row_kept mapped graph first found) first.changed) row has).1)))
-      (each_to (IsSwitchedRow mapped graph prepared steady.plain) (λ (row : ChangedRow). (writes_some row.cells || is_created old row.name.table) ≡ true)
-      (λ row s.
-      let gone = each_has (IsGoneRow mapped graph prepared steady.plain) first.gone s.gone (gone_own mapped graph prepared steady.plain (deleted_made mapped graph steady.plain steady.well old steady.legal prepared steady.only steady.is)) s.among in
-      let left : ObjId = s.gone.name.object in
-      let read = deleted_read mapped graph steady.plain steady.well old steady.legal prepared steady.only steady.is holds kept left gone.deleted in
-      let table : TableId = s.gone.name.table in
-      let under : place_of_gone mapped.schema s.gone ≡ (root_table mapped (object_at graph left).class, key_held graph left) =
-      ap (place_of_gone mapped.schema) (sym gone.is)
-      ∙ ap (λ (key : List Value). (root_table mapped (object_at graph left).class, key)) (key_read mapped graph steady.plain steady.well old steady.legal prepared steady.only steady.is holds kept left gone.deleted) in
-      let at : row_at old (place_of_changed row) ≡ Some read.row = ap (row_at old) (sym s.place ∙ under) ∙ read.at in
-      or_true (writes_some row.cells) (is_created old row.name.table) (row_created old (place_of_changed row) read.row at))
-      (rows_switched mapped graph first found) (switched_rows mapped graph prepared steady.plain apart))
-
   module _ (statements : List Planned) (sofar : Sofar) (planned : plan mapped.schema (project mapped graph prepared) ≡ Ok statements) (sent : send_all mapped.schema (project mapped graph prepared) (Ok (before old)) statements ≡ Ok sofar) where
     abbrev order : List ℕ
     order = (order_made mapped.schema (project mapped graph prepared) statements planned).0
@@ -145,10 +114,7 @@ module _ (mapped : Mapped) (graph : Graph) (prepared : Prepared) (old : Tables) 
             ordered = ordered;
             keys = placed.puts;
             states = plan_stated mapped.schema old changes order statements sofar projected steady.sorted steady.legal
-                (record {
-                  declared = each_to (IsInTable mapped.schema) (λ (row : ChangedRow). IsTable mapped.schema row.name.table) (λ row in_table. in_table.declared) changes.changed (project_declared mapped graph prepared steady.well.related told.fit).changed;
-                  created = created;
-                })
+                (each_to (IsInTable mapped.schema) (λ (row : ChangedRow). IsTable mapped.schema row.name.table) (λ row in_table. in_table.declared) changes.changed (project_declared mapped graph prepared steady.well.related told.fit).changed)
                 ordered planned sent;
           };
         }

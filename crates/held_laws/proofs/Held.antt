@@ -1,18 +1,14 @@
 -- After a flush that was accepted the cells of every persistent object hold what its rows hold.
-use Rattle.std.proofs.Common.{◌≡◌, ℕ, ◌+◌, ◌-◌, ◌<◌, Bool, true, false, ◌||◌, if◌then◌else◌, List, length, map, get_or, Option, None, Some, Ok, refl, sym, subst, ap, ◌∙◌, arith}
-use Rattle.std.specs.List.{AllByRecursion, enumerate_from, range_with_len}
-use Rattle.std.specs.Option.{option_map}
-use Rattle.std.proofs.lemmas.Option.{slice_get-get_or}
+use Rattle.std.proofs.Common.{◌≡◌, ℕ, ◌+◌, ◌-◌, ◌<◌, Bool, true, false, if◌then◌else◌, List, length, map, get_or, Option, None, Some, Ok, refl, sym, subst, ap, ◌∙◌, arith}
+use Rattle.std.specs.List.{range_with_len}
 use Rattle.base_core.specs.declared.ids.ObjId.{ObjId}
 use Rattle.base_core.specs.declared.value.Value.{Value}
 use Rattle.schema_core.specs.declared.changes.ChangedRow.{ChangedRow}
-use Rattle.schema_core.specs.declared.changes.GoneRow.{GoneRow}
 use Rattle.schema_core.specs.declared.changes.Planned.{Planned}
 use Rattle.schema_core.specs.declared.changes.RowChanges.{RowChanges}
 use Rattle.schema_core.specs.Catalog.{IsTable}
-use Rattle.schema_core.specs.Tables.{Legal, Tables, is_created}
+use Rattle.schema_core.specs.Tables.{Legal, Tables}
 use Rattle.class_mapping.specs.Mapped.{Mapped}
-use Rattle.class_mapping.proofs.Having.{all_from, from_filter, has_at}
 use Rattle.object_arena.specs.Fit.{key_fits}
 use Rattle.object_arena.specs.declared.object.Object.{Object}
 use Rattle.object_arena.specs.declared.object.State.{State}
@@ -20,57 +16,29 @@ use Rattle.object_arena.specs.declared.object.State.TheVariants.{Transient, Pend
 use Rattle.object_arena.specs.Graph as graphs
 use Rattle.object_arena.specs.Graph.{Graph, IsObject, is_persistent, no_object, object_at, place_of}
 use Rattle.object_arena.specs.Identity.{id_of_place}
-use Rattle.flush_order.specs.Orders.{gone_at, no_gone}
-use Rattle.flush_order.specs.Sorted.{Place}
 use Rattle.flush_plan.specs.Flushing.{Keys, Sofar, key_of_new, send_all}
-use Rattle.flush_plan.specs.Planning.{place_of_changed, plan, writes_some}
+use Rattle.flush_plan.specs.Planning.{plan}
 use Rattle.graph_flushed.specs.Flushed.{Written, deleted_object, graph_written, key_of, new_object, object_flushed, object_in, staying_object, written_with}
 use Rattle.graph_flushed.specs.Keys.{key_if_fit, new_key}
 use Rattle.graph_flushed.proofs.ObjectSteps.{flushed_at}
 use Rattle.object_rows.specs.declared.prepared.Prepared.{Prepared}
 use Rattle.object_rows.specs.Seen.{is_new}
-use Rattle.object_rows.specs.Rows.{has_cells}
-use Rattle.row_project.specs.Changes.{object_changes, rows_lost}
+use Rattle.row_project.specs.Changes.{object_changes}
 use Rattle.flush_order.specs.Ready.{IsInTable}
-use Rattle.row_project.specs.Switch.{partners, project, row_kept, rows_kept, rows_switched, switch_of}
-use Rattle.row_project.proofs.Each.{all_append, each_to}
+use Rattle.row_project.specs.Switch.{project}
+use Rattle.row_project.proofs.Each.{each_to}
 use Rattle.row_project.proofs.Range.{project_declared}
 use Rattle.plan_laws.specs.Laws.{before}
 use Rattle.plan_laws.proofs.Facts.{true_false}
 use Rattle.plan_laws.proofs.FlushLaw.{accepted_stated}
-use Rattle.project_laws.proofs.Apart.{switched_is}
-use Rattle.project_laws.proofs.LateKeys.{each_has}
-use Rattle.mapping_laws.proofs.Tables.{from_filter_map}
-use Rattle.prefix_laws.specs.Laws.{AreKeyed, IsWellMapped}
-use Rattle.prefix_laws.proofs.MappingFacts.{once_law}
-use Rattle.prefix_laws.proofs.ObjectsApart.{rows_apart}
 use Rattle.prefix_laws.proofs.Projected.{all_projected}
 use Rattle.fresh_laws.proofs.After.{ArePlaced, all_are_placed}
-use Rattle.fresh_laws.proofs.Planned.{or_here, or_true, order_made, some_written}
+use Rattle.fresh_laws.proofs.Planned.{order_made}
 use Rattle.held_laws.specs.Laws.{AreHeld, FlushedObjectsHold, HoldsItsRows, IsWhollyKnown, placed_object}
 use Rattle.held_laws.proofs.Done.{IsDone}
 use Rattle.held_laws.proofs.Given.{given, key_given, written}
 use Rattle.held_laws.proofs.New.{new_holds}
 use Rattle.held_laws.proofs.Stays.{staying_holds}
-
--- a changed row without cells stands for a deleted one
-pub changed_created : (mapped : Mapped) (graph : Graph) (prepared : Prepared) (old : Tables) → IsWellMapped mapped → AreKeyed mapped graph prepared → AllByRecursion (λ (row : GoneRow). is_created old row.name.table ≡ true) (rows_lost mapped graph prepared)
-    → AllByRecursion (λ (row : ChangedRow). (writes_some row.cells || is_created old row.name.table) ≡ true) (project mapped graph prepared).changed
-changed_created mapped graph prepared old well keyed created =
-    let first : RowChanges = object_changes mapped graph prepared in
-    let found = partners mapped.schema first in
-    let apart = rows_apart mapped graph prepared (once_law mapped well.lined well.lines) keyed in
-    all_append (λ (row : ChangedRow). (writes_some row.cells || is_created old row.name.table) ≡ true) (rows_kept mapped graph first found) (rows_switched mapped graph first found)
-    (all_from (λ (row : ChangedRow). (writes_some row.cells || is_created old row.name.table) ≡ true) (rows_kept mapped graph first found)
-    (λ row has. or_here (writes_some row.cells) (is_created old row.name.table) (some_written row (from_filter has_cells (map (row_kept mapped graph first found) first.changed) row has).1)))
-    (all_from (λ (row : ChangedRow). (writes_some row.cells || is_created old row.name.table) ≡ true) (rows_switched mapped graph first found)
-    (λ row has.
-    let from = from_filter_map (switch_of mapped graph first found) (enumerate_from 0 first.fresh) row has in
-    let at = switched_is mapped graph first apart from.0 (place_of_changed row) from.1 (ap (option_map place_of_changed) from.2) in
-    let gone : GoneRow = gone_at first.gone at.0 in
-    let its : gone.name.table ≡ row.name.table = ap (λ (q : Place). q.0) at.2 in
-    or_true (writes_some row.cells) (is_created old row.name.table)
-    (ap (is_created old) (sym its) ∙ each_has (λ (r : GoneRow). is_created old r.name.table ≡ true) first.gone gone created (has_at first.gone at.0 gone (slice_get-get_or first.gone at.0 no_gone at.3)))))
 
 module _ (mapped : Mapped) (graph : Graph) (prepared : Prepared) (old : Tables) (held : AreHeld mapped graph prepared old) where
   abbrev first : RowChanges
@@ -117,10 +85,7 @@ module _ (mapped : Mapped) (graph : Graph) (prepared : Prepared) (old : Tables) 
             ordered = ordered;
             keys = put.puts;
             states = accepted_stated mapped.schema old changes order statements sofar projected held.sorted held.legal
-                (record {
-                  declared = each_to (IsInTable mapped.schema) (λ (row : ChangedRow). IsTable mapped.schema row.name.table) (λ row in_table. in_table.declared) changes.changed (project_declared mapped graph prepared held.well.related held.own.fit).changed;
-                  created = changed_created mapped graph prepared old held.well held.own.keyed held.created;
-                })
+                (each_to (IsInTable mapped.schema) (λ (row : ChangedRow). IsTable mapped.schema row.name.table) (λ row in_table. in_table.declared) changes.changed (project_declared mapped graph prepared held.well.related held.own.fit).changed)
                 ordered planned sent;
           };
         }

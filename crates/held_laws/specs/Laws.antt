@@ -1,12 +1,11 @@
 -- What is known of the objects of every mapping once a flush has answered: their cells hold what their rows hold.
 use Rattle.std.specs.Prelude.{◌≡◌, ◌<◌, ℕ, true, List, length, map, slice_index_or, Option, Some, Ok}
-use Rattle.std.specs.List.{AllByRecursion, range_with_len}
+use Rattle.std.specs.List.{range_with_len}
 use Rattle.std.specs.Option.{is_some}
 use Rattle.base_core.specs.declared.ids.AttrNo.{AttrNo}
 use Rattle.base_core.specs.declared.value.Value.{Value}
-use Rattle.schema_core.specs.declared.changes.GoneRow.{GoneRow}
 use Rattle.schema_core.specs.declared.changes.Planned.{Planned}
-use Rattle.schema_core.specs.Tables.{Legal, Tables, is_created}
+use Rattle.schema_core.specs.Tables.{Legal, Tables}
 use Rattle.class_types.specs.declared.mapped.Attribute.{Attribute}
 use Rattle.class_mapping.specs.Mapped.{Mapped, attribute_of, is_key_attribute}
 use Rattle.mapping_laws.specs.Hierarchies.{HasHierarchies}
@@ -21,7 +20,6 @@ use Rattle.object_rows.specs.Rows.{key_or_none}
 use Rattle.plan_laws.specs.Laws.{before}
 use Rattle.plan_laws.specs.Premises.{IsSorted}
 use Rattle.prefix_laws.specs.Laws.{HaveOwnRows, IsWellMapped}
-use Rattle.row_project.specs.Changes.{rows_lost}
 use Rattle.row_project.specs.Switch.{project}
 use Rattle.graph_flushed.specs.Flushed.{graph_flushed}
 use Rattle.fresh_laws.specs.Laws.{column_in}
@@ -49,14 +47,13 @@ placed_object graph place = slice_index_or graph.objects place no_object
 
 -- What is asked before the flush: the mapping is as every configured one is; tables are legal and ascend; the objects fit their
 -- classes and have rows of their own, and those that are to be deleted are wholly known; and what is known of persistent objects is
--- what their rows hold, under keys that have not been changed. The tables of rows that are taken away are created.
+-- what their rows hold, under keys that have not been changed.
 pub record AreHeld (mapped : Mapped) (graph : Graph) (prepared : Prepared) (old : Tables) : Type 0 where
   pub well : IsWellMapped mapped
   pub classes : HasHierarchies mapped
   pub legal : Legal mapped.schema old
   pub sorted : IsSorted old
   pub own : HaveOwnRows mapped graph prepared
-  pub created : AllByRecursion (λ (row : GoneRow). is_created old row.name.table ≡ true) (rows_lost mapped graph prepared)
   pub holds : (place : ℕ) → place < length graph.objects → is_persistent (placed_object graph place).state ≡ true → HoldsItsRows mapped old (placed_object graph place)
   pub keyed : (place : ℕ) → place < length graph.objects → is_persistent (placed_object graph place).state ≡ true → KeepsItsKey mapped (placed_object graph place)
   pub known : (place : ℕ) → place < length graph.objects → is_among prepared.deleted (id_of_place place) ≡ true → IsWhollyKnown (placed_object graph place)

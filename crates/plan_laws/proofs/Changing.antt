@@ -45,7 +45,7 @@ pub none_written : (cells : List (ColumnNo × RowCell)) → writes_some cells �
 none_written [] e = refl
 none_written (cell ∷ cells) e = absurd (true_false e)
 
-some_filter : (t : ColumnNo × RowCell → Bool) (cells : List (ColumnNo × RowCell)) → writes_some (filter t cells) ≡ true → writes_some cells ≡ true
+pub some_filter : (t : ColumnNo × RowCell → Bool) (cells : List (ColumnNo × RowCell)) → writes_some (filter t cells) ≡ true → writes_some cells ≡ true
 some_filter t [] e = e
 some_filter t (cell ∷ cells) e = refl
 

@@ -6,7 +6,6 @@ use Rattle.std.specs.Option.{is_some, unwrap_or}
 use Rattle.base_core.specs.declared.ids.ColumnNo.{ColumnNo}
 use Rattle.base_core.specs.declared.value.Value.{Value}
 use Rattle.base_core.specs.declared.value.Value.TheVariants.{Null, Int}
-use Rattle.schema_core.specs.declared.changes.ChangedRow.{ChangedRow}
 use Rattle.schema_core.specs.declared.changes.NewRow.{NewRow}
 use Rattle.schema_core.specs.declared.changes.RowCell.{RowCell}
 use Rattle.schema_core.specs.declared.changes.RowCell.TheVariants.{Given}
@@ -17,7 +16,6 @@ use Rattle.schema_core.specs.Apply.{next_key, wants_key, with_cells, with_key}
 use Rattle.schema_core.specs.Catalog.{Catalog, spec_of}
 use Rattle.schema_core.specs.Tables.{Legal, Rows, Tables, is_created, given_value}
 use Rattle.base_core.proofs.Lists.{every_append}
-use Rattle.table_laws.proofs.Entries.{all_map}
 use Rattle.table_laws.proofs.RowFits.{and_true}
 use Rattle.flush_order.specs.Cells.{cells_cleared, first_cells, is_late, late_name, new_at, no_row, table_at}
 use Rattle.flush_order.specs.Orders.{insert_order, place_of_gone}
@@ -28,13 +26,13 @@ use Rattle.flush_plan.specs.Flushing.{Keys, Sofar, value_of_cell}
 use Rattle.flush_plan.specs.Planning.{late_gone, place_of_changed, writes_some}
 use Rattle.flush_plan.specs.Stating.{Edit, all_placed, blend, edit_changed, edit_gone, edit_new, edits, is_present, old_row, place_of_new, put_cells, row_at, stated_tables, written_rows}
 use Rattle.plan_laws.proofs.Drawn.{drawn_under}
-use Rattle.plan_laws.specs.Laws.{IsComplete, IsProjected, before}
+use Rattle.plan_laws.specs.Laws.{IsComplete, IsProjected, before, changes_to_write}
 use Rattle.plan_laws.specs.Premises.{Ends, IsSorted}
 use Rattle.plan_laws.proofs.Between.{Comes, columns, early_part, legal_cells}
 use Rattle.plan_laws.proofs.Blend.{Long, blend_again, blend_long, legal_is_long, nulls, nulls_are_long}
 use Rattle.plan_laws.proofs.Editing.{AreApart, IsEdit, at_edits, edit_cases}
 use Rattle.plan_laws.proofs.Inserting.{News}
-use Rattle.plan_laws.proofs.Items.{all_at, all_filter, all_map_of, all_members, mapped_member, member_all, member_split}
+use Rattle.plan_laws.proofs.Items.{all_at, all_map_of, all_members, mapped_member, member_all, member_split}
 use Rattle.plan_laws.proofs.Newness.{Facts, facts, new_apart, new_free, new_fresh}
 use Rattle.plan_laws.proofs.Orders.{order_distinct, order_within}
 use Rattle.plan_laws.proofs.Placing.{Leads, Placed, placed_step}
@@ -98,7 +96,7 @@ pub record IsStated (schema : Catalog) (old : Tables) (changes : RowChanges) (or
   pub legal : Legal schema old
   pub ordered : insert_order schema changes ≡ Ok order
   pub keys : all_placed schema changes old order ≡ Some placed
-  pub states : stated_tables schema old changes order ≡ Some after
+  pub states : stated_tables schema old (changes_to_write changes) order ≡ Some after
 
 pub told_of : (schema : Catalog) (old : Tables) (changes : RowChanges) (order : List ℕ) (placed : Sofar) (after : Tables) → IsComplete schema old changes order placed after → IsStated schema old changes order placed after
 told_of schema old changes order placed after complete = record {
@@ -133,10 +131,10 @@ module _ (schema : Catalog) (old : Tables) (changes : RowChanges) (order : List 
       (length-map (new_at changes place).cells given_value
       ∙ all_at (λ (row : NewRow). length row.cells ≡ length (spec_of schema row.name.table).columns) changes.fresh place no_row told.projected.new_cells (within place among))
 
-  pub created_parts : (list_all (λ row. is_created old row.name.table) changes.fresh ≡ true) × (list_all (λ row. is_created old row.name.table) changes.changed ≡ true) × (list_all (λ row. is_created old row.name.table) changes.gone ≡ true)
+  pub created_parts : (list_all (λ row. is_created old row.name.table) changes.fresh ≡ true) × (list_all (λ row. is_created old row.name.table) (written_rows changes) ≡ true) × (list_all (λ row. is_created old row.name.table) changes.gone ≡ true)
   created_parts =
-      let a = and_true (list_all (λ row. is_created old row.name.table) changes.fresh && list_all (λ row. is_created old row.name.table) changes.changed) (list_all (λ row. is_created old row.name.table) changes.gone) known_facts.tables in
-      let b = and_true (list_all (λ row. is_created old row.name.table) changes.fresh) (list_all (λ row. is_created old row.name.table) changes.changed) a.0 in
+      let a = and_true (list_all (λ row. is_created old row.name.table) changes.fresh && list_all (λ row. is_created old row.name.table) (written_rows changes)) (list_all (λ row. is_created old row.name.table) changes.gone) known_facts.tables in
+      let b = and_true (list_all (λ row. is_created old row.name.table) changes.fresh) (list_all (λ row. is_created old row.name.table) (written_rows changes)) a.0 in
       (b.0, b.1, a.1)
 
   pub new_created : (place : ℕ) → is_among order place ≡ true → is_created old (table_at changes place) ≡ true
@@ -149,9 +147,7 @@ module _ (schema : Catalog) (old : Tables) (changes : RowChanges) (order : List 
       (every_append (λ e. is_created old e.0.0 ≡ true) (map (edit_gone schema) changes.gone ++ map (edit_changed old placed.keys) (written_rows changes)) (map (edit_new schema changes placed) order)
       (every_append (λ e. is_created old e.0.0 ≡ true) (map (edit_gone schema) changes.gone) (map (edit_changed old placed.keys) (written_rows changes))
       (all_map_of (λ e. is_created old e.0.0 ≡ true) (edit_gone schema) changes.gone (all_from (λ row. is_created old row.name.table) changes.gone created_parts.2))
-      (all_map_of (λ e. is_created old e.0.0 ≡ true) (edit_changed old placed.keys) (written_rows changes)
-      (all_filter (λ (row : ChangedRow). is_created old row.name.table ≡ true) (λ row. writes_some row.cells) changes.changed
-      (all_map (λ (row : ChangedRow). is_created old row.name.table ≡ true) (λ row. writes_some row.cells ≡ true → is_created old row.name.table ≡ true) (λ row created some. created) changes.changed (all_from (λ row. is_created old row.name.table) changes.changed created_parts.1)))))
+      (all_map_of (λ e. is_created old e.0.0 ≡ true) (edit_changed old placed.keys) (written_rows changes) (all_from (λ row. is_created old row.name.table) (written_rows changes) created_parts.1)))
       (all_map_of (λ e. is_created old e.0.0 ≡ true) (edit_new schema changes placed) order (all_members (λ p. is_created old (table_at changes p) ≡ true) order new_created)))
       is
 

@@ -22,7 +22,7 @@ use Rattle.flush_plan.specs.Planning.{cells_when, column_of, is_written_when, la
 use Rattle.flush_plan.specs.Runs.{runs}
 use Rattle.flush_plan.specs.Planning.{insert_run}
 use Rattle.flush_plan.specs.Stating.{all_placed, with_edit, edits, is_present, place_of_new, row_at, stated_tables, stated_under, written_rows}
-use Rattle.plan_laws.specs.Laws.{AcceptedIsLegal, AcceptedIsStated, AreNamed, IsProjected, before}
+use Rattle.plan_laws.specs.Laws.{AcceptedIsLegal, AcceptedIsStated, AreDeclared, IsProjected, before, changes_to_write}
 use Rattle.plan_laws.specs.Premises.{IsSorted}
 use Rattle.plan_laws.proofs.Accepted.{Accepts, accepts_legal, accepts_of, accepts_split}
 use Rattle.plan_laws.proofs.Between.{early_part, is_declared}
@@ -35,7 +35,7 @@ use Rattle.plan_laws.proofs.DeleteOrder as deleting
 use Rattle.plan_laws.proofs.FlushSteps.{Arriving, IsRight, Leaving, deletes_created, deletes_end, left_stated, updates_created, updates_end, updates_sorted, updates_present}
 use Rattle.plan_laws.proofs.Inserting.{Stood}
 use Rattle.plan_laws.proofs.Items.{Member, all_at, all_filter, every_at, member_all, member_map, among_member}
-use Rattle.plan_laws.proofs.Newness.{Facts, place_same, same_is}
+use Rattle.plan_laws.proofs.Newness.{Facts, place_same, same_is, to_write_placed, to_write_under}
 use Rattle.plan_laws.proofs.Orders.{order_distinct, order_is}
 use Rattle.plan_laws.proofs.PlanLaw.{in_phases, plan_made}
 use Rattle.plan_laws.proofs.Puts.{Puts, order_put, puts_sorted}
@@ -44,7 +44,7 @@ use Rattle.plan_laws.proofs.Stated.{stated_created, stated_sorted}
 use Rattle.plan_laws.proofs.Steps.{all_steps, clear_in, each_step, early_in, late_in_steps, placed_way, stated_way}
 use Rattle.plan_laws.proofs.Updating.{OnWay, Step, planned_of, step_place}
 use Rattle.plan_laws.proofs.Whole.{whole_row}
-use Rattle.plan_laws.proofs.Facts.{bool_cases, or_false, some_of, some_or_none, true_false}
+use Rattle.plan_laws.proofs.Facts.{or_false, some_of, some_or_none, true_false}
 
 -- ---- tests on lists
 
@@ -82,7 +82,7 @@ pub record WasAccepted (schema : Catalog) (old : Tables) (changes : RowChanges) 
   pub updates : Accepts schema changes placed (map planned_of (all_steps schema changes order)) middle
   pub deletes : Accepts schema changes middle (map remove_at (map (λ n. place_of_gone schema (get_or (gone_rows schema changes) n no_gone)) gone)) end
 
-module _ (schema : Catalog) (old : Tables) (changes : RowChanges) (order gone : List ℕ) (end : Sofar) (projected : IsProjected schema changes) (sorted : IsSorted old) (legal : Legal schema old) (named : AreNamed schema old changes) (ordered : insert_order schema changes ≡ Ok order) (gone_order : delete_order schema changes (gone_rows schema changes) ≡ Ok gone) (was : WasAccepted schema old changes order gone end) where
+module _ (schema : Catalog) (old : Tables) (changes : RowChanges) (order gone : List ℕ) (end : Sofar) (projected : IsProjected schema changes) (sorted : IsSorted old) (legal : Legal schema old) (declared : AreDeclared schema changes) (ordered : insert_order schema changes ≡ Ok order) (gone_order : delete_order schema changes (gone_rows schema changes) ≡ Ok gone) (was : WasAccepted schema old changes order gone end) where
   abbrev placed : Sofar
   placed = was.placed
 
@@ -140,7 +140,7 @@ module _ (schema : Catalog) (old : Tables) (changes : RowChanges) (order gone : 
       old_there (place_of_changed (changed_at n)) (changed_stale n h some)
       (elim (halves schema changes (changed_at n) some) [
         | inl early ↦ ap (is_present placed.tables) (sym (step_is placed.keys false (cells_when schema changes false (changed_at n)))) ∙ step_there (step_of false (cells_when schema changes false (changed_at n))) (early_in schema changes projected order n h early)
-        | inr late ↦ ap (is_present placed.tables) (sym (step_is placed.keys true (cells_when schema changes true (changed_at n)))) ∙ step_there (step_of true (cells_when schema changes true (changed_at n))) (late_in_steps schema changes projected order n (all_at (λ (row : ChangedRow). IsTable schema row.name.table) changes.changed n no_changed named.declared h) h late)
+        | inr late ↦ ap (is_present placed.tables) (sym (step_is placed.keys true (cells_when schema changes true (changed_at n)))) ∙ step_there (step_of true (cells_when schema changes true (changed_at n))) (late_in_steps schema changes projected order n (all_at (λ (row : ChangedRow). IsTable schema row.name.table) changes.changed n no_changed declared h) h late)
       ])
 
   gone_created : (n : ℕ) → n < length changes.gone → is_created old (gone_at n).name.table ≡ true
@@ -161,14 +161,11 @@ module _ (schema : Catalog) (old : Tables) (changes : RowChanges) (order gone : 
       (ap (is_present placed.tables) (sym (step_is placed.keys true (late_gone schema changes (gone_at n))))
       ∙ step_there (step_of true (late_gone schema changes (gone_at n))) (clear_in schema changes projected order n (is_declared schema old legal (gone_at n).name.table (gone_created n h)) h some))
 
-  changed_created : (n : ℕ) → n < length changes.changed → is_created old (changed_at n).name.table ≡ true
-  changed_created n h =
-      elim (bool_cases (writes_some (changed_at n).cells)) [
-        | inl some ↦ there_created (place_of_changed (changed_at n)) (rows_in old (changed_at n).name.table) refl (changed_there n h some)
-        | inr none ↦
-            ap (λ b. b || is_created old (changed_at n).name.table) (sym none)
-            ∙ all_at (λ (row : ChangedRow). (writes_some row.cells || is_created old row.name.table) ≡ true) changes.changed n no_changed named.created h
-      ]
+  written_created : AllByRecursion (λ (row : ChangedRow). is_created old row.name.table ≡ true) (written_rows changes)
+  written_created =
+      all_filter (λ (row : ChangedRow). is_created old row.name.table ≡ true) (λ row. writes_some row.cells) changes.changed
+      (every_at (λ (row : ChangedRow). writes_some row.cells ≡ true → is_created old row.name.table ≡ true) changes.changed no_changed
+      (λ n h some. there_created (place_of_changed (changed_at n)) (rows_in old (changed_at n).name.table) refl (changed_there n h some)))
     where
       there_created : (q : Place) (o : Option Rows) → rows_in old q.0 ≡ o → is_present old q ≡ true → is_some o ≡ true
       there_created q None e there = sym (ap (λ p. is_some (option_and_then (λ rows. row_under rows q.1) p)) e) ∙ there
@@ -183,7 +180,7 @@ module _ (schema : Catalog) (old : Tables) (changes : RowChanges) (order gone : 
   facts = record {
     tables = λ i.
         all_true (λ row. is_created old row.name.table) changes.fresh (every_at (λ (row : NewRow). is_created old row.name.table ≡ true) changes.fresh no_row (λ n h. puts_table schema changes order (before old) placed n was.puts (is_order.each n h))) i
-        && all_true (λ row. is_created old row.name.table) changes.changed (every_at (λ (row : ChangedRow). is_created old row.name.table ≡ true) changes.changed no_changed changed_created) i
+        && all_true (λ row. is_created old row.name.table) (written_rows changes) written_created i
         && all_true (λ row. is_created old row.name.table) changes.gone (every_at (λ (row : GoneRow). is_created old row.name.table ≡ true) changes.gone no_gone gone_created) i;
     rows = λ i.
         all_true (λ row. is_present old (row.name.table, row.key)) (written_rows changes)
@@ -206,10 +203,11 @@ module _ (schema : Catalog) (old : Tables) (changes : RowChanges) (order gone : 
   unfolding all_placed
   keys = puts_leads schema changes (before old) placed order was.puts
 
-  states : stated_tables schema old changes order ≡ Some after
+  states : stated_tables schema old (changes_to_write changes) order ≡ Some after
   unfolding stated_tables
   states =
-      ap (stated_under schema old changes order) keys
+      ap (stated_under schema old (changes_to_write changes) order) (to_write_placed schema changes old order ∙ keys)
+      ∙ to_write_under schema old changes order placed after
       ∙ (λ i. cond (facts.tables i && facts.rows i && (not (facts.free i) && not (facts.gone i) && not (facts.twice i))) (Some after) None)
 
   told : IsStated schema old changes order placed after
@@ -288,7 +286,7 @@ module _ (schema : Catalog) (old : Tables) (changes : RowChanges) (order gone : 
         ];
   }
 
-  pub leaves_stated : stated_tables schema old changes order ≡ Some end.tables
+  pub leaves_stated : stated_tables schema old (changes_to_write changes) order ≡ Some end.tables
   leaves_stated =
       let last =
       deletes_end schema changes after (map (pl schema changes projected.gone_once gone gone_order) gone) was.middle end
@@ -296,7 +294,7 @@ module _ (schema : Catalog) (old : Tables) (changes : RowChanges) (order gone : 
       states ∙ ap Some (sym (left_stated schema changes after end (stated_sorted schema old changes order placed after sorted (known_facts schema old changes order placed after told)) last))
 
 pub accepted_stated : AcceptedIsStated
-accepted_stated schema old changes order sent sofar projected sorted legal named ordered e done =
+accepted_stated schema old changes order sent sofar projected sorted legal declared ordered e done =
     let m = plan_made schema changes order sent ordered e in
     let place : ℕ → Place = pl schema changes projected.gone_once m.gone m.ordered in
     let all = accepts_of schema changes (before old) sofar sent done in
@@ -305,7 +303,7 @@ accepted_stated schema old changes order sent sofar projected sorted legal named
     let deletes = map remove_at (map place m.gone) in
     let one = accepts_split schema changes (before old) sofar inserts (updates ++ deletes) (subst (λ plan. Accepts schema changes (before old) plan sofar) (m.is ∙ in_phases schema changes order m.gone place refl) all) in
     let two = accepts_split schema changes one.0 sofar updates deletes one.2 in
-    leaves_stated schema old changes order m.gone sofar projected sorted legal named ordered m.ordered
+    leaves_stated schema old changes order m.gone sofar projected sorted legal declared ordered m.ordered
     (record {
       placed = one.0;
       middle = two.0;

@@ -21,16 +21,16 @@ use Rattle.flush_order.specs.Orders.{no_gone, place_of_gone}
 use Rattle.flush_order.specs.Places.{is_among}
 use Rattle.flush_order.specs.Sorted.{Place, sorted_numbers}
 use Rattle.flush_plan.specs.Flushing.{Keys, Sofar}
-use Rattle.flush_plan.specs.Planning.{Writing, cells_when, changed_rows, is_of, late_gone, late_in, late_new, late_old, late_updates, late_writings, no_changed, no_writing, place_of_changed, updates, writes_some, writing_some}
+use Rattle.flush_plan.specs.Planning.{Writing, cells_when, changed_rows, is_of, late_gone, late_in, late_new, late_old, late_updates, late_writings, is_written_when, no_changed, no_writing, place_of_changed, updates, writes_some, writing_some}
 use Rattle.flush_plan.specs.Stating.{edit_changed, edit_gone, edit_new, edits, is_present, place_of_new, row_at, written_rows}
 use Rattle.plan_laws.specs.Laws.{AreAsRead, IsProjected}
 use Rattle.plan_laws.proofs.Blend.{blend_self}
-use Rattle.plan_laws.proofs.Changing.{changed_way, early_ok, is_written, late_ok, step_is, step_of}
+use Rattle.plan_laws.proofs.Changing.{some_filter, changed_way, early_ok, is_written, late_ok, step_is, step_of}
 use Rattle.plan_laws.proofs.Clearing.{clear_ok, gone_way, none_then}
 use Rattle.plan_laws.proofs.Complete.{IsStated, created_parts, known_facts, new_created, news, told_long}
 use Rattle.plan_laws.proofs.Differing.{apart_of, apart_other, writings_differ}
 use Rattle.plan_laws.proofs.Editing.{edit_cases}
-use Rattle.plan_laws.proofs.Items.{Member, all_at, all_filter, all_flat, all_map_of, all_members, among_member, every_at, filtered_member, length_mapped, map_map, mapped_member, member_filter, member_flat, member_left, member_map, member_number, member_range, member_right, member_split, number_member}
+use Rattle.plan_laws.proofs.Items.{Member, all_at, all_filter, all_flat, all_map_of, all_members, among_member, every_at, filtered_member, length_mapped, map_map, mapped_member, member_all, member_filter, member_flat, member_left, member_map, member_number, member_range, member_right, member_split, number_member}
 use Rattle.plan_laws.proofs.LateNew.{new_step, new_way, step_at, step_ok}
 use Rattle.plan_laws.proofs.Numbers.{AreOther, numbers_have, numbers_within}
 use Rattle.plan_laws.proofs.Stated.{all_from, new_case, stated_other}
@@ -236,10 +236,11 @@ module _ (schema : Catalog) (old : Tables) (changes : RowChanges) (order : List 
 
   -- ---- what is to come
 
-  changed_declared : (n : ℕ) → n < length changes.changed → IsTable schema (changed_at n).name.table
-  changed_declared n h =
+  changed_declared : (n : ℕ) → n < length changes.changed → writes_some (changed_at n).cells ≡ true → IsTable schema (changed_at n).name.table
+  changed_declared n h some =
       is_declared schema old told.legal (changed_at n).name.table
-      (all_at (λ (row : ChangedRow). is_created old row.name.table ≡ true) changes.changed n no_changed (all_from (λ row. is_created old row.name.table) changes.changed (created_parts schema old changes order placed after told).1) h)
+      (member_all (λ (row : ChangedRow). is_created old row.name.table ≡ true) (written_rows changes) (changed_at n) (all_from (λ row. is_created old row.name.table) (written_rows changes) (created_parts schema old changes order placed after told).1)
+      (member_filter (λ (row : ChangedRow). writes_some row.cells) (changed_at n) changes.changed some (number_member changes.changed n no_changed h)))
 
   gone_declared : (n : ℕ) → n < length changes.gone → IsTable schema (gone_at n).name.table
   gone_declared n h =
@@ -254,7 +255,7 @@ module _ (schema : Catalog) (old : Tables) (changes : RowChanges) (order : List 
   late_comes : (n : ℕ) → n < length changes.changed → writing_some (cells_when schema changes true (changed_at n)) ≡ true → ToCome placed.keys true (place_of_changed (changed_at n)) steps
   late_comes n h some =
       let w : Writing = cells_when schema changes true (changed_at n) in
-      come_of placed.keys true (place_of_changed (changed_at n)) (step_of true w) steps (late_in_steps schema changes told.projected order n (changed_declared n h) h some) refl (step_is placed.keys true w)
+      come_of placed.keys true (place_of_changed (changed_at n)) (step_of true w) steps (late_in_steps schema changes told.projected order n (changed_declared n h (some_filter (λ cell. is_written_when schema changes true (changed_at n).name.table cell.0) (changed_at n).cells some)) h some) refl (step_is placed.keys true w)
 
   clear_comes : (n : ℕ) → n < length changes.gone → writing_some (late_gone schema changes (gone_at n)) ≡ true → ToCome placed.keys true (place_of_gone schema (gone_at n)) steps
   clear_comes n h some =

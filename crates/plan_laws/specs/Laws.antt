@@ -16,15 +16,15 @@ use Rattle.schema_core.specs.declared.table.ColumnSpec.{ColumnSpec}
 use Rattle.schema_core.specs.declared.table.ForeignSpec.{ForeignSpec}
 use Rattle.schema_core.specs.Catalog.{Catalog, IsTable, has_name, same_name, spec_of, target_of}
 use Rattle.schema_core.specs.Declaration.{some_two}
-use Rattle.schema_core.specs.Tables.{Legal, Tables, cells_of, is_created}
+use Rattle.schema_core.specs.Tables.{Legal, Tables, cells_of}
 use Rattle.schema_core.specs.WellFormed.{IsWellFormed}
 use Rattle.flush_order.specs.Cells.{is_late, table_at}
 use Rattle.flush_order.specs.Orders.{insert_order, place_of_gone}
 use Rattle.flush_order.specs.Sorted.{same_place}
 use Rattle.flush_plan.specs.Flushing.{Sofar, send_all, send, statement_sent}
 use Rattle.schema_core.specs.declared.changes.Planned.TheVariants.{Insert}
-use Rattle.flush_plan.specs.Planning.{key_at, place_of_changed, plan, writes_some}
-use Rattle.flush_plan.specs.Stating.{all_placed, blend, guess, row_at, stated_tables}
+use Rattle.flush_plan.specs.Planning.{key_at, place_of_changed, plan}
+use Rattle.flush_plan.specs.Stating.{all_placed, blend, guess, row_at, stated_tables, written_rows}
 use Rattle.plan_laws.specs.Premises.{IsClear, IsFit, IsSorted}
 
 -- the INSERT of one row
@@ -88,6 +88,11 @@ pub record AreAsRead (schema : Catalog) (old : Tables) (changes : RowChanges) : 
   pub base : AllByRecursion (λ (row : GoneRow). (stands : List Value) → row_at old (place_of_gone schema row) ≡ Some stands → AllByRecursion (λ foreign. cells_of (spec_of schema row.name.table) stands foreign.columns ≡ cells_of (spec_of schema row.name.table) row.base foreign.columns) (spec_of schema row.name.table).foreigns) changes.gone
   pub late : AllByRecursion (λ (row : GoneRow). (stands : List Value) → row_at old (place_of_gone schema row) ≡ Some stands → blend (is_late schema changes row.name.table) (spec_of schema row.name.table).columns stands row.base ≡ stands) changes.gone
 
+-- The changes without the changed rows of which no cell is written. Nothing is sent of such a row, which stays as it is, so it names no
+-- table.
+abbrev pub changes_to_write : RowChanges → RowChanges
+changes_to_write changes = record changes { changed = written_rows changes }
+
 -- what completeness asks
 pub record IsComplete (schema : Catalog) (old : Tables) (changes : RowChanges) (order : List ℕ) (placed : Sofar) (after : Tables) : Type 0 where
   pub projected : IsProjected schema changes
@@ -96,7 +101,7 @@ pub record IsComplete (schema : Catalog) (old : Tables) (changes : RowChanges) (
   pub legal : Legal schema old
   pub ordered : insert_order schema changes ≡ Ok order
   pub keys : all_placed schema changes old order ≡ Some placed
-  pub states : stated_tables schema old changes order ≡ Some after
+  pub states : stated_tables schema old (changes_to_write changes) order ≡ Some after
   pub legal_after : Legal schema after
   pub clear : IsClear schema old after
   pub no_guess : guess schema old changes order placed.keys ≡ false
@@ -135,19 +140,24 @@ AreWellFormed schema changes sofar [] = Unit {0}
 AreWellFormed schema changes sofar (planned ∷ plan) =
     IsWellFormed schema (statement_sent schema changes sofar.keys planned) × ((next : Sofar) → send schema changes sofar planned ≡ Ok next → AreWellFormed schema changes next plan)
 
--- a changed row is of a declared table; one without cells, of which nothing is sent, of a created one
-pub record AreNamed (schema : Catalog) (old : Tables) (changes : RowChanges) : Type 0 where
-  pub declared : AllByRecursion (λ (row : ChangedRow). IsTable schema row.name.table) changes.changed
-  pub created : AllByRecursion (λ (row : ChangedRow). (writes_some row.cells || is_created old row.name.table) ≡ true) changes.changed
+-- a changed row is of a declared table
+abbrev pub AreDeclared : Catalog → RowChanges → Type 0
+AreDeclared schema changes = AllByRecursion (λ (row : ChangedRow). IsTable schema row.name.table) changes.changed
 
--- where a plan is accepted, it leaves the stated tables
+-- where a plan is accepted, it leaves the stated tables: a changed row of which no cell is written stays as it was
 abbrev pub AcceptedIsStated : Type 0
 AcceptedIsStated =
     (schema : Catalog) (old : Tables) (changes : RowChanges) (order : List ℕ) (statements : List Planned) (sofar : Sofar)
-    → IsProjected schema changes → IsSorted old → Legal schema old → AreNamed schema old changes
+    → IsProjected schema changes → IsSorted old → Legal schema old → AreDeclared schema changes
     → insert_order schema changes ≡ Ok order → plan schema changes ≡ Ok statements
     → send_all schema changes (Ok (before old)) statements ≡ Ok sofar
-    → stated_tables schema old changes order ≡ Some sofar.tables
+    → stated_tables schema old (changes_to_write changes) order ≡ Some sofar.tables
+
+-- where changes state tables, they state the same without the changed rows of which no cell is written
+abbrev pub RowsWithoutCellsStateNothing : Type 0
+RowsWithoutCellsStateNothing =
+    (schema : Catalog) (old : Tables) (changes : RowChanges) (order : List ℕ) (after : Tables)
+    → stated_tables schema old changes order ≡ Some after → stated_tables schema old (changes_to_write changes) order ≡ Some after
 
 -- and legal ones, where its statements fit the schema
 abbrev pub AcceptedIsLegal : Type 0

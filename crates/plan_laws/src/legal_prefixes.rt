@@ -3,7 +3,7 @@
 ghost use Rattle.std.specs.Prelude.{◌≡◌, [], ◌∷◌, Ok};
 ghost use Rattle.flush_plan.specs.Planning.{plan};
 ghost use Rattle.flush_plan.specs.Flushing.{Sofar, send_all};
-ghost use Rattle.plan_laws.specs.Laws.{AcceptedIsLegal, AcceptedIsStated, AreNamed, AreWellFormed, InsertPrefixesAreLegal, InsertsLeaveKeys, IsComplete, PrefixesAreLegal, WholeIsStated, before};
+ghost use Rattle.plan_laws.specs.Laws.{AcceptedIsLegal, AcceptedIsStated, AreDeclared, AreWellFormed, InsertPrefixesAreLegal, InsertsLeaveKeys, IsComplete, PrefixesAreLegal, RowsWithoutCellsStateNothing, WholeIsStated, before};
 ghost use Rattle.plan_laws.specs.Worked.{by_value, mixed_changes, mixed_keys, mixed_old, mixed_plan, mixed_rows, no_rows, schema, value_rows};
 
 /// Under completeness's premises every prefix of the INSERTs is accepted and leaves legal tables, and all of them leave the
@@ -21,10 +21,12 @@ pub fn plans_are_legal()
 {}
 
 /// Where a plan is accepted from legal tables, it leaves the stated tables, and legal ones where its statements fit the
-/// schema.
+/// schema. A changed row of which no cell is written stays as it was, also where its table is not created: nothing is sent of
+/// it, and where it has a table the stated tables are the same with it and without it.
 pub fn accepted_plans_are_stated()
     ensures stated { AcceptedIsStated }
     ensures legal { AcceptedIsLegal }
+    ensures same { RowsWithoutCellsStateNothing }
 {}
 
 /// The premises can be met: by an entry and the widget that its values name, both new; and by a new, a changed and a deleted
@@ -36,7 +38,7 @@ pub fn premises_are_met()
     ensures late { (placed : Sofar)
         × IsComplete schema mixed_old mixed_changes (0 ∷ []) placed mixed_rows }
     ensures late_plan { plan schema mixed_changes ≡ Ok mixed_plan }
-    ensures named { AreNamed schema mixed_old mixed_changes }
+    ensures declared { AreDeclared schema mixed_changes }
     ensures formed { AreWellFormed schema mixed_changes (before mixed_old) mixed_plan }
     ensures sent { send_all schema mixed_changes (Ok (before mixed_old)) mixed_plan
         ≡ Ok (record { tables = mixed_rows; keys = mixed_keys }) }

@@ -41,11 +41,8 @@ whole_stated mapped graph prepared old order placed after sent well told stated 
     whole mapped.schema old (project mapped graph prepared) order placed after sent (complete_of mapped graph prepared old order placed after well told stated) e
 
 pub accepted_stated : AcceptedFlushIsStated
-accepted_stated mapped graph prepared old order sent sofar well own sorted legal created ordered e accepted =
+accepted_stated mapped graph prepared old order sent sofar well own sorted legal ordered e accepted =
     let changes = project mapped graph prepared in
     plan_stated mapped.schema old changes order sent sofar (all_projected mapped graph prepared well own) sorted legal
-    (record {
-      declared = each_to (IsInTable mapped.schema) (λ (row : ChangedRow). IsTable mapped.schema row.name.table) (λ row in_table. in_table.declared) changes.changed (project_declared mapped graph prepared well.related own.fit).changed;
-      created = created;
-    })
+    (each_to (IsInTable mapped.schema) (λ (row : ChangedRow). IsTable mapped.schema row.name.table) (λ row in_table. in_table.declared) changes.changed (project_declared mapped graph prepared well.related own.fit).changed)
     ordered e accepted

@@ -1,11 +1,10 @@
 -- What a flush of a prepared graph sends goes through, statement by statement.
-use Rattle.std.specs.Prelude.{◌≡◌, ◌||◌, ◌==◌, ℕ, true, false, List, length, take, Some, Ok}
+use Rattle.std.specs.Prelude.{◌≡◌, ◌==◌, ℕ, true, false, List, length, take, Some, Ok}
 use Rattle.std.specs.List.{AllByRecursion, list_any}
 use Rattle.base_core.specs.declared.ids.ClassId.{ClassId}
 use Rattle.base_core.specs.declared.ids.ObjId.{ObjId}
 use Rattle.base_core.specs.declared.ids.TableId.{TableId}
 use Rattle.base_core.specs.declared.value.Value.{Value}
-use Rattle.schema_core.specs.declared.changes.ChangedRow.{ChangedRow}
 use Rattle.schema_core.specs.declared.changes.GoneRow.{GoneRow}
 use Rattle.schema_core.specs.declared.changes.NewRow.{NewRow}
 use Rattle.schema_core.specs.declared.changes.Planned.{Planned}
@@ -14,7 +13,7 @@ use Rattle.schema_core.specs.declared.table.ForeignSpec.{ForeignSpec}
 use Rattle.schema_core.specs.Catalog.{Catalog, has_name, spec_of}
 use Rattle.schema_core.specs.Declaration.{IsDeclared, some_two}
 use Rattle.schema_core.specs.DependencyOrder.{is_among}
-use Rattle.schema_core.specs.Tables.{Legal, Tables, cells_of, is_created}
+use Rattle.schema_core.specs.Tables.{Legal, Tables, cells_of}
 use Rattle.class_layouts.specs.Faults.{foreigns_in}
 use Rattle.class_mapping.specs.Lines.{AreLines}
 use Rattle.class_mapping.specs.Mapped.{IsValidMapping, Mapped, tables_of}
@@ -26,12 +25,12 @@ use Rattle.flush_order.specs.Orders.{insert_order, place_of_gone}
 use Rattle.flush_order.specs.Refers.{gone_key}
 use Rattle.flush_order.specs.Sorted.{same_place}
 use Rattle.flush_plan.specs.Flushing.{Sofar, send_all}
-use Rattle.flush_plan.specs.Planning.{plan, writes_some}
+use Rattle.flush_plan.specs.Planning.{plan}
 use Rattle.flush_plan.specs.Stating.{all_placed, guess, row_at, stated_tables}
 use Rattle.object_rows.specs.declared.prepared.Prepared.{Prepared}
 use Rattle.object_rows.specs.Rows.{gone_row, gone_rows, is_discriminator, key_or_none}
 use Rattle.pair_rows.specs.Pairs.{lost_rows}
-use Rattle.plan_laws.specs.Laws.{AreAsRead, IsOneKind, IsProjected, before, cells_named}
+use Rattle.plan_laws.specs.Laws.{AreAsRead, IsOneKind, IsProjected, before, cells_named, changes_to_write}
 use Rattle.plan_laws.specs.Premises.{IsClear, IsSorted}
 use Rattle.row_project.specs.Switch.{project}
 use Rattle.project_laws.specs.Laws.{PostsAreLinks}
@@ -117,7 +116,7 @@ pub record AreStated (schema : Catalog) (old : Tables) (changes : RowChanges) (o
   pub clear : IsClear schema old after
   pub ordered : insert_order schema changes ≡ Ok order
   pub keys : all_placed schema changes old order ≡ Some placed
-  pub states : stated_tables schema old changes order ≡ Some after
+  pub states : stated_tables schema old (changes_to_write changes) order ≡ Some after
   pub no_guess : guess schema old changes order placed.keys ≡ false
 
 -- ---- the laws
@@ -160,12 +159,11 @@ WholeFlushIsStated =
     → (sofar : Sofar) × (send_all mapped.schema (project mapped graph prepared) (Ok (before old)) statements ≡ Ok sofar) × (sofar.tables ≡ after)
 
 -- Where a plan of what a flush changes is accepted, it leaves the stated tables, whatever the rows that are deleted held. A changed
--- row without cells, of which nothing is sent, is of a created table.
+-- row of which no cell is written stays as it was.
 abbrev pub AcceptedFlushIsStated : Type 0
 AcceptedFlushIsStated =
     (mapped : Mapped) (graph : Graph) (prepared : Prepared) (old : Tables) (order : List ℕ) (statements : List Planned) (sofar : Sofar)
     → IsWellMapped mapped → HaveOwnRows mapped graph prepared → IsSorted old → Legal mapped.schema old
-    → AllByRecursion (λ (row : ChangedRow). (writes_some row.cells || is_created old row.name.table) ≡ true) (project mapped graph prepared).changed
     → insert_order mapped.schema (project mapped graph prepared) ≡ Ok order → plan mapped.schema (project mapped graph prepared) ≡ Ok statements
     → send_all mapped.schema (project mapped graph prepared) (Ok (before old)) statements ≡ Ok sofar
-    → stated_tables mapped.schema old (project mapped graph prepared) order ≡ Some sofar.tables
+    → stated_tables mapped.schema old (changes_to_write (project mapped graph prepared)) order ≡ Some sofar.tables

@@ -35,7 +35,7 @@ pub fn flush_prefixes_are_legal()
 {}
 
 /// Where the plan of a flush is accepted, it leaves the stated tables, also where the rows of deleted objects held what no attribute
-/// tells.
+/// tells. A row of which no cell is written, as one in place of a deleted row that holds the same, stays as it was.
 pub fn accepted_flushes_are_stated()
     ensures { AcceptedFlushIsStated }
 {}

@@ -12,7 +12,7 @@ pub leaves_stated : AcceptedFlushIsStated → SendsItsPlan → LeavesStatedRows
 leaves_stated stated sends world order ready is =
     let sent = sends world is in
     let sofar : Sofar = sent.1 in
-    stated world.own.mapping world.own.graph (prepared_of world.own.graph) world.store.tables order sent.0 sofar ready.mapped (record { fit = ready.told.fit; keyed = ready.told.keyed }) ready.sorted ready.legal ready.created ready.ordered sent.2 sent.3
+    stated world.own.mapping world.own.graph (prepared_of world.own.graph) world.store.tables order sent.0 sofar ready.mapped ready.own ready.sorted ready.legal ready.ordered sent.2 sent.3
     ∙ ap (λ (t : Tables). Some t) (sym sent.4)
 
 pub answers_stated : WholeFlushIsStated → AnswersWhereAccepted → AnswersWhereStated

@@ -1,37 +1,34 @@
 -- What rows a flush leaves, where the store is told.
-use Rattle.std.specs.Prelude.{◌≡◌, ◌||◌, ℕ, true, List, Some, Ok}
-use Rattle.std.specs.List.{AllByRecursion}
-use Rattle.schema_core.specs.declared.changes.ChangedRow.{ChangedRow}
+use Rattle.std.specs.Prelude.{◌≡◌, ℕ, List, Some, Ok}
 use Rattle.schema_core.specs.declared.changes.Planned.{Planned}
-use Rattle.schema_core.specs.Tables.{Legal, Tables, is_created}
+use Rattle.schema_core.specs.Tables.{Legal, Tables}
 use Rattle.flush_order.specs.Orders.{insert_order}
 use Rattle.flush_plan.specs.Flushing.{Sofar}
-use Rattle.flush_plan.specs.Planning.{plan, writes_some}
+use Rattle.flush_plan.specs.Planning.{plan}
 use Rattle.flush_plan.specs.Stating.{stated_tables}
-use Rattle.plan_laws.specs.Laws.{before}
+use Rattle.plan_laws.specs.Laws.{before, changes_to_write}
 use Rattle.plan_laws.specs.Premises.{IsSorted}
-use Rattle.prefix_laws.specs.Laws.{AreStated, IsTold, IsWellMapped}
+use Rattle.prefix_laws.specs.Laws.{AreStated, HaveOwnRows, IsTold, IsWellMapped}
 use Rattle.session_calls.specs.Parts.{World}
 use Rattle.session_flush.specs.Flush.{flush, prepared_of}
 use Rattle.session_flush.specs.Outcome.{changes_of}
 use Rattle.session_flush_laws.specs.Laws.{AreSendable}
 
--- The mapping is as every configured one is, the objects have their own rows, and those that are to be deleted stand as they were
--- read, in legal and ascending tables. A changed row of which no cell is written is of a created table. The new rows have this order.
+-- The mapping is as every configured one is and the objects have their own rows, in legal and ascending tables. The new rows have
+-- this order.
 pub record IsFlushable (world : World) (order : List ℕ) : Type 0 where
   pub mapped : IsWellMapped world.own.mapping
-  pub told : IsTold world.own.mapping world.own.graph (prepared_of world.own.graph) world.store.tables
+  pub own : HaveOwnRows world.own.mapping world.own.graph (prepared_of world.own.graph)
   pub sorted : IsSorted world.store.tables
   pub legal : Legal world.own.mapping.schema world.store.tables
-  pub created : AllByRecursion (λ (row : ChangedRow). (writes_some row.cells || is_created world.store.tables row.name.table) ≡ true) (changes_of world.own).changed
   pub ordered : insert_order world.own.mapping.schema (changes_of world.own) ≡ Ok order
 
 -- a flush that answers leaves the rows that the objects state: the old ones without the deleted, with the changed cells written
--- and the new rows put in
+-- and the new rows put in; a row of which no cell is written stays as it was
 abbrev pub LeavesStatedRows : Type 0
 LeavesStatedRows =
     (world : World) (order : List ℕ) → IsFlushable world order → (flush world).answer ≡ Ok tt
-    → stated_tables world.own.mapping.schema world.store.tables (changes_of world.own) order ≡ Some (flush world).after.store.tables
+    → stated_tables world.own.mapping.schema world.store.tables (changes_to_write (changes_of world.own)) order ≡ Some (flush world).after.store.tables
 
 -- Where the tables that the objects state are legal, and each statement of the plan fits the schema when it is sent, a flush
 -- answers and leaves those tables.

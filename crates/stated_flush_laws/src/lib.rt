@@ -8,7 +8,7 @@ use prefix_laws::{accepted_flushes_are_stated, flush_prefixes_are_legal};
 use session_flush_laws::{a_flush_sends_its_plan, an_accepted_flush_answers};
 
 /// A flush that answers leaves exactly the rows that the objects state: the old ones, of which the deleted are gone, with the changed
-/// cells written and the new rows put in.
+/// cells written and the new rows put in. A row of which no cell is written stays as it was.
 pub fn a_flush_leaves_the_stated_rows()
     ensures { LeavesStatedRows }
 {

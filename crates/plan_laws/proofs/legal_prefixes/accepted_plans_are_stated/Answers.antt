@@ -1,4 +1,5 @@
 use Rattle.plan_laws.proofs.FlushLaw.{accepted_legal, accepted_stated}
+use Rattle.plan_laws.proofs.Newness.{states_same}
 use Rattle.plan_laws.proofs.legal_prefixes.accepted_plans_are_stated.Goals as goal
 
 pub returns-clause-stated : goal.returns-clause-stated
@@ -6,3 +7,6 @@ returns-clause-stated c = accepted_stated
 
 pub returns-clause-legal : goal.returns-clause-legal
 returns-clause-legal c = accepted_legal
+
+pub returns-clause-same : goal.returns-clause-same
+returns-clause-same c = states_same

@@ -7,7 +7,7 @@ use Rattle.flush_plan.specs.Flushing.{send, send_all}
 use Rattle.flush_plan.specs.Planning.{plan}
 use Rattle.plan_laws.specs.Laws.{before}
 use Rattle.plan_laws.specs.Worked.{mixed_changes, mixed_keys, mixed_old, mixed_plan, mixed_rows, schema}
-use Rattle.plan_laws.proofs.Example.{its_placed, met, mixed_formed, mixed_met, mixed_named, mixed_placed}
+use Rattle.plan_laws.proofs.Example.{its_placed, met, mixed_declared, mixed_formed, mixed_met, mixed_placed}
 use Rattle.plan_laws.proofs.legal_prefixes.premises_are_met.Goals as goal
 
 -- the changes of all three kinds have this plan
@@ -29,8 +29,8 @@ returns-clause-late c = (mixed_placed, mixed_met)
 pub returns-clause-late_plan : goal.returns-clause-late_plan
 returns-clause-late_plan c = mixed_planned
 
-pub returns-clause-named : goal.returns-clause-named
-returns-clause-named c = mixed_named
+pub returns-clause-declared : goal.returns-clause-declared
+returns-clause-declared c = mixed_declared
 
 pub returns-clause-formed : goal.returns-clause-formed
 returns-clause-formed c = mixed_formed
