@@ -1,7 +1,10 @@
 -- Calls that flush keep a healthy session healthy, whatever they answer.
-use Rattle.std.proofs.Common.{◌≡◌, inl, inr, ℕ, ◌+◌, ◌-◌, ◌<◌, Bool, true, false, ◌==◌, List, [], ◌∷◌, get_or, length, Option, None, Some, Result, Ok, Err, refl, sym, ap, ◌∙◌, subst, arith}
+use Rattle.std.proofs.Common.{◌≡◌, inl, inr, ℕ, ◌+◌, ◌-◌, ◌<◌, Bool, true, false, ◌==◌, List, [], ◌∷◌, filter, get_or, length, Option, None, Some, Result, Ok, Err, refl, sym, ap, ◌∙◌, subst, arith}
 use Rattle.std.specs.Prelude.{is_none}
+use Rattle.std.proofs.lemmas.Bool.{and_parts, eqb-true}
+use Rattle.std.proofs.lemmas.List.Elements.{recursion_from_All}
 use Rattle.std.proofs.lemmas.List.Quantifiers.{position-Some}
+use Rattle.base_core.specs.declared.ids.ObjId.{ObjId}
 use Rattle.base_core.specs.declared.refusal.Refusal.{Refusal}
 use Rattle.base_core.specs.declared.refusal.Refusal.TheVariants.{InvalidRequestError, PendingRollbackError, ResourceClosedError}
 use Rattle.base_core.specs.declared.refusal.RequestKind.TheVariants.{KeyChange}
@@ -9,6 +12,7 @@ use Rattle.std.specs.List.{list_all}
 use Rattle.class_mapping.specs.Mapped.{Mapped}
 use Rattle.class_mapping.specs.Plain.{is_plain_root}
 use Rattle.class_mapping.specs.PlainClass.{ArePlain}
+use Rattle.class_mapping.proofs.Having.{from_filter, some_of}
 use Rattle.schema_core.specs.Tables.{Tables}
 use Rattle.expr_types.specs.declared.select.Bulk.{Bulk}
 use Rattle.expr_types.specs.declared.select.Select.{Select}
@@ -17,8 +21,11 @@ use Rattle.object_arena.specs.declared.object.Object.{Object}
 use Rattle.object_arena.specs.declared.object.State.{State}
 use Rattle.object_arena.specs.declared.object.State.TheVariants.{Transient, Pending, Persistent, Deleted, Detached}
 use Rattle.object_arena.specs.Fit.{IsFit}
-use Rattle.object_arena.specs.Graph.{Graph, either_fault, is_persistent, no_object}
+use Rattle.object_arena.specs.Graph.{Graph, IsObject, either_fault, is_persistent, no_object, object_at, place_of}
 use Rattle.object_arena.specs.Identity.{is_identified}
+use Rattle.object_rows.specs.Seen.{object_ids}
+use Rattle.object_rows.proofs.ObjectSteps.{all_made}
+use Rattle.project_laws.proofs.LateKeys.{each_has}
 use Rattle.programs.specs.Programs.{Event, Run, ◌>>=◌, continue_from, give, refuse}
 use Rattle.programs.specs.Beside.{by_own, changes, on_store}
 use Rattle.savepoints.specs.declared.scope.Scope.{Scope}
@@ -32,7 +39,7 @@ use Rattle.session_calls.specs.Steps.{begin_unless, enter, pending_fault}
 use Rattle.session_calls.proofs.Acting.{no_scope_open}
 use Rattle.session_savepoints.specs.Steps.{begin_savepoint, check_handle, commit_whole, enter_nested, handle_fault, limit_fault, release_handle}
 use Rattle.session_statements.specs.Steps as statements
-use Rattle.session_flush.specs.Flush.{flush, prepared_of}
+use Rattle.session_flush.specs.Flush.{flush, is_to_delete, prepared_of}
 use Rattle.session_flush.specs.Outcome.{changes_of}
 use Rattle.session_flush_laws.proofs.Flushing.{IsFlushSent, flush_sent}
 use Rattle.session_acts.specs.Steps as acts
@@ -43,6 +50,8 @@ use Rattle.session_sound.proofs.Programs.{checked_none, checked_same}
 use Rattle.session_laws.proofs.Nesting.{nest_sound}
 use Rattle.session_laws.proofs.Rereading.{bulk_sound, rows_sound}
 use Rattle.session_laws.proofs.Whole.{handle_released, whole_sound}
+use Rattle.told_laws.specs.Laws.{LeavesUnlinked}
+use Rattle.told_laws.proofs.PairsOnce.{unlinked_once}
 use Rattle.flush_sound_laws.specs.Laws.{AnsweredFlushIsSound, FlushKeepsSound, IsSteady, IsToldSession, ToldFlushIsSound, ToldFlushKeepsSound}
 use Rattle.health_laws.specs.Health.{HoldsItsKey, IsHealthy, IsWhole, KeepsHealthWhole, CanTakeAway, MayFlush, is_named}
 use Rattle.health_laws.proofs.Fits.{flushed_fit}
@@ -185,6 +194,17 @@ module _ (mapped : Mapped) (w : World) (it : IsInside mapped w) where
     kept = λ place less persists. let keyed = keyed_at place less persists in record { keyed = keyed.0 keyed.1; known = (it.healthy.tidy.own.objects place less).known };
   }
 
+  -- what is to be deleted has no links
+  leave : LeavesUnlinked w.own.graph (prepared_of w.own.graph)
+  leave object among =
+      let graph : Graph = w.own.graph in
+      let some = some_of (λ (other : ObjId). other.0 == object.0) (filter (is_to_delete graph) (object_ids graph)) among in
+      let same : some.0 ≡ object = ap (λ (n : ℕ). let id : ObjId = record { 0 = n } in id) (eqb-true some.0.0 object.0 some.2) in
+      let kept = from_filter (is_to_delete graph) (object_ids graph) some.0 some.1 in
+      let made : IsObject graph object = subst (IsObject graph) same (each_has (IsObject graph) (object_ids graph) some.0 (recursion_from_All (IsObject graph) (object_ids graph) (all_made graph (object_ids graph) refl)) kept.0) in
+      let parts = and_parts (is_persistent (object_at graph object).state) (object_at graph object).marked (ap (is_to_delete graph) (sym same) ∙ kept.1) in
+      (parts.0, (it.healthy.tidy.own.objects (place_of object) (omega (arith, made.0, made.1))).unlinked parts.1)
+
   told : CanTakeAway w.own.mapping w.own.graph w.store.tables → IsToldSession w
   told away = record {
     inside = it.inside;
@@ -193,8 +213,8 @@ module _ (mapped : Mapped) (w : World) (it : IsInside mapped w) where
     fit = it.fit;
     keyed = λ place less persists. let keyed = keyed_at place less persists in keyed.0 keyed.1;
     known = λ place less. (it.healthy.tidy.own.objects place less).known;
-    once = away.once;
-    created = away.created;
+    once = unlinked_once w.own.mapping w.own.graph (prepared_of w.own.graph) it.healthy.tidy.own.classes.well it.fit it.healthy.sound.graph leave;
+    created = away;
   }
 
 -- a flush of a session that may be flushed leaves it sound

@@ -15,7 +15,7 @@ use Rattle.object_arena.specs.declared.object.State.{State}
 use Rattle.object_arena.specs.declared.object.State.TheVariants.{Transient, Pending, Persistent, Deleted, Detached}
 use Rattle.object_arena.specs.Graph.{expired_cell, has_identity, is_among, no_object, root_at}
 use Rattle.object_arena.specs.Identity.{id_of_place, is_other}
-use Rattle.graph_flushed.specs.Flushed.{Written, deleted_object, graph_written, held_or, kept_cell, key_of, new_cell, new_object, object_flushed, object_in, staying_cell, staying_object, state_under, state_unless, value_come}
+use Rattle.graph_flushed.specs.Flushed.{Written, deleted_object, graph_written, held_or, kept_cell, kept_links, key_of, new_cell, new_object, object_flushed, object_in, prepared_links, staying_cell, staying_object, state_under, state_unless, value_come}
 use Rattle.graph_flushed.specs.Keys.{new_holder}
 use Rattle.graph_flushed.proofs.ObjectSteps.{flushed_at, flushed_long}
 use Rattle.session_sound.specs.Sound.{EachObject}
@@ -78,11 +78,15 @@ module _ (written : Written) (object : ObjId) (it : Object) (orderly : IsOrderly
   abbrev within : (change : ℕ × Cell → Cell) (attr : AttrNo) → attr.0 < length (map change (enumerate_from 0 it.cells)) → attr.0 < length it.cells
   within change attr less = omega (arith, less, length-map (enumerate_from 0 it.cells) change, length-enumerate_from 0 it.cells)
 
+  links_left : it.marked ≡ true → prepared_links written.prepared object it.links ≡ []
+  links_left marked = ap (prepared_links written.prepared object) (orderly.unlinked marked)
+
   new_orderly : (key : Option (List Value)) → IsOrderly written.mapping (new_object written object key it)
-  new_orderly None = record { keyed = λ named. absurd cc; known = orderly.known }
+  new_orderly None = record { keyed = λ named. absurd cc; known = orderly.known; unlinked = links_left }
   new_orderly (Some key) = record {
     keyed = λ named attr own. all_even (new_cell written object it.class key) it.cells 0 attr.0 (λ k cell. refl);
     known = λ marked attr less. all_known (new_cell written object it.class key) it.cells 0 attr.0 (λ k cell. refl) (within (new_cell written object it.class key) attr less);
+    unlinked = λ marked. ap (kept_links written.prepared object) (orderly.unlinked marked);
   }
 
   stays_even : (attr : AttrNo) → is_key_attribute written.mapping it.class attr ≡ true → (cell : Cell) → IsEven cell → IsEven (staying_cell written object it.class (0 + attr.0, cell))
@@ -111,14 +115,15 @@ module _ (written : Written) (object : ObjId) (it : Object) (orderly : IsOrderly
     known = λ marked attr less.
         let inside : attr.0 < length it.cells = within (staying_cell written object it.class) attr less in
         each_known (staying_cell written object it.class) it.cells 0 attr.0 stays_known inside (orderly.known marked attr inside);
+    unlinked = λ marked. ap (kept_links written.prepared object) (orderly.unlinked marked);
   }
 
   in_orderly : (state : State) → it.state ≡ state → IsOrderly written.mapping (object_in state written object it)
-  in_orderly Transient at = record { keyed = orderly.keyed; known = orderly.known }
+  in_orderly Transient at = record { keyed = orderly.keyed; known = orderly.known; unlinked = links_left }
   in_orderly Pending at = new_orderly (key_of written object)
   in_orderly Persistent at = old_orderly (is_among written.prepared.deleted object) at
-  in_orderly Deleted at = record { keyed = orderly.keyed; known = orderly.known }
-  in_orderly Detached at = record { keyed = orderly.keyed; known = orderly.known }
+  in_orderly Deleted at = record { keyed = orderly.keyed; known = orderly.known; unlinked = links_left }
+  in_orderly Detached at = record { keyed = orderly.keyed; known = orderly.known; unlinked = links_left }
 
 -- who had an identity has one then
 module _ (written : Written) (object : ObjId) (it : Object) where

@@ -1,8 +1,9 @@
 -- Objects stay orderly as their cells, their marks and their states change.
 use Rattle.std.proofs.Common.{◌≡◌, ◌≢◌, ℕ, ◌+◌, ◌<◌, suc, Bool, true, false, not, ◌&&◌, ◌||◌, List, [], ◌∷◌, length, get_or, Option, None, Some, ⊎_elim, refl, sym, ap, ◌∙◌, arith}
-use Rattle.std.specs.Prelude.{if◌then◌else◌, is_some}
+use Rattle.std.specs.Prelude.{if◌then◌else◌, is_some, nat_lt}
 use Rattle.std.specs.List.{list_all}
 use Rattle.std.proofs.lemmas.Bool.{and_from, and_parts, cases_eq}
+use Rattle.std.proofs.lemmas.Bool.Decides.{nat_tests}
 use Rattle.std.proofs.lemmas.List.{get_or-set_other}
 use Rattle.std.proofs.lemmas.List.Sums.{AllPass-from_list_all}
 use Rattle.base_core.specs.declared.ids.AttrNo.{AttrNo}
@@ -13,6 +14,7 @@ use Rattle.base_core.specs.declared.refusal.RequestKind.TheVariants.{KeyChange, 
 use Rattle.base_core.specs.declared.value.Value.{Value}
 use Rattle.class_mapping.specs.Mapped.{Mapped, is_key_attribute}
 use Rattle.object_arena.specs.declared.object.Cell.{Cell}
+use Rattle.object_arena.specs.declared.object.Link.{Link}
 use Rattle.object_arena.specs.declared.object.Object.{Object}
 use Rattle.object_arena.specs.declared.object.State.{State}
 use Rattle.object_arena.specs.declared.object.State.TheVariants.{Transient, Pending, Persistent, Deleted, Detached}
@@ -61,6 +63,7 @@ set_orderly mapped o attr value free orderly =
       known = λ marked other less.
           let within : other.0 < length o.cells = omega (arith, less, cells_long o attr put) in
           ap (λ (b : Option Value). is_some b) (base_kept o attr other value within) ∙ orderly.known marked other within;
+      unlinked = orderly.unlinked;
     }
 
 -- ---- a delete mark
@@ -70,6 +73,16 @@ all_known false all linked first none = absurd cc
 all_known true true linked first none = refl
 all_known true false linked first none = absurd cc
 
+none_linked : (persists all linked : Bool) (first : Refusal) → (if not persists then Some first else if not all || linked then Some NotBuilt else None) ≡ None → linked ≡ false
+none_linked false all linked first none = absurd cc
+none_linked true all false first none = refl
+none_linked true true true first none = absurd cc
+none_linked true false true first none = absurd cc
+
+no_links : (links : List Link) → nat_lt 0 (length links) ≡ false → links ≡ []
+no_links [] none = refl
+no_links (link ∷ links) none = let short : length (link ∷ links) ≡ 0 = grind (arith, nat_tests) in absurd (omega (arith, short))
+
 pub mark_orderly : (mapped : Mapped) (o : Object) → delete_fault o ≡ None → IsOrderly mapped o → IsOrderly mapped (record o { marked = true })
 mark_orderly mapped o none orderly =
     let all : list_all is_known o.cells ≡ true = all_known (is_persistent o.state) (list_all is_known o.cells) (has_links o) (InvalidRequestError NotPersistent) none in
@@ -78,11 +91,12 @@ mark_orderly mapped o none orderly =
       known = λ marked attr less.
           let cell : Cell = get_or o.cells attr.0 expired_cell in
           (and_parts (is_some cell.value) (is_some cell.base) (AllPass-from_list_all is_known o.cells all attr.0 expired_cell less)).1;
+      unlinked = λ marked. no_links o.links (none_linked (is_persistent o.state) (list_all is_known o.cells) (has_links o) (InvalidRequestError NotPersistent) none);
     }
 
 -- an object without a mark
 pub unmarked_orderly : (mapped : Mapped) (o : Object) → o.marked ≡ false → HoldsItsKey mapped o → IsOrderly mapped o
-unmarked_orderly mapped o unmarked keyed = record { keyed = keyed; known = λ marked. never_true o.marked unmarked marked }
+unmarked_orderly mapped o unmarked keyed = record { keyed = keyed; known = λ marked. never_true o.marked unmarked marked; unlinked = λ marked. never_true o.marked unmarked marked }
 
 -- ---- an object that is to be read again
 
@@ -156,7 +170,7 @@ returned_keyed mapped o at orderly = λ named attr key.
     ap (λ (c : Cell). c.value) same ∙ expired_even (record o { state = Persistent; marked = false }) attr ∙ sym (ap (λ (c : Cell). c.base) same)
 
 pub taken_orderly : (mapped : Mapped) (state : State) (number : ℕ) (o : Object) → o.state ≡ state → IsOrderly mapped o → IsOrderly mapped (object_taken state number o)
-taken_orderly mapped Transient number o at orderly = record { keyed = λ named. absurd cc; known = orderly.known }
+taken_orderly mapped Transient number o at orderly = record { keyed = λ named. absurd cc; known = orderly.known; unlinked = orderly.unlinked }
 taken_orderly mapped Pending number o at orderly = orderly
 taken_orderly mapped Persistent number o at orderly = orderly
 taken_orderly mapped Deleted number o at orderly = orderly

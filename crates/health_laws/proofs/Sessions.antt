@@ -13,6 +13,7 @@ use Rattle.base_core.specs.declared.refusal.Refusal.TheVariants.{LimitReached}
 use Rattle.base_core.specs.declared.value.Value.{Value}
 use Rattle.schema_core.specs.declared.changes.RowChanges.{RowChanges}
 use Rattle.class_mapping.specs.Mapped.{Mapped}
+use Rattle.object_arena.specs.declared.object.Link.{Link}
 use Rattle.object_arena.specs.declared.object.Object.{Object}
 use Rattle.object_arena.specs.Graph.{Graph, cell_in, cell_put, fresh_object, key_fault, make, no_object, object_at, object_limit, place_of, with_fresh, with_object, with_value}
 use Rattle.object_rows.specs.declared.prepared.Prepared.{Prepared}
@@ -115,7 +116,7 @@ all_joined (object ∷ objects) own orderly = all_joined objects (session_taken 
 without_mark : (object : ObjId) (own : SessionState) → IsOrderlySession own → IsOrderlySession (session_unmarked object own)
 without_mark object own orderly =
     let o : Object = object_at own.graph object in
-    put_orderly object (object_unmarked o) own (λ less. record { keyed = (orderly.objects (place_of object) less).keyed; known = λ marked. absurd cc }) (λ named. named) orderly
+    put_orderly object (object_unmarked o) own (λ less. record { keyed = (orderly.objects (place_of object) less).keyed; known = λ marked. absurd cc; unlinked = λ marked. absurd cc }) (λ named. named) orderly
 
 pub added_orderly : (object : ObjId) (own : SessionState) → IsOrderlySession own → IsOrderlySession (session_added object own)
 added_orderly object own orderly =
@@ -129,13 +130,14 @@ put_linked : (put : Option LinkPut) (own : SessionState) → IsOrderlySession ow
 put_linked None own orderly = orderly
 put_linked (Some put) own orderly =
     let o : Object = object_at own.graph put.object in
-    put_orderly put.object (record o { links = slice_set o.links put.relation.0 put.link }) own (λ less. let one = orderly.objects (place_of put.object) less in record { keyed = one.keyed; known = one.known }) (λ named. named) orderly
+    put_orderly put.object (record o { links = slice_set o.links put.relation.0 put.link }) own
+    (λ less. let one = orderly.objects (place_of put.object) less in record { keyed = one.keyed; known = one.known; unlinked = λ marked. ap (λ (links : List Link). slice_set links put.relation.0 put.link) (one.unlinked marked) }) (λ named. named) orderly
 
 orphan_marked : (object : ObjId) (orphan : Option Bool) (own : SessionState) → IsOrderlySession own → IsOrderlySession (session_orphaned object orphan own)
 orphan_marked object None own orderly = orderly
 orphan_marked object (Some orphan) own orderly =
     let o : Object = object_at own.graph object in
-    put_orderly object (record o { orphan = orphan }) own (λ less. let one = orderly.objects (place_of object) less in record { keyed = one.keyed; known = one.known }) (λ named. named) orderly
+    put_orderly object (record o { orphan = orphan }) own (λ less. let one = orderly.objects (place_of object) less in record { keyed = one.keyed; known = one.known; unlinked = one.unlinked }) (λ named. named) orderly
 
 by_change : (owner : ObjId) (place : RelNo) (call : LinkCall) (own : SessionState) (found : Result Change Refusal) → IsOrderlySession own → IsOrderlySession (session_by owner place call own found)
 by_change owner place call own (Err fault) orderly = orderly

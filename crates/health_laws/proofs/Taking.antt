@@ -16,9 +16,6 @@ use Rattle.class_types.specs.declared.mapped.Attribute.{Attribute}
 use Rattle.class_types.specs.declared.mapped.Relation.{Relation}
 use Rattle.class_mapping.specs.Mapped.{Mapped, attribute_of, attributes_of, relations_of, tables_of}
 use Rattle.class_mapping.proofs.Having.{all_from, any_has, from_filter, from_flat, from_map}
-use Rattle.flush_order.specs.Orders.{place_of_gone}
-use Rattle.flush_order.specs.Sorted.{same_place}
-use Rattle.schema_core.specs.Declaration.{some_two}
 use Rattle.object_arena.specs.declared.object.Object.{Object}
 use Rattle.object_arena.specs.Fit.{IsFit, cell_fits}
 use Rattle.object_arena.specs.Graph.{Graph, IsObject, cell_in, is_persistent, no_object, object_at, place_of}
@@ -115,8 +112,5 @@ takes_away w none has whole healthy =
     let mapped : Mapped = w.own.mapping in
     let graph : Graph = w.own.graph in
     let lost = lost_none mapped graph (prepared_of graph) none in
-    inr (record {
-      once = ap (some_two (λ one other. same_place (place_of_gone mapped.schema one) (place_of_gone mapped.schema other))) lost;
-      created = subst (λ (others : List GoneRow). AllByRecursion (λ (row : GoneRow). is_created w.store.tables row.name.table ≡ true) (rows.gone_rows mapped graph (prepared_of graph) ++ others)) (sym lost)
-          (all_and_none (λ (row : GoneRow). is_created w.store.tables row.name.table ≡ true) (rows.gone_rows mapped graph (prepared_of graph)) (gone_created w healthy whole.fit has));
-    })
+    inr (subst (λ (others : List GoneRow). AllByRecursion (λ (row : GoneRow). is_created w.store.tables row.name.table ≡ true) (rows.gone_rows mapped graph (prepared_of graph) ++ others)) (sym lost)
+    (all_and_none (λ (row : GoneRow). is_created w.store.tables row.name.table ≡ true) (rows.gone_rows mapped graph (prepared_of graph)) (gone_created w healthy whole.fit has)))

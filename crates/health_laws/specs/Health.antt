@@ -26,7 +26,6 @@ use Rattle.schema_core.specs.DependencyOrder.{is_among}
 use Rattle.schema_core.specs.Tables.{Tables, is_created}
 use Rattle.session_flush.specs.Flush.{prepared_of}
 use Rattle.session_sound.specs.Sound.{EachObject, IsHandled, IsSound}
-use Rattle.told_laws.specs.Laws.{ArePairsOnce}
 
 -- ---- objects
 
@@ -39,6 +38,10 @@ abbrev pub HoldsItsKey : Mapped → Object → Type 0
 HoldsItsKey mapped object =
     is_named object.state object.identity ≡ true → (attr : AttrNo) → is_key_attribute mapped object.class attr ≡ true → (cell_in object attr).value ≡ (cell_in object attr).base
 
+-- it has no links, where it is to be deleted
+abbrev pub IsUnlinkedIfMarked : Object → Type 0
+IsUnlinkedIfMarked object = object.marked ≡ true → object.links ≡ []
+
 -- all that its rows hold is known, where it is to be deleted
 abbrev pub IsKnownIfMarked : Object → Type 0
 IsKnownIfMarked object = object.marked ≡ true → (attr : AttrNo) → attr.0 < length object.cells → is_some (cell_in object attr).base ≡ true
@@ -46,6 +49,7 @@ IsKnownIfMarked object = object.marked ≡ true → (attr : AttrNo) → attr.0 <
 pub record IsOrderly (mapped : Mapped) (object : Object) : Type 0 where
   pub keyed : HoldsItsKey mapped object
   pub known : IsKnownIfMarked object
+  pub unlinked : IsUnlinkedIfMarked object
 
 -- ---- who had an identity
 
@@ -91,13 +95,11 @@ pub record IsWhole (world : World) : Type 0 where
   pub fit : IsFit world.own.mapping world.own.graph
   pub handled : IsHandled world
 
--- the rows that are to be taken away stand as rows can: no two pairs that leave secondary tables are one row, and the tables of all of
--- them are created
-pub record CanTakeAway (mapped : Mapped) (graph : Graph) (tables : Tables) : Type 0 where
-  pub once : ArePairsOnce mapped graph (prepared_of graph)
-  pub created : AllByRecursion (λ (row : GoneRow). is_created tables row.name.table ≡ true) (rows_lost mapped graph (prepared_of graph))
+-- the tables of the rows that are to be taken away are created
+abbrev pub CanTakeAway : Mapped → Graph → Tables → Type 0
+CanTakeAway mapped graph tables = AllByRecursion (λ (row : GoneRow). is_created tables row.name.table ≡ true) (rows_lost mapped graph (prepared_of graph))
 
--- the session may be flushed: its classes are plain roots, or the rows that are to be taken away stand so
+-- the session may be flushed: its classes are plain roots, or the rows that are to be taken away are of created tables
 abbrev pub MayFlush : World → Type 0
 MayFlush world = ArePlain world.own.mapping ⊎ CanTakeAway world.own.mapping world.own.graph world.store.tables
 

@@ -33,8 +33,8 @@ pub fn a_new_session_is_healthy()
 {}
 
 /// Calls that flush keep a session healthy, whether the flush or the act behind it answers or is refused: the flush itself, the commit
-/// of the transaction, and the beginning of a savepoint. Classes are plain roots, or of the rows that are to be taken away no two pairs
-/// are one row, and their tables are created.
+/// of the transaction, and the beginning of a savepoint. Classes are plain roots, or the tables of the rows that are to be taken away
+/// are created; no two pairs of these are one row, since objects with links cannot be deleted.
 pub fn flushing_calls_keep_health()
     ensures flush { KeepsHealthWhole acts.flush_now }
     ensures commit { KeepsHealthWhole acts.commit }

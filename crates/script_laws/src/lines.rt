@@ -16,8 +16,8 @@ use session_scopes::Session;
 use whole_laws::calls_keep_whole;
 
 /// Whatever a resolved line asks for, and whatever it answers, a session stays healthy and whole, where all that the line names is
-/// there, and the session may be flushed: its classes are plain roots, or of the rows that are to be taken away no two pairs are one
-/// row, and their tables are created. It does nothing when it runs.
+/// there, and the session may be flushed: its classes are plain roots, or the tables of the rows that are to be taken away are
+/// created. It does nothing when it runs.
 pub fn lines_keep_whole()
     ensures { LinesKeepWhole }
 {

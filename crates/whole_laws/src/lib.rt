@@ -26,9 +26,8 @@ pub fn calls_keep_objects_fitting()
 {}
 
 /// Whatever calls are made one after another, of classes, attributes, relationships and objects that are there, and whatever each
-/// answers, a session stays healthy and whole, where it may be flushed when a call flushes it: its classes are plain roots, or of the
-/// rows that are to be taken away no two pairs are one row, and their tables are created. Its objects fit their classes, and each
-/// savepoint in progress has a handle.
+/// answers, a session stays healthy and whole, where it may be flushed when a call flushes it: its classes are plain roots, or the tables of
+/// the rows that are to be taken away are created. Its objects fit their classes, and each savepoint in progress has a handle.
 pub fn calls_keep_whole()
     ensures { CallsKeepWhole }
 {
