@@ -1,5 +1,5 @@
 -- Calls that flush keep a healthy session healthy, whatever they answer.
-use Rattle.std.proofs.Common.{◌≡◌, inl, inr, ℕ, ◌+◌, ◌-◌, ◌<◌, Bool, true, false, ◌==◌, List, [], ◌∷◌, filter, get_or, length, Option, None, Some, Result, Ok, Err, refl, sym, ap, ◌∙◌, subst, arith}
+use Rattle.std.proofs.Common.{◌≡◌, ℕ, ◌+◌, ◌-◌, ◌<◌, Bool, true, false, ◌==◌, List, [], ◌∷◌, filter, get_or, length, Option, None, Some, Result, Ok, Err, refl, sym, ap, ◌∙◌, subst, arith}
 use Rattle.std.specs.Prelude.{is_none}
 use Rattle.std.proofs.lemmas.Bool.{and_parts, eqb-true}
 use Rattle.std.proofs.lemmas.List.Elements.{recursion_from_All}
@@ -8,9 +8,7 @@ use Rattle.base_core.specs.declared.ids.ObjId.{ObjId}
 use Rattle.base_core.specs.declared.refusal.Refusal.{Refusal}
 use Rattle.base_core.specs.declared.refusal.Refusal.TheVariants.{InvalidRequestError, PendingRollbackError, ResourceClosedError}
 use Rattle.base_core.specs.declared.refusal.RequestKind.TheVariants.{KeyChange}
-use Rattle.std.specs.List.{list_all}
 use Rattle.class_mapping.specs.Mapped.{Mapped}
-use Rattle.class_mapping.specs.Plain.{is_plain_root}
 use Rattle.class_mapping.specs.PlainClass.{ArePlain}
 use Rattle.class_mapping.proofs.Having.{from_filter, some_of}
 use Rattle.schema_core.specs.Tables.{Tables}
@@ -52,8 +50,8 @@ use Rattle.session_laws.proofs.Rereading.{bulk_sound, rows_sound}
 use Rattle.session_laws.proofs.Whole.{handle_released, whole_sound}
 use Rattle.told_laws.specs.Laws.{LeavesUnlinked}
 use Rattle.told_laws.proofs.PairsOnce.{unlinked_once}
-use Rattle.flush_sound_laws.specs.Laws.{AnsweredFlushIsSound, FlushKeepsSound, IsSteady, IsToldSession, ToldFlushIsSound, ToldFlushKeepsSound}
-use Rattle.health_laws.specs.Health.{HoldsItsKey, IsHealthy, IsWhole, KeepsHealthWhole, CanTakeAway, MayFlush, is_named}
+use Rattle.flush_sound_laws.specs.Laws.{IsSteady, IsToldSession, ToldFlushIsSound, ToldFlushKeepsSound}
+use Rattle.health_laws.specs.Health.{HoldsItsKey, IsHealthy, IsWhole, KeepsHealthWhole, is_named}
 use Rattle.health_laws.proofs.Fits.{flushed_fit}
 use Rattle.health_laws.proofs.Flushes.{answered_as, flush_tidy}
 use Rattle.health_laws.proofs.Programs.{IsClean, IsReady, bulk_clean, commit_clean, enter_tidy, release_clean, rows_tidy, savepoint_clean}
@@ -88,7 +86,6 @@ pub record IsInside (mapped : Mapped) (world : World) : Type 0 where
   pub fit : IsFit world.own.mapping world.own.graph
   pub well : IsWell world
   pub inside : 0 < length world.own.frames.scopes
-  pub may : MayFlush world
   pub same : world.own.mapping ≡ mapped
 
 some_scopes : (scopes : List Scope) → has_scope scopes ≡ true → 0 < length scopes
@@ -141,22 +138,17 @@ once_begun P w holds =
     subst (λ (m : Mapped). P m v.own.graph v.store.tables) (sym (entered_mapping w))
     (subst (λ (g : Graph). P w.own.mapping g v.store.tables) (sym (entered_graph w)) (subst (λ (t : Tables). P w.own.mapping w.own.graph t) (sym (entered_tables w)) holds))
 
-may_entered : (w : World) → MayFlush w → MayFlush (enter w).after
-may_entered w (inl plain) = inl (ap (λ (m : Mapped). list_all is_plain_root m.classes.specs) (entered_mapping w) ∙ plain)
-may_entered w (inr away) = inr (once_begun CanTakeAway w away)
-
 enter_healthy : (w : World) → IsHealthy w → IsHealthy (enter w).after
 enter_healthy w healthy = record { sound = enter_sound w healthy.sound; tidy = enter_tidy.kept w healthy.tidy }
 
-pub enter_led : (w : World) → MayFlush w → IsWhole w → IsHealthy w → IsLed IsHealthy (IsInside w.own.mapping) (enter w)
-enter_led w may whole healthy = record {
+pub enter_led : (w : World) → IsWhole w → IsHealthy w → IsLed IsHealthy (IsInside w.own.mapping) (enter w)
+enter_led w whole healthy = record {
   here = enter_healthy w healthy;
   told = λ u is. record {
     healthy = enter_healthy w healthy;
     fit = subst (λ (m : Mapped). IsFit m (enter w).after.own.graph) (sym (entered_mapping w)) (subst (λ (g : Graph). IsFit w.own.mapping g) (sym (entered_graph w)) whole.fit);
     well = entered_well w u whole.handled is;
     inside = some_scopes (enter w).after.own.frames.scopes (entered_open w u is);
-    may = may_entered w may;
     same = entered_mapping w;
   };
 }
@@ -205,8 +197,8 @@ module _ (mapped : Mapped) (w : World) (it : IsInside mapped w) where
       let parts = and_parts (is_persistent (object_at graph object).state) (object_at graph object).marked (ap (is_to_delete graph) (sym same) ∙ kept.1) in
       (parts.0, (it.healthy.tidy.own.objects (place_of object) (omega (arith, made.0, made.1))).unlinked parts.1)
 
-  told : CanTakeAway w.own.mapping w.own.graph w.store.tables → IsToldSession w
-  told away = record {
+  pub told : IsToldSession w
+  told = record {
     inside = it.inside;
     well = it.healthy.tidy.own.classes.well;
     ascending = it.healthy.tidy.ascending;
@@ -214,10 +206,9 @@ module _ (mapped : Mapped) (w : World) (it : IsInside mapped w) where
     keyed = λ place less persists. let keyed = keyed_at place less persists in keyed.0 keyed.1;
     known = λ place less. (it.healthy.tidy.own.objects place less).known;
     once = unlinked_once w.own.mapping w.own.graph (prepared_of w.own.graph) it.healthy.tidy.own.classes.well it.fit it.healthy.sound.graph leave;
-    created = away;
   }
 
--- a flush of a session that may be flushed leaves it sound
+-- a flush leaves it sound
 abbrev pub FlushLeavesSound : Type 0
 FlushLeavesSound = (mapped : Mapped) (w : World) → IsInside mapped w → IsSound (flush w).after
 
@@ -225,19 +216,11 @@ FlushLeavesSound = (mapped : Mapped) (w : World) → IsInside mapped w → IsSou
 abbrev pub FlushWritesAll : Type 0
 FlushWritesAll = (mapped : Mapped) (w : World) → IsInside mapped w → (flush w).answer ≡ Ok tt → IsSound (flush w).after × IsWritten (flush w).after
 
-pub leaves_sound : FlushKeepsSound → ToldFlushKeepsSound → FlushLeavesSound
-leaves_sound plain keeps mapped w it = by it.may
-  where
-    by : MayFlush w → IsSound (flush w).after
-    by (inl all) = plain w (steady mapped w it all) it.healthy.sound
-    by (inr away) = keeps w (told mapped w it away) it.healthy.sound
+pub leaves_sound : ToldFlushKeepsSound → FlushLeavesSound
+leaves_sound keeps mapped w it = keeps w (told mapped w it) it.healthy.sound
 
-pub writes_all : AnsweredFlushIsSound → ToldFlushIsSound → FlushWritesAll
-writes_all plain answers mapped w it is = by it.may
-  where
-    by : MayFlush w → IsSound (flush w).after × IsWritten (flush w).after
-    by (inl all) = plain w (steady mapped w it all) it.healthy.sound is
-    by (inr away) = answers w (told mapped w it away) it.healthy.sound is
+pub writes_all : ToldFlushIsSound → FlushWritesAll
+writes_all answers mapped w it is = answers w (told mapped w it) it.healthy.sound is
 
 pub identified_objects : (w : World) → IsHealthy w → EachObject (λ (o : Object). is_identified o ≡ true) w.own.graph
 identified_objects w healthy place less = healthy.sound.graph.identified place no_object less
@@ -284,13 +267,13 @@ module _ (keeps : FlushLeavesSound) (answers : FlushWritesAll) where
       led_then IsHealthy (IsInside mapped) (IsFlushed mapped) (checked orphan_fault) (λ u. flush) w (led_checked IsHealthy (IsInside mapped) orphan_fault w it.healthy (λ none. it))
       (λ u inside. record { here = flush_healthy mapped (checked orphan_fault w).after inside; told = λ v is. flush_done mapped (checked orphan_fault w).after v inside is })
 
-  pub now_led : (w : World) → MayFlush w → IsWhole w → IsHealthy w → IsLed IsHealthy (IsFlushed w.own.mapping) (flush_now w)
+  pub now_led : (w : World) → IsWhole w → IsHealthy w → IsLed IsHealthy (IsFlushed w.own.mapping) (flush_now w)
   unfolding flush_now
-  now_led w may whole healthy =
-      led_then IsHealthy (IsInside w.own.mapping) (IsFlushed w.own.mapping) enter (λ u. flush_whole) w (enter_led w may whole healthy) (λ u inside. flush_led w.own.mapping (enter w).after inside)
+  now_led w whole healthy =
+      led_then IsHealthy (IsInside w.own.mapping) (IsFlushed w.own.mapping) enter (λ u. flush_whole) w (enter_led w whole healthy) (λ u inside. flush_led w.own.mapping (enter w).after inside)
 
   pub flush_now_healthy : KeepsHealthWhole flush_now
-  flush_now_healthy w may whole healthy = (now_led w may whole healthy).here
+  flush_now_healthy w whole healthy = (now_led w whole healthy).here
 
   -- ---- acts behind it
 
@@ -303,16 +286,16 @@ module _ (keeps : FlushLeavesSound) (answers : FlushWritesAll) where
 
   pub commit_healthy : KeepsHealthWhole acts.commit
   unfolding acts.commit
-  commit_healthy w may whole healthy =
-      (led_then IsHealthy (IsFlushed w.own.mapping) IsHealthy flush_now (λ u. commit_whole) w (now_led w may whole healthy)
+  commit_healthy w whole healthy =
+      (led_then IsHealthy (IsFlushed w.own.mapping) IsHealthy flush_now (λ u. commit_whole) w (now_led w whole healthy)
       (λ u done.
       let v : World = (flush_now w).after in
       acted commit_whole v (record { sound = whole_sound v done.committable done.healthy.sound; tidy = (commit_clean.kept v (clean w.own.mapping v done)).tidy }))).here
 
   pub rows_healthy : (select : Select) → KeepsHealthWhole (acts.rows select)
   unfolding acts.rows
-  rows_healthy select w may whole healthy =
-      (led_then IsHealthy (IsFlushed w.own.mapping) IsHealthy flush_now (λ u. statements.rows select) w (now_led w may whole healthy)
+  rows_healthy select w whole healthy =
+      (led_then IsHealthy (IsFlushed w.own.mapping) IsHealthy flush_now (λ u. statements.rows select) w (now_led w whole healthy)
       (λ u done.
       let v : World = (flush_now w).after in
       acted (statements.rows select) v (record { sound = rows_sound select v done.healthy.sound; tidy = (rows_tidy select).kept v done.healthy.tidy }))).here
@@ -326,19 +309,19 @@ module _ (keeps : FlushLeavesSound) (answers : FlushWritesAll) where
       let v : World = (asked w).after in
       led_then IsHealthy (IsFlushed mapped) IsHealthy flush_whole (λ u. act) v (flush_led mapped v inside) (λ u done. acted act (flush_whole v).after (later (flush_whole v).after done)))).here
 
-  pub asked_led : (fault : SessionState → Option Refusal) (w : World) → MayFlush w → IsWhole w → IsHealthy w → IsLed IsHealthy (IsInside w.own.mapping) ((enter >>= λ u. checked fault) w)
-  asked_led fault w may whole healthy =
-      led_then IsHealthy (IsInside w.own.mapping) (IsInside w.own.mapping) enter (λ u. checked fault) w (enter_led w may whole healthy)
+  pub asked_led : (fault : SessionState → Option Refusal) (w : World) → IsWhole w → IsHealthy w → IsLed IsHealthy (IsInside w.own.mapping) ((enter >>= λ u. checked fault) w)
+  asked_led fault w whole healthy =
+      led_then IsHealthy (IsInside w.own.mapping) (IsInside w.own.mapping) enter (λ u. checked fault) w (enter_led w whole healthy)
       (λ u inside. led_checked IsHealthy (IsInside w.own.mapping) fault (enter w).after inside.healthy (λ none. inside))
 
-  nested_led : (w : World) → MayFlush w → IsWhole w → IsHealthy w → IsLed IsHealthy (IsInside w.own.mapping) (enter_nested w)
+  nested_led : (w : World) → IsWhole w → IsHealthy w → IsLed IsHealthy (IsInside w.own.mapping) (enter_nested w)
   unfolding enter_nested
-  nested_led w may whole healthy = asked_led limit_fault w may whole healthy
+  nested_led w whole healthy = asked_led limit_fault w whole healthy
 
   pub nested_healthy : KeepsHealthWhole acts.begin_nested
   unfolding acts.begin_nested
-  nested_healthy w may whole healthy =
-      flushing_led w.own.mapping enter_nested begin_savepoint w (nested_led w may whole healthy)
+  nested_healthy w whole healthy =
+      flushing_led w.own.mapping enter_nested begin_savepoint w (nested_led w whole healthy)
       (λ v done. record { sound = nest_sound v done.committable.written done.healthy.sound; tidy = (savepoint_clean.kept v (clean w.own.mapping v done)).tidy })
 
   -- ---- the end of a savepoint
@@ -358,14 +341,13 @@ module _ (keeps : FlushLeavesSound) (answers : FlushWritesAll) where
     healthy : IsHealthy w
     whole : IsWhole w
     well : w.own.failed ≡ false
-    may : MayFlush w
     same : w.own.mapping ≡ mapped
 
-  check_led : (handle : ℕ) (w : World) → MayFlush w → IsWhole w → IsHealthy w → IsLed IsHealthy (IsInside w.own.mapping) (check_handle handle w)
+  check_led : (handle : ℕ) (w : World) → IsWhole w → IsHealthy w → IsLed IsHealthy (IsInside w.own.mapping) (check_handle handle w)
   unfolding check_handle
-  check_led handle w may whole healthy =
+  check_led handle w whole healthy =
       led_then IsHealthy (IsAwake w.own.mapping) (IsInside w.own.mapping) (checked pending_fault) (λ u. checked (handle_fault handle)) w
-      (led_checked IsHealthy (IsAwake w.own.mapping) pending_fault w healthy (λ none. record { healthy = healthy; whole = whole; well = not_failed w.own.failed none; may = may; same = refl }))
+      (led_checked IsHealthy (IsAwake w.own.mapping) pending_fault w healthy (λ none. record { healthy = healthy; whole = whole; well = not_failed w.own.failed none; same = refl }))
       (λ u awake.
       let v : World = (checked pending_fault w).after in
       led_checked IsHealthy (IsInside w.own.mapping) (handle_fault handle) v awake.healthy
@@ -374,14 +356,13 @@ module _ (keeps : FlushLeavesSound) (answers : FlushWritesAll) where
         fit = awake.whole.fit;
         well = record { handled = awake.whole.handled; well = awake.well };
         inside = is_there handle v (place_of_handle v.own.drawn handle) refl awake.well awake.whole.handled none;
-        may = awake.may;
         same = awake.same;
       }))
 
   pub handle_healthy : (handle : ℕ) → KeepsHealthWhole (acts.commit_handle handle)
   unfolding acts.commit_handle
-  handle_healthy handle w may whole healthy =
-      flushing_led w.own.mapping (check_handle handle) (release_handle handle) w (check_led handle w may whole healthy)
+  handle_healthy handle w whole healthy =
+      flushing_led w.own.mapping (check_handle handle) (release_handle handle) w (check_led handle w whole healthy)
       (λ v done. record { sound = handle_released handle v done.committable.well done.healthy.sound; tidy = ((release_clean handle).kept v (clean w.own.mapping v done)).tidy })
 
   -- ---- a bulk statement
@@ -391,21 +372,21 @@ module _ (keeps : FlushLeavesSound) (answers : FlushWritesAll) where
   no_key false second none = refl
 
   -- of a statement that is sent it is known that it writes no key
-  bulk_led : (statement : Bulk) (w : World) → IsPlainButForKeys w.own.mapping.schema statement → MayFlush w → IsWhole w → IsHealthy w
+  bulk_led : (statement : Bulk) (w : World) → IsPlainButForKeys w.own.mapping.schema statement → IsWhole w → IsHealthy w
       → IsLed IsHealthy (λ v. IsInside w.own.mapping v × IsPlainBulk w.own.mapping.schema statement) (statements.enter_bulk statement w)
   unfolding statements.enter_bulk
-  bulk_led statement w plain may whole healthy =
-      led_then IsHealthy (IsInside w.own.mapping) (λ v. IsInside w.own.mapping v × IsPlainBulk w.own.mapping.schema statement) enter (λ u. checked (statements.update_fault statement)) w (enter_led w may whole healthy)
+  bulk_led statement w plain whole healthy =
+      led_then IsHealthy (IsInside w.own.mapping) (λ v. IsInside w.own.mapping v × IsPlainBulk w.own.mapping.schema statement) enter (λ u. checked (statements.update_fault statement)) w (enter_led w whole healthy)
       (λ u inside.
       let v : World = (enter w).after in
       led_checked IsHealthy (λ v. IsInside w.own.mapping v × IsPlainBulk w.own.mapping.schema statement) (statements.update_fault statement) v inside.healthy
       (λ none. (inside, plain (ap (λ (m : Mapped). statements.writes_key m.schema statement) (sym inside.same) ∙ no_key (statements.writes_key v.own.mapping.schema statement) _ none))))
 
-  pub bulk_healthy : (statement : Bulk) (w : World) → IsPlainButForKeys w.own.mapping.schema statement → MayFlush w → IsWhole w → IsHealthy w → IsHealthy (acts.bulk statement w).after
+  pub bulk_healthy : (statement : Bulk) (w : World) → IsPlainButForKeys w.own.mapping.schema statement → IsWhole w → IsHealthy w → IsHealthy (acts.bulk statement w).after
   unfolding acts.bulk
-  bulk_healthy statement w plain may whole healthy =
+  bulk_healthy statement w plain whole healthy =
       (led_then IsHealthy (λ v. IsInside w.own.mapping v × IsPlainBulk w.own.mapping.schema statement) IsHealthy (statements.enter_bulk statement) (λ u. flush_whole >>= λ u. statements.bulk statement) w
-      (bulk_led statement w plain may whole healthy)
+      (bulk_led statement w plain whole healthy)
       (λ u inside.
       let v : World = (statements.enter_bulk statement w).after in
       led_then IsHealthy (IsFlushed w.own.mapping) IsHealthy flush_whole (λ u. statements.bulk statement) v (flush_led w.own.mapping v inside.0)

@@ -99,16 +99,16 @@ module _ (keeps : FlushLeavesSound) (answers : FlushWritesAll) (rules : Rules) w
   call_healthy (Call.Delete object) w whole may healthy = record { sound = delete_sound object w may healthy.sound; tidy = (delete_tidy object).kept w healthy.tidy }
   call_healthy (Call.ChangeLink owner place call) w whole may healthy = record { sound = change_sound owner place call w whole.fit may.0 may.1 healthy.sound; tidy = (link_tidy owner place call).kept w healthy.tidy }
   call_healthy (Call.ReadLink object place) w whole may healthy = record { sound = related_sound object place w healthy.sound; tidy = (related_tidy object place).kept w healthy.tidy }
-  call_healthy Call.Flush w whole may healthy = flush_now_healthy keeps answers w may whole healthy
-  call_healthy Call.Commit w whole may healthy = commit_healthy keeps answers w may whole healthy
+  call_healthy Call.Flush w whole may healthy = flush_now_healthy keeps answers w whole healthy
+  call_healthy Call.Commit w whole may healthy = commit_healthy keeps answers w whole healthy
   call_healthy Call.Rollback w whole may healthy = record { sound = rollback_sound w healthy.sound; tidy = rollback_tidy w (ready w healthy) }
   call_healthy Call.Close w whole may healthy = record { sound = close_sound w healthy.sound; tidy = close_tidy.kept w healthy.tidy }
-  call_healthy Call.BeginNested w whole may healthy = nested_healthy keeps answers w may whole healthy
-  call_healthy (Call.CommitHandle handle) w whole may healthy = handle_healthy keeps answers handle w may whole healthy
+  call_healthy Call.BeginNested w whole may healthy = nested_healthy keeps answers w whole healthy
+  call_healthy (Call.CommitHandle handle) w whole may healthy = handle_healthy keeps answers handle w whole healthy
   call_healthy (Call.RollbackHandle handle) w whole may healthy = record { sound = handle_sound handle w whole.handled healthy.sound; tidy = handle_tidy handle w (ready w healthy) }
   call_healthy (Call.ChangeTables change) w whole may healthy = tables_healthy change w healthy
-  call_healthy (Call.Rows select) w whole may healthy = rows_healthy keeps answers select w may whole healthy
-  call_healthy (Call.Write statement) w whole may healthy = bulk_healthy keeps answers statement w may.0 may.1 whole healthy
+  call_healthy (Call.Rows select) w whole may healthy = rows_healthy keeps answers select w whole healthy
+  call_healthy (Call.Write statement) w whole may healthy = bulk_healthy keeps answers statement w may whole healthy
 
   calls_healthy : (calls : List Call) (w : World) → IsHealthy w → MayCallAll rules calls w → IsHealthy (after_calls rules calls w)
   calls_healthy [] w healthy may = healthy

@@ -9,4 +9,3 @@ pub mod Fits
 pub mod Acts
 pub mod Calls
 mod Telling
-pub mod Taking

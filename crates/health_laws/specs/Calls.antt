@@ -22,7 +22,7 @@ use Rattle.session_links.specs.Steps.{change_link, read_related}
 use Rattle.session_tables.specs.Steps.{change_all}
 use Rattle.session_tables.specs.declared.tables.TableChange.{TableChange}
 use Rattle.session_values.specs.Steps.{set_valid, valid_made}
-use Rattle.health_laws.specs.Health.{IsHealthy, IsWhole, MayFlush}
+use Rattle.health_laws.specs.Health.{IsHealthy, IsWhole}
 
 -- what is asked of a session: objects are made with values, come in, get values, are read and are to be deleted; their links change and
 -- are read; all is written; the transaction and savepoints begin and end; tables are made and dropped; rows are asked for and written
@@ -66,20 +66,14 @@ after_call rules (ChangeTables change) world = (change_all change world).after
 after_call rules (Rows select) world = (acts.rows select world).after
 after_call rules (Write statement) world = (acts.bulk statement world).after
 
--- The call names objects that have been made, and a statement that is plain unless it is refused for a key; and where it flushes, the
--- session may be flushed.
+-- the call names objects that have been made, and a statement that is plain unless it is refused for a key
 abbrev pub MayCall : Call → World → Type 0
 MayCall (Add object) world = IsObject world.own.graph object
 MayCall (Set object attr value) world = IsObject world.own.graph object
 MayCall (Read object attr) world = IsObject world.own.graph object
 MayCall (Delete object) world = IsObject world.own.graph object
 MayCall (ChangeLink owner place call) world = IsObject world.own.graph owner × IsEnd world.own.graph (end_of call)
-MayCall Flush world = MayFlush world
-MayCall Commit world = MayFlush world
-MayCall BeginNested world = MayFlush world
-MayCall (CommitHandle handle) world = MayFlush world
-MayCall (Rows select) world = MayFlush world
-MayCall (Write statement) world = acts.IsPlainButForKeys world.own.mapping.schema statement × MayFlush world
+MayCall (Write statement) world = acts.IsPlainButForKeys world.own.mapping.schema statement
 MayCall call world = Unit {0}
 
 -- the session and the store after calls, in order

@@ -1,12 +1,10 @@
 -- What sessions keep beside soundness, so that every call finds what it needs: keys that no cell contradicts, and objects to be deleted
--- of which all is known.
-use Rattle.std.specs.Prelude.{◌≡◌, ◌⊎◌, ℕ, ◌<◌, Bool, true, ◌&&◌, List, [], ◌∷◌, length, slice_index_or, Option, is_none, is_some}
-use Rattle.std.specs.List.{AllByRecursion, list_all}
+-- of which all is known, and that have no links.
+use Rattle.std.specs.Prelude.{◌≡◌, ℕ, ◌<◌, Bool, true, ◌&&◌, List, [], ◌∷◌, length, slice_index_or, Option, is_some}
 use Rattle.base_core.specs.declared.ids.AttrNo.{AttrNo}
 use Rattle.base_core.specs.declared.ids.ClassId.{ClassId}
-use Rattle.base_core.specs.declared.ids.TableId.{TableId}
 use Rattle.base_core.specs.declared.value.Value.{Value}
-use Rattle.class_mapping.specs.Mapped.{IsClass, Mapped, attribute_of, attributes_of, is_key_attribute, relations_of, tables_of}
+use Rattle.class_mapping.specs.Mapped.{IsClass, Mapped, is_key_attribute}
 use Rattle.class_mapping.specs.PlainClass.{ArePlain, IsPlainClass}
 use Rattle.legality_laws.specs.Legality.{IsAscendingStore}
 use Rattle.object_arena.specs.declared.object.Object.{Object}
@@ -20,11 +18,6 @@ use Rattle.savepoints.specs.declared.scope.Standing.{Standing}
 use Rattle.savepoints.specs.Scopes.{standing_at, standing_of}
 use Rattle.session_scopes.specs.SessionState.{SessionState}
 use Rattle.session_calls.specs.Parts.{World}
-use Rattle.row_project.specs.Changes.{rows_lost}
-use Rattle.schema_core.specs.declared.changes.GoneRow.{GoneRow}
-use Rattle.schema_core.specs.DependencyOrder.{is_among}
-use Rattle.schema_core.specs.Tables.{Tables, is_created}
-use Rattle.session_flush.specs.Flush.{prepared_of}
 use Rattle.session_sound.specs.Sound.{EachObject, IsHandled, IsSound}
 
 -- ---- objects
@@ -38,7 +31,7 @@ abbrev pub HoldsItsKey : Mapped → Object → Type 0
 HoldsItsKey mapped object =
     is_named object.state object.identity ≡ true → (attr : AttrNo) → is_key_attribute mapped object.class attr ≡ true → (cell_in object attr).value ≡ (cell_in object attr).base
 
--- it has no links, where it is to be deleted
+-- it has no links, where it is to be deleted: `delete` refuses others
 abbrev pub IsUnlinkedIfMarked : Object → Type 0
 IsUnlinkedIfMarked object = object.marked ≡ true → object.links ≡ []
 
@@ -95,30 +88,6 @@ pub record IsWhole (world : World) : Type 0 where
   pub fit : IsFit world.own.mapping world.own.graph
   pub handled : IsHandled world
 
--- the tables of the rows that are to be taken away are created
-abbrev pub CanTakeAway : Mapped → Graph → Tables → Type 0
-CanTakeAway mapped graph tables = AllByRecursion (λ (row : GoneRow). is_created tables row.name.table ≡ true) (rows_lost mapped graph (prepared_of graph))
-
--- the session may be flushed: its classes are plain roots, or the rows that are to be taken away are of created tables
-abbrev pub MayFlush : World → Type 0
-MayFlush world = ArePlain world.own.mapping ⊎ CanTakeAway world.own.mapping world.own.graph world.store.tables
-
 -- a call that flushes, and needs it whole, keeps a healthy session healthy, whatever it answers
 abbrev pub KeepsHealthWhole : {A : Type 0} → (World → Run World A) → Type 0
-KeepsHealthWhole m = (world : World) → MayFlush world → IsWhole world → IsHealthy world → IsHealthy (m world).after
-
--- ---- when a session may always be flushed
-
--- no relationship is over a secondary table
-abbrev pub HasNoPairs : Mapped → Type 0
-HasNoPairs mapped = (class : ClassId) → list_all (λ relation. is_none relation.far) (relations_of mapped class) ≡ true
-
--- each table of a class has an attribute of it
-abbrev pub HasAttributes : Mapped → Type 0
-HasAttributes mapped =
-    (class : ClassId) (table : TableId) → is_among (tables_of mapped class) table ≡ true
-    → (attr : AttrNo) × (attr.0 < length (attributes_of mapped class)) × ((attribute_of mapped class attr).table ≡ table)
-
--- of such classes the rows that are to be taken away can be, in every healthy session
-abbrev pub TakesAwayAlways : Type 0
-TakesAwayAlways = (world : World) → HasNoPairs world.own.mapping → HasAttributes world.own.mapping → IsWhole world → IsHealthy world → MayFlush world
+KeepsHealthWhole m = (world : World) → IsWhole world → IsHealthy world → IsHealthy (m world).after

@@ -15,11 +15,10 @@ ghost use Rattle.session_calls.specs.Parts.{World};
 ghost use Rattle.session_flush_laws.specs.Laws.{world_of};
 ghost use Rattle.session_scopes.specs.SessionState.{SessionState, new_session};
 ghost use Rattle.health_laws.specs.Calls.{CallsKeepHealth, CallsKeepOne};
-ghost use Rattle.health_laws.specs.Health.{HasClasses, IsHealthy, KeepsHealthWhole, TakesAwayAlways};
+ghost use Rattle.health_laws.specs.Health.{HasClasses, IsHealthy, KeepsHealthWhole};
 
 use flush_sound_laws::{
-    a_flush_keeps_a_told_session_sound, a_flush_keeps_sound, an_answered_flush_leaves_sound,
-    an_answered_flush_of_a_told_session_leaves_sound,
+    a_flush_keeps_a_told_session_sound, an_answered_flush_of_a_told_session_leaves_sound,
 };
 use keeper_core::Keeper;
 
@@ -33,33 +32,22 @@ pub fn a_new_session_is_healthy()
 {}
 
 /// Calls that flush keep a session healthy, whether the flush or the act behind it answers or is refused: the flush itself, the commit
-/// of the transaction, and the beginning of a savepoint. Classes are plain roots, or the tables of the rows that are to be taken away
-/// are created; no two pairs of these are one row, since objects with links cannot be deleted.
+/// of the transaction, and the beginning of a savepoint. Its classes are of any form, and rows are taken away too.
 pub fn flushing_calls_keep_health()
     ensures flush { KeepsHealthWhole acts.flush_now }
     ensures commit { KeepsHealthWhole acts.commit }
     ensures nested { KeepsHealthWhole acts.begin_nested }
 {
-    a_flush_keeps_sound();
     a_flush_keeps_a_told_session_sound();
-    an_answered_flush_leaves_sound();
     an_answered_flush_of_a_told_session_leaves_sound();
 }
-
-#[tactic(auto, using(crate::proofs::Taking::takes_away))]
-/// A healthy session whose classes have no pairs of secondary tables, and an attribute in each of their tables, may always be flushed.
-pub fn sessions_without_pairs_may_be_flushed()
-    ensures { TakesAwayAlways }
-{}
 
 /// Whatever calls are made one after another, and whatever each answers, a healthy session stays healthy: what is known of its objects is
 /// what their rows hold, its tables are legal, and each rollback finds what it is to restore.
 pub fn calls_keep_health()
     ensures { CallsKeepHealth }
 {
-    a_flush_keeps_sound();
     a_flush_keeps_a_told_session_sound();
-    an_answered_flush_leaves_sound();
     an_answered_flush_of_a_told_session_leaves_sound();
 }
 

@@ -51,9 +51,8 @@ use Rattle.shell_steps.specs.declared.stage.Stage.TheVariants.{Configured}
 use Rattle.shell_steps.specs.ShellState.{AreBound}
 use Rattle.shell_steps.proofs.Bindings.{bound_same, bound_stays}
 use Rattle.health_laws.specs.Calls.{Call, after_call}
-use Rattle.health_laws.specs.Health.{MayFlush}
 use Rattle.health_laws.proofs.Objects.{class_left}
-use Rattle.whole_laws.specs.Whole.{CallsKeepWhole, IsCallOf, IsHale, MayFlushIn}
+use Rattle.whole_laws.specs.Whole.{CallsKeepWhole, IsCallOf, IsHale}
 use Rattle.whole_laws.proofs.Keeping.{Holds}
 use Rattle.whole_laws.proofs.Programs as keeps
 use Rattle.whole_laws.proofs.Since.{IsKeyedSince, since_steps}
@@ -196,8 +195,8 @@ pub record IsLeft (names : Bindings) (run : Run World Answer) : Type 0 where
   pub told : (a : Answer) → run.answer ≡ Ok a → IsBound run.after.own a
 
 module _ (law : CallsKeepWhole) (rules : Rules) (names : Bindings) where
-  called : (call : Call) (w : World) → IsHale w → IsCallOf call w → MayFlushIn call w → IsHale (after_call rules call w)
-  called call w hale of may = law rules (call ∷ []) w hale (of, tt) (may, tt)
+  called : (call : Call) (w : World) → IsHale w → IsCallOf call w → IsHale (after_call rules call w)
+  called call w hale of = law rules (call ∷ []) w hale (of, tt)
 
   told_left : {A : Type 0} (tell : A → Answer) (m : World → Run World A) (w : World) → ((own : SessionState) (a : A) → IsBound own (tell a)) → AreBound (Configured w.own) names → IsHale (m w).after → SameObjects w.own (m w).after.own → IsLeft names (telling tell m w)
   told_left tell m w binds bound hale same = record {
@@ -217,7 +216,7 @@ module _ (law : CallsKeepWhole) (rules : Rules) (names : Bindings) where
       let tell : ObjId → Answer = λ object. answer.Bind name (OneObject object class) in
       let making = makes class cells w.own rules in
       record {
-        hale = told_after IsHale tell m w (called (Call.Make class cells) w hale asks tt);
+        hale = told_after IsHale tell m w (called (Call.Make class cells) w hale asks);
         bound = told_after (λ v. AreBound (Configured v.own) names) tell m w (bound_stays names w.own (m w).after.own making.mapping making.stay making.drawn bound);
         told = λ a is.
             let from = told_answer tell m w a is in
@@ -226,13 +225,13 @@ module _ (law : CallsKeepWhole) (rules : Rules) (names : Bindings) where
       }
 
   -- a savepoint begins, and is bound
-  nested_left : (name : List ℕ) (w : World) → MayFlush w → IsHale w → AreBound (Configured w.own) names → IsLeft names (program_of_resolved rules (resolved.BeginNested name) w)
-  nested_left name w may hale bound =
+  nested_left : (name : List ℕ) (w : World) → IsHale w → AreBound (Configured w.own) names → IsLeft names (program_of_resolved rules (resolved.BeginNested name) w)
+  nested_left name w hale bound =
       let m : World → Run World ℕ = acts.begin_nested in
       let tell : ℕ → Answer = λ handle. answer.Bind name (Saved handle) in
       let same = ((keeps.begins_nested (IsKeyedSince w.own) (since_steps w.own)).kept w (record { keyed = hale.keyed; same = same_itself w.own })).same in
       record {
-        hale = told_after IsHale tell m w (called Call.BeginNested w hale tt may);
+        hale = told_after IsHale tell m w (called Call.BeginNested w hale tt);
         bound = told_after (λ v. AreBound (Configured v.own) names) tell m w (bound_same names w.own (m w).after.own same bound);
         told = λ a is.
             let from = told_answer tell m w a is in
@@ -251,13 +250,13 @@ module _ (law : CallsKeepWhole) (rules : Rules) (names : Bindings) where
   link_left object relation w hale bound =
       let run : Run World Related = read_related object relation w in
       let same = ((keeps.reads_links (IsKeyedSince w.own) (since_steps w.own) object relation).kept w (record { keyed = hale.keyed; same = same_itself w.own })).same in
-      shown_from run.events run.after run.answer (λ related session. answer.Thing (link_shown session.graph related)) (λ own related. tt) (called (Call.ReadLink object relation) w hale tt tt) (bound_same names w.own run.after.own same bound)
+      shown_from run.events run.after run.answer (λ related session. answer.Thing (link_shown session.graph related)) (λ own related. tt) (called (Call.ReadLink object relation) w hale tt) (bound_same names w.own run.after.own same bound)
 
   as_it_was : (a : Answer) (w : World) → ((own : SessionState) → IsBound own a) → IsHale w → AreBound (Configured w.own) names → IsLeft names (give a w)
   unfolding give
   as_it_was a w binds hale bound = record { hale = hale; bound = bound; told = λ b is. subst (IsBound w.own) (let same : a ≡ b = cc in same) (binds w.own) }
 
-  module _ (w : World) (may : MayFlush w) (hale : IsHale w) (bound : AreBound (Configured w.own) names) where
+  module _ (w : World) (hale : IsHale w) (bound : AreBound (Configured w.own) names) where
     abbrev P : SessionState → Type 0
     P = IsKeyedSince w.own
 
@@ -269,32 +268,32 @@ module _ (law : CallsKeepWhole) (rules : Rules) (names : Bindings) where
 
     pub line_left : (line : Resolved) → Asks w.own.mapping w.own.graph line → IsLeft names (program_of_resolved rules line w)
     unfolding by_own
-    line_left resolved.CreateAll asks = kept_left _ _ w (λ own a. tt) hale bound (called (Call.ChangeTables Create) w hale tt tt) (keeps.changes_tables P steps Create)
-    line_left resolved.DropAll asks = kept_left _ _ w (λ own a. tt) hale bound (called (Call.ChangeTables Drop) w hale tt tt) (keeps.changes_tables P steps Drop)
+    line_left resolved.CreateAll asks = kept_left _ _ w (λ own a. tt) hale bound (called (Call.ChangeTables Create) w hale tt) (keeps.changes_tables P steps Create)
+    line_left resolved.DropAll asks = kept_left _ _ w (λ own a. tt) hale bound (called (Call.ChangeTables Drop) w hale tt) (keeps.changes_tables P steps Drop)
     line_left resolved.Dump asks = told_left answer.Tables scan_tables w (λ own a. tt) bound (dump_hale w hale) (dump_same w)
     line_left (resolved.New name class cells) asks = made_left name class cells w hale asks bound
-    line_left (resolved.BeginNested name) asks = nested_left name w may hale bound
+    line_left (resolved.BeginNested name) asks = nested_left name w hale bound
     line_left (resolved.SetCell object attr value) asks =
         let inside = has_attribute object attr asks.0 asks.1 asks.2 in
-        told_left _ _ w (λ own a. tt) bound (called (Call.Set object attr value) w hale (asks.1.0, inside) tt)
+        told_left _ _ w (λ own a. tt) bound (called (Call.Set object attr value) w hale (asks.1.0, inside))
         (keeps.sets P steps object attr value rules w inside (record { keyed = hale.keyed; same = same_itself w.own })).same
     line_left (resolved.ChangeLink owner relation change) asks =
-        told_left _ _ w (λ own a. tt) bound (called (Call.ChangeLink owner relation change) w hale asks tt) (keeps.links P steps owner relation change w asks (record { keyed = hale.keyed; same = same_itself w.own })).same
-    line_left (resolved.Add object) asks = kept_left _ _ w (λ own a. tt) hale bound (called (Call.Add object) w hale asks tt) (keeps.adds P steps object)
-    line_left (resolved.Delete object) asks = kept_left _ _ w (λ own a. tt) hale bound (called (Call.Delete object) w hale asks tt) (keeps.deletes P steps object)
+        told_left _ _ w (λ own a. tt) bound (called (Call.ChangeLink owner relation change) w hale asks) (keeps.links P steps owner relation change w asks (record { keyed = hale.keyed; same = same_itself w.own })).same
+    line_left (resolved.Add object) asks = kept_left _ _ w (λ own a. tt) hale bound (called (Call.Add object) w hale asks) (keeps.adds P steps object)
+    line_left (resolved.Delete object) asks = kept_left _ _ w (λ own a. tt) hale bound (called (Call.Delete object) w hale asks) (keeps.deletes P steps object)
     line_left (resolved.Show thing) asks = as_it_was (answer.Thing thing) w (λ own. tt) hale bound
-    line_left (resolved.ShowCell object attr) asks = kept_left answer.Value _ w (λ own a. tt) hale bound (called (Call.Read object attr) w hale asks tt) (keeps.reads P steps object attr)
+    line_left (resolved.ShowCell object attr) asks = kept_left answer.Value _ w (λ own a. tt) hale bound (called (Call.Read object attr) w hale asks) (keeps.reads P steps object attr)
     line_left (resolved.ShowLink object relation) asks = link_left object relation w hale bound
     line_left (resolved.State object) asks = as_it_was (answer.State (object_at w.own.graph object).state) w (λ own. tt) hale bound
     line_left (resolved.Same object other) asks = as_it_was _ w (λ own. tt) hale bound
-    line_left resolved.Flush asks = kept_left _ _ w (λ own a. tt) hale bound (called Call.Flush w hale tt may) (keeps.flushes P steps)
-    line_left (resolved.Commit None) asks = kept_left _ _ w (λ own a. tt) hale bound (called Call.Commit w hale tt may) (keeps.commits P steps)
-    line_left (resolved.Commit (Some handle)) asks = kept_left _ _ w (λ own a. tt) hale bound (called (Call.CommitHandle handle) w hale tt may) (keeps.commits_handle P steps handle)
-    line_left (resolved.Rollback None) asks = kept_left _ _ w (λ own a. tt) hale bound (called Call.Rollback w hale tt tt) (keeps.rolls_back P steps)
-    line_left (resolved.Rollback (Some handle)) asks = kept_left _ _ w (λ own a. tt) hale bound (called (Call.RollbackHandle handle) w hale tt tt) (keeps.rolls_back_to P steps handle)
-    line_left resolved.Close asks = kept_left _ _ w (λ own a. tt) hale bound (called Call.Close w hale tt tt) (keeps.closes P steps)
-    line_left (resolved.Rows select) asks = kept_left answer.Rows _ w (λ own a. tt) hale bound (called (Call.Rows select) w hale tt may) (keeps.asks_rows P steps select)
-    line_left (resolved.Bulk statement) asks = kept_left answer.Count _ w (λ own a. tt) hale bound (called (Call.Write statement) w hale asks may) (keeps.sends_bulk P steps statement)
+    line_left resolved.Flush asks = kept_left _ _ w (λ own a. tt) hale bound (called Call.Flush w hale tt) (keeps.flushes P steps)
+    line_left (resolved.Commit None) asks = kept_left _ _ w (λ own a. tt) hale bound (called Call.Commit w hale tt) (keeps.commits P steps)
+    line_left (resolved.Commit (Some handle)) asks = kept_left _ _ w (λ own a. tt) hale bound (called (Call.CommitHandle handle) w hale tt) (keeps.commits_handle P steps handle)
+    line_left (resolved.Rollback None) asks = kept_left _ _ w (λ own a. tt) hale bound (called Call.Rollback w hale tt) (keeps.rolls_back P steps)
+    line_left (resolved.Rollback (Some handle)) asks = kept_left _ _ w (λ own a. tt) hale bound (called (Call.RollbackHandle handle) w hale tt) (keeps.rolls_back_to P steps handle)
+    line_left resolved.Close asks = kept_left _ _ w (λ own a. tt) hale bound (called Call.Close w hale tt) (keeps.closes P steps)
+    line_left (resolved.Rows select) asks = kept_left answer.Rows _ w (λ own a. tt) hale bound (called (Call.Rows select) w hale tt) (keeps.asks_rows P steps select)
+    line_left (resolved.Bulk statement) asks = kept_left answer.Count _ w (λ own a. tt) hale bound (called (Call.Write statement) w hale asks) (keeps.sends_bulk P steps statement)
 
 -- ---- lines of which all that they name is there
 
@@ -309,4 +308,4 @@ ready_asks own (resolved.Bulk statement) ready = plain_but_for_keys own.mapping.
 ready_asks own _ ready = tt
 
 pub lines_law : CallsKeepWhole → LinesKeepWhole
-lines_law law rules line w hale ready may = (line_left law rules [] w may hale ((λ name thing is. absurd cc), (λ name thing is. absurd cc)) line (ready_asks w.own line ready)).hale
+lines_law law rules line w hale ready = (line_left law rules [] w hale ((λ name thing is. absurd cc), (λ name thing is. absurd cc)) line (ready_asks w.own line ready)).hale

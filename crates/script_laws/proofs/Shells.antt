@@ -1,5 +1,5 @@
 -- Every line of a script keeps its shell whole, and so does its end.
-use Rattle.std.proofs.Common.{◌≡◌, inl, inr, ◌+◌, arith, ◌≤◌, ℕ, zero, suc, Bool, true, false, List, [], ◌∷◌, length, Option, None, Some, Result, Ok, Err, refl, sym, subst}
+use Rattle.std.proofs.Common.{◌≡◌, ◌+◌, arith, ◌≤◌, ℕ, zero, suc, Bool, true, false, List, [], ◌∷◌, length, Option, None, Some, Result, Ok, Err, refl, sym, subst}
 use Rattle.std.specs.Prelude.{if◌then◌else◌}
 use Rattle.base_core.specs.declared.refusal.Refusal.{Refusal}
 use Rattle.class_types.specs.Rules.{Rules}
@@ -43,14 +43,13 @@ use Rattle.shell_steps.specs.Step.{answer_to, close_session, close_session_at, c
 use Rattle.shell_steps.proofs.Bindings.{bound_same, bound_more, none_bound_in}
 use Rattle.sqla_shell.specs.declared.ending.Ending.TheVariants.{Finished}
 use Rattle.sqla_shell.specs.Reference.{close_and_tell, do_and_reply, end_script, end_unless_too_long, script, start, writes}
-use Rattle.health_laws.specs.Health.{HasClasses, MayFlush}
+use Rattle.health_laws.specs.Health.{HasClasses}
 use Rattle.health_laws.specs.Calls.{Call}
-use Rattle.health_laws.proofs.Taking.{takes_away}
 use Rattle.whole_laws.specs.Whole.{CallsKeepWhole, IsHale}
 use Rattle.whole_laws.proofs.Calls.{new_whole}
 use Rattle.whole_laws.proofs.Programs as keeps
 use Rattle.whole_laws.proofs.Since.{IsKeyedSince, since_steps}
-use Rattle.script_laws.specs.Scripts.{HasOneAt, IsBuilt, IsLateBlock, IsLateDeclared, IsWholeAt, IsWholeShell, MayFlushAt, MayFlushThroughout, ScriptsEndWhole, ScriptsHaveOneForEachKey, ScriptsStayWhole, after_lines}
+use Rattle.script_laws.specs.Scripts.{HasOneAt, IsBuilt, IsLateBlock, IsLateDeclared, IsWholeAt, IsWholeShell, ScriptsEndWhole, ScriptsHaveOneForEachKey, ScriptsStayWhole, after_lines}
 use Rattle.script_laws.proofs.Built.{built_wider, class_built, configured_classes, new_built, table_built}
 use Rattle.script_laws.proofs.Late.{IsLateRun, IsLateSaid, said_late}
 use Rattle.script_laws.proofs.Performed.{IsBound, IsLeft, line_left}
@@ -160,10 +159,6 @@ declares count rules block (Configured session) names store next whole late is =
 
 -- ---- commands
 
-may_flush : (v : Beside SessionState) → MayFlushAt (Configured v.own) v.store → IsHale v → MayFlush v
-may_flush v (inl simple) hale = takes_away v simple.0 simple.1 (record { fit = hale.keyed.fit; handled = hale.handled }) hale.healthy
-may_flush v (inr may) hale = may
-
 module _ (law : CallsKeepWhole) (rules : Rules) where
   -- a command that was asked of a session
   asked_left : (names : Bindings) (v : Beside SessionState) (r : Result Resolved Refusal) → IsHale v → AreBound (Configured v.own) names → ((line : Resolved) → r ≡ Ok line → IsLeft names (program_of_resolved rules line v))
@@ -171,13 +166,13 @@ module _ (law : CallsKeepWhole) (rules : Rules) where
   asked_left names v (Ok line) hale bound left = let one = left line refl in record { hale = one.hale; bound = one.bound; told = one.told }
   asked_left names v (Err e) hale bound left = record { hale = hale; bound = bound; told = λ a is. absurd cc }
 
-  performed_left : (dialect : Dialect) (names : Bindings) (command : Command) (v : Beside SessionState) → MayFlush v → IsSayable command → IsHale v → AreBound (Configured v.own) names → IsLeft names (performed rules dialect names command v)
+  performed_left : (dialect : Dialect) (names : Bindings) (command : Command) (v : Beside SessionState) → IsSayable command → IsHale v → AreBound (Configured v.own) names → IsLeft names (performed rules dialect names command v)
   unfolding performed on_own ask ◌>>=◌
-  performed_left dialect names command v may sayable hale bound =
+  performed_left dialect names command v sayable hale bound =
       asked_left names v (asked dialect v.own.mapping names command) hale bound
       (λ line is.
       let texts = given (has_texts dialect v.own.mapping.schema command) (λ u. resolve v.own.mapping names command) line is in
-      line_left law rules names v may hale bound line (asks_what_is_there v.own.mapping v.own.graph v.own.drawn.drawn names bound.0 command line sayable texts.2))
+      line_left law rules names v hale bound line (asks_what_is_there v.own.mapping v.own.graph v.own.drawn.drawn names bound.0 command line sayable texts.2))
 
   -- its answer is told, and bound
   told_whole : (count : ℕ) (names : Bindings) (session : SessionState) (store : Store) (a : Answer) → IsHale (record { own = session; store = store }) → AreBound (Configured session) names → IsBound session a → IsWholeAt count (Configured session) (names_with a names) store
@@ -190,40 +185,40 @@ module _ (law : CallsKeepWhole) (rules : Rules) where
   command_told count shell run (Ok a) at late left = (told_whole count shell.names run.after.own run.after.store a left.hale left.bound (left.told a at), late)
   command_told count shell run (Err e) at late left = ((left.hale, left.bound), late)
 
-  command_at : (count : ℕ) (stage : Stage) (command : Command) (w : Shells) → MayFlushAt stage w.store → IsSayable command → w.own.stage ≡ stage → IsWholeAt count stage w.own.names w.store → IsLateBlock w.own.desk.block
+  command_at : (count : ℕ) (stage : Stage) (command : Command) (w : Shells) → IsSayable command → w.own.stage ≡ stage → IsWholeAt count stage w.own.names w.store → IsLateBlock w.own.desk.block
       → IsWholeShell count (continue_from (run_at stage (performed rules w.own.options.dialect w.own.names command) w).events (run_at stage (performed rules w.own.options.dialect w.own.names command) w).after
       (run_at stage (performed rules w.own.options.dialect w.own.names command) w).answer (λ a. on_own (tell_answer a))).after
-  command_at count (Declaring mapping) command w may sayable at whole late = (subst (λ (s : Stage). IsWholeAt count s w.own.names w.store) (sym at) whole, late)
-  command_at count (Configured session) command w may sayable at whole late =
+  command_at count (Declaring mapping) command w sayable at whole late = (subst (λ (s : Stage). IsWholeAt count s w.own.names w.store) (sym at) whole, late)
+  command_at count (Configured session) command w sayable at whole late =
       let v : Beside SessionState = record { own = session; store = w.store } in
       let run : Run (Beside SessionState) Answer = performed rules w.own.options.dialect w.own.names command v in
-      command_told count w.own run run.answer refl late (performed_left w.own.options.dialect w.own.names command v (may_flush v may whole.0) sayable whole.0 whole.1)
+      command_told count w.own run run.answer refl late (performed_left w.own.options.dialect w.own.names command v sayable whole.0 whole.1)
 
-  command_whole : (count : ℕ) (command : Command) (w : Shells) → MayFlushAt w.own.stage w.store → IsSayable command → IsWholeShell count w → IsWholeShell count (do_command rules command w).after
+  command_whole : (count : ℕ) (command : Command) (w : Shells) → IsSayable command → IsWholeShell count w → IsWholeShell count (do_command rules command w).after
   unfolding do_command perform by_own in_session ◌>>=◌
-  command_whole count command w may sayable whole = command_at count w.own.stage command w may sayable refl whole.0 whole.1
+  command_whole count command w sayable whole = command_at count w.own.stage command w sayable refl whole.0 whole.1
 
   -- ---- a line
 
-  said_whole : (count : ℕ) (said : Said) (w : Shells) → MayFlushAt w.own.stage w.store → CanBeDone said → IsLateSaid said → count ≤ 4294967295 → IsWholeShell count w → IsWholeShell (count + 1) (do_said rules said w).after
+  said_whole : (count : ℕ) (said : Said) (w : Shells) → CanBeDone said → IsLateSaid said → count ≤ 4294967295 → IsWholeShell count w → IsWholeShell (count + 1) (do_said rules said w).after
   unfolding give on_own compile ask
-  said_whole count Nothing w may can late few whole = wider count (count + 1) w (omega arith) whole
-  said_whole count Configure w may can late few whole = turned count (count + 1) opened_stage w (omega arith) whole (λ next is. configures count (count + 1) w.own.stage w.own.names w.store next whole.0 few is)
-  said_whole count (Declare block) w may can late few whole =
+  said_whole count Nothing w can late few whole = wider count (count + 1) w (omega arith) whole
+  said_whole count Configure w can late few whole = turned count (count + 1) opened_stage w (omega arith) whole (λ next is. configures count (count + 1) w.own.stage w.own.names w.store next whole.0 few is)
+  said_whole count (Declare block) w can late few whole =
       turned count (count + 1) (declared_stage rules block) w (omega arith) whole (λ next is. declares count rules block w.own.stage w.own.names w.store next whole.0 late is)
-  said_whole count (Compile command) w may can late few whole = wider count (count + 1) w (omega arith) whole
-  said_whole count (Do command) w may can late few whole = wider count (count + 1) (do_command rules command w).after (omega arith) (command_whole count command w may can whole)
+  said_whole count (Compile command) w can late few whole = wider count (count + 1) w (omega arith) whole
+  said_whole count (Do command) w can late few whole = wider count (count + 1) (do_command rules command w).after (omega arith) (command_whole count command w can whole)
 
-  said_by_desk : (count : ℕ) (w : Shells) → MayFlushAt w.own.stage w.store → (run : Run DeskState Said) (r : Result Said Refusal) → run.answer ≡ r → ((said : Said) → run.answer ≡ Ok said → CanBeDone said) → IsLateRun run → count ≤ 4294967295 → IsWholeShell count w
+  said_by_desk : (count : ℕ) (w : Shells) → (run : Run DeskState Said) (r : Result Said Refusal) → run.answer ≡ r → ((said : Said) → run.answer ≡ Ok said → CanBeDone said) → IsLateRun run → count ≤ 4294967295 → IsWholeShell count w
       → IsWholeShell (count + 1) (continue_from run.events (record { own = record w.own { desk = run.after }; store = w.store }) r (do_said rules)).after
-  said_by_desk count w may run (Ok said) is can late few whole = said_whole count said (record { own = record w.own { desk = run.after }; store = w.store }) may (can said is) (late.told said is) few (whole.0, late.block)
-  said_by_desk count w may run (Err e) is can late few whole = wider count (count + 1) (record { own = record w.own { desk = run.after }; store = w.store }) (omega arith) (whole.0, late.block)
+  said_by_desk count w run (Ok said) is can late few whole = said_whole count said (record { own = record w.own { desk = run.after }; store = w.store }) (can said is) (late.told said is) few (whole.0, late.block)
+  said_by_desk count w run (Err e) is can late few whole = wider count (count + 1) (record { own = record w.own { desk = run.after }; store = w.store }) (omega arith) (whole.0, late.block)
 
-  line_whole : (count : ℕ) (bytes : List ℕ) (w : Shells) → MayFlushAt w.own.stage w.store → count ≤ 4294967295 → IsWholeShell count w → IsWholeShell (count + 1) (line_step rules bytes w).after
+  line_whole : (count : ℕ) (bytes : List ℕ) (w : Shells) → count ≤ 4294967295 → IsWholeShell count w → IsWholeShell (count + 1) (line_step rules bytes w).after
   unfolding line_step on_own at_desk ◌>>=◌
-  line_whole count bytes w may few whole =
+  line_whole count bytes w few whole =
       let run : Run DeskState Said = said_line bytes w.own.desk in
-      said_by_desk count w may run run.answer refl (λ said is. line_says bytes w.own.desk said is) (said_late bytes w.own.desk whole.1) few whole
+      said_by_desk count w run run.answer refl (λ said is. line_says bytes w.own.desk said is) (said_late bytes w.own.desk whole.1) few whole
 
   -- ---- its reply
 
@@ -235,9 +230,9 @@ module _ (law : CallsKeepWhole) (rules : Rules) where
   recovered count events w (Ok reply) whole = whole
   recovered count events w (Err e) whole = told_here count e w whole
 
-  answered_whole : (count : ℕ) (bytes : List ℕ) (w : Shells) → MayFlushAt w.own.stage w.store → count ≤ 4294967295 → IsWholeShell count w → IsWholeShell (count + 1) (answer_to rules bytes w).after
+  answered_whole : (count : ℕ) (bytes : List ℕ) (w : Shells) → count ≤ 4294967295 → IsWholeShell count w → IsWholeShell (count + 1) (answer_to rules bytes w).after
   unfolding answer_to handle_refusal
-  answered_whole count bytes w may few whole = let run = line_step rules bytes w in recovered (count + 1) run.events run.after run.answer (line_whole count bytes w may few whole)
+  answered_whole count bytes w few whole = let run = line_step rules bytes w in recovered (count + 1) run.events run.after run.answer (line_whole count bytes w few whole)
 
   without_notes_hale : (session : SessionState) (store : Store) → IsHale (record { own = session; store = store }) → IsHale (record { own = record session { notes = [] }; store = store })
   without_notes_hale session store hale =
@@ -264,18 +259,18 @@ module _ (law : CallsKeepWhole) (rules : Rules) where
   noted_whole count events w (Ok reply) whole = notes_told count reply w whole
   noted_whole count events w (Err e) whole = whole
 
-  replied_whole : (count : ℕ) (bytes : List ℕ) (w : Shells) → MayFlushAt w.own.stage w.store → count ≤ 4294967295 → IsWholeShell count w → IsWholeShell (count + 1) (reply_to rules bytes w).after
+  replied_whole : (count : ℕ) (bytes : List ℕ) (w : Shells) → count ≤ 4294967295 → IsWholeShell count w → IsWholeShell (count + 1) (reply_to rules bytes w).after
   unfolding reply_to ◌>>=◌
-  replied_whole count bytes w may few whole = let run = answer_to rules bytes w in noted_whole (count + 1) run.events run.after run.answer (answered_whole count bytes w may few whole)
+  replied_whole count bytes w few whole = let run = answer_to rules bytes w in noted_whole (count + 1) run.events run.after run.answer (answered_whole count bytes w few whole)
 
   written_whole : (count : ℕ) (events : List Event) (w : Shells) (r : Result (List ℕ) Refusal) → IsWholeShell count w → IsWholeShell count (continue_from events w r writes).after
   unfolding writes
   written_whole count events w (Ok bytes) whole = whole
   written_whole count events w (Err e) whole = whole
 
-  done_whole : (count : ℕ) (bytes : List ℕ) (u : Unit {0}) (w : Shells) → MayFlushAt w.own.stage w.store → count ≤ 4294967295 → IsWholeShell count w → IsWholeShell (count + 1) (do_and_reply rules bytes u w).after
+  done_whole : (count : ℕ) (bytes : List ℕ) (u : Unit {0}) (w : Shells) → count ≤ 4294967295 → IsWholeShell count w → IsWholeShell (count + 1) (do_and_reply rules bytes u w).after
   unfolding do_and_reply ◌>>=◌
-  done_whole count bytes u w may few whole = let run = reply_to rules bytes w in written_whole (count + 1) run.events run.after run.answer (replied_whole count bytes w may few whole)
+  done_whole count bytes u w few whole = let run = reply_to rules bytes w in written_whole (count + 1) run.events run.after run.answer (replied_whole count bytes w few whole)
 
   -- ---- all lines
 
@@ -284,13 +279,13 @@ module _ (law : CallsKeepWhole) (rules : Rules) where
   each_from count more lines events v (Ok t) least whole later = later t
   each_from count more lines events v (Err e) least whole later = wider count more v least whole
 
-  each_whole : (count more : ℕ) (lines : List (List ℕ)) (u : Unit {0}) (w : Shells) → count + length lines ≡ more → more ≤ 4294967295 → MayFlushThroughout rules lines w → IsWholeShell count w → IsWholeShell more (each (do_and_reply rules) u lines w).after
+  each_whole : (count more : ℕ) (lines : List (List ℕ)) (u : Unit {0}) (w : Shells) → count + length lines ≡ more → more ≤ 4294967295 → IsWholeShell count w → IsWholeShell more (each (do_and_reply rules) u lines w).after
   unfolding each give ◌>>=◌
-  each_whole count more [] u w all few may whole = wider count more w (omega (arith, all)) whole
-  each_whole count more (line ∷ lines) u w all few may whole =
+  each_whole count more [] u w all few whole = wider count more w (omega (arith, all)) whole
+  each_whole count more (line ∷ lines) u w all few whole =
       let run : Run Shells (Unit {0}) = do_and_reply rules line u w in
-      let now : IsWholeShell (count + 1) run.after = done_whole count line u w may.0 (omega (arith, all, few)) whole in
-      each_from (count + 1) more lines run.events run.after run.answer (omega (arith, all)) now (λ t. each_whole (count + 1) more lines t run.after (omega (arith, all)) few may.1 now)
+      let now : IsWholeShell (count + 1) run.after = done_whole count line u w (omega (arith, all, few)) whole in
+      each_from (count + 1) more lines run.events run.after run.answer (omega (arith, all)) now (λ t. each_whole (count + 1) more lines t run.after (omega (arith, all)) few now)
 
   -- ---- the end
 
@@ -299,7 +294,7 @@ module _ (law : CallsKeepWhole) (rules : Rules) where
   closed_in count (Configured session) w whole at =
       let v : Beside SessionState = record { own = session; store = w.store } in
       let same = ((keeps.closes (IsKeyedSince session) (since_steps session)).kept v (record { keyed = at.0.keyed; same = same_itself session })).same in
-      ((law rules (Call.Close ∷ []) v at.0 (tt, tt) (tt, tt), bound_same w.own.names session (close v).after.own same at.1), whole.1)
+      ((law rules (Call.Close ∷ []) v at.0 (tt, tt), bound_same w.own.names session (close v).after.own same at.1), whole.1)
 
   closed_at : (count : ℕ) (stage : Stage) (w : Shells) → IsWholeShell count w → IsWholeShell count (close_session_at stage w).after
   unfolding give in_session
@@ -360,18 +355,18 @@ script_few bytes = let few : length (lines_of bytes).lines ≤ 16777217 = few_li
 
 pub end_law : CallsKeepWhole → ScriptsEndWhole
 unfolding script ◌>>=◌
-end_law law options rules bytes may =
+end_law law options rules bytes =
     let lines : List (List ℕ) = (lines_of bytes).lines in
     let run : Run Shells (Unit {0}) = each (do_and_reply rules) tt lines (start options) in
-    ended_from law rules (length lines) (lines_of bytes).too_long run.events run.after run.answer (each_whole law rules 0 (length lines) lines tt (start options) (omega arith) (script_few bytes) may ((new_built, refl, refl), tt))
+    ended_from law rules (length lines) (lines_of bytes).too_long run.events run.after run.answer (each_whole law rules 0 (length lines) lines tt (start options) (omega arith) (script_few bytes) ((new_built, refl, refl), tt))
 
 pub scripts_law : CallsKeepWhole → ScriptsStayWhole
-scripts_law law options rules lines few may = each_whole law rules 0 (length lines) lines tt (start options) (omega arith) few may ((new_built, refl, refl), tt)
+scripts_law law options rules lines few = each_whole law rules 0 (length lines) lines tt (start options) (omega arith) few ((new_built, refl, refl), tt)
 
 one_at : (count : ℕ) (stage : Stage) (names : Bindings) (store : Store) → IsWholeAt count stage names store → HasOneAt stage store
 one_at count (Declaring mapping) names store whole = tt
 one_at count (Configured session) names store whole = whole.0.healthy.sound.graph.one
 
 pub one_law : ScriptsStayWhole → ScriptsHaveOneForEachKey
-one_law law options rules lines few may =
-    let now : Shells = after_lines options rules lines in one_at (length lines) now.own.stage now.own.names now.store (law options rules lines few may).0
+one_law law options rules lines few =
+    let now : Shells = after_lines options rules lines in one_at (length lines) now.own.stage now.own.names now.store (law options rules lines few).0

@@ -8,20 +8,14 @@ use Rattle.session_flush_laws.specs.Laws.{world_of}
 use Rattle.session_scopes.specs.SessionState.{SessionState}
 use Rattle.session_perform.specs.Performing.{IsReady, program_of_resolved}
 use Rattle.command_resolve.specs.declared.resolved.Resolved.{Resolved}
-use Rattle.health_laws.specs.Health.{MayFlush}
 use Rattle.whole_laws.specs.Whole.{IsHale}
 
 -- whatever a resolved line asks for, and whatever it answers, a healthy session that is whole stays so, where all that it names
--- is there, and the session may be flushed
+-- is there
 abbrev pub LinesKeepWhole : Type 0
-LinesKeepWhole = (rules : Rules) (line : Resolved) (world : World) → IsHale world → IsReady world.own line → MayFlush world → IsHale (program_of_resolved rules line world).after
+LinesKeepWhole = (rules : Rules) (line : Resolved) (world : World) → IsHale world → IsReady world.own line → IsHale (program_of_resolved rules line world).after
 
 -- a keeper tells, and beside what it tells the session is so
 abbrev pub IsHaleBeside : SessionState → Option (Told Store) → Type 0
 IsHaleBeside session None = ⊥
 IsHaleBeside session (Some told) = IsHale (world_of session told)
-
--- and beside what it tells the session may be flushed
-abbrev pub MayFlushBeside : SessionState → Option (Told Store) → Type 0
-MayFlushBeside session None = ⊥
-MayFlushBeside session (Some told) = MayFlush (world_of session told)

@@ -1,5 +1,5 @@
 -- What holds of a shell at every line of a script, and behind its end.
-use Rattle.std.specs.Prelude.{◌≡◌, ◌⊎◌, ◌<◌, ◌≤◌, ℕ, true, false, List, [], ◌∷◌, length, take, slice_index_or, Option, None, Some}
+use Rattle.std.specs.Prelude.{◌≡◌, ◌<◌, ◌≤◌, ℕ, true, false, List, [], length, take, slice_index_or, Option, None, Some}
 use Rattle.std.specs.List.{list_all, list_any}
 use Rattle.schema_core.specs.Catalog.{no_table}
 use Rattle.schema_core.specs.Declaration.{declaration_fault}
@@ -25,7 +25,6 @@ use Rattle.shell_steps.specs.ShellState.{AreBound, ShellState}
 use Rattle.sqla_shell.specs.Reference.{do_and_reply, reference, start}
 use Rattle.whole_laws.specs.Whole.{IsHale}
 use Rattle.health_laws.specs.Calls.{HasOneForEachKey}
-use Rattle.health_laws.specs.Health.{HasAttributes, HasNoPairs, MayFlush}
 
 -- what a mapping keeps as tables and classes are declared in so many lines
 pub record IsBuilt (count : ℕ) (mapped : Mapped) : Type 0 where
@@ -66,24 +65,13 @@ IsWholeShell count world = IsWholeAt count world.own.stage world.own.names world
 abbrev pub after_lines : PrintOptions → Rules → List (List ℕ) → Beside ShellState
 after_lines options rules lines = (each (do_and_reply rules) tt lines (start options)).after
 
--- Where there is a session it may be flushed: its classes have no pairs of secondary tables, and an attribute in each of their tables;
--- or they are plain roots; or the rows that are to be taken away stand as rows can.
-abbrev pub MayFlushAt : Stage → Store → Type 0
-MayFlushAt (Declaring mapping) store = Unit {0}
-MayFlushAt (Configured session) store = (HasNoPairs session.mapping × HasAttributes session.mapping) ⊎ MayFlush (record { own = session; store = store })
-
--- so it is before each line
-abbrev pub MayFlushThroughout : Rules → List (List ℕ) → Beside ShellState → Type 0
-MayFlushThroughout rules [] world = Unit {0}
-MayFlushThroughout rules (line ∷ lines) world = MayFlushAt world.own.stage world.store × MayFlushThroughout rules lines (do_and_reply rules line tt world).after
-
 -- whatever the lines of a script are, where they can be numbered, and whatever they answer
 abbrev pub ScriptsStayWhole : Type 0
-ScriptsStayWhole = (options : PrintOptions) (rules : Rules) (lines : List (List ℕ)) → length lines ≤ 4294967295 → MayFlushThroughout rules lines (start options) → IsWholeShell (length lines) (after_lines options rules lines)
+ScriptsStayWhole = (options : PrintOptions) (rules : Rules) (lines : List (List ℕ)) → length lines ≤ 4294967295 → IsWholeShell (length lines) (after_lines options rules lines)
 
 -- whatever the bytes of a script are: behind its end, where its session is closed
 abbrev pub ScriptsEndWhole : Type 0
-ScriptsEndWhole = (options : PrintOptions) (rules : Rules) (bytes : List ℕ) → MayFlushThroughout rules (lines_of bytes).lines (start options) → IsWholeShell (length (lines_of bytes).lines) (reference options rules bytes).after
+ScriptsEndWhole = (options : PrintOptions) (rules : Rules) (bytes : List ℕ) → IsWholeShell (length (lines_of bytes).lines) (reference options rules bytes).after
 
 -- one object stands for each key in the session, where there is one
 abbrev pub HasOneAt : Stage → Store → Type 0
@@ -92,4 +80,4 @@ HasOneAt (Configured session) store = HasOneForEachKey (record { own = session; 
 
 abbrev pub ScriptsHaveOneForEachKey : Type 0
 ScriptsHaveOneForEachKey =
-    (options : PrintOptions) (rules : Rules) (lines : List (List ℕ)) → length lines ≤ 4294967295 → MayFlushThroughout rules lines (start options) → HasOneAt (after_lines options rules lines).own.stage (after_lines options rules lines).store
+    (options : PrintOptions) (rules : Rules) (lines : List (List ℕ)) → length lines ≤ 4294967295 → HasOneAt (after_lines options rules lines).own.stage (after_lines options rules lines).store

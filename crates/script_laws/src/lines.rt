@@ -5,7 +5,7 @@ ghost use Rattle.class_types.specs.Shown.{rules_of};
 ghost use Rattle.programs.specs.Programs.{ends_early};
 ghost use Rattle.session_perform.specs.Performing.{IsReady};
 ghost use Rattle.session_scopes.specs.SessionState.{IsInStep};
-ghost use Rattle.script_laws.specs.Lines.{IsHaleBeside, LinesKeepWhole, MayFlushBeside};
+ghost use Rattle.script_laws.specs.Lines.{IsHaleBeside, LinesKeepWhole};
 
 use base_core::Refusal;
 use class_types::Hooks;
@@ -16,8 +16,7 @@ use session_scopes::Session;
 use whole_laws::calls_keep_whole;
 
 /// Whatever a resolved line asks for, and whatever it answers, a session stays healthy and whole, where all that the line names is
-/// there, and the session may be flushed: its classes are plain roots, or the tables of the rows that are to be taken away are
-/// created. It does nothing when it runs.
+/// there. It does nothing when it runs.
 pub fn lines_keep_whole()
     ensures { LinesKeepWhole }
 {
@@ -25,7 +24,7 @@ pub fn lines_keep_whole()
 }
 
 /// Does what a resolved line asks for, as `perform` does. Over a keeper that tells its tables a session that is healthy and whole stays
-/// so, whatever is answered, unless the store or memory ended the line early, where it may be flushed.
+/// so, whatever is answered, unless the store or memory ended the line early.
 pub fn perform_whole<K: Keeper>(
     session: &mut Session,
     keeper: &mut K,
@@ -34,8 +33,7 @@ pub fn perform_whole<K: Keeper>(
 ) -> Result<Answer, Refusal>
     requires in_step { IsInStep session.old (K.moment keeper.old) }
     requires ready { IsReady session.old resolved }
-    ensures hale { MayFlushBeside session.old (K.moment keeper.old).told
-        → IsHaleBeside session.old (K.moment keeper.old).told
+    ensures hale { IsHaleBeside session.old (K.moment keeper.old).told
         → IfErr result (λ e. ends_early e ≡ false)
         → IsHaleBeside session.new (K.moment keeper.new).told }
 {

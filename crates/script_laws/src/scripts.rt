@@ -5,9 +5,7 @@ ghost use Rattle.script_laws.specs.Scripts.{ScriptsEndWhole, ScriptsHaveOneForEa
 use whole_laws::calls_keep_whole;
 
 /// Whatever the lines of a script are, fewer than 2^32 of them, and whatever each answers: its session is healthy and whole behind every
-/// line, beside the store that the lines made, and what names stand for is there. It is so where its classes have no pairs of secondary
-/// tables, and an attribute in each of their tables; or are plain roots; or where before each line the tables of the rows that are to
-/// be taken away are created. It does nothing when it runs.
+/// line, beside the store that the lines made, and what names stand for is there. It does nothing when it runs.
 pub fn scripts_stay_whole()
     ensures { ScriptsStayWhole }
 {

@@ -11,30 +11,30 @@ use Rattle.health_laws.specs.Calls.{Call, MayCall, after_call, after_calls}
 use Rattle.health_laws.specs.Health.{HasClasses, IsWhole}
 use Rattle.health_laws.proofs.Acts.{FlushLeavesSound, FlushWritesAll}
 use Rattle.health_laws.proofs.Calls.{call_healthy, new_healthy}
-use Rattle.whole_laws.specs.Whole.{AreCallsOf, CallsKeepFit, CallsKeepWhole, IsCallOf, IsHale, IsKeyed, MayFlushIn, MayFlushInAll, SessionsHaveOneForEachKey, new_world}
+use Rattle.whole_laws.specs.Whole.{AreCallsOf, CallsKeepFit, CallsKeepWhole, IsCallOf, IsHale, IsKeyed, SessionsHaveOneForEachKey, new_world}
 use Rattle.whole_laws.proofs.Handled as handled
 use Rattle.whole_laws.proofs.Handled.{Handled}
 use Rattle.whole_laws.proofs.Programs as keyed
 use Rattle.whole_laws.proofs.Since.{keyed_steps, make_keyed}
 
-may_call : (call : Call) (w : World) → IsCallOf call w → MayFlushIn call w → MayCall call w
-may_call (Call.Make class given) w of may = tt
-may_call (Call.Add object) w of may = of
-may_call (Call.Set object attr value) w of may = of.0
-may_call (Call.Read object attr) w of may = of
-may_call (Call.Delete object) w of may = of
-may_call (Call.ChangeLink owner place call) w of may = (of.made, of.end)
-may_call (Call.ReadLink object place) w of may = tt
-may_call Call.Flush w of may = may
-may_call Call.Commit w of may = may
-may_call Call.Rollback w of may = tt
-may_call Call.Close w of may = tt
-may_call Call.BeginNested w of may = may
-may_call (Call.CommitHandle handle) w of may = may
-may_call (Call.RollbackHandle handle) w of may = tt
-may_call (Call.ChangeTables change) w of may = tt
-may_call (Call.Rows select) w of may = may
-may_call (Call.Write statement) w of may = (of, may)
+may_call : (call : Call) (w : World) → IsCallOf call w → MayCall call w
+may_call (Call.Make class given) w of = tt
+may_call (Call.Add object) w of = of
+may_call (Call.Set object attr value) w of = of.0
+may_call (Call.Read object attr) w of = of
+may_call (Call.Delete object) w of = of
+may_call (Call.ChangeLink owner place call) w of = (of.made, of.end)
+may_call (Call.ReadLink object place) w of = tt
+may_call Call.Flush w of = tt
+may_call Call.Commit w of = tt
+may_call Call.Rollback w of = tt
+may_call Call.Close w of = tt
+may_call Call.BeginNested w of = tt
+may_call (Call.CommitHandle handle) w of = tt
+may_call (Call.RollbackHandle handle) w of = tt
+may_call (Call.ChangeTables change) w of = tt
+may_call (Call.Rows select) w of = tt
+may_call (Call.Write statement) w of = of
 
 module _ (rules : Rules) where
   call_keyed : (call : Call) (w : World) → IsCallOf call w → IsKeyed w.own → IsKeyed (after_call rules call w).own
@@ -80,18 +80,18 @@ fit_law rules [] w keyed of = keyed
 fit_law rules (call ∷ calls) w keyed of = fit_law rules calls (after_call rules call w) (call_keyed rules call w of.0 keyed) of.1
 
 module _ (keeps : FlushLeavesSound) (answers : FlushWritesAll) (rules : Rules) where
-  call_hale : (call : Call) (w : World) → IsCallOf call w → MayFlushIn call w → IsHale w → IsHale (after_call rules call w)
-  call_hale call w of may hale =
+  call_hale : (call : Call) (w : World) → IsCallOf call w → IsHale w → IsHale (after_call rules call w)
+  call_hale call w of hale =
       let whole : IsWhole w = record { fit = hale.keyed.fit; handled = hale.handled } in
       record {
-        healthy = call_healthy keeps answers rules call w whole (may_call call w of may) hale.healthy;
+        healthy = call_healthy keeps answers rules call w whole (may_call call w of) hale.healthy;
         keyed = call_keyed rules call w of hale.keyed;
         handled = call_handled rules call w hale.handled;
       }
 
-  calls_hale : (calls : List Call) (w : World) → IsHale w → AreCallsOf rules calls w → MayFlushInAll rules calls w → IsHale (after_calls rules calls w)
-  calls_hale [] w hale of may = hale
-  calls_hale (call ∷ calls) w hale of may = calls_hale calls (after_call rules call w) (call_hale call w of.0 may.0 hale) of.1 may.1
+  calls_hale : (calls : List Call) (w : World) → IsHale w → AreCallsOf rules calls w → IsHale (after_calls rules calls w)
+  calls_hale [] w hale of = hale
+  calls_hale (call ∷ calls) w hale of = calls_hale calls (after_call rules call w) (call_hale call w of.0 hale) of.1
 
 -- ---- a new session
 
@@ -99,7 +99,7 @@ pub new_whole : (mapping : Mapped) → HasClasses mapping → IsHale (new_world 
 new_whole mapping classes = record { healthy = new_healthy mapping classes; keyed = record { well = classes.well; fit = fit_empty mapping; keys = All-nil (HasKeys mapping empty_graph) }; handled = refl }
 
 pub whole_law : FlushLeavesSound → FlushWritesAll → CallsKeepWhole
-whole_law keeps answers rules calls w hale of may = calls_hale keeps answers rules calls w hale of may
+whole_law keeps answers rules calls w hale of = calls_hale keeps answers rules calls w hale of
 
 pub one_law : CallsKeepWhole → SessionsHaveOneForEachKey
-one_law law mapping rules calls classes of may = (law rules calls (new_world mapping) (new_whole mapping classes) of may).healthy.sound.graph.one
+one_law law mapping rules calls classes of = (law rules calls (new_world mapping) (new_whole mapping classes) of).healthy.sound.graph.one

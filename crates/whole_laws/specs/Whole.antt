@@ -15,7 +15,7 @@ use Rattle.session_acts.specs.Steps.{IsPlainButForKeys}
 use Rattle.session_link_laws.specs.Laws.{IsLinkCall}
 use Rattle.session_sound.specs.Sound.{IsHandled}
 use Rattle.health_laws.specs.Calls.{Call, HasOneForEachKey, after_call, after_calls}
-use Rattle.health_laws.specs.Health.{HasClasses, IsHealthy, MayFlush}
+use Rattle.health_laws.specs.Health.{HasClasses, IsHealthy}
 
 -- The mapping is as every configured one is, with links, classes of several tables and discriminators as they may be. The objects fit
 -- their classes, their links too, and had keys of these at the start of each scope.
@@ -47,28 +47,13 @@ abbrev pub AreCallsOf : Rules → List Call → World → Type 0
 AreCallsOf rules [] world = Unit {0}
 AreCallsOf rules (call ∷ calls) world = IsCallOf call world × AreCallsOf rules calls (after_call rules call world)
 
--- where a call flushes, the session may be flushed
-abbrev pub MayFlushIn : Call → World → Type 0
-MayFlushIn Call.Flush world = MayFlush world
-MayFlushIn Call.Commit world = MayFlush world
-MayFlushIn Call.BeginNested world = MayFlush world
-MayFlushIn (Call.CommitHandle handle) world = MayFlush world
-MayFlushIn (Call.Rows select) world = MayFlush world
-MayFlushIn (Call.Write statement) world = MayFlush world
-MayFlushIn call world = Unit {0}
-
--- so it is when it is the call's turn
-abbrev pub MayFlushInAll : Rules → List Call → World → Type 0
-MayFlushInAll rules [] world = Unit {0}
-MayFlushInAll rules (call ∷ calls) world = MayFlushIn call world × MayFlushInAll rules calls (after_call rules call world)
-
 -- over classes of any form, whatever is called, and whatever is answered, objects go on to fit
 abbrev pub CallsKeepFit : Type 0
 CallsKeepFit = (rules : Rules) (calls : List Call) (world : World) → IsKeyed world.own → AreCallsOf rules calls world → IsKeyed (after_calls rules calls world).own
 
 -- whatever is called, and whatever is answered, a healthy session that is whole stays so
 abbrev pub CallsKeepWhole : Type 0
-CallsKeepWhole = (rules : Rules) (calls : List Call) (world : World) → IsHale world → AreCallsOf rules calls world → MayFlushInAll rules calls world → IsHale (after_calls rules calls world)
+CallsKeepWhole = (rules : Rules) (calls : List Call) (world : World) → IsHale world → AreCallsOf rules calls world → IsHale (after_calls rules calls world)
 
 -- a session over a mapping that has done nothing, and a store without tables
 abbrev pub new_world : Mapped → World
@@ -76,4 +61,4 @@ new_world mapping = record { own = new_session mapping; store = record { tables 
 
 -- whatever is called of a new session, one object stands for each key
 abbrev pub SessionsHaveOneForEachKey : Type 0
-SessionsHaveOneForEachKey = (mapping : Mapped) (rules : Rules) (calls : List Call) → HasClasses mapping → AreCallsOf rules calls (new_world mapping) → MayFlushInAll rules calls (new_world mapping) → HasOneForEachKey (after_calls rules calls (new_world mapping))
+SessionsHaveOneForEachKey = (mapping : Mapped) (rules : Rules) (calls : List Call) → HasClasses mapping → AreCallsOf rules calls (new_world mapping) → HasOneForEachKey (after_calls rules calls (new_world mapping))

@@ -8,8 +8,7 @@ ghost use Rattle.health_laws.specs.Health.{HasClasses};
 ghost use Rattle.whole_laws.specs.Whole.{CallsKeepFit, CallsKeepWhole, IsHale, SessionsHaveOneForEachKey, new_world};
 
 use flush_sound_laws::{
-    a_flush_keeps_a_told_session_sound, a_flush_keeps_sound, an_answered_flush_leaves_sound,
-    an_answered_flush_of_a_told_session_leaves_sound,
+    a_flush_keeps_a_told_session_sound, an_answered_flush_of_a_told_session_leaves_sound,
 };
 
 #[tactic(auto, using(crate::proofs::Calls::new_whole))]
@@ -26,14 +25,11 @@ pub fn calls_keep_objects_fitting()
 {}
 
 /// Whatever calls are made one after another, of classes, attributes, relationships and objects that are there, and whatever each
-/// answers, a session stays healthy and whole, where it may be flushed when a call flushes it: its classes are plain roots, or the tables of
-/// the rows that are to be taken away are created. Its objects fit their classes, and each savepoint in progress has a handle.
+/// answers, a session stays healthy and whole: its objects fit their classes, and each savepoint in progress has a handle.
 pub fn calls_keep_whole()
     ensures { CallsKeepWhole }
 {
-    a_flush_keeps_sound();
     a_flush_keeps_a_told_session_sound();
-    an_answered_flush_leaves_sound();
     an_answered_flush_of_a_told_session_leaves_sound();
 }
 

@@ -4,5 +4,5 @@ use Rattle.whole_laws.proofs.calls_keep_whole.Goals as goal
 
 pub returns : goal.returns
 returns c =
-    whole_law (leaves_sound c.a_flush_keeps_sound.ensures c.a_flush_keeps_a_told_session_sound.ensures)
-    (writes_all c.an_answered_flush_leaves_sound.ensures c.an_answered_flush_of_a_told_session_leaves_sound.ensures)
+    whole_law (leaves_sound c.a_flush_keeps_a_told_session_sound.ensures)
+    (writes_all c.an_answered_flush_of_a_told_session_leaves_sound.ensures)
