@@ -104,7 +104,7 @@ committed : (w : World) → IsAnswered (commit_transaction w) tt w.store.tables
 unfolding commit_transaction ◌>>=◌ on_store changes call.commit
 committed w = record { answer = refl; left = refl }
 
-whole_committed : (w : World) → IsAnswered (commit_whole w) tt w.store.tables
+pub whole_committed : (w : World) → IsAnswered (commit_whole w) tt w.store.tables
 unfolding commit_whole by_own
 whole_committed w =
     let count : ℕ = length w.own.drawn.handles in

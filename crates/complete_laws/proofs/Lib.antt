@@ -1,4 +1,5 @@
-mod Written
 mod Answering
-mod Opened
 mod Leaving
+mod Opened
+mod Reading
+mod Written

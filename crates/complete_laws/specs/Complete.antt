@@ -1,18 +1,25 @@
 -- When a flush answers, and the calls that flush.
-use Rattle.std.specs.Prelude.{◌≡◌, ◌<◌, ℕ, true, false, List, length, None, Some, Ok}
-use Rattle.schema_core.specs.declared.changes.GoneRow.{GoneRow}
-use Rattle.schema_core.specs.Tables.{Legal, Tables, is_created}
-use Rattle.std.specs.List.{AllByRecursion}
-use Rattle.class_mapping.specs.Mapped.{Mapped}
-use Rattle.class_mapping.specs.PlainClass.{ArePlain}
+use Rattle.std.specs.Prelude.{◌≡◌, ◌<◌, ℕ, true, false, List, length, slice_get, slice_index_or, None, Some, Ok, is_none}
+use Rattle.std.specs.List.{list_any}
+use Rattle.base_core.specs.declared.ids.TableId.{TableId}
+use Rattle.base_core.specs.declared.value.Value.{Value}
+use Rattle.base_core.specs.declared.value.Value.TheVariants.{Null}
+use Rattle.schema_core.specs.declared.table.ColumnSpec.{ColumnSpec}
+use Rattle.schema_core.specs.declared.table.ForeignSpec.{ForeignSpec}
+use Rattle.schema_core.specs.Catalog.{has_name, spec_of}
+use Rattle.schema_core.specs.DependencyOrder.{is_among}
+use Rattle.schema_core.specs.Tables.{Legal, Tables}
+use Rattle.class_mapping.specs.Mapped.{Mapped, tables_of}
 use Rattle.mapping_laws.specs.Hierarchies.{HasHierarchies}
 use Rattle.object_arena.specs.declared.object.Object.{Object}
 use Rattle.object_arena.specs.Fit.{IsFit}
-use Rattle.object_arena.specs.Graph.{Graph}
+use Rattle.object_arena.specs.Graph.{Graph, is_persistent}
 use Rattle.flush_order.specs.Orders.{delete_order, gone_rows, insert_order}
 use Rattle.flush_plan.specs.Flushing.{Sofar}
-use Rattle.flush_plan.specs.Stating.{all_placed, guess, stated_tables}
-use Rattle.pair_rows.specs.Pairs.{lost_rows}
+use Rattle.flush_plan.specs.Stating.{all_placed, guess, row_at, stated_tables}
+use Rattle.object_rows.specs.Rows.{cell_for, key_or_none}
+use Rattle.held_laws.specs.Laws.{placed_object}
+use Rattle.plan_laws.specs.Laws.{changes_to_write}
 use Rattle.plan_laws.specs.Premises.{IsClear}
 use Rattle.prefix_laws.specs.Laws.{IsWellMapped}
 use Rattle.legality_laws.specs.Legality.{IsAscendingStore}
@@ -20,7 +27,6 @@ use Rattle.row_project.specs.Switch.{project}
 use Rattle.savepoints.specs.Scopes.{scope_limit}
 use Rattle.session_calls.specs.Parts.{World}
 use Rattle.session_flush.specs.Flush.{flush, prepared_of}
-use Rattle.session_flush.specs.Outcome.{changes_of}
 use Rattle.session_acts.specs.Steps.{begin_nested, commit, flush_now, orphan_fault}
 use Rattle.session_sound.specs.Sound.{EachObject, IsSound}
 use Rattle.health_laws.specs.Health.{IsHealthy, IsWhole}
@@ -35,16 +41,31 @@ pub record IsWritable (mapped : Mapped) (graph : Graph) (old after : Tables) : T
   pub gone_ordered : delete_order mapped.schema (project mapped graph (prepared_of graph)) (gone_rows mapped.schema (project mapped graph (prepared_of graph))) ≡ Ok gone
   pub placed : Sofar
   pub keys : all_placed mapped.schema (project mapped graph (prepared_of graph)) old order ≡ Some placed
-  pub states : stated_tables mapped.schema old (project mapped graph (prepared_of graph)) order ≡ Some after
+  pub states : stated_tables mapped.schema old (changes_to_write (project mapped graph (prepared_of graph))) order ≡ Some after
   pub legal : Legal mapped.schema after
   pub clear : IsClear mapped.schema old after
   pub no_guess : guess mapped.schema old (project mapped graph (prepared_of graph)) order placed.keys ≡ false
 
--- a healthy session of plain classes in which no rollback is awaited and no orphan waits, and whose objects state tables that can be written
+-- a row of an object in a table of its class holds NULL in each column of a foreign key that is neither of the key nor of an attribute
+-- of the class, as the columns that another class of a single table owns
+abbrev pub HasNoOtherLinks : Mapped → Object → TableId → List Value → Type 0
+HasNoOtherLinks mapped object table row =
+    (number : ℕ) (column : ColumnSpec) → slice_get (spec_of mapped.schema table).columns number ≡ Some column → column.key ≡ false → is_none (cell_for mapped object table number) ≡ true
+    → list_any (λ (foreign : ForeignSpec). has_name foreign.columns column.name) (spec_of mapped.schema table).foreigns ≡ true → slice_index_or row number Null ≡ Null
+
+-- so do the rows of the objects that are to be deleted
+abbrev pub DeletedHaveNoOtherLinks : Mapped → Graph → Tables → Type 0
+DeletedHaveNoOtherLinks mapped graph old =
+    (place : ℕ) (table : TableId) (row : List Value) → place < length graph.objects → is_persistent (placed_object graph place).state ≡ true → (placed_object graph place).marked ≡ true
+    → is_among (tables_of mapped (placed_object graph place).class) table ≡ true → row_at old (table, key_or_none (placed_object graph place).identity) ≡ Some row
+    → HasNoOtherLinks mapped (placed_object graph place) table row
+
+-- A healthy session in which no rollback is awaited and no orphan waits, and whose objects state tables that can be written. What the
+-- rows of those that are to be deleted hold in foreign keys is known.
 pub record MayBeWritten (world : World) (after : Tables) : Type 0 where
-  pub plain : ArePlain world.own.mapping
   pub healthy : IsHealthy world
   pub whole : IsWhole world
+  pub links : DeletedHaveNoOtherLinks world.own.mapping world.own.graph world.store.tables
   pub well : world.own.failed ≡ false
   pub no_orphan : orphan_fault world.own ≡ None
   pub writable : IsWritable world.own.mapping world.own.graph world.store.tables after
@@ -58,17 +79,27 @@ pub record HoldsLinks (world : World) : Type 0 where
   pub fit : IsFit world.own.mapping world.own.graph
   pub unmarked : EachObject (λ (object : Object). object.marked ≡ false) world.own.graph
 
--- the tables of pairs that are taken away are created
-abbrev pub HavePairsTables : World → Type 0
-HavePairsTables world = AllByRecursion (λ (row : GoneRow). is_created world.store.tables row.name.table ≡ true) (lost_rows world.own.mapping world.own.graph (prepared_of world.own.graph))
+-- The second tables are those that the objects state over the first, where their new rows have an order: the rows of deleted objects
+-- and of pairs that are taken away are gone, changed cells are written, new rows are put in, and every other row is as it was.
+abbrev pub ObjectsState : Mapped → Graph → Tables → Tables → Type 0
+ObjectsState mapped graph old after =
+    (order : List ℕ) × (insert_order mapped.schema (project mapped graph (prepared_of graph)) ≡ Ok order)
+    × (stated_tables mapped.schema old (changes_to_write (project mapped graph (prepared_of graph))) order ≡ Some after)
 
--- a flush that answers leaves the rows that the objects of such a session state, whose new rows have an order, where the tables of
--- pairs that are taken away are created
+-- in every healthy session a flush that answers leaves what the objects state
+abbrev pub FlushesLeaveStatedRows : Type 0
+FlushesLeaveStatedRows =
+    (world : World) → IsHealthy world → IsWhole world → (flush_now world).answer ≡ Ok tt → ObjectsState world.own.mapping world.own.graph world.store.tables (flush_now world).after.store.tables
+
+-- and so does a commit
+abbrev pub CommitsLeaveStatedRows : Type 0
+CommitsLeaveStatedRows =
+    (world : World) → IsHealthy world → IsWhole world → (commit world).answer ≡ Ok tt → ObjectsState world.own.mapping world.own.graph world.store.tables (commit world).after.store.tables
+
+-- and the flush in the transaction of a sound session, also where keys have been changed, in which no object is to be deleted
 abbrev pub LinkedFlushesLeaveStatedRows : Type 0
 LinkedFlushesLeaveStatedRows =
-    (world : World) → HoldsLinks world → HavePairsTables world → (flush world).answer ≡ Ok tt
-    → (order : List ℕ) × (insert_order world.own.mapping.schema (changes_of world.own) ≡ Ok order)
-    × (stated_tables world.own.mapping.schema world.store.tables (changes_of world.own) order ≡ Some (flush world).after.store.tables)
+    (world : World) → HoldsLinks world → (flush world).answer ≡ Ok tt → ObjectsState world.own.mapping world.own.graph world.store.tables (flush world).after.store.tables
 
 -- such a session in which no rollback is awaited and no orphan waits, and whose objects state tables that can be written
 pub record LinksMayBeWritten (world : World) (after : Tables) : Type 0 where

@@ -1,16 +1,19 @@
-//! When a flush answers, completeness, and what it leaves of links. Each law is the contract of a function that calls the laws that it rests on, so there is no body
-//! that could be wrong.
+//! When a flush answers, completeness, and which rows one that answers leaves. Each law is the contract of a function that calls the
+//! laws that it rests on, so there is no body that could be wrong.
 #![tactic(auto)]
 
-ghost use Rattle.complete_laws.specs.Complete.{BeginAnswersWhere, CommitAnswersWhere, FlushAnswersWhere, LinkedFlushesLeaveStatedRows, LinksMayBeWritten, MayBeWritten};
+ghost use Rattle.complete_laws.specs.Complete.{BeginAnswersWhere, CommitAnswersWhere, CommitsLeaveStatedRows, FlushAnswersWhere, FlushesLeaveStatedRows, LinkedFlushesLeaveStatedRows, LinksMayBeWritten, MayBeWritten};
 
 use sendable_laws::{changes_fit, fit_plans_are_sendable};
 use session_flush_laws::a_flush_sends_its_plan;
 use stated_flush_laws::{a_flush_leaves_the_stated_rows, a_flush_of_stated_tables_answers};
+use told_laws::objects_have_own_rows;
 
-/// In a healthy session of plain classes in which no rollback is awaited and no orphan waits, a flush answers and leaves the tables that
-/// the objects state, whenever these are legal, their new rows have keys, no row waits for itself, no unique value passes between
-/// rows, and no foreign key is guessed. So do a commit, and the beginning of a savepoint where fewer than 64 are open.
+/// In a healthy session, over every mapping and with objects that are to be deleted, in which no rollback is awaited and no orphan
+/// waits, a flush answers and leaves the tables that the objects state, whenever these are legal, their new rows have keys, no row
+/// waits for itself, no unique value passes between rows, no foreign key is guessed, and no deleted row holds a value in a column of a
+/// foreign key that is neither of the key nor of an attribute of its object's class. So do a commit, and the beginning of a savepoint
+/// where fewer than 64 are open.
 pub fn stated_objects_are_written()
     ensures flush { FlushAnswersWhere MayBeWritten }
     ensures commit { CommitAnswersWhere MayBeWritten }
@@ -21,8 +24,8 @@ pub fn stated_objects_are_written()
     changes_fit();
 }
 
-/// So they do in every sound session over a configured mapping whose objects fit it, with links over foreign keys and secondary tables,
-/// joined and single-table classes, where no object is to be deleted, also where pairs of secondary tables are taken away.
+/// So they do in every sound session over a configured mapping whose objects fit it, whether their keys have been changed or not, where
+/// no object is to be deleted, also where pairs of secondary tables are taken away.
 pub fn stated_links_are_written()
     ensures flush { FlushAnswersWhere LinksMayBeWritten }
     ensures commit { CommitAnswersWhere LinksMayBeWritten }
@@ -33,11 +36,16 @@ pub fn stated_links_are_written()
     changes_fit();
 }
 
-/// In such a session a flush that answers leaves exactly the rows that the objects state: the old ones without those of pairs that are
-/// taken away, with the changed cells written and the new rows put in.
-pub fn linked_flushes_leave_the_stated_rows()
-    ensures { LinkedFlushesLeaveStatedRows }
+/// In every healthy session, over every mapping and with objects that are to be deleted, a flush that answers leaves exactly the rows that
+/// the objects state: the old ones without those of deleted objects and of pairs that are taken away, with the changed cells written and
+/// the new rows put in. Every other row is as it was, one of which no cell is written among them. So does a commit that answers, and the
+/// flush of a sound session in which no object is to be deleted, whether keys have been changed or not.
+pub fn flushes_leave_the_stated_rows()
+    ensures flush { FlushesLeaveStatedRows }
+    ensures commit { CommitsLeaveStatedRows }
+    ensures linked { LinkedFlushesLeaveStatedRows }
 {
     a_flush_sends_its_plan();
     a_flush_leaves_the_stated_rows();
+    objects_have_own_rows();
 }

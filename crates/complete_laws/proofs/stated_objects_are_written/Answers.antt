@@ -1,13 +1,13 @@
 use Rattle.complete_laws.specs.Complete.{MayBeWritten}
 use Rattle.complete_laws.proofs.Answering.{begin_answers_law, commit_answers, flush_answers}
-use Rattle.complete_laws.proofs.Opened.{plain_opened}
+use Rattle.complete_laws.proofs.Opened.{healthy_opened}
 use Rattle.complete_laws.proofs.stated_objects_are_written.Goals as goal
 
 pub returns-clause-flush : goal.returns-clause-flush
-returns-clause-flush c = flush_answers c.a_flush_of_stated_tables_answers.ensures c.fit_plans_are_sendable.ensures c.changes_fit.ensures MayBeWritten plain_opened
+returns-clause-flush c = flush_answers c.a_flush_of_stated_tables_answers.ensures c.fit_plans_are_sendable.ensures c.changes_fit.ensures MayBeWritten healthy_opened
 
 pub returns-clause-commit : goal.returns-clause-commit
-returns-clause-commit c = commit_answers c.a_flush_of_stated_tables_answers.ensures c.fit_plans_are_sendable.ensures c.changes_fit.ensures MayBeWritten plain_opened
+returns-clause-commit c = commit_answers c.a_flush_of_stated_tables_answers.ensures c.fit_plans_are_sendable.ensures c.changes_fit.ensures MayBeWritten healthy_opened
 
 pub returns-clause-begin : goal.returns-clause-begin
-returns-clause-begin c = begin_answers_law c.a_flush_of_stated_tables_answers.ensures c.fit_plans_are_sendable.ensures c.changes_fit.ensures MayBeWritten plain_opened
+returns-clause-begin c = begin_answers_law c.a_flush_of_stated_tables_answers.ensures c.fit_plans_are_sendable.ensures c.changes_fit.ensures MayBeWritten healthy_opened
