@@ -9,7 +9,6 @@ use Rattle.base_core.specs.declared.refusal.Refusal.{Refusal}
 use Rattle.base_core.specs.declared.refusal.Refusal.TheVariants.{InvalidRequestError, PendingRollbackError, ResourceClosedError}
 use Rattle.base_core.specs.declared.refusal.RequestKind.TheVariants.{KeyChange}
 use Rattle.class_mapping.specs.Mapped.{Mapped}
-use Rattle.class_mapping.specs.PlainClass.{ArePlain}
 use Rattle.class_mapping.proofs.Having.{from_filter, some_of}
 use Rattle.schema_core.specs.Tables.{Tables}
 use Rattle.expr_types.specs.declared.select.Bulk.{Bulk}
@@ -50,7 +49,7 @@ use Rattle.session_laws.proofs.Rereading.{bulk_sound, rows_sound}
 use Rattle.session_laws.proofs.Whole.{handle_released, whole_sound}
 use Rattle.told_laws.specs.Laws.{LeavesUnlinked}
 use Rattle.told_laws.proofs.PairsOnce.{unlinked_once}
-use Rattle.flush_sound_laws.specs.Laws.{IsSteady, IsToldSession, ToldFlushIsSound, ToldFlushKeepsSound}
+use Rattle.flush_sound_laws.specs.Laws.{IsToldSession, ToldFlushIsSound, ToldFlushKeepsSound}
 use Rattle.health_laws.specs.Health.{HoldsItsKey, IsHealthy, IsWhole, KeepsHealthWhole, is_named}
 use Rattle.health_laws.proofs.Fits.{flushed_fit}
 use Rattle.health_laws.proofs.Flushes.{answered_as, flush_tidy}
@@ -177,15 +176,6 @@ module _ (mapped : Mapped) (w : World) (it : IsInside mapped w) where
       let named = persists_named (get_or w.own.graph.objects place no_object).state (get_or w.own.graph.objects place no_object) refl persists (it.healthy.sound.graph.identified place no_object less) in
       ((it.healthy.tidy.own.objects place less).keyed, named)
 
-  pub steady : ArePlain w.own.mapping → IsSteady w
-  steady plain = record {
-    inside = it.inside;
-    plain = record { all = plain; class = it.healthy.tidy.own.classes.plain plain; fit = it.fit };
-    well = it.healthy.tidy.own.classes.well;
-    ascending = it.healthy.tidy.ascending;
-    kept = λ place less persists. let keyed = keyed_at place less persists in record { keyed = keyed.0 keyed.1; known = (it.healthy.tidy.own.objects place less).known };
-  }
-
   -- what is to be deleted has no links
   leave : LeavesUnlinked w.own.graph (prepared_of w.own.graph)
   leave object among =
@@ -200,12 +190,12 @@ module _ (mapped : Mapped) (w : World) (it : IsInside mapped w) where
   pub told : IsToldSession w
   told = record {
     inside = it.inside;
-    well = it.healthy.tidy.own.classes.well;
+    well = it.healthy.tidy.own.well;
     ascending = it.healthy.tidy.ascending;
     fit = it.fit;
     keyed = λ place less persists. let keyed = keyed_at place less persists in keyed.0 keyed.1;
     known = λ place less. (it.healthy.tidy.own.objects place less).known;
-    once = unlinked_once w.own.mapping w.own.graph (prepared_of w.own.graph) it.healthy.tidy.own.classes.well it.fit it.healthy.sound.graph leave;
+    once = unlinked_once w.own.mapping w.own.graph (prepared_of w.own.graph) it.healthy.tidy.own.well it.fit it.healthy.sound.graph leave;
   }
 
 -- a flush leaves it sound
@@ -243,7 +233,7 @@ module _ (keeps : FlushLeavesSound) (answers : FlushWritesAll) where
       record {
         healthy = record { sound = done.0; tidy = like.tidy };
         fit = subst (λ (m : Mapped). IsFit m (flush w).after.own.graph) (sym sent.mapping)
-            (subst (λ (g : Graph). IsFit w.own.mapping g) (sym sent.objects) (flushed_fit w.own.mapping w.own.graph (prepared_of w.own.graph) (changes_of w.own) sent.given it.healthy.tidy.own.classes.well refl it.fit));
+            (subst (λ (g : Graph). IsFit w.own.mapping g) (sym sent.objects) (flushed_fit w.own.mapping w.own.graph (prepared_of w.own.graph) (changes_of w.own) sent.given it.healthy.tidy.own.well refl it.fit));
         committable = record {
           inside = subst (λ (n : ℕ). 0 < n) (sym like.scopes) it.inside;
           well = record { handled = well_handled w (flush w).after.own it.well like.scopes like.failed like.drawn; well = like.failed ∙ it.well.well };

@@ -10,6 +10,7 @@ use Rattle.class_mapping.specs.Mapped.{Mapped}
 use Rattle.legality_laws.specs.Legality.{Keeps}
 use Rattle.legality_laws.proofs.Dropped.{no_tables_ascend}
 use Rattle.object_arena.specs.Graph.{IsObject}
+use Rattle.prefix_laws.specs.Laws.{IsWellMapped}
 use Rattle.programs.specs.Beside.{on_own}
 use Rattle.session_scopes.specs.SessionState.{SessionState, new_session}
 use Rattle.session_calls.specs.Parts.{World, checked}
@@ -30,18 +31,18 @@ use Rattle.session_link_laws.proofs.Linking.{always_once, change_sound, related_
 use Rattle.session_table_laws.proofs.Dropping.{drop_sound}
 use Rattle.session_table_laws.proofs.Making.{create_sound}
 use Rattle.health_laws.specs.Calls.{Call, CallsKeepHealth, CallsKeepOne, MayCall, MayCallAll, after_call, after_calls}
-use Rattle.health_laws.specs.Health.{HasClasses, IsHealthy, IsOrderlySession, IsTidy, IsWhole}
+use Rattle.health_laws.specs.Health.{IsHealthy, IsOrderlySession, IsTidy, IsWhole}
 use Rattle.health_laws.proofs.Acts.{FlushLeavesSound, FlushWritesAll, bulk_healthy, commit_healthy, flush_now_healthy, handle_healthy, nested_healthy, ready, rows_healthy}
 use Rattle.health_laws.proofs.Programs.{add_tidy, close_tidy, delete_tidy, enter_tidy, handle_tidy, link_tidy, read_tidy, related_tidy, rollback_tidy, set_tidy, tables_tidy, tidy_checked, tidy_then}
 use Rattle.health_laws.proofs.Sessions.{object_orderly}
 
 -- ---- a new session
 
-pub new_healthy : (mapping : Mapped) → HasClasses mapping → IsHealthy (record { own = new_session mapping; store = record { tables = []; scopes = [] } })
-new_healthy mapping classes = record {
+pub new_healthy : (mapping : Mapped) → IsWellMapped mapping → IsHealthy (record { own = new_session mapping; store = record { tables = []; scopes = [] } })
+new_healthy mapping well = record {
   sound = new_sound mapping;
   tidy = record {
-    own = record { classes = classes; objects = λ place less. absurd (omega (arith, less)); named = tt };
+    own = record { well = well; objects = λ place less. absurd (omega (arith, less)); named = tt };
     ascending = record { tables = no_tables_ascend; scopes = tt };
   };
 }

@@ -43,7 +43,7 @@ module _ (start : SessionState) where
   unfolding on_store
   store_as m up = record {
     kept = λ w like. record {
-      tidy = record { own = record { classes = like.tidy.own.classes; objects = like.tidy.own.objects; named = like.tidy.own.named }; ascending = up.kept w.store like.tidy.ascending };
+      tidy = record { own = record { well = like.tidy.own.well; objects = like.tidy.own.objects; named = like.tidy.own.named }; ascending = up.kept w.store like.tidy.ascending };
       scopes = like.scopes;
       failed = like.failed;
       drawn = like.drawn;
@@ -80,7 +80,7 @@ module _ (start : SessionState) where
     unfolding changes
     warn_as = record {
       kept = λ w like. record {
-        tidy = record { own = record { classes = like.tidy.own.classes; objects = like.tidy.own.objects; named = like.tidy.own.named }; ascending = like.tidy.ascending };
+        tidy = record { own = record { well = like.tidy.own.well; objects = like.tidy.own.objects; named = like.tidy.own.named }; ascending = like.tidy.ascending };
         scopes = like.scopes;
         failed = like.failed;
         drawn = like.drawn;
@@ -118,7 +118,7 @@ answered_as w u tidy is = let done : IsDone write_objects give_up w u = done_of 
 -- ---- it is given up
 
 failed_as : (depth : ℕ) (own : SessionState) → IsOrderlySession (session_restored depth own) → IsOrderlySession (record (session_restored depth own) { failed = true })
-failed_as depth own orderly = record { classes = orderly.classes; objects = orderly.objects; named = orderly.named }
+failed_as depth own orderly = record { well = orderly.well; objects = orderly.objects; named = orderly.named }
 
 given_up : (v : World) → IsReady v → IsTidy (give_up v).after
 unfolding give_up by_own

@@ -59,7 +59,7 @@ pub tidy_store : {A : Type 0} (m : Store → Run Store A) → KeepsAscending m �
 unfolding on_store
 tidy_store m up = record {
   kept = λ w tidy. record {
-    own = record { classes = tidy.own.classes; objects = tidy.own.objects; named = tidy.own.named };
+    own = record { well = tidy.own.well; objects = tidy.own.objects; named = tidy.own.named };
     ascending = up.kept w.store tidy.ascending;
   };
 }
@@ -263,7 +263,7 @@ clean_store : {A : Type 0} (m : Store → Run Store A) → KeepsAscending m → 
 unfolding on_store
 clean_store m up = record {
   kept = λ w clean. record {
-    tidy = record { own = record { classes = clean.tidy.own.classes; objects = clean.tidy.own.objects; named = clean.tidy.own.named }; ascending = up.kept w.store clean.tidy.ascending };
+    tidy = record { own = record { well = clean.tidy.own.well; objects = clean.tidy.own.objects; named = clean.tidy.own.named }; ascending = up.kept w.store clean.tidy.ascending };
     written = clean.written;
   };
 }

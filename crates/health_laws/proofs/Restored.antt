@@ -142,7 +142,7 @@ module _ (depth : ℕ) (frames : Framed) (graph : Graph) where
 
 pub restored_orderly : (depth : ℕ) (own : SessionState) → EachObject (λ (o : Object). is_identified o ≡ true) own.graph → IsOrderlySession own → IsOrderlySession (session_restored depth own)
 restored_orderly depth own identified orderly = record {
-  classes = orderly.classes;
+  well = orderly.well;
   objects = each_again depth own.frames own.graph (IsOrderly own.mapping) (again_orderly depth own.frames own.graph own.mapping orderly.named identified orderly.objects);
   named = around_named depth own.frames own.graph orderly.named;
 }

@@ -47,7 +47,7 @@ use Rattle.health_laws.proofs.Objects.{committed_orderly, expired_orderly, left_
 
 pub changed_orderly : (graph : Graph) (own : SessionState) → EachObject (IsOrderly own.mapping) graph → ((place : ℕ) → is_named_in own.graph place ≡ true → is_named_in graph place ≡ true) → IsOrderlySession own → IsOrderlySession (with_graph graph own)
 changed_orderly graph own objects stays orderly = record {
-  classes = orderly.classes;
+  well = orderly.well;
   objects = objects;
   named = subst (AreNamedSince (is_named_in graph)) (sym (between_scopes own.graph graph own.frames)) (named_more (is_named_in own.graph) (is_named_in graph) own.frames.scopes stays orderly.named);
 }
@@ -84,7 +84,7 @@ new_orderly class given own orderly =
     let now : Graph = made own.mapping class given own.graph in
     let fresh : Object = fresh_object own.mapping class in
     record {
-      classes = orderly.classes;
+      well = orderly.well;
       objects = each_made own.mapping class given own.graph (IsOrderly own.mapping) orderly.objects (made_orderly own.mapping (object_with fresh given) (state_left fresh given) (marked_left fresh given));
       named = named_more (is_named_in own.graph) (is_named_in now) own.frames.scopes
           (λ place is. ap (λ (o : Object). is_named o.state o.identity) (made_before own.mapping class given own.graph place (named_inside own.graph place is)) ∙ is) orderly.named;
@@ -107,7 +107,7 @@ one_taken object own orderly =
     let o : Object = object_at own.graph object in
     let number : ℕ = one_more own.added in
     put_orderly object (taken_under number o) (record own { added = added_then o.state own.added }) (λ less. taken_orderly own.mapping o.state number o refl (orderly.objects (place_of object) less)) (taken_named o.state number o refl)
-    (record { classes = orderly.classes; objects = orderly.objects; named = orderly.named })
+    (record { well = orderly.well; objects = orderly.objects; named = orderly.named })
 
 all_joined : (objects : List ObjId) (own : SessionState) → IsOrderlySession own → IsOrderlySession (session_joined objects own)
 all_joined [] own orderly = orderly
@@ -186,25 +186,25 @@ reread_orderly table own settled orderly =
 -- ---- scopes begin and end
 
 pub begun_orderly : (own : SessionState) → IsOrderlySession own → IsOrderlySession (session_begun own)
-begun_orderly own orderly = record { classes = orderly.classes; objects = orderly.objects; named = begun_named own.graph own.frames.scopes orderly.named }
+begun_orderly own orderly = record { well = orderly.well; objects = orderly.objects; named = begun_named own.graph own.frames.scopes orderly.named }
 
 pub nested_orderly : (own : SessionState) → IsOrderlySession own → IsOrderlySession (session_nested own)
-nested_orderly own orderly = record { classes = orderly.classes; objects = orderly.objects; named = begun_named own.graph own.frames.scopes orderly.named }
+nested_orderly own orderly = record { well = orderly.well; objects = orderly.objects; named = begun_named own.graph own.frames.scopes orderly.named }
 
 pub released_orderly : (own : SessionState) → IsOrderlySession own → IsOrderlySession (session_released own)
 unfolding scope_released
 released_orderly own orderly = record {
-  classes = orderly.classes;
+  well = orderly.well;
   objects = orderly.objects;
   named = named_left (is_named_in own.graph) own.frames.scopes (length own.frames.scopes - (length own.frames.scopes - 1)) orderly.named;
 }
 
 pub rolled_orderly : (count : ℕ) (own : SessionState) → IsOrderlySession own → IsOrderlySession (session_rolled_back count own)
-rolled_orderly count own orderly = record { classes = orderly.classes; objects = orderly.objects; named = orderly.named }
+rolled_orderly count own orderly = record { well = orderly.well; objects = orderly.objects; named = orderly.named }
 
 pub closed_orderly : (own : SessionState) → IsOrderlySession own → IsOrderlySession (session_closed own)
 closed_orderly own orderly = record {
-  classes = orderly.classes;
+  well = orderly.well;
   objects = each_changed (IsOrderly own.mapping) (IsOrderly own.mapping) object_left own.graph orderly.objects (λ o one. left_orderly own.mapping o one);
   named = tt;
 }
@@ -213,7 +213,7 @@ pub committed_session : (own : SessionState) → EachObject IsSettled own.graph 
 committed_session own settled orderly =
     let Both : Object → Type 0 = λ o. IsSettled o × IsOrderly own.mapping o in
     record {
-      classes = orderly.classes;
+      well = orderly.well;
       objects = each_changed Both (IsOrderly own.mapping) object_committed own.graph (λ place less. (settled place less, orderly.objects place less)) (λ o both. committed_orderly own.mapping o.state o refl both.0.unmarked both.1);
       named = tt;
     }

@@ -2,10 +2,8 @@
 -- of which all is known, and that have no links.
 use Rattle.std.specs.Prelude.{◌≡◌, ℕ, ◌<◌, Bool, true, ◌&&◌, List, [], ◌∷◌, length, slice_index_or, Option, is_some}
 use Rattle.base_core.specs.declared.ids.AttrNo.{AttrNo}
-use Rattle.base_core.specs.declared.ids.ClassId.{ClassId}
 use Rattle.base_core.specs.declared.value.Value.{Value}
-use Rattle.class_mapping.specs.Mapped.{IsClass, Mapped, is_key_attribute}
-use Rattle.class_mapping.specs.PlainClass.{ArePlain, IsPlainClass}
+use Rattle.class_mapping.specs.Mapped.{Mapped, is_key_attribute}
 use Rattle.legality_laws.specs.Legality.{IsAscendingStore}
 use Rattle.object_arena.specs.declared.object.Object.{Object}
 use Rattle.object_arena.specs.declared.object.State.{State}
@@ -62,14 +60,9 @@ AreNamedSince now (scope ∷ scopes) = ((place : ℕ) → was_named scope place 
 
 -- ---- sessions
 
--- the mapping is as every configured one is, with links, classes of several tables and discriminators as they may be; where all its
--- classes are plain roots, each has what such a class has
-pub record HasClasses (mapped : Mapped) : Type 0 where
-  pub well : IsWellMapped mapped
-  pub plain : ArePlain mapped → (class : ClassId) → IsClass mapped class → IsPlainClass mapped class
-
+-- the mapping is as every configured one is, with links, classes of several tables and discriminators as they may be
 pub record IsOrderlySession (own : SessionState) : Type 0 where
-  pub classes : HasClasses own.mapping
+  pub well : IsWellMapped own.mapping
   pub objects : EachObject (IsOrderly own.mapping) own.graph
   pub named : AreNamedSince (is_named_in own.graph) own.frames.scopes
 

@@ -6,6 +6,7 @@
 ghost use Rattle.std.specs.Prelude.{◌≡◌, [], false, IfErr, IfSome, Result, Some};
 ghost use Rattle.base_core.specs.declared.refusal.Refusal.{Refusal};
 ghost use Rattle.class_mapping.specs.Mapped.{Mapped};
+ghost use Rattle.prefix_laws.specs.Laws.{IsWellMapped};
 ghost use Rattle.programs.specs.Moment.{Told};
 ghost use Rattle.programs.specs.Programs.{Run, ends_early};
 ghost use Rattle.programs.specs.Store.{Store};
@@ -15,7 +16,7 @@ ghost use Rattle.session_calls.specs.Parts.{World};
 ghost use Rattle.session_flush_laws.specs.Laws.{world_of};
 ghost use Rattle.session_scopes.specs.SessionState.{SessionState, new_session};
 ghost use Rattle.health_laws.specs.Calls.{CallsKeepHealth, CallsKeepOne};
-ghost use Rattle.health_laws.specs.Health.{HasClasses, IsHealthy, KeepsHealthWhole};
+ghost use Rattle.health_laws.specs.Health.{IsHealthy, KeepsHealthWhole};
 
 use flush_sound_laws::{
     a_flush_keeps_a_told_session_sound, an_answered_flush_of_a_told_session_leaves_sound,
@@ -25,7 +26,7 @@ use keeper_core::Keeper;
 #[tactic(auto, using(crate::proofs::Calls::new_healthy))]
 /// A new session over a configured mapping is healthy beside a store without tables.
 pub fn a_new_session_is_healthy()
-    ensures { (mapping : Mapped) → HasClasses mapping → IsHealthy (record {
+    ensures { (mapping : Mapped) → IsWellMapped mapping → IsHealthy (record {
       own = new_session mapping;
       store = record { tables = []; scopes = [] };
     }) }

@@ -24,12 +24,12 @@ use Rattle.class_mapping.specs.Lines.{AreLines}
 use Rattle.class_mapping.specs.Mapped.{IsValidMapping, Mapped, fault_of}
 use Rattle.class_mapping.proofs.LineLemmas.{lines_class, lines_table}
 use Rattle.class_mapping.proofs.MappingLemmas.{lined_more, orphans_more}
-use Rattle.class_mapping.proofs.PlainClassLemmas.{alone_more, over_more, over_table, plain_class, table_taken}
+use Rattle.class_mapping.proofs.PlainClassLemmas.{table_taken}
 use Rattle.class_mapping.proofs.RelatedPairs.{are_related}
 use Rattle.class_mapping.proofs.ValidLemmas.{valid_from}
 use Rattle.configured_laws.specs.Configured.{has_late_links}
 use Rattle.configured_laws.proofs.Links.{well_mapped}
-use Rattle.health_laws.specs.Health.{HasClasses}
+use Rattle.prefix_laws.specs.Laws.{IsWellMapped}
 use Rattle.shell_steps.specs.ShellState.{new_mapping}
 use Rattle.script_laws.specs.Scripts.{IsBuilt}
 
@@ -48,11 +48,11 @@ no_lines = record {
 }
 
 pub new_built : IsBuilt 0 new_mapping
-new_built = record { lined = refl; lines = no_lines; alone = λ all. refl; over = refl; late = refl; orphans = refl; faultless = λ place less. absurd (omega (arith, less)); few = omega arith }
+new_built = record { lined = refl; lines = no_lines; late = refl; orphans = refl; faultless = λ place less. absurd (omega (arith, less)); few = omega arith }
 
 -- it is so in more lines
 pub built_wider : (count more : ℕ) (mapped : Mapped) → count ≤ more → IsBuilt count mapped → IsBuilt more mapped
-built_wider count more mapped least built = record { lined = built.lined; lines = built.lines; alone = built.alone; over = built.over; late = built.late; orphans = built.orphans; faultless = built.faultless; few = omega (arith, built.few, least) }
+built_wider count more mapped least built = record { lined = built.lined; lines = built.lines; late = built.late; orphans = built.orphans; faultless = built.faultless; few = omega (arith, built.few, least) }
 
 -- ---- one table more
 
@@ -88,8 +88,6 @@ with_one_table count mapped spec table new is built =
     record {
       lined = built.lined;
       lines = lines_table mapped.schema spec table new mapped.classes is built.lines;
-      alone = built.alone;
-      over = over_table mapped.schema spec table new mapped.classes.specs is built.over;
       late = built.late;
       orphans = built.orphans;
       few = subst (λ (tables : List TableSpec). length tables ≤ count + 1) (sym taken) (omega (arith, long, built.few));
@@ -117,8 +115,6 @@ with_one_class count rules mapped spec none late built =
     record {
       lined = lined_more mapped.classes spec new refl built.lined;
       lines = lines_class rules tables mapped.classes spec new taken built.lined built.lines;
-      alone = alone_more mapped.classes spec new refl built.alone;
-      over = over_more rules tables mapped.classes spec new taken built.over;
       late = list_all-append has_late_links mapped.classes.specs (spec ∷ []) ∙ and_from (list_all has_late_links mapped.classes.specs) (list_all has_late_links (spec ∷ [])) built.late (and_from (has_late_links spec) true late refl);
       orphans = orphans_more rules tables mapped.classes spec new taken built.orphans;
       faultless = built.faultless;
@@ -137,21 +133,17 @@ class_built count rules mapped spec p is late built = unless_built count rules m
 
 -- ---- all is checked
 
-found_classes : (count : ℕ) (mapped : Mapped) → fault_of mapped ≡ None → IsBuilt count mapped → count ≤ 4294967295 → HasClasses (configured_mapping mapped)
-found_classes count mapped none built few =
+found_well : (count : ℕ) (mapped : Mapped) → fault_of mapped ≡ None → IsBuilt count mapped → count ≤ 4294967295 → IsWellMapped (configured_mapping mapped)
+found_well count mapped none built few =
     let now : Mapped = configured_mapping mapped in
     let valid : IsValidMapping now = valid_from mapped.schema.tables mapped.classes (layouts_of mapped.schema.tables mapped.classes) built.orphans none in
-    record {
-      well = well_mapped now built.lined built.lines valid (are_related now built.lined built.lines valid)
-          (record { count = omega (arith, built.few, few); faultless = built.faultless; targets = λ done. valid.targets }) built.late;
-      plain = λ all class less. plain_class now class built.alone built.over less all;
-    }
+    well_mapped now built.lined built.lines valid (are_related now built.lined built.lines valid) (record { count = omega (arith, built.few, few); faultless = built.faultless; targets = λ done. valid.targets }) built.late
 
-configured_by : (count : ℕ) (mapped : Mapped) (fault : Option ArgumentKind) (p : Unit {0} × Mapped) → fault_of mapped ≡ fault → configured_unless fault mapped ≡ Ok p → IsBuilt count mapped → count ≤ 4294967295 → HasClasses p.1
+configured_by : (count : ℕ) (mapped : Mapped) (fault : Option ArgumentKind) (p : Unit {0} × Mapped) → fault_of mapped ≡ fault → configured_unless fault mapped ≡ Ok p → IsBuilt count mapped → count ≤ 4294967295 → IsWellMapped p.1
 configured_by count mapped None p at is built few =
-    subst (λ (q : Unit {0} × Mapped). HasClasses q.1) (let same : (let q : Unit {0} × Mapped = (tt, configured_mapping mapped) in q ≡ p) = cc in same) (found_classes count mapped at built few)
+    subst (λ (q : Unit {0} × Mapped). IsWellMapped q.1) (let same : (let q : Unit {0} × Mapped = (tt, configured_mapping mapped) in q ≡ p) = cc in same) (found_well count mapped at built few)
 configured_by count mapped (Some kind) p at is built few = absurd cc
 
-pub configured_classes : (count : ℕ) (mapped : Mapped) (p : Unit {0} × Mapped) → configure mapped ≡ Ok p → IsBuilt count mapped → count ≤ 4294967295 → HasClasses p.1
+pub configured_well : (count : ℕ) (mapped : Mapped) (p : Unit {0} × Mapped) → configure mapped ≡ Ok p → IsBuilt count mapped → count ≤ 4294967295 → IsWellMapped p.1
 unfolding configure
-configured_classes count mapped p is built few = configured_by count mapped (fault_of mapped) p refl is built few
+configured_well count mapped p is built few = configured_by count mapped (fault_of mapped) p refl is built few

@@ -43,14 +43,14 @@ use Rattle.shell_steps.specs.Step.{answer_to, close_session, close_session_at, c
 use Rattle.shell_steps.proofs.Bindings.{bound_same, bound_more, none_bound_in}
 use Rattle.sqla_shell.specs.declared.ending.Ending.TheVariants.{Finished}
 use Rattle.sqla_shell.specs.Reference.{close_and_tell, do_and_reply, end_script, end_unless_too_long, script, start, writes}
-use Rattle.health_laws.specs.Health.{HasClasses}
+use Rattle.prefix_laws.specs.Laws.{IsWellMapped}
 use Rattle.health_laws.specs.Calls.{Call}
 use Rattle.whole_laws.specs.Whole.{CallsKeepWhole, IsHale}
 use Rattle.whole_laws.proofs.Calls.{new_whole}
 use Rattle.whole_laws.proofs.Programs as keeps
 use Rattle.whole_laws.proofs.Since.{IsKeyedSince, since_steps}
 use Rattle.script_laws.specs.Scripts.{HasOneAt, IsBuilt, IsLateBlock, IsLateDeclared, IsWholeAt, IsWholeShell, ScriptsEndWhole, ScriptsHaveOneForEachKey, ScriptsStayWhole, after_lines}
-use Rattle.script_laws.proofs.Built.{built_wider, class_built, configured_classes, new_built, table_built}
+use Rattle.script_laws.proofs.Built.{built_wider, class_built, configured_well, new_built, table_built}
 use Rattle.script_laws.proofs.Late.{IsLateRun, IsLateSaid, said_late}
 use Rattle.script_laws.proofs.Performed.{IsBound, IsLeft, line_left}
 use Rattle.script_laws.proofs.Resolved.{asks_what_is_there, given}
@@ -127,15 +127,15 @@ turned count more step w least whole moves =
 
 -- ---- declarations
 
-opens : (count : ℕ) (names : Bindings) (store : Store) (r : Result (Unit {0} × Mapped) Refusal) (next : Stage) → ((p : Unit {0} × Mapped) → r ≡ Ok p → HasClasses p.1) → names ≡ [] → store ≡ new_store.world → session_stage r ≡ Ok next → IsWholeAt count next names store
-opens count names store (Ok p) next classes none empty is =
+opens : (count : ℕ) (names : Bindings) (store : Store) (r : Result (Unit {0} × Mapped) Refusal) (next : Stage) → ((p : Unit {0} × Mapped) → r ≡ Ok p → IsWellMapped p.1) → names ≡ [] → store ≡ new_store.world → session_stage r ≡ Ok next → IsWholeAt count next names store
+opens count names store (Ok p) next well none empty is =
     subst (λ (s : Stage). IsWholeAt count s names store) (let same : Configured (new_session p.1) ≡ next = cc in same)
-    (subst (λ (s : Store). IsHale (record { own = new_session p.1; store = s })) (sym empty) (new_whole p.1 (classes p refl)), none_bound_in (new_session p.1) names none)
-opens count names store (Err e) next classes none empty is = absurd cc
+    (subst (λ (s : Store). IsHale (record { own = new_session p.1; store = s })) (sym empty) (new_whole p.1 (well p refl)), none_bound_in (new_session p.1) names none)
+opens count names store (Err e) next well none empty is = absurd cc
 
 configures : (count more : ℕ) (stage : Stage) (names : Bindings) (store : Store) (next : Stage) → IsWholeAt count stage names store → count ≤ 4294967295 → opened_stage stage ≡ Ok next → IsWholeAt more next names store
 unfolding opened_stage
-configures count more (Declaring mapping) names store next whole few is = opens more names store (configure mapping) next (λ p done. configured_classes count mapping p done whole.0 few) whole.1 whole.2 is
+configures count more (Declaring mapping) names store next whole few is = opens more names store (configure mapping) next (λ p done. configured_well count mapping p done whole.0 few) whole.1 whole.2 is
 configures count more (Configured session) names store next whole few is = absurd cc
 
 without : {A : Type 0} (P : Mapped → Type 0) (r : Result (A × Mapped) Refusal) (p : Unit {0} × Mapped) → ((q : A × Mapped) → r ≡ Ok q → P q.1) → without_number r ≡ Ok p → P p.1
@@ -241,7 +241,7 @@ module _ (law : CallsKeepWhole) (rules : Rules) where
       record {
         healthy = record {
           sound = record { graph = sound.graph; legal = sound.legal; fresh = sound.fresh; marked = sound.marked; scopes = sound.scopes; rest = sound.rest };
-          tidy = record { own = record { classes = own.classes; objects = own.objects; named = own.named }; ascending = hale.healthy.tidy.ascending };
+          tidy = record { own = record { well = own.well; objects = own.objects; named = own.named }; ascending = hale.healthy.tidy.ascending };
         };
         keyed = record { well = hale.keyed.well; fit = hale.keyed.fit; keys = hale.keyed.keys };
         handled = hale.handled;

@@ -1,13 +1,12 @@
 -- What holds of a shell at every line of a script, and behind its end.
 use Rattle.std.specs.Prelude.{◌≡◌, ◌<◌, ◌≤◌, ℕ, true, false, List, [], length, take, slice_index_or, Option, None, Some}
-use Rattle.std.specs.List.{list_all, list_any}
+use Rattle.std.specs.List.{list_any}
 use Rattle.schema_core.specs.Catalog.{no_table}
 use Rattle.schema_core.specs.Declaration.{declaration_fault}
 use Rattle.class_types.specs.Rules.{Rules}
 use Rattle.class_layouts.specs.Faults.{is_bad_cascade}
 use Rattle.class_mapping.specs.Lines.{AreLines}
 use Rattle.class_mapping.specs.Mapped.{Mapped}
-use Rattle.class_mapping.specs.Plain.{is_over_table, is_plain_root, lines_alone}
 use Rattle.configured_laws.specs.Configured.{HasLateLinks, has_late_links}
 use Rattle.keeper_core.specs.Keeping.{new_store}
 use Rattle.programs.specs.Beside.{Beside}
@@ -31,9 +30,6 @@ pub record IsBuilt (count : ℕ) (mapped : Mapped) : Type 0 where
   -- each class has its line
   pub lined : length mapped.classes.lines ≡ length mapped.classes.specs
   pub lines : AreLines mapped.schema.tables mapped.classes
-  -- which is the class alone where all are plain, over tables that are declared
-  pub alone : list_all is_plain_root mapped.classes.specs ≡ true → mapped.classes.lines ≡ lines_alone mapped.classes.specs
-  pub over : list_all (is_over_table mapped.schema.tables) mapped.classes.specs ≡ true
   -- no collection says that its foreign key is written late
   pub late : HasLateLinks mapped
   pub orphans : list_any (λ spec. list_any is_bad_cascade spec.relations) mapped.classes.specs ≡ false

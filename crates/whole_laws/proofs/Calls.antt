@@ -5,10 +5,11 @@ use Rattle.class_types.specs.Rules.{Rules}
 use Rattle.class_mapping.specs.Mapped.{Mapped}
 use Rattle.object_arena.specs.Graph.{empty_graph}
 use Rattle.object_arena.proofs.FitLemmas.{fit_empty}
+use Rattle.prefix_laws.specs.Laws.{IsWellMapped}
 use Rattle.savepoints.specs.Scopes.{HasKeys}
 use Rattle.session_calls.specs.Parts.{World}
 use Rattle.health_laws.specs.Calls.{Call, MayCall, after_call, after_calls}
-use Rattle.health_laws.specs.Health.{HasClasses, IsWhole}
+use Rattle.health_laws.specs.Health.{IsWhole}
 use Rattle.health_laws.proofs.Acts.{FlushLeavesSound, FlushWritesAll}
 use Rattle.health_laws.proofs.Calls.{call_healthy, new_healthy}
 use Rattle.whole_laws.specs.Whole.{AreCallsOf, CallsKeepFit, CallsKeepWhole, IsCallOf, IsHale, IsKeyed, SessionsHaveOneForEachKey, new_world}
@@ -95,11 +96,11 @@ module _ (keeps : FlushLeavesSound) (answers : FlushWritesAll) (rules : Rules) w
 
 -- ---- a new session
 
-pub new_whole : (mapping : Mapped) → HasClasses mapping → IsHale (new_world mapping)
-new_whole mapping classes = record { healthy = new_healthy mapping classes; keyed = record { well = classes.well; fit = fit_empty mapping; keys = All-nil (HasKeys mapping empty_graph) }; handled = refl }
+pub new_whole : (mapping : Mapped) → IsWellMapped mapping → IsHale (new_world mapping)
+new_whole mapping well = record { healthy = new_healthy mapping well; keyed = record { well = well; fit = fit_empty mapping; keys = All-nil (HasKeys mapping empty_graph) }; handled = refl }
 
 pub whole_law : FlushLeavesSound → FlushWritesAll → CallsKeepWhole
 whole_law keeps answers rules calls w hale of = calls_hale keeps answers rules calls w hale of
 
 pub one_law : CallsKeepWhole → SessionsHaveOneForEachKey
-one_law law mapping rules calls classes of = (law rules calls (new_world mapping) (new_whole mapping classes) of).healthy.sound.graph.one
+one_law law mapping rules calls well of = (law rules calls (new_world mapping) (new_whole mapping well) of).healthy.sound.graph.one

@@ -15,7 +15,7 @@ use Rattle.session_acts.specs.Steps.{IsPlainButForKeys}
 use Rattle.session_link_laws.specs.Laws.{IsLinkCall}
 use Rattle.session_sound.specs.Sound.{IsHandled}
 use Rattle.health_laws.specs.Calls.{Call, HasOneForEachKey, after_call, after_calls}
-use Rattle.health_laws.specs.Health.{HasClasses, IsHealthy}
+use Rattle.health_laws.specs.Health.{IsHealthy}
 
 -- The mapping is as every configured one is, with links, classes of several tables and discriminators as they may be. The objects fit
 -- their classes, their links too, and had keys of these at the start of each scope.
@@ -61,4 +61,4 @@ new_world mapping = record { own = new_session mapping; store = record { tables 
 
 -- whatever is called of a new session, one object stands for each key
 abbrev pub SessionsHaveOneForEachKey : Type 0
-SessionsHaveOneForEachKey = (mapping : Mapped) (rules : Rules) (calls : List Call) → HasClasses mapping → AreCallsOf rules calls (new_world mapping) → HasOneForEachKey (after_calls rules calls (new_world mapping))
+SessionsHaveOneForEachKey = (mapping : Mapped) (rules : Rules) (calls : List Call) → IsWellMapped mapping → AreCallsOf rules calls (new_world mapping) → HasOneForEachKey (after_calls rules calls (new_world mapping))

@@ -4,7 +4,7 @@
 #![tactic(auto)]
 
 ghost use Rattle.class_mapping.specs.Mapped.{Mapped};
-ghost use Rattle.health_laws.specs.Health.{HasClasses};
+ghost use Rattle.prefix_laws.specs.Laws.{IsWellMapped};
 ghost use Rattle.whole_laws.specs.Whole.{CallsKeepFit, CallsKeepWhole, IsHale, SessionsHaveOneForEachKey, new_world};
 
 use flush_sound_laws::{
@@ -14,7 +14,7 @@ use flush_sound_laws::{
 #[tactic(auto, using(crate::proofs::Calls::new_whole))]
 /// A new session over a configured mapping is whole beside a store without tables.
 pub fn a_new_session_is_whole()
-    ensures { (mapping : Mapped) → HasClasses mapping → IsHale (new_world mapping) }
+    ensures { (mapping : Mapped) → IsWellMapped mapping → IsHale (new_world mapping) }
 {}
 
 /// Over every configured mapping, with links, classes of several tables and discriminators: whatever calls are made one after another, of
