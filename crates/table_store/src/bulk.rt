@@ -16,6 +16,7 @@ ghost use Rattle.table_store.specs.Written.{Leaves, WroteBulk, keys_to_remove, r
 
 use crate::references::{index_foreigns, make_indexes, some_lost};
 use crate::refusals::{taking_refusal, unwritten_refusal};
+use crate::wanted::index_bulk;
 use crate::writing::{insert_rows, put_copy, row_under, stand};
 use base_core::{ColumnNo, Copied, Key, ListOf, Refusal, RowValues, TableId};
 use expr_types::{Bulk, Expr};
@@ -391,7 +392,7 @@ fn apply_in_scope(
 }
 
 /// Makes the indexes by which what a statement does is judged, where there are none yet. No table changes.
-fn index_for(
+fn index_to_judge(
     alloc: Global,
     schema: &Schema,
     store: &mut TableLog,
@@ -403,6 +404,19 @@ fn index_for(
         Bulk::Delete { table, .. } => index_foreigns(alloc, schema, store, *table),
         _ => make_indexes(alloc, schema, store, table_of_bulk(statement)),
     }
+}
+
+/// The same, and those by which its condition finds rows.
+fn index_for(
+    alloc: Global,
+    schema: &Schema,
+    store: &mut TableLog,
+    statement: &Bulk,
+) -> Result<(), AllocError>
+    ensures { store.new ≡ store.old }
+{
+    index_to_judge(alloc, schema, store, statement)?;
+    index_bulk(alloc, schema, store, statement)
 }
 
 /// Does a bulk statement, and answers the number of its rows. Where it is refused, or finds no memory, everything is as it was.

@@ -5,6 +5,8 @@ mod bulk;
 mod references;
 mod refusals;
 mod statements;
+mod wanted;
 mod writing;
 
 pub use statements::{query, rows, write, write_bulk};
+pub use wanted::index_select;

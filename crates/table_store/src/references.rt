@@ -10,7 +10,6 @@ use base_core::{Key, RowValues, TableId};
 use row_judging::{Before, refers_to};
 use schema_core::{Schema, TableSpec};
 use std::alloc::{AllocError, Global};
-use std::slice::from_ref;
 use table_log::TableLog;
 
 /// Whether a row that is left refers to one that was taken out.
@@ -69,26 +68,7 @@ fn index_uniques(
     Ok(())
 }
 
-/// Makes an index on the first column of a table's primary key, by which selects find rows, where there is none. No table
-/// changes.
-fn index_key(
-    alloc: Global,
-    store: &mut TableLog,
-    spec: &TableSpec,
-    table: TableId,
-) -> Result<(), AllocError>
-    ensures { store.new ≡ store.old }
-{
-    for column in spec.columns.as_slice() {
-        if column.key {
-            let names = from_ref(&column.name);
-            return store.index_columns(alloc, table, spec.columns.as_slice(), names);
-        }
-    }
-    Ok(())
-}
-
-/// Makes the indexes by which written rows of a table are judged and found, where there are none yet. No table changes.
+/// Makes the indexes by which written rows of a table are judged, where there are none yet. No table changes.
 pub(crate) fn make_indexes(
     alloc: Global,
     schema: &Schema,
@@ -100,7 +80,6 @@ pub(crate) fn make_indexes(
     if schema.count() <= table.0 {
         return Ok(());
     }
-    index_key(alloc, store, schema.spec(table), table)?;
     index_uniques(alloc, store, schema.spec(table), table)
 }
 
