@@ -373,7 +373,14 @@ impl MemKeeper {
         }
     }
 
-    /// Answers a select, and keeps it.
+    /// Makes the indexes that a select wants. Where there is no memory for them, rows are found without.
+    fn index_for(&mut self, alloc: Global, schema: &Schema, select: &Select)
+        ensures { self.new ≡ self.old }
+    {
+        let _made = table_store::index_select(alloc, schema, &mut self.store, select);
+    }
+
+    /// Makes the indexes that a select wants, answers it, and keeps it.
     pub(crate) fn ask(
         &mut self,
         alloc: Global,
@@ -391,6 +398,7 @@ impl MemKeeper {
         ensures refuses { IfErr
             (as_refusal query_refusal result) (RefusesSelect schema.now select.now) }
     {
+        self.index_for(alloc, schema, select);
         match table_store::query(alloc, schema, &self.store, select) {
             Ok(rows) => {
                 let Ok(()) = self.log.query(alloc, select) else {
