@@ -1,14 +1,10 @@
 -- A flush that answers leaves the rows that the objects state.
-use Rattle.std.proofs.Common.{◌≡◌, ℕ, List, Result, Ok, Err, refl, sym, ap, ◌∙◌, subst}
-use Rattle.schema_core.specs.declared.changes.Planned.{Planned}
-use Rattle.schema_core.specs.declared.changes.RowChanges.{RowChanges}
-use Rattle.schema_core.specs.Catalog.{Catalog}
+use Rattle.std.proofs.Common.{◌≡◌, Ok, sym, ap, ◌∙◌, subst}
 use Rattle.schema_core.specs.Tables.{Tables}
 use Rattle.class_mapping.specs.Mapped.{Mapped}
 use Rattle.object_arena.specs.Graph.{Graph}
-use Rattle.flush_order.specs.Orders.{insert_order}
-use Rattle.flush_plan.specs.Planning.{plan, unless_new_cycle}
-use Rattle.fresh_laws.proofs.Fresh.{ascending_sorted}
+use Rattle.held_laws.proofs.After.{order_made}
+use Rattle.held_laws.proofs.Ascending.{ascending_sorted}
 use Rattle.session_flush.specs.Flush.{flush, prepared_of}
 use Rattle.session_flush.specs.Outcome.{changes_of}
 use Rattle.session_flush_laws.specs.Laws.{SendsItsPlan}
@@ -29,19 +25,10 @@ use Rattle.complete_laws.specs.Complete.{CommitsLeaveStatedRows, FlushesLeaveSta
 use Rattle.complete_laws.proofs.Answering.{whole_committed}
 use Rattle.complete_laws.proofs.Opened.{links_told}
 
--- a plan that is made has an order of its new rows
-order_of : (schema : Catalog) (changes : RowChanges) (statements : List Planned) → plan schema changes ≡ Ok statements → (order : List ℕ) × (insert_order schema changes ≡ Ok order)
-unfolding plan
-order_of schema changes statements made = by (insert_order schema changes) refl made
-  where
-    by : (found : Result (List ℕ) (List ℕ)) → insert_order schema changes ≡ found → unless_new_cycle schema changes found ≡ Ok statements → (order : List ℕ) × (insert_order schema changes ≡ Ok order)
-    by (Ok order) at is = (order, at)
-    by (Err cycle) at is = absurd cc
-
 pub links_leave : SendsItsPlan → LeavesStatedRows → LinkedFlushesLeaveStatedRows
 links_leave sends leaves w holds is =
     let sent = sends w is in
-    let order = order_of w.own.mapping.schema (changes_of w.own) sent.0 sent.2 in
+    let order = order_made w.own.mapping.schema (changes_of w.own) sent.0 sent.2 in
     let told = links_told w holds in (
       order.0,
       order.1,
@@ -60,7 +47,7 @@ links_leave sends leaves w holds is =
 told_leave : SendsItsPlan → LeavesStatedRows → ObjectsHaveOwnRows → (w : World) → IsToldSession w → IsSound w → (flush w).answer ≡ Ok tt → ObjectsState w.own.mapping w.own.graph w.store.tables (flush w).after.store.tables
 told_leave sends leaves own w told sound is =
     let sent = sends w is in
-    let order = order_of w.own.mapping.schema (changes_of w.own) sent.0 sent.2 in (
+    let order = order_made w.own.mapping.schema (changes_of w.own) sent.0 sent.2 in (
       order.0,
       order.1,
       leaves w order.0

@@ -15,7 +15,7 @@ use Rattle.object_arena.specs.Identity.{IsGraph}
 use Rattle.object_rows.specs.declared.prepared.Prepared.{Prepared}
 use Rattle.object_rows.specs.Rows as rows
 use Rattle.prefix_laws.specs.Laws.{IsAsRead, IsTold}
-use Rattle.fresh_laws.proofs.Fresh.{ascending_sorted}
+use Rattle.held_laws.proofs.Ascending.{ascending_sorted}
 use Rattle.flush_sound_laws.specs.Laws.{IsToldSession}
 use Rattle.flush_sound_laws.proofs.Told.{stand}
 use Rattle.flush_sound_laws.proofs.Adding.{none_deleted}

@@ -35,8 +35,7 @@ use Rattle.object_rows.specs.Rows.{cell_for, columns_at, gone_cell, gone_row, go
 use Rattle.plan_laws.proofs.Between.{legal_cells, legal_key}
 use Rattle.plan_laws.proofs.Facts.{some_of}
 use Rattle.prefix_laws.specs.Laws.{AreKeyed, IsAsRead, key_held}
-use Rattle.fresh_laws.specs.Laws.{column_in}
-use Rattle.held_laws.specs.Laws.{held_in}
+use Rattle.held_laws.specs.Laws.{column_in, held_in}
 use Rattle.told_laws.specs.Laws.{StandInTables}
 use Rattle.told_laws.proofs.Standing.{IsToGo, to_go}
 use Rattle.complete_laws.specs.Complete.{DeletedHaveNoOtherLinks}

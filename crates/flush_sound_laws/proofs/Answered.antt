@@ -1,62 +1,44 @@
 -- A flush that answered leaves a sound session.
-use Rattle.std.proofs.Common.{◌≡◌, ◌≢◌, ℕ, ◌+◌, ◌-◌, ◌<◌, ◌≤◌, Bool, true, false, cond, ◌&&◌, if◌then◌else◌, List, [], ◌∷◌, length, map, get_or, Option, None, Some, Ok, Err, Result, refl, sym, ap, ◌∙◌, subst, zero-add, arith}
-use Rattle.std.specs.Prelude.{slice_get, is_some}
-use Rattle.std.specs.Cmp.Lexicographic.{as_long}
+use Rattle.std.proofs.Common.{◌≡◌, ◌≢◌, ℕ, ◌-◌, ◌<◌, Bool, true, false, ◌&&◌, if◌then◌else◌, List, [], ◌∷◌, length, map, get_or, Option, None, Some, refl, sym, ap, ◌∙◌, subst, arith}
+use Rattle.std.specs.Prelude.{is_some}
 use Rattle.std.specs.List.{AllByRecursion, enumerate_from, range_with_len}
-use Rattle.std.specs.Option.{option_and_then}
 use Rattle.std.proofs.lemmas.List.{length-map}
 use Rattle.std.proofs.lemmas.List.FromFn.{length-enumerate_from, length-range_with_len}
-use Rattle.base_core.specs.declared.ids.AttrNo.{AttrNo}
-use Rattle.base_core.specs.declared.ids.ClassId.{ClassId}
 use Rattle.base_core.specs.declared.ids.ObjId.{ObjId}
-use Rattle.base_core.specs.declared.refusal.Refusal.{Refusal}
 use Rattle.base_core.specs.declared.value.Value.{Value}
-use Rattle.schema_core.specs.declared.table.ColumnSpec.{ColumnSpec}
-use Rattle.schema_core.specs.Catalog.{spec_of}
 use Rattle.schema_core.specs.Tables.{AreAscending, Legal, Tables}
-use Rattle.class_layouts.specs.Columns.{attribute_at}
 use Rattle.class_types.specs.declared.mapped.Attribute.{Attribute}
-use Rattle.class_mapping.specs.Mapped.{Mapped, attribute_of, attributes_of, no_attribute, root_table}
-use Rattle.class_mapping.specs.PlainClass.{IsPlainClass}
+use Rattle.class_mapping.specs.Mapped.{Mapped}
 use Rattle.object_arena.specs.declared.object.Object.{Object}
 use Rattle.object_arena.specs.declared.object.State.{State}
 use Rattle.object_arena.specs.declared.object.State.TheVariants.{Transient, Pending, Persistent, Deleted, Detached}
-use Rattle.object_arena.specs.Fit.{ObjectFits, cell_fits}
-use Rattle.object_arena.specs.Graph as graphs
-use Rattle.object_arena.specs.Graph.{Graph, has_identity, is_among, is_persistent, no_object, object_at, root_at}
+use Rattle.object_arena.specs.Graph.{Graph, is_among, is_persistent, no_object, root_at}
 use Rattle.object_arena.specs.Identity.{IsGraph, id_of_place, is_identified, is_other}
-use Rattle.flush_plan.specs.Flushing.{Sofar}
-use Rattle.flush_plan.specs.Planning.{no_column}
 use Rattle.flush_plan.specs.Stating.{row_at}
-use Rattle.object_rows.specs.declared.prepared.Prepared.{Prepared}
 use Rattle.object_rows.specs.Rows.{key_or_none}
 use Rattle.object_rows.specs.Seen.{object_ids}
-use Rattle.graph_flushed.specs.Flushed.{Written, deleted_object, graph_flushed, graph_written, kept_cell, key_of, new_cell, new_object, object_flushed, object_in, staying_cell, staying_object, state_under, state_unless, written_with}
+use Rattle.graph_flushed.specs.Flushed.{Written, deleted_object, graph_written, kept_cell, key_of, new_cell, new_object, object_in, staying_cell, staying_object, state_under, state_unless, written_with}
 use Rattle.graph_flushed.specs.Keys.{key_if_new, new_holder, new_keys}
 use Rattle.graph_flushed.proofs.ObjectSteps.{flushed_at, flushed_long}
 use Rattle.savepoints.specs.declared.scope.Scope.{Scope}
 use Rattle.savepoints.specs.Scopes.{Framed}
 use Rattle.session_parts.specs.Depths.{has_scope}
-use Rattle.programs.specs.Store.{Store}
 use Rattle.touching.specs.Touched.{frames_touched_between}
-use Rattle.session_scopes.specs.SessionState.{SessionState, with_graph}
+use Rattle.session_scopes.specs.SessionState.{with_graph}
 use Rattle.session_calls.specs.Parts.{World}
-use Rattle.session_flush.specs.Flush.{flush, is_to_delete, prepared_of}
+use Rattle.session_flush.specs.Flush.{flush, prepared_of}
 use Rattle.session_flush.specs.Outcome.{changes_of}
 use Rattle.session_flush_laws.specs.Laws.{LeavesLegalTables}
 use Rattle.session_flush_laws.proofs.Again.{here_at, prepared_among}
-use Rattle.session_flush_laws.proofs.Flushing.{IsFlushSent, flush_sent}
-use Rattle.legality_laws.specs.Legality.{AreSound, IsAscendingStore, IsLegalStore}
+use Rattle.session_flush_laws.proofs.Flushing.{IsFlushSent}
+use Rattle.legality_laws.specs.Legality.{AreSound, IsAscendingStore}
 use Rattle.session_sound.specs.Sound.{AreSoundScopes, EachObject, IsFresh, IsMarkedRight, IsSettled, IsSound, IsWritten, RestIf, in_row, row_for}
 use Rattle.session_sound.proofs.Changes.{changed_sound}
 use Rattle.session_sound.proofs.Everyone.{identified_as}
-use Rattle.fresh_laws.specs.Laws.{AreSteady, ArePlainObjects, FlushedObjectsHoldTheirRows, HoldsItsRow, IsKept, column_in, own_row}
-use Rattle.fresh_laws.proofs.Fresh.{ascending_sorted}
-use Rattle.fresh_laws.proofs.One.{written_graph}
-use Rattle.fresh_laws.proofs.Plain.{attribute_of_column}
-use Rattle.flush_sound_laws.specs.Laws.{AnsweredFlushIsSound, FlushKeepsSound, IsSteady, RefusedFlushIsSound}
+use Rattle.held_laws.specs.Laws.{column_in}
+use Rattle.flush_sound_laws.proofs.One.{written_graph}
 
--- ---- what is known of an object of a plain class
+-- ---- what is known of an object
 
 pub in_row_is : (attribute : Attribute) (row : Option (List Value)) → in_row attribute row ≡ column_in row attribute.column.0
 in_row_is attribute None = refl
@@ -65,33 +47,6 @@ in_row_is attribute (Some row) = refl
 pub row_is : (tables : Tables) (attribute : Attribute) (identity : Option (List Value)) → is_some identity ≡ true → row_for tables attribute identity ≡ row_at tables (attribute.table, key_or_none identity)
 row_is tables attribute None there = absurd (let h : false ≡ true = there in cc)
 row_is tables attribute (Some key) there = refl
-
--- the column of an attribute in an object's row
-column_is : (mapped : Mapped) (tables : Tables) (object : Object) (attr : AttrNo) → IsPlainClass mapped object.class → is_some object.identity ≡ true → attr.0 < length (spec_of mapped.schema (root_table mapped object.class)).columns
-    → in_row (attribute_of mapped object.class attr) (row_for tables (attribute_of mapped object.class attr) object.identity) ≡ column_in (own_row mapped tables object) attr.0
-column_is mapped tables object attr plain there less =
-    let columns = (spec_of mapped.schema (root_table mapped object.class)).columns in
-    let at : attribute_of mapped object.class attr ≡ attribute_at (root_table mapped object.class) (attr.0, get_or columns attr.0 no_column) =
-    ap (λ (all : List Attribute). get_or all attr.0 no_attribute) plain.attributes ∙ attribute_of_column (root_table mapped object.class) columns attr.0 no_column less in
-    ap (λ (attribute : Attribute). in_row attribute (row_for tables attribute object.identity)) at
-    ∙ in_row_is (attribute_at (root_table mapped object.class) (attr.0, get_or columns attr.0 no_column)) (row_for tables (attribute_at (root_table mapped object.class) (attr.0, get_or columns attr.0 no_column)) object.identity)
-    ∙ ap (λ (row : Option (List Value)). column_in row attr.0) (row_is tables (attribute_at (root_table mapped object.class) (attr.0, get_or columns attr.0 no_column)) object.identity there)
-
--- as many cells as its table has columns
-cells_are : (mapped : Mapped) (class : ClassId) (n : ℕ) → IsPlainClass mapped class → length (attributes_of mapped class) ≡ n → length (spec_of mapped.schema (root_table mapped class)).columns ≡ n
-cells_are mapped class n plain long =
-    let columns = (spec_of mapped.schema (root_table mapped class)).columns in
-    sym (length-map (enumerate_from 0 columns) (attribute_at (root_table mapped class)) ∙ length-enumerate_from 0 columns) ∙ sym (ap (λ (all : List Attribute). length all) plain.attributes) ∙ long
-
-fresh_holds : (mapped : Mapped) (tables : Tables) (object : Object) → IsPlainClass mapped object.class → length (spec_of mapped.schema (root_table mapped object.class)).columns ≡ length object.cells → is_persistent object.state ≡ true → is_some object.identity ≡ true
-    → IsFresh mapped tables object → HoldsItsRow mapped tables object
-fresh_holds mapped tables object plain long persists there fresh attr base less e =
-    sym (column_is mapped tables object attr plain there (omega (arith, less, long))) ∙ fresh persists attr less base e
-
-holds_fresh : (mapped : Mapped) (tables : Tables) (object : Object) → IsPlainClass mapped object.class → length (spec_of mapped.schema (root_table mapped object.class)).columns ≡ length object.cells → (is_persistent object.state ≡ true → is_some object.identity ≡ true)
-    → (is_persistent object.state ≡ true → HoldsItsRow mapped tables object) → IsFresh mapped tables object
-holds_fresh mapped tables object plain long there holds persists attr less base e =
-    column_is mapped tables object attr plain (there persists) (omega (arith, less, long)) ∙ holds persists attr base less e
 
 pub persists_there : (object : Object) → is_identified object ≡ true → is_persistent object.state ≡ true → is_some object.identity ≡ true
 persists_there object identified persists = by object.state refl persists
@@ -243,55 +198,3 @@ module _ (w : World) (inside : 0 < length w.own.frames.scopes) (sound : IsSound 
               (subst (λ (starts : List Tables). AreSoundScopes mapped (graph_written written) (frames_touched_between w.own.graph (graph_written written) w.own.frames) (frames_touched_between w.own.graph (graph_written written) w.own.frames).scopes starts) (sym sent.starts) stands.scopes)));
           rest = subst (λ (g : Graph). RestIf now.own.frames.scopes g) (sym graph) (subst (λ (f : Framed). RestIf f.scopes (graph_written written)) (sym frames) stands.rest);
         }
-
-module _ (w : World) (steady : IsSteady w) (sound : IsSound w) where
-  abbrev stood : ℕ → Object
-  stood place = get_or w.own.graph.objects place no_object
-
-  class_is : (place : ℕ) → place < length w.own.graph.objects → IsPlainClass w.own.mapping (stood place).class
-  class_is place less = steady.plain.class (stood place).class (steady.plain.fit.objects place no_object less).class
-
-  long_is : (place : ℕ) → place < length w.own.graph.objects → length (spec_of w.own.mapping.schema (root_table w.own.mapping (stood place).class)).columns ≡ length (stood place).cells
-  long_is place less =
-      cells_are w.own.mapping (stood place).class (length (stood place).cells) (class_is place less)
-      (as_long cell_fits (attributes_of w.own.mapping (stood place).class) (stood place).cells (steady.plain.fit.objects place no_object less).cells)
-
-  pub all_steady : AreSteady w.own.mapping w.own.graph (prepared_of w.own.graph) w.store.tables
-  all_steady = record {
-    plain = steady.plain;
-    well = steady.well;
-    legal = sound.legal;
-    sorted = ascending_sorted w.store.tables steady.ascending.tables;
-    is = sound.graph;
-    only = refl;
-    holds = λ place less persists.
-        fresh_holds w.own.mapping w.store.tables (stood place) (class_is place less) (long_is place less) persists (persists_there (stood place) (sound.graph.identified place no_object less) persists) (sound.fresh place less);
-    kept = steady.kept;
-  }
-
-  module _ (hold : FlushedObjectsHoldTheirRows) (now : World) (sent : IsFlushSent w now) (legal : Legal w.own.mapping.schema now.store.tables) where
-    abbrev after : Written
-    after = written w steady.inside sound now sent legal
-
-    fresh_at : (place : ℕ) → place < length (graph_written after).objects → IsFresh w.own.mapping now.store.tables (get_or (graph_written after).objects place no_object)
-    fresh_at place less =
-        let new : Object = get_or (graph_written after).objects place no_object in
-        let within : place < length w.own.graph.objects = omega (arith, less, flushed_long after) in
-        let from = settled_at w steady.inside sound now sent legal place within in
-        holds_fresh w.own.mapping now.store.tables new (subst (IsPlainClass w.own.mapping) (sym from.class) (class_is place within))
-        (ap (λ (c : ClassId). length (spec_of w.own.mapping.schema (root_table w.own.mapping c)).columns) from.class ∙ long_is place within ∙ sym from.cells)
-        (persists_there new ((is w steady.inside sound now sent legal).identified place no_object less))
-        (hold w.own.mapping w.own.graph (prepared_of w.own.graph) w.store.tables sent.statements (record { tables = now.store.tables; keys = sent.keys }) sent.given all_steady sent.planned sent.sent sent.known place within)
-
-pub answered_sound : FlushedObjectsHoldTheirRows → LeavesLegalTables → AnsweredFlushIsSound
-answered_sound hold leaves w steady sound is =
-    let sent : IsFlushSent w (flush w).after = flush_sent w is in
-    let legal = left_legal leaves w steady.ascending sound in
-    answered w steady.inside sound (flush w).after sent legal (fresh_at w steady sound hold (flush w).after sent legal)
-
-pub kept_sound : AnsweredFlushIsSound → RefusedFlushIsSound → FlushKeepsSound
-kept_sound answered refused w steady sound = by (flush w).answer refl
-  where
-    by : (answer : Result (Unit {0}) Refusal) → (flush w).answer ≡ answer → IsSound (flush w).after
-    by (Ok u) is = (answered w steady sound is).0
-    by (Err e) is = refused w e steady.inside sound is

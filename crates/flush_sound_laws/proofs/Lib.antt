@@ -1,4 +1,5 @@
 pub mod Adding
 pub mod Answered
+pub mod One
 pub mod Refused
 pub mod Told

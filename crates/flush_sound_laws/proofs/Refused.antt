@@ -1,10 +1,9 @@
 -- A flush that is refused has changed no object and ended no scope before it is given up.
-use Rattle.std.proofs.Common.{◌≡◌, ℕ, ◌<◌, ◌≤◌, Bool, true, false, List, length, Result, Ok, Err, refl, sym, ap, ◌∙◌, subst, arith}
+use Rattle.std.proofs.Common.{◌≡◌, ℕ, ◌<◌, List, length, Result, Ok, Err, refl, sym, ap, ◌∙◌, subst, arith}
 use Rattle.std.specs.Prelude.{◌==◌}
 use Rattle.base_core.specs.declared.refusal.Refusal.{Refusal}
 use Rattle.class_mapping.specs.Mapped.{Mapped}
 use Rattle.keeper_core.specs.Calls as call
-use Rattle.legality_laws.specs.Legality.{Keeps}
 use Rattle.object_arena.specs.Graph.{Graph}
 use Rattle.object_arena.specs.Identity.{IsGraph}
 use Rattle.object_rows.specs.declared.prepared.Prepared.{Prepared}
@@ -19,11 +18,10 @@ use Rattle.schema_core.specs.Apply.{Outcome, apply}
 use Rattle.schema_core.specs.declared.changes.RowChanges.{RowChanges}
 use Rattle.schema_core.specs.declared.statement.RowStmt.{RowStmt}
 use Rattle.schema_core.specs.Catalog.{Catalog}
-use Rattle.schema_core.specs.Tables.{Tables}
 use Rattle.session_scopes.specs.Scoping.{session_failed}
 use Rattle.session_scopes.specs.SessionState.{SessionState, with_notes, with_warnings}
 use Rattle.session_calls.specs.Parts.{World, roll_back_scope}
-use Rattle.session_flush.specs.Flush.{flush, give_up, prepare, prepared_of, session_flushed, write_objects, write_prepared, write_rows, write_warned}
+use Rattle.session_flush.specs.Flush.{flush, give_up, prepare, session_flushed, write_objects, write_prepared, write_rows, write_warned}
 use Rattle.session_flush_laws.proofs.Kept.{IsKeptByWrites, plan_keeps}
 use Rattle.session_sound.specs.Sound.{AreSoundScopes, IsSound}
 use Rattle.session_sound.proofs.Rolling.{HasSoundScopes, answered_back, scope_rolled_back}

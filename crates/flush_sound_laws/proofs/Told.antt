@@ -20,11 +20,10 @@ use Rattle.session_flush_laws.specs.Laws.{LeavesLegalTables}
 use Rattle.session_flush_laws.proofs.Again.{here_at}
 use Rattle.session_flush_laws.proofs.Flushing.{IsFlushSent, flush_sent}
 use Rattle.session_sound.specs.Sound.{EachObject, IsFresh, IsSound, in_row, row_for}
-use Rattle.fresh_laws.specs.Laws.{column_in}
-use Rattle.fresh_laws.proofs.Fresh.{ascending_sorted}
+use Rattle.held_laws.proofs.Ascending.{ascending_sorted}
 use Rattle.told_laws.specs.Laws.{ObjectsHaveOwnRows, StandInTables}
 use Rattle.told_laws.proofs.Standing.{hierarchies}
-use Rattle.held_laws.specs.Laws.{AreHeld, FlushedObjectsHold, HoldsItsRows, IsWhollyKnown, held_in}
+use Rattle.held_laws.specs.Laws.{AreHeld, FlushedObjectsHold, HoldsItsRows, IsWhollyKnown, column_in, held_in}
 use Rattle.flush_sound_laws.specs.Laws.{IsToldSession, RefusedFlushIsSound, ToldFlushIsSound, ToldFlushKeepsSound}
 use Rattle.flush_sound_laws.proofs.Answered.{answered, in_row_is, is, left_legal, persists_there, row_is, written}
 

@@ -7,7 +7,6 @@ use Rattle.prefix_laws.specs.Laws.{IsWellMapped}
 use Rattle.told_laws.specs.Laws.{ArePairsOnce}
 use Rattle.object_arena.specs.Fit.{IsFit}
 use Rattle.held_laws.specs.Laws.{IsWhollyKnown, KeepsItsKey}
-use Rattle.fresh_laws.specs.Laws.{ArePlainObjects, IsKept}
 use Rattle.legality_laws.specs.Legality.{IsAscendingStore}
 use Rattle.session_calls.specs.Parts.{World}
 use Rattle.session_flush.specs.Flush.{flush, prepared_of}
@@ -16,16 +15,6 @@ use Rattle.session_sound.specs.Sound.{EachObject, IsSound, IsWritten}
 -- a flush in a sound session, whatever it is refused for, leaves a sound one
 abbrev pub RefusedFlushIsSound : Type 0
 RefusedFlushIsSound = (world : World) (e : Refusal) → 0 < length world.own.frames.scopes → IsSound world → (flush world).answer ≡ Err e → IsSound (flush world).after
-
--- A session of plain classes in a transaction, whose mapping is as every configured one is, over tables that ascend, as
--- do those at the start of each scope. The key of a
--- persistent object has not been changed, and where it is to be deleted all of it is known.
-pub record IsSteady (world : World) : Type 0 where
-  pub inside : 0 < length world.own.frames.scopes
-  pub plain : ArePlainObjects world.own.mapping world.own.graph
-  pub well : IsWellMapped world.own.mapping
-  pub ascending : IsAscendingStore world.store
-  pub kept : EachObject (λ (object : Object). is_persistent object.state ≡ true → IsKept world.own.mapping object) world.own.graph
 
 -- A session in a transaction, whose mapping is as every configured one is, with links, classes of several tables and
 -- discriminators as they may be, over tables that ascend, as do those at the start of each scope. Its objects fit their classes; the
@@ -60,13 +49,3 @@ pub record DeletesNothing (world : World) : Type 0 where
 -- a flush keeps a session sound, of which no object is to be deleted
 abbrev pub AddingFlushKeepsSound : Type 0
 AddingFlushKeepsSound = (world : World) → DeletesNothing world → IsSound world → IsSound (flush world).after
-
--- ---- of plain classes
-
--- a flush that answers leaves a sound session, with nothing to be written
-abbrev pub AnsweredFlushIsSound : Type 0
-AnsweredFlushIsSound = (world : World) → IsSteady world → IsSound world → (flush world).answer ≡ Ok tt → IsSound (flush world).after × IsWritten (flush world).after
-
--- a flush keeps a session sound, whatever it answers
-abbrev pub FlushKeepsSound : Type 0
-FlushKeepsSound = (world : World) → IsSteady world → IsSound world → IsSound (flush world).after

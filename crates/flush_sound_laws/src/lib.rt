@@ -2,9 +2,8 @@
 //! that could be turned into a wrong one.
 #![tactic(auto)]
 
-ghost use Rattle.flush_sound_laws.specs.Laws.{AddingFlushKeepsSound, AnsweredFlushIsSound, FlushKeepsSound, RefusedFlushIsSound, ToldFlushIsSound, ToldFlushKeepsSound};
+ghost use Rattle.flush_sound_laws.specs.Laws.{AddingFlushKeepsSound, RefusedFlushIsSound, ToldFlushIsSound, ToldFlushKeepsSound};
 
-use fresh_laws::flushed_objects_hold_their_rows;
 use held_laws::flushed_objects_hold;
 use session_flush_laws::a_flush_leaves_legal_tables;
 use told_laws::objects_have_own_rows;
@@ -15,27 +14,9 @@ pub fn a_refused_flush_leaves_sound()
     ensures { RefusedFlushIsSound }
 {}
 
-/// A flush that answers leaves a sound session of plain classes: the tables are legal, one object stands for each key, what is known
-/// of persistent objects is what their rows hold, and what a rollback would restore is what the tables held at the start of each
-/// scope. Nothing is to be written then: no object is pending, and none has a delete mark.
-pub fn an_answered_flush_leaves_sound()
-    ensures { AnsweredFlushIsSound }
-{
-    flushed_objects_hold_their_rows();
-    a_flush_leaves_legal_tables();
-}
-
-/// A flush keeps a session of plain classes sound, whatever it answers.
-pub fn a_flush_keeps_sound()
-    ensures { FlushKeepsSound }
-{
-    an_answered_flush_leaves_sound();
-    a_refused_flush_leaves_sound();
-}
-
 /// A flush that answers leaves a sound session, over a mapping of any form: with links over foreign keys and secondary tables, with
 /// classes of several tables and with discriminators; with objects that are to be deleted, and pairs that are taken away. That no two
-/// such pairs are one row is asked; no script is known that breaks it.
+/// such pairs are one row is asked: always so where the objects that are to be deleted have no links.
 pub fn an_answered_flush_of_a_told_session_leaves_sound()
     ensures { ToldFlushIsSound }
 {

@@ -32,7 +32,7 @@ use Rattle.mapping_laws.specs.Hierarchies.{HasHierarchies, HasTables}
 use Rattle.mapping_laws.proofs.Attributes.{IsOfColumn, numbered_there, of_column}
 use Rattle.key_laws.proofs.KeyKinds.{attributes_split, key_by_column, key_kinds, no_later_key}
 use Rattle.graph_flushed.specs.Flushed.{part_or}
-use Rattle.fresh_laws.proofs.Plain.{none_pass}
+use Rattle.held_laws.proofs.Lists.{none_pass}
 use Rattle.held_laws.proofs.Once.{StandOnce, flat_once, numbered_once}
 
 -- where an attribute stands: in which of the tables of the class, and in which column there

@@ -32,8 +32,7 @@ use Rattle.plan_laws.specs.Laws.{before}
 use Rattle.plan_laws.proofs.Facts.{true_false}
 use Rattle.plan_laws.proofs.FlushLaw.{accepted_stated}
 use Rattle.prefix_laws.proofs.Projected.{all_projected}
-use Rattle.fresh_laws.proofs.After.{ArePlaced, all_are_placed}
-use Rattle.fresh_laws.proofs.Planned.{order_made}
+use Rattle.held_laws.proofs.After.{ArePlaced, all_are_placed, order_made}
 use Rattle.held_laws.specs.Laws.{AreHeld, FlushedObjectsHold, HoldsItsRows, IsWhollyKnown, placed_object}
 use Rattle.held_laws.proofs.Done.{IsDone}
 use Rattle.held_laws.proofs.Given.{given, key_given, written}

@@ -1,9 +1,13 @@
+pub mod After
+pub mod Ascending
 pub mod Attributes
+pub mod Columns
 pub mod Done
 pub mod Given
 pub mod Held
 pub mod Keys
 pub mod Linked
+pub mod Lists
 pub mod Names
 pub mod New
 pub mod Once

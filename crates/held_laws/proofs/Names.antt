@@ -32,7 +32,7 @@ use Rattle.prefix_laws.specs.Laws.{HasTablesOnce}
 use Rattle.prefix_laws.proofs.Named.{two_places}
 use Rattle.project_laws.proofs.Passing.{some_found}
 use Rattle.project_laws.proofs.Apart.{none_given}
-use Rattle.fresh_laws.proofs.Columns.{not_same}
+use Rattle.held_laws.proofs.Columns.{not_same}
 use Rattle.held_laws.proofs.Once.{StandOnce, counted_once, flat_once}
 
 -- ---- an object is new once

@@ -40,7 +40,7 @@ use Rattle.flush_plan.specs.Flushing.{Sofar}
 use Rattle.flush_plan.specs.Planning.{no_column}
 use Rattle.flush_plan.specs.Stating.{row_at}
 use Rattle.graph_flushed.specs.Flushed as flushed
-use Rattle.graph_flushed.specs.Flushed.{Written, held_cell, key_of, new_cell, new_object, new_value, own_value, part_or, value_come, value_put, written_with}
+use Rattle.graph_flushed.specs.Flushed.{Written, held_cell, key_of, new_cell, new_object, new_value, own_value, part_or, value_come, value_put}
 use Rattle.object_rows.specs.declared.prepared.Prepared.{Prepared}
 use Rattle.object_rows.specs.Cells.{key_value, linked_cell}
 use Rattle.object_rows.specs.Rows as rows
@@ -51,9 +51,8 @@ use Rattle.row_project.specs.Changes.{object_changes}
 use Rattle.row_project.specs.Switch.{partners}
 use Rattle.plan_laws.proofs.Between.{legal_cells, legal_key}
 use Rattle.project_laws.proofs.Loose.{has_place}
-use Rattle.fresh_laws.specs.Laws.{column_in}
-use Rattle.fresh_laws.proofs.Staying.{has_range}
-use Rattle.held_laws.specs.Laws.{HoldsItsRows}
+use Rattle.held_laws.proofs.Lists.{has_range}
+use Rattle.held_laws.specs.Laws.{HoldsItsRows, column_in}
 use Rattle.held_laws.proofs.Attributes.{HasColumn, has_column, part_held}
 use Rattle.held_laws.proofs.Done.{IsDone}
 use Rattle.held_laws.proofs.Given.{cell_is, has_key_of, root_put, written}

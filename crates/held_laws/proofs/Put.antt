@@ -44,7 +44,7 @@ use Rattle.flush_plan.specs.Stating.{blend, is_present, row_at, written_rows}
 use Rattle.object_rows.specs.declared.prepared.Prepared.{Prepared}
 use Rattle.object_rows.specs.Cells.{key_value}
 use Rattle.object_rows.specs.Rows as rows
-use Rattle.object_rows.specs.Rows.{cell_for, change_to, columns_at, gone_cell, gone_row, in_column, is_at, is_base, is_joined, key_part, linked_change, new_names, value_before}
+use Rattle.object_rows.specs.Rows.{cell_for, columns_at, gone_cell, gone_row, in_column, is_at, is_base, is_joined, key_part, linked_change, value_before}
 use Rattle.pair_rows.specs.Pairs.{lost_rows}
 use Rattle.row_project.specs.Changes.{object_changes}
 use Rattle.row_project.specs.Switch.{cell_after_switch, cell_switched, is_unread, known_key, partners, project, row_switched, rows_kept, rows_switched, switch_of, value_gone}
@@ -59,12 +59,10 @@ use Rattle.project_laws.proofs.Apart.{gone_is}
 use Rattle.project_laws.proofs.LateKeys.{each_has}
 use Rattle.prefix_laws.specs.Laws.{key_held}
 use Rattle.prefix_laws.proofs.ObjectsApart.{among_of, rows_apart}
-use Rattle.fresh_laws.specs.Laws.{column_in}
-use Rattle.fresh_laws.proofs.After.{changed_at}
-use Rattle.fresh_laws.proofs.Columns.{IsDrawn, cell_then, drawn_is, put_all, written_at}
-use Rattle.fresh_laws.proofs.Done.{base_is, put_unless}
-use Rattle.fresh_laws.proofs.Staying.{has_chosen, some_cells}
-use Rattle.held_laws.specs.Laws.{held_in}
+use Rattle.held_laws.proofs.After.{changed_at}
+use Rattle.held_laws.proofs.Columns.{IsDrawn, base_is, cell_then, drawn_is, put_all, put_unless, some_cells, written_at}
+use Rattle.held_laws.proofs.Lists.{has_chosen}
+use Rattle.held_laws.specs.Laws.{column_in, held_in}
 use Rattle.held_laws.proofs.Done.{IsDone}
 use Rattle.held_laws.proofs.Keys.{key_by, number, stays_at, value_in}
 use Rattle.held_laws.proofs.Rooted.{drawn, once, own_key, whole}

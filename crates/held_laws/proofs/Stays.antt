@@ -32,7 +32,7 @@ use Rattle.class_mapping.proofs.Having.{Has, all_from, any_has, from_filter, fro
 use Rattle.object_arena.specs.declared.object.Cell.{Cell}
 use Rattle.object_arena.specs.declared.object.Object.{Object}
 use Rattle.object_arena.specs.Graph as graphs
-use Rattle.object_arena.specs.Graph.{Graph, IsObject, cell_in, expired_cell, is_persistent, object_at, place_of}
+use Rattle.object_arena.specs.Graph.{Graph, IsObject, expired_cell, is_persistent, object_at, place_of}
 use Rattle.object_arena.proofs.FitLemmas.{fit_cells}
 use Rattle.flush_order.specs.Orders.{gone_at, no_gone, place_of_gone}
 use Rattle.flush_order.specs.Sorted.{Place, same_place}
@@ -59,13 +59,10 @@ use Rattle.project_laws.proofs.LateKeys.{each_has}
 use Rattle.mapping_laws.proofs.Tables.{from_filter_map}
 use Rattle.prefix_laws.specs.Laws.{HasRow, key_held}
 use Rattle.prefix_laws.proofs.ObjectsApart.{among_of, rows_apart}
-use Rattle.fresh_laws.specs.Laws.{column_in}
-use Rattle.fresh_laws.proofs.After.{changed_at, still_at}
-use Rattle.fresh_laws.proofs.Columns.{cell_then, put_all, written_at, written_long}
-use Rattle.fresh_laws.proofs.Done.{base_is}
-use Rattle.fresh_laws.proofs.Rows.{filter_twice}
-use Rattle.fresh_laws.proofs.Staying.{chosen_from, has_chosen, some_cells}
-use Rattle.held_laws.specs.Laws.{HoldsItsRows}
+use Rattle.held_laws.proofs.After.{changed_at, still_at}
+use Rattle.held_laws.proofs.Columns.{base_is, cell_then, put_all, some_cells, written_at, written_long}
+use Rattle.held_laws.proofs.Lists.{chosen_from, filter_twice, has_chosen}
+use Rattle.held_laws.specs.Laws.{HoldsItsRows, column_in}
 use Rattle.held_laws.proofs.Attributes.{HasColumn, has_column, key_is}
 use Rattle.held_laws.proofs.Done.{IsDone}
 use Rattle.held_laws.proofs.Given.{cell_is, written}

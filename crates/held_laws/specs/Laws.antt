@@ -1,7 +1,7 @@
 -- What is known of the objects of every mapping once a flush has answered: their cells hold what their rows hold.
-use Rattle.std.specs.Prelude.{◌≡◌, ◌<◌, ℕ, true, List, length, map, slice_index_or, Option, Some, Ok}
+use Rattle.std.specs.Prelude.{◌≡◌, ◌<◌, ℕ, true, List, length, map, slice_get, slice_index_or, Option, Some, Ok}
 use Rattle.std.specs.List.{range_with_len}
-use Rattle.std.specs.Option.{is_some}
+use Rattle.std.specs.Option.{is_some, option_and_then}
 use Rattle.base_core.specs.declared.ids.AttrNo.{AttrNo}
 use Rattle.base_core.specs.declared.value.Value.{Value}
 use Rattle.schema_core.specs.declared.changes.Planned.{Planned}
@@ -22,7 +22,10 @@ use Rattle.plan_laws.specs.Premises.{IsSorted}
 use Rattle.prefix_laws.specs.Laws.{HaveOwnRows, IsWellMapped}
 use Rattle.row_project.specs.Switch.{project}
 use Rattle.graph_flushed.specs.Flushed.{graph_flushed}
-use Rattle.fresh_laws.specs.Laws.{column_in}
+
+-- what a row has in a column, if it is there
+abbrev pub column_in : Option (List Value) → ℕ → Option Value
+column_in row column = option_and_then (λ values. slice_get values column) row
 
 -- what the row of an object in the table of an attribute has in the attribute's column
 abbrev pub held_in : Tables → Attribute → Option (List Value) → Option Value

@@ -1,8 +1,8 @@
 -- Objects that stand in the tables as they were read have their own rows.
-use Rattle.std.proofs.Common.{◌≡◌, ℕ, suc, ◌+◌, ◌<◌, Bool, true, false, cond, not, ◌&&◌, ◌||◌, ◌==◌, if◌then◌else◌, List, [], ◌∷◌, length, map, filter, take, get_or, Option, None, Some, is_some, is_none, refl, sym, subst, ap, ◌∙◌, arith}
+use Rattle.std.proofs.Common.{◌≡◌, ℕ, zero, suc, ◌+◌, ◌<◌, Bool, true, false, cond, not, ◌&&◌, ◌||◌, ◌==◌, if◌then◌else◌, List, [], ◌∷◌, length, map, filter, take, get_or, Option, None, Some, is_some, is_none, refl, sym, subst, ap, ◌∙◌, arith}
 use Rattle.std.specs.Prelude.{slice_get}
 use Rattle.std.specs.Cmp.Lexicographic.{as_long}
-use Rattle.std.specs.List.{AllByRecursion, count_by, enumerate_from}
+use Rattle.std.specs.List.{AllByRecursion, count_by, enumerate_from, list_any, range_with_len}
 use Rattle.std.specs.Option.{option_and_then}
 use Rattle.std.proofs.lemmas.Bool.{and_parts, eq-eqb, eqb-true}
 use Rattle.std.proofs.lemmas.List.{get_or-map, length-map}
@@ -29,6 +29,7 @@ use Rattle.class_layouts.specs.Faults.{maps_name}
 use Rattle.class_mapping.specs.Mapped.{Mapped, attribute_of, attributes_of, no_attribute, root_table, tables_of}
 use Rattle.class_mapping.specs.Related.{AreRelated, IsRelated}
 use Rattle.class_mapping.proofs.Having.{Has, all_from, any_has, from_filter, has_filter, has_map, has_numbered, some_of, true_false}
+use Rattle.class_mapping.proofs.Lists.{or_none}
 use Rattle.class_mapping.proofs.PairedLemmas.{paired_seen}
 use Rattle.class_mapping.proofs.RelatedKeys.{same_table}
 use Rattle.mapping_laws.specs.Hierarchies.{HasHierarchies, HasTables, name_in}
@@ -40,6 +41,7 @@ use Rattle.object_arena.specs.declared.object.Object.{Object}
 use Rattle.object_arena.specs.Fit.{IsFit, identity_fits}
 use Rattle.object_arena.specs.Graph as graphs
 use Rattle.object_arena.specs.Graph.{Graph, IsObject, expired_cell, is_persistent, no_object, object_at, place_of}
+use Rattle.object_arena.specs.Identity.{id_of_place}
 use Rattle.object_arena.proofs.FitLemmas.{fit_at, fit_cells, fit_class}
 use Rattle.flush_order.specs.Refers.{gone_key}
 use Rattle.flush_plan.specs.Planning.{no_column}
@@ -53,13 +55,13 @@ use Rattle.pair_rows.specs.Pairs as pairs
 use Rattle.plan_laws.proofs.Between.{legal_cells, legal_key}
 use Rattle.project_laws.proofs.LateKeys.{each_has}
 use Rattle.project_laws.proofs.Loose.{has_place}
-use Rattle.row_project.proofs.Each.{all_map}
+use Rattle.row_project.proofs.Each.{all_filter, all_map}
 use Rattle.prefix_laws.specs.Laws.{HasTablesOnce, IsWellMapped, key_held}
 use Rattle.prefix_laws.proofs.MappingFacts.{once_law}
+use Rattle.prefix_laws.proofs.ObjectsApart.{above}
 use Rattle.prefix_laws.proofs.PairsRead.{IsParted, lost_parted, parted_related}
-use Rattle.fresh_laws.specs.Laws.{column_in}
-use Rattle.fresh_laws.proofs.Told.{ids_once}
-use Rattle.held_laws.specs.Laws.{held_in}
+use Rattle.held_laws.specs.Laws.{column_in, held_in}
+use Rattle.held_laws.proofs.Columns.{not_same}
 use Rattle.held_laws.proofs.Attributes.{column_place, passed_are}
 use Rattle.sendable_laws.proofs.EndKeys.{key_everywhere}
 use Rattle.sendable_laws.proofs.Roots.{alone, persistent_keyed}
@@ -74,6 +76,27 @@ same_object one other same = ap (λ (n : ℕ). let id : ObjId = record { 0 = n }
 
 among_has : (tables : List TableId) (table : TableId) → is_among tables table ≡ true → Has tables table
 among_has tables table among = let some = some_of (λ (other : TableId). other.0 == table.0) tables among in subst (Has tables) (same_table some.0 table some.2) some.1
+
+-- ---- ids
+
+none_above : (m : ℕ) (objects : List ObjId) → AllByRecursion (λ (object : ObjId). m < object.0) objects → list_any (λ (later : ObjId). later.0 == m) objects ≡ false
+none_above m [] all = refl
+none_above m (object ∷ objects) all =
+    or_none (object.0 == m) (list_any (λ (later : ObjId). later.0 == m) objects) (not_same object.0 m (λ same. omega (arith, all.0, same))) (none_above m objects all.1)
+
+-- no object stands twice among some of all
+pub ids_once : (test : ObjId → Bool) (n count : ℕ) → some_two (λ (one other : ObjId). one.0 == other.0) (filter test (map id_of_place (range_with_len n count))) ≡ false
+ids_once test n zero = refl
+ids_once test n (suc count) = by (test (id_of_place n)) (ids_once test (n + 1) count)
+  where
+    rest : List ObjId
+    rest = filter test (map id_of_place (range_with_len (n + 1) count))
+
+    by : (b : Bool) → some_two (λ (one other : ObjId). one.0 == other.0) rest ≡ false → some_two (λ (one other : ObjId). one.0 == other.0) (cond b (id_of_place n ∷ rest) rest) ≡ false
+    by true more =
+        or_none (list_any (λ (later : ObjId). later.0 == n + 1) rest) (some_two (λ (one other : ObjId). one.0 == other.0) rest)
+        (none_above (n + 1) rest (all_filter (λ (object : ObjId). n + 1 < object.0) test (map id_of_place (range_with_len (n + 1) count)) (above (n + 1) (n + 1) count (omega arith)))) more
+    by false more = more
 
 -- ---- cells of keys
 

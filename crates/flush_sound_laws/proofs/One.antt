@@ -26,7 +26,13 @@ use Rattle.plan_laws.proofs.Facts.{true_false}
 use Rattle.graph_flushed.specs.Flushed.{Written, deleted_object, graph_written, key_of, new_object, object_in, staying_object, state_under, state_unless}
 use Rattle.graph_flushed.specs.Keys.{is_given, new_holder}
 use Rattle.graph_flushed.proofs.ObjectSteps.{flushed_at, flushed_long}
-use Rattle.fresh_laws.proofs.Told.{keyed_there}
+
+keyed_there : (state : State) (identity : Option (List Value)) → is_persistent state ≡ true → (if has_identity state then is_some identity else not (is_some identity)) ≡ true → is_some identity ≡ true
+keyed_there Transient identity persists is = absurd cc
+keyed_there Pending identity persists is = absurd cc
+keyed_there Persistent identity persists is = is
+keyed_there Deleted identity persists is = absurd cc
+keyed_there Detached identity persists is = absurd cc
 
 -- what passes somewhere is found
 never_missed : {A : Type 0} (p : A → Bool) (xs : List A) (i : ℕ) (d : A) → i < length xs → p (get_or xs i d) ≡ true → position p xs ≡ None → ⊥

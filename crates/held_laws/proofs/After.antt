@@ -1,33 +1,28 @@
 -- What stands under the places of rows once a plan was accepted whole.
-use Rattle.std.proofs.Common.{◌≡◌, inl, inr, ℕ, Bool, true, false, cond, List, [], ◌∷◌, ◌++◌, length, map, get_or, Option, Some, is_some, unwrap_or, Ok, refl, sym, ap, ◌∙◌, subst, arith}
+use Rattle.std.proofs.Common.{◌≡◌, inl, inr, ℕ, Bool, true, false, List, [], ◌∷◌, ◌++◌, map, get_or, Option, Some, is_some, unwrap_or, Result, Ok, Err, refl, sym, ap, ◌∙◌, subst}
 use Rattle.std.specs.List.{list_any}
 use Rattle.base_core.specs.declared.ids.ColumnNo.{ColumnNo}
 use Rattle.base_core.specs.declared.value.Value.{Value}
-use Rattle.base_core.specs.declared.value.Value.TheVariants.{Null}
 use Rattle.base_core.proofs.Lists.{every_append}
 use Rattle.schema_core.specs.declared.changes.ChangedRow.{ChangedRow}
 use Rattle.schema_core.specs.declared.changes.GoneRow.{GoneRow}
 use Rattle.schema_core.specs.declared.changes.Planned.{Planned}
 use Rattle.schema_core.specs.declared.changes.RowCell.{RowCell}
-use Rattle.schema_core.specs.declared.changes.RowCell.TheVariants.{Given}
 use Rattle.schema_core.specs.declared.changes.RowChanges.{RowChanges}
-use Rattle.schema_core.specs.declared.table.ColumnSpec.{ColumnSpec}
 use Rattle.schema_core.specs.Apply.{with_cells}
-use Rattle.schema_core.specs.Catalog.{Catalog, spec_of}
-use Rattle.schema_core.specs.Tables.{Tables, key_of}
+use Rattle.schema_core.specs.Catalog.{Catalog}
+use Rattle.schema_core.specs.Tables.{Tables}
 use Rattle.class_mapping.proofs.Having.{Has, all_from, from_filter, none_of}
-use Rattle.flush_order.specs.Cells.{cells_cleared, first_cells, is_late, new_at, table_at}
 use Rattle.flush_order.specs.Orders.{insert_order, place_of_gone}
-use Rattle.flush_order.specs.Places.{is_among}
 use Rattle.flush_order.specs.Sorted.{Place, same_place}
-use Rattle.flush_plan.specs.Flushing.{Keys, Sofar, key_of_new, send_all, value_of_cell}
-use Rattle.flush_plan.specs.Planning.{insert_run, no_changed, place_of_changed, plan, writes_some}
+use Rattle.flush_plan.specs.Flushing.{Keys, Sofar, send_all, value_of_cell}
+use Rattle.flush_plan.specs.Planning.{insert_run, no_changed, place_of_changed, plan, unless_new_cycle, writes_some}
 use Rattle.flush_plan.specs.Runs.{runs}
-use Rattle.flush_plan.specs.Stating.{all_placed, blend, edit_changed, edit_gone, edit_new, is_present, place_of_new, put_cells, row_at, written_rows}
+use Rattle.flush_plan.specs.Stating.{all_placed, edit_changed, edit_gone, edit_new, is_present, place_of_new, put_cells, row_at, written_rows}
 use Rattle.plan_laws.specs.Laws.{before}
 use Rattle.plan_laws.specs.Premises.{IsSorted}
 use Rattle.plan_laws.proofs.Accepted.{Accepts, accepts_of, accepts_split, sent_of}
-use Rattle.plan_laws.proofs.Complete.{IsStated, found_placed, known_facts, new_created, apart, stated_edit}
+use Rattle.plan_laws.proofs.Complete.{IsStated, known_facts, stated_edit}
 use Rattle.plan_laws.proofs.Deleting.{remove_at}
 use Rattle.plan_laws.proofs.DeleteOrder.{pl}
 use Rattle.plan_laws.proofs.Facts.{true_false}
@@ -38,11 +33,10 @@ use Rattle.plan_laws.proofs.Numbers.{two_at}
 use Rattle.plan_laws.proofs.PlanLaw.{in_phases, plan_made}
 use Rattle.plan_laws.proofs.Puts.{order_put}
 use Rattle.plan_laws.proofs.PutRows.{puts_leads}
-use Rattle.plan_laws.proofs.Stated.{stated_new, stated_other}
+use Rattle.plan_laws.proofs.Stated.{stated_other}
 use Rattle.plan_laws.proofs.Steps.{all_steps}
 use Rattle.plan_laws.proofs.Updating.{planned_of}
 use Rattle.schema_core.specs.Declaration.{some_two}
-use Rattle.fresh_laws.proofs.Columns.{IsDrawn, drawn_is}
 
 -- ---- lists
 
@@ -51,22 +45,15 @@ has_member [] x has = has
 has_member (y ∷ ys) x (inl same) = inl same
 has_member (y ∷ ys) x (inr more) = inr (has_member ys x more)
 
--- where no column is late, what is written first is all
-uncleared : (test : ColumnSpec → Bool) (columns : List ColumnSpec) (cells : List RowCell) → ((c : ColumnSpec) → test c ≡ false) → length cells ≡ length columns → cells_cleared test (Given Null) columns cells ≡ cells
-uncleared test [] [] none long = refl
-uncleared test [] (cell ∷ cells) none long = absurd (omega (arith, long))
-uncleared test (column ∷ columns) [] none long = absurd (omega (arith, long))
-uncleared test (column ∷ columns) (cell ∷ cells) none long =
-    ap (λ (b : Bool). cond b (Given Null) cell ∷ cells_cleared test (Given Null) columns cells) (none column) ∙ ap (λ rest. cell ∷ rest) (uncleared test columns cells none (omega (arith, long)))
+-- ---- the order of the new rows
 
--- and nothing more is written
-unblended : (test : ColumnSpec → Bool) (columns : List ColumnSpec) (row other : List Value) → ((c : ColumnSpec) → test c ≡ false) → length row ≡ length columns → length other ≡ length columns → blend test columns row other ≡ row
-unblended test [] [] other none long same = refl
-unblended test [] (cell ∷ row) other none long same = absurd (omega (arith, long))
-unblended test (column ∷ columns) [] other none long same = absurd (omega (arith, long))
-unblended test (column ∷ columns) (cell ∷ row) [] none long same = absurd (omega (arith, same))
-unblended test (column ∷ columns) (cell ∷ row) (one ∷ other) none long same =
-    ap (λ (b : Bool). cond b one cell ∷ blend test columns row other) (none column) ∙ ap (λ rest. cell ∷ rest) (unblended test columns row other none (omega (arith, long)) (omega (arith, same)))
+pub order_made : (schema : Catalog) (changes : RowChanges) (statements : List Planned) → plan schema changes ≡ Ok statements → (order : List ℕ) × (insert_order schema changes ≡ Ok order)
+unfolding plan
+order_made schema changes statements e = by (insert_order schema changes) refl e
+  where
+    by : (found : Result (List ℕ) (List ℕ)) → insert_order schema changes ≡ found → unless_new_cycle schema changes found ≡ Ok statements → (order : List ℕ) × (insert_order schema changes ≡ Ok order)
+    by (Ok order) is e = (order, is)
+    by (Err rows) is e = absurd cc
 
 -- ---- keys
 
@@ -152,31 +139,3 @@ module _ (schema : Catalog) (old : Tables) (changes : RowChanges) (order : List 
           still_at (place_of_changed row) (ap is_some at) (λ gone inside same. not_both gone row inside has same)
           (λ other inside some same. true_false (sym some ∙ ap (λ (r : ChangedRow). writes_some r.cells) (one_changed other row inside has same) ∙ none))
           ∙ at ∙ ap (λ (values : List Value). Some values) (sym (none_written row.cells none))
-
-  -- ---- a new row, where nothing is written late
-
-  pub record IsPutIn (place : ℕ) (values : List Value) : Type 0 where
-    pub row : List Value
-    pub at : row_at after (place_of_new changes placed.keys place) ≡ Some row
-    pub drawn : IsDrawn (spec_of schema (table_at changes place)).columns values row
-    pub key : key_of (spec_of schema (table_at changes place)) row ≡ key_of_new placed.keys place
-
-  pub put_in : (place : ℕ) (values : List Value) → is_among order place ≡ true → ((c : ColumnSpec) → is_late schema changes (table_at changes place) c ≡ false) → length values ≡ length (spec_of schema (table_at changes place)).columns
-      → length (new_at changes place).cells ≡ length (spec_of schema (table_at changes place)).columns → ((keys : Keys) → map (value_of_cell keys) (new_at changes place).cells ≡ values) → IsPutIn place values
-  put_in place values among none long whole given =
-      let spec = spec_of schema (table_at changes place) in
-      let found = found_placed schema old changes order placed after told place among in
-      let first : map (value_of_cell found.sofar.keys) (first_cells schema changes place) ≡ values =
-      ap (map (value_of_cell found.sofar.keys)) (uncleared (is_late schema changes (table_at changes place)) spec.columns (new_at changes place).cells none whole) ∙ given found.sofar.keys in
-      let drawn : IsDrawn spec.columns values found.step.row =
-      subst (λ (list : List Value). IsDrawn spec.columns list found.step.row) first
-      (drawn_is spec found.step.rows (map (value_of_cell found.sofar.keys) (first_cells schema changes place)) found.step.row (ap length first ∙ long) found.step.draws) in
-      let others : List Value = map (value_of_cell placed.keys) (new_at changes place).cells in
-      record {
-        row = found.step.row;
-        at = stated_new schema old changes order placed after told.sorted (known_facts schema old changes order placed after told) (apart schema old changes order placed after told) place among (new_created schema old changes order placed after told place among)
-            ∙ ap (λ (o : Option (List Value)). Some (blend (is_late schema changes (table_at changes place)) spec.columns (unwrap_or o []) others)) found.stands
-            ∙ ap (λ (values : List Value). Some values) (unblended (is_late schema changes (table_at changes place)) spec.columns found.step.row others none drawn.long (ap length (given placed.keys) ∙ long));
-        drawn = drawn;
-        key = ap (λ (q : Place). q.1) found.key;
-      }

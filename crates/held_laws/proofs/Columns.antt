@@ -1,14 +1,11 @@
--- The cells of rows by the places of their columns: parts of keys, cells that are written, and what is drawn for a new row.
-use Rattle.std.proofs.Common.{◌≡◌, ℕ, ℤ, zero, suc, ◌+◌, ◌<◌, Bool, true, false, cond, ◌==◌, List, [], ◌∷◌, length, map, filter, get_or, Option, None, Some, refl, sym, ap, ◌∙◌, subst, arith}
-use Rattle.std.specs.Prelude.{nat_lt, slice_set}
-use Rattle.std.specs.List.{cons_option, enumerate_from, filter_map, position, position_from, position_or_len}
+-- The cells of rows by the places of their columns: cells that are written, and what is drawn for a new row.
+use Rattle.std.proofs.Common.{◌≡◌, ℕ, ℤ, zero, suc, ◌+◌, ◌<◌, Bool, true, false, cond, not, ◌==◌, if◌then◌else◌, List, [], ◌∷◌, length, map, get_or, Option, None, Some, refl, sym, ap, ◌∙◌, subst, arith}
+use Rattle.std.specs.Prelude.{slice_set}
+use Rattle.std.specs.List.{cons_option, enumerate_from, filter_map}
 use Rattle.std.specs.Option.{option_map}
-use Rattle.std.proofs.lemmas.Bool.{eq-eqb, eqb-true}
-use Rattle.std.proofs.lemmas.Bool.Decides.{nat_tests}
+use Rattle.std.proofs.lemmas.Bool.{eqb-true}
 use Rattle.std.proofs.lemmas.List.{get_or-set_other, get_or-set_same, length-set}
-use Rattle.std.proofs.lemmas.List.Sums.{position_or_len_is}
 use Rattle.std.proofs.lemmas.Option.{same_Some}
-use Rattle.base_core.specs.declared.ids.AttrNo.{AttrNo}
 use Rattle.base_core.specs.declared.ids.ColumnNo.{ColumnNo}
 use Rattle.base_core.specs.declared.value.Value.{Value}
 use Rattle.base_core.specs.declared.value.Value.TheVariants.{Int, Null}
@@ -16,18 +13,17 @@ use Rattle.schema_core.specs.declared.changes.RowCell.{RowCell}
 use Rattle.schema_core.specs.declared.table.ColumnSpec.{ColumnSpec}
 use Rattle.schema_core.specs.declared.table.TableSpec.{TableSpec}
 use Rattle.schema_core.specs.Apply.{next_key, wants_key, with_cells, with_key, with_own_key}
-use Rattle.schema_core.specs.Tables.{Rows, key_cells}
-use Rattle.class_mapping.specs.Plain.{attr_at}
-use Rattle.object_rows.proofs.PlaceSteps.{found_first}
-use Rattle.graph_flushed.specs.Flushed.{part_or}
-
--- ---- the first that passes
-
-pub position_is : {A : Type 0} (p : A → Bool) (xs : List A) (i : ℕ) (d : A) → i < length xs → p (get_or xs i d) ≡ true → ((k : ℕ) → k < i → p (get_or xs k d) ≡ false) → position p xs ≡ Some i
-position_is p xs i d less here before =
-    let at : position_or_len p xs ≡ i = position_or_len_is p xs i d (omega (arith, less)) before (λ _. here) in
-    let inside : nat_lt i (length xs) ≡ true = grind (arith, nat_tests) in
-    ap (λ (n : ℕ). cond (nat_lt n (length xs)) (Some n) None) at ∙ ap (λ (b : Bool). cond b (Some i) None) inside
+use Rattle.schema_core.specs.Tables.{Rows}
+use Rattle.std.specs.Cmp.{Equal-is}
+use Rattle.base_core.specs.Order.{value_cmp}
+use Rattle.base_core.proofs.Exact.{exact_value}
+use Rattle.schema_core.specs.declared.changes.RowCell.TheVariants.{Given}
+use Rattle.flush_plan.specs.Flushing.{Keys, value_of_cell}
+use Rattle.object_rows.specs.Rows.{change_to, in_column, is_base}
+use Rattle.plan_laws.proofs.Facts.{true_false}
+use Rattle.object_arena.specs.Fit.{is_empty}
+use Rattle.flush_plan.specs.Planning.{writes_some}
+use Rattle.class_mapping.proofs.Having.{Has}
 
 pub not_same : (a b : ℕ) → (a ≡ b → ⊥) → (a == b) ≡ false
 not_same a b apart = by (a == b) refl
@@ -35,71 +31,6 @@ not_same a b apart = by (a == b) refl
     by : (t : Bool) → (a == b) ≡ t → t ≡ false
     by true e = absurd (apart (eqb-true a b e))
     by false e = refl
-
--- ---- parts of a key
-
-abbrev numbered_keys : ℕ → List ColumnSpec → List AttrNo
-numbered_keys n columns = map attr_at (filter (λ placed. placed.1.key) (enumerate_from n columns))
-
--- columns behind a number are none of that number
-none_before : (n m k : ℕ) (columns : List ColumnSpec) → m < n → position_from (λ (attr : AttrNo). attr.0 == m) k (numbered_keys n columns) ≡ None
-none_before n m k [] less = refl
-none_before n m k (column ∷ columns) less = by column.key (none_before (n + 1) m (k + 1) columns (omega (arith, less))) (none_before (n + 1) m k columns (omega (arith, less)))
-  where
-    by : (b : Bool) → position_from (λ (attr : AttrNo). attr.0 == m) (k + 1) (numbered_keys (n + 1) columns) ≡ None → position_from (λ (attr : AttrNo). attr.0 == m) k (numbered_keys (n + 1) columns) ≡ None
-        → position_from (λ (attr : AttrNo). attr.0 == m) k (map attr_at (cond b ((n, column) ∷ filter (λ placed. placed.1.key) (enumerate_from (n + 1) columns)) (filter (λ placed. placed.1.key) (enumerate_from (n + 1) columns)))) ≡ None
-    by true more rest = ap (λ (b : Bool). cond b (Some k) (position_from (λ (attr : AttrNo). attr.0 == m) (k + 1) (numbered_keys (n + 1) columns))) (not_same n m (λ same. omega (arith, less, same))) ∙ more
-    by false more rest = rest
-
--- where the parts of a key from a place on are those of these columns, the part of a column of the key is its cell
-part_from : (n k : ℕ) (columns : List ColumnSpec) (row key : List Value) (c : ℕ) (x : Value) (d : ColumnSpec) → length row ≡ length columns → c < length columns → ((i : ℕ) → get_or key (k + i) Null ≡ get_or (key_cells columns row) i Null)
-    → part_or key (position_from (λ (attr : AttrNo). attr.0 == n + c) k (numbered_keys n columns)) x ≡ cond (get_or columns c d).key (get_or row c Null) x
-part_from n k [] row key c x d long less parts = absurd (omega (arith, less))
-part_from n k (column ∷ columns) [] key c x d long less parts = absurd (omega (arith, long))
-part_from n k (column ∷ columns) (cell ∷ row) key zero x d long less parts = by column.key parts
-  where
-    test : AttrNo → Bool
-    test attr = attr.0 == n + 0
-
-    by : (b : Bool) → ((i : ℕ) → get_or key (k + i) Null ≡ get_or (cond b (cell ∷ key_cells columns row) (key_cells columns row)) i Null)
-        → part_or key (position_from test k (map attr_at (cond b ((n, column) ∷ filter (λ placed. placed.1.key) (enumerate_from (n + 1) columns)) (filter (λ placed. placed.1.key) (enumerate_from (n + 1) columns))))) x ≡ cond b cell x
-    by true parts =
-        let here : (n == n + 0) ≡ true = eq-eqb n (n + 0) (omega arith) in
-        let place : k ≡ k + 0 = omega arith in
-        ap (λ (b : Bool). part_or key (cond b (Some k) (position_from test (k + 1) (numbered_keys (n + 1) columns))) x) here
-        ∙ ap (λ (p : ℕ). get_or key p Null) place
-        ∙ parts 0
-    by false parts = ap (λ (found : Option ℕ). part_or key found x) (none_before (n + 1) (n + 0) k columns (omega arith))
-part_from n k (column ∷ columns) (cell ∷ row) key (suc c) x d long less parts =
-    by column.key parts
-    (λ m rest.
-    let same : n + 1 + c ≡ n + suc c = omega arith in
-    ap (λ (p : ℕ). part_or key (position_from (λ (attr : AttrNo). attr.0 == p) m (numbered_keys (n + 1) columns)) x) (sym same)
-    ∙ part_from (n + 1) m columns row key c x d (omega (arith, long)) (omega (arith, less)) rest)
-  where
-    test : AttrNo → Bool
-    test attr = attr.0 == n + suc c
-
-    Later : Type 0
-    Later = (m : ℕ) → ((i : ℕ) → get_or key (m + i) Null ≡ get_or (key_cells columns row) i Null) → part_or key (position_from test m (numbered_keys (n + 1) columns)) x ≡ cond (get_or columns c d).key (get_or row c Null) x
-
-    by : (b : Bool) → ((i : ℕ) → get_or key (k + i) Null ≡ get_or (cond b (cell ∷ key_cells columns row) (key_cells columns row)) i Null) → Later
-        → part_or key (position_from test k (map attr_at (cond b ((n, column) ∷ filter (λ placed. placed.1.key) (enumerate_from (n + 1) columns)) (filter (λ placed. placed.1.key) (enumerate_from (n + 1) columns))))) x
-        ≡ cond (get_or columns c d).key (get_or row c Null) x
-    by true parts later =
-        ap (λ (b : Bool). part_or key (cond b (Some k) (position_from test (k + 1) (numbered_keys (n + 1) columns))) x) (not_same n (n + suc c) (λ e. omega (arith, e)))
-        ∙ later (k + 1) (λ i. let place : k + 1 + i ≡ k + suc i = omega arith in ap (λ (p : ℕ). get_or key p Null) place ∙ parts (suc i))
-    by false parts later = later k parts
-
--- the part of a row's key in a column is the row's cell
-pub part_is : (columns : List ColumnSpec) (row : List Value) (c : ℕ) (x : Value) (d : ColumnSpec) → length row ≡ length columns → c < length columns
-    → part_or (key_cells columns row) (position (λ (attr : AttrNo). attr.0 == c) (map attr_at (filter (λ placed. placed.1.key) (enumerate_from 0 columns)))) x ≡ cond (get_or columns c d).key (get_or row c Null) x
-part_is columns row c x d long less =
-    let test : AttrNo → Bool = λ attr. attr.0 == c in
-    let place : 0 + c ≡ c = omega arith in
-    ap (λ (found : Option ℕ). part_or (key_cells columns row) found x) (sym (found_first test (numbered_keys 0 columns)))
-    ∙ ap (λ (p : ℕ). part_or (key_cells columns row) (position_from (λ (attr : AttrNo). attr.0 == p) 0 (numbered_keys 0 columns)) x) (sym place)
-    ∙ part_from 0 0 columns row (key_cells columns row) c x d long less (λ i. let at : 0 + i ≡ i = omega arith in ap (λ (p : ℕ). get_or (key_cells columns row) p Null) at)
 
 -- ---- cells that are written
 
@@ -199,3 +130,22 @@ drawn_is spec rows row drawn long = by (wants_key spec row) (next_key rows)
         subst (IsDrawn spec.columns row) (same_Some (with_key spec.columns (Int key) row) drawn e)
         (record { long = keyed_long spec.columns (Int key) row long; cells = λ c d less free. keyed_at spec.columns (Int key) row c d long less free })
     by false next e = subst (IsDrawn spec.columns row) (same_Some row drawn e) (record { long = long; cells = λ c d less free. refl })
+
+-- ---- a value that is written unless the row has it
+
+pub base_is : (base : Option Value) (value : Value) → is_base base value ≡ true → base ≡ Some value
+base_is None value h = absurd (true_false (sym h))
+base_is (Some base) value h = ap (λ (v : Value). Some v) (sym (exact_value value base ((Equal-is (value_cmp value base)).0 h)))
+
+-- what stands in a column then is the value
+pub put_unless : (keys : Keys) (c : ℕ) (base : Option Value) (value before : Value) → (base ≡ Some value → before ≡ value) → cell_then (value_of_cell keys) (in_column c (change_to base value)) before ≡ value
+put_unless keys c base value before same = by (is_base base value) refl
+  where
+    by : (b : Bool) → is_base base value ≡ b → cell_then (value_of_cell keys) (in_column c (let none : Option RowCell = None in if b then none else Some (Given value))) before ≡ value
+    by true e = same (base_is base value e)
+    by false e = refl
+
+-- cells that change are written
+pub some_cells : (cells : List (ColumnNo × RowCell)) (cell : ColumnNo × RowCell) → Has cells cell → (not (is_empty cells) ≡ true) × (writes_some cells ≡ true)
+some_cells [] cell has = absurd has
+some_cells (first ∷ cells) cell has = (refl, refl)
