@@ -113,11 +113,11 @@ whole_committed w =
     goes (release_many count) (λ u. commit_transaction) w tt tt w.store.tables released.answer (record { answer = last.answer; left = last.left ∙ released.left })
 
 -- the beginning of a savepoint tells its handle
-record IsBegun (w : World) : Type 0 where
-  handle : ℕ
-  answered : IsAnswered (begin_savepoint w) handle w.store.tables
+pub record IsBegun (w : World) : Type 0 where
+  pub handle : ℕ
+  pub answered : IsAnswered (begin_savepoint w) handle w.store.tables
 
-begun : (w : World) → IsBegun w
+pub begun : (w : World) → IsBegun w
 unfolding begin_savepoint ◌>>=◌ on_store changes by_own give call.savepoint
 begun w = record { handle = w.own.drawn.drawn + 1; answered = record { answer = refl; left = refl } }
 

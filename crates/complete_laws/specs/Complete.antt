@@ -96,6 +96,11 @@ abbrev pub CommitsLeaveStatedRows : Type 0
 CommitsLeaveStatedRows =
     (world : World) → IsHealthy world → IsWhole world → (commit world).answer ≡ Ok tt → ObjectsState world.own.mapping world.own.graph world.store.tables (commit world).after.store.tables
 
+-- and the beginning of a savepoint
+abbrev pub SavepointsLeaveStatedRows : Type 0
+SavepointsLeaveStatedRows =
+    (world : World) (handle : ℕ) → IsHealthy world → IsWhole world → (begin_nested world).answer ≡ Ok handle → ObjectsState world.own.mapping world.own.graph world.store.tables (begin_nested world).after.store.tables
+
 -- and the flush in the transaction of a sound session, also where keys have been changed, in which no object is to be deleted
 abbrev pub LinkedFlushesLeaveStatedRows : Type 0
 LinkedFlushesLeaveStatedRows =

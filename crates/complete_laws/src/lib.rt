@@ -2,7 +2,7 @@
 //! laws that it rests on, so there is no body that could be wrong.
 #![tactic(auto)]
 
-ghost use Rattle.complete_laws.specs.Complete.{BeginAnswersWhere, CommitAnswersWhere, CommitsLeaveStatedRows, FlushAnswersWhere, FlushesLeaveStatedRows, LinkedFlushesLeaveStatedRows, LinksMayBeWritten, MayBeWritten};
+ghost use Rattle.complete_laws.specs.Complete.{BeginAnswersWhere, CommitAnswersWhere, CommitsLeaveStatedRows, FlushAnswersWhere, FlushesLeaveStatedRows, LinkedFlushesLeaveStatedRows, LinksMayBeWritten, MayBeWritten, SavepointsLeaveStatedRows};
 
 use sendable_laws::{changes_fit, fit_plans_are_sendable};
 use session_flush_laws::a_flush_sends_its_plan;
@@ -38,11 +38,13 @@ pub fn stated_links_are_written()
 
 /// In every healthy session, over every mapping and with objects that are to be deleted, a flush that answers leaves exactly the rows that
 /// the objects state: the old ones without those of deleted objects and of pairs that are taken away, with the changed cells written and
-/// the new rows put in. Every other row is as it was, one of which no cell is written among them. So does a commit that answers, and the
-/// flush of a sound session in which no object is to be deleted, whether keys have been changed or not.
+/// the new rows put in. Every other row is as it was, one of which no cell is written among them. So does a commit that answers, the
+/// beginning of a savepoint, and the flush of a sound session in which no object is to be deleted, whether keys have been changed or
+/// not.
 pub fn flushes_leave_the_stated_rows()
     ensures flush { FlushesLeaveStatedRows }
     ensures commit { CommitsLeaveStatedRows }
+    ensures begin { SavepointsLeaveStatedRows }
     ensures linked { LinkedFlushesLeaveStatedRows }
 {
     a_flush_sends_its_plan();
