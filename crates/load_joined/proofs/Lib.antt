@@ -1,0 +1,3 @@
+pub mod GivenSteps
+pub mod FillSteps
+pub mod AnswerSteps
