@@ -1,0 +1,4 @@
+pub mod Choices
+pub mod RootKeys
+pub mod Ranks
+pub mod Paired
