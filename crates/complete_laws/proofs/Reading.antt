@@ -1,5 +1,5 @@
 -- The rows of objects that are to be deleted stand with the foreign keys that were read or written last.
-use Rattle.std.proofs.Common.{◌≡◌, inl, inr, ℕ, zero, suc, ◌+◌, ◌<◌, Bool, true, false, cond, ◌&&◌, ◌==◌, if◌then◌else◌, List, [], ◌∷◌, length, map, get_or, Option, None, Some, is_none, refl, sym, ap, ◌∙◌, subst, arith}
+use Rattle.std.proofs.Common.{◌≡◌, inl, inr, ℕ, zero, suc, ◌+◌, ◌<◌, Bool, true, false, cond, not, ◌&&◌, ◌||◌, ◌==◌, if◌then◌else◌, List, [], ◌∷◌, length, map, filter, get_or, Option, None, Some, refl, sym, ap, ◌∙◌, subst, arith}
 use Rattle.std.specs.Prelude.{slice_get}
 use Rattle.std.specs.Cmp.Lexicographic.{as_long}
 use Rattle.std.specs.List.{AllByRecursion, enumerate_from, list_any, position}
@@ -8,7 +8,8 @@ use Rattle.std.proofs.lemmas.Bool.{and_parts, eq-eqb, eqb-true}
 use Rattle.std.proofs.lemmas.List.{get_or-map, length-map}
 use Rattle.std.proofs.lemmas.List.FromFn.{get_or-enumerate_from, length-enumerate_from}
 use Rattle.std.proofs.lemmas.List.Quantifiers.{position-Some}
-use Rattle.std.proofs.lemmas.Option.{get_or_from_slice_get, slice_get_within}
+use Rattle.std.proofs.lemmas.Option.{get_or_from_slice_get, slice_get-get_or, slice_get_within}
+use Rattle.base_core.specs.declared.ids.ClassId.{ClassId}
 use Rattle.base_core.specs.declared.ids.ObjId.{ObjId}
 use Rattle.base_core.specs.declared.ids.TableId.{TableId}
 use Rattle.base_core.specs.declared.value.Value.{Value}
@@ -20,8 +21,15 @@ use Rattle.schema_core.specs.DependencyOrder.{is_among}
 use Rattle.schema_core.specs.Tables.{Tables, cell_of, cells_of, fits, key_cells, value_or_null}
 use Rattle.schema_core.proofs.Names.{name_itself, same_names}
 use Rattle.class_types.specs.declared.mapped.Attribute.{Attribute}
-use Rattle.class_mapping.specs.Mapped.{Mapped, attributes_of, no_attribute, tables_of}
-use Rattle.class_mapping.proofs.Having.{Has, all_from, any_has, from_flat, from_map}
+use Rattle.class_mapping.specs.Mapped.{Mapped, attributes_of, line_of, no_attribute, tables_of}
+use Rattle.class_layouts.specs.declared.classes.Classes.{Classes}
+use Rattle.class_layouts.specs.Columns.{attribute_at, is_attribute, is_shown, table_attributes}
+use Rattle.class_mapping.proofs.Having.{Has, all_from, any_has, from_flat, from_map, has_filter, has_flat, has_map, has_numbered}
+use Rattle.object_arena.proofs.FitLemmas.{fit_cells}
+use Rattle.project_laws.proofs.Loose.{has_place}
+use Rattle.prefix_laws.proofs.MappingFacts.{once_law}
+use Rattle.held_laws.proofs.Attributes.{column_place}
+use Rattle.schema_core.specs.declared.table.TableSpec.{TableSpec}
 use Rattle.class_mapping.proofs.RelatedKeys.{same_table}
 use Rattle.object_arena.specs.declared.object.Cell.{Cell}
 use Rattle.object_arena.specs.declared.object.Object.{Object}
@@ -83,10 +91,16 @@ each_named f g (name ∷ names) each = λ i. each name (inl refl) i ∷ each_nam
 -- ---- the rows of an object
 
 module _ (mapped : Mapped) (graph : Graph) (prepared : Prepared) (old : Tables) (stand : StandInTables mapped graph prepared old) (own : AreKeyed mapped graph prepared) (free : DeletedHaveNoOtherLinks mapped graph old) where
-  module _ (object : ObjId) (go : IsToGo mapped graph prepared old stand object) (table : TableId) (inside : is_among (tables_of mapped (object_at graph object).class) table ≡ true) (among : graphs.is_among prepared.deleted object ≡ true)
+  module _ (object : ObjId) (go : IsToGo mapped graph prepared old stand object) (table : TableId) (listed : Has (tables_of mapped (object_at graph object).class) table) (inside : is_among (tables_of mapped (object_at graph object).class) table ≡ true) (among : graphs.is_among prepared.deleted object ≡ true)
       (stands : List Value) (at : row_at old (table, key_held graph object) ≡ Some stands) where
     abbrev it : Object
     it = object_at graph object
+
+    abbrev tables : List TableSpec
+    tables = mapped.schema.tables
+
+    abbrev classes : Classes
+    classes = mapped.classes
 
     abbrev columns : List ColumnSpec
     columns = (spec_of mapped.schema table).columns
@@ -146,10 +160,41 @@ module _ (mapped : Mapped) (graph : Graph) (prepared : Prepared) (old : Tables) 
         ∙ sym (ap value_or_null known.1)
         ∙ ap (λ (own : Cell). value_or_null own.base) its_cell
 
-    -- of no attribute
+    -- of no attribute, since another class owns it
+    unshown : (c : ℕ) (column : ColumnSpec) → cell_for mapped (object_at graph object) table c ≡ None → slice_get columns c ≡ Some column → column.key ≡ false → is_shown tables classes (line_of mapped (object_at graph object).class) table column.name ≡ false
+    unshown c column none here unkeyed = by (is_shown tables classes line table column.name) refl
+      where
+        line : List ClassId
+        line = line_of mapped (object_at graph object).class
+
+        shows : (first key shown : Bool) → key ≡ false → shown ≡ true → ((first || not key) && shown) ≡ true
+        shows true false true e f = refl
+        shows false false true e f = refl
+        shows first true shown e f = absurd cc
+        shows first key false e f = absurd cc
+
+        by : (b : Bool) → is_shown tables classes line table column.name ≡ b → b ≡ false
+        by false e = refl
+        by true e =
+            let all : List Attribute = attributes_of mapped it.class in
+            let rank = has_place (tables_of mapped it.class) table listed in
+            let ranked : ℕ × TableId = (0 + rank.0, table) in
+            let attribute : Attribute = attribute_at table (0 + c, column) in
+            let given : Has (table_attributes tables classes line ranked) attribute =
+            has_map (attribute_at table) (filter (λ (placed : ℕ × ColumnSpec). is_attribute tables classes line (0 + rank.0) table placed.1) (enumerate_from 0 columns)) (0 + c, column)
+            (has_filter (λ (placed : ℕ × ColumnSpec). is_attribute tables classes line (0 + rank.0) table placed.1) (enumerate_from 0 columns) (0 + c, column) (has_numbered 0 columns c column here)
+            (shows (0 + rank.0 == 0) column.key (is_shown tables classes line table column.name) unkeyed e)) in
+            let shown : Has all attribute = has_flat (table_attributes tables classes line) (enumerate_from 0 (tables_of mapped it.class)) ranked attribute (has_numbered 0 (tables_of mapped it.class) rank.0 table rank.1) given in
+            let own = has_place all attribute shown in
+            let less : own.0 < length it.cells = omega (arith, slice_get_within all own.0 attribute own.1, fit_cells mapped graph object stand.fit go.made) in
+            let found : cell_for mapped it table (0 + c) ≡ Some (get_or it.cells own.0 expired_cell) =
+            ap (option_and_then (slice_get it.cells)) (column_place mapped it.class (once_law mapped stand.well.lined stand.well.lines) own.0 attribute own.1) ∙ slice_get-get_or it.cells own.0 expired_cell less in
+            let number : 0 + c ≡ c = omega arith in
+            absurd (let wrong : None ≡ Some (get_or it.cells own.0 expired_cell) = sym none ∙ ap (cell_for mapped it table) (sym number) ∙ found in cc)
+
     free_cell : (c : ℕ) (column : ColumnSpec) (cell : Option Cell) → cell_for mapped (object_at graph object) table c ≡ cell → slice_get columns c ≡ Some column → column.key ≡ false
         → list_any (λ (foreign : ForeignSpec). has_name foreign.columns column.name) (spec_of mapped.schema table).foreigns ≡ true → get_or stands c Null ≡ value_before cell
-    free_cell c column None e here unkeyed foreign = free (place_of object) table stands within go.persists go.marked inside at c column here unkeyed (ap is_none e) foreign
+    free_cell c column None e here unkeyed foreign = free (place_of object) table stands within go.persists go.marked inside at c column here (unshown c column e here unkeyed) foreign
     free_cell c column (Some cell) e here unkeyed foreign = of_attribute c (position (is_at table c) (attributes_of mapped it.class)) cell refl e
 
     same_cell : (c : ℕ) (column : ColumnSpec) → slice_get columns c ≡ Some column → list_any (λ (foreign : ForeignSpec). has_name foreign.columns column.name) (spec_of mapped.schema table).foreigns ≡ true → get_or stands c Null ≡ get_or base c Null
@@ -174,7 +219,7 @@ module _ (mapped : Mapped) (graph : Graph) (prepared : Prepared) (old : Tables) 
       let inside : is_among (tables_of mapped (object_at graph object).class) table ≡ true = any_has (λ (other : TableId). other.0 == table.0) (tables_of mapped (object_at graph object).class) table listed (eq-eqb table.0 table.0 refl) in
       let there : row_at old (table, key_held graph object) ≡ Some stands = ap (λ (key : List Value). row_at old (table, key)) (sym (own.read object table among inside)) ∙ at in
       all_from (λ (foreign : ForeignSpec). cells_of (spec_of mapped.schema table) stands foreign.columns ≡ cells_of (spec_of mapped.schema table) (gone_row mapped graph object table).base foreign.columns) (spec_of mapped.schema table).foreigns
-      (foreign_same object (to_go mapped graph prepared old stand object has) table inside among stands there)
+      (foreign_same object (to_go mapped graph prepared old stand object has) table listed inside among stands there)
 
   -- each stands with the foreign keys that were read or written last
   pub all_read : AllByRecursion (IsAsRead mapped.schema old) (gone_rows mapped graph prepared)

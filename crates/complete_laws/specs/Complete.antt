@@ -1,6 +1,7 @@
 -- When a flush answers, and the calls that flush.
-use Rattle.std.specs.Prelude.{◌≡◌, ◌<◌, ℕ, true, false, List, length, slice_get, slice_index_or, None, Some, Ok, is_none}
+use Rattle.std.specs.Prelude.{◌≡◌, ◌<◌, ℕ, true, false, List, length, slice_get, slice_index_or, None, Some, Ok}
 use Rattle.std.specs.List.{list_any}
+use Rattle.base_core.specs.declared.ids.ClassId.{ClassId}
 use Rattle.base_core.specs.declared.ids.TableId.{TableId}
 use Rattle.base_core.specs.declared.value.Value.{Value}
 use Rattle.base_core.specs.declared.value.Value.TheVariants.{Null}
@@ -9,7 +10,8 @@ use Rattle.schema_core.specs.declared.table.ForeignSpec.{ForeignSpec}
 use Rattle.schema_core.specs.Catalog.{has_name, spec_of}
 use Rattle.schema_core.specs.DependencyOrder.{is_among}
 use Rattle.schema_core.specs.Tables.{Legal, Tables}
-use Rattle.class_mapping.specs.Mapped.{Mapped, tables_of}
+use Rattle.class_layouts.specs.Columns.{is_shown}
+use Rattle.class_mapping.specs.Mapped.{Mapped, line_of, tables_of}
 use Rattle.mapping_laws.specs.Hierarchies.{HasHierarchies}
 use Rattle.object_arena.specs.declared.object.Object.{Object}
 use Rattle.object_arena.specs.Fit.{IsFit}
@@ -17,7 +19,7 @@ use Rattle.object_arena.specs.Graph.{Graph, is_persistent}
 use Rattle.flush_order.specs.Orders.{delete_order, gone_rows, insert_order}
 use Rattle.flush_plan.specs.Flushing.{Sofar}
 use Rattle.flush_plan.specs.Stating.{all_placed, guess, row_at, stated_tables}
-use Rattle.object_rows.specs.Rows.{cell_for, key_or_none}
+use Rattle.object_rows.specs.Rows.{key_or_none}
 use Rattle.held_laws.specs.Laws.{placed_object}
 use Rattle.plan_laws.specs.Laws.{changes_to_write}
 use Rattle.plan_laws.specs.Premises.{IsClear}
@@ -46,19 +48,18 @@ pub record IsWritable (mapped : Mapped) (graph : Graph) (old after : Tables) : T
   pub clear : IsClear mapped.schema old after
   pub no_guess : guess mapped.schema old (project mapped graph (prepared_of graph)) order placed.keys ≡ false
 
--- a row of an object in a table of its class holds NULL in each column of a foreign key that is neither of the key nor of an attribute
--- of the class, as the columns that another class of a single table owns
-abbrev pub HasNoOtherLinks : Mapped → Object → TableId → List Value → Type 0
-HasNoOtherLinks mapped object table row =
-    (number : ℕ) (column : ColumnSpec) → slice_get (spec_of mapped.schema table).columns number ≡ Some column → column.key ≡ false → is_none (cell_for mapped object table number) ≡ true
+-- a row in a table of a class holds NULL in each column of a foreign key that is no attribute of the class, since another class owns it
+abbrev pub HasNoOtherLinks : Mapped → ClassId → TableId → List Value → Type 0
+HasNoOtherLinks mapped class table row =
+    (number : ℕ) (column : ColumnSpec) → slice_get (spec_of mapped.schema table).columns number ≡ Some column → is_shown mapped.schema.tables mapped.classes (line_of mapped class) table column.name ≡ false
     → list_any (λ (foreign : ForeignSpec). has_name foreign.columns column.name) (spec_of mapped.schema table).foreigns ≡ true → slice_index_or row number Null ≡ Null
 
--- so do the rows of the objects that are to be deleted
+-- so do the rows of the objects that are to be deleted; where no class owns columns, all rows do
 abbrev pub DeletedHaveNoOtherLinks : Mapped → Graph → Tables → Type 0
 DeletedHaveNoOtherLinks mapped graph old =
     (place : ℕ) (table : TableId) (row : List Value) → place < length graph.objects → is_persistent (placed_object graph place).state ≡ true → (placed_object graph place).marked ≡ true
     → is_among (tables_of mapped (placed_object graph place).class) table ≡ true → row_at old (table, key_or_none (placed_object graph place).identity) ≡ Some row
-    → HasNoOtherLinks mapped (placed_object graph place) table row
+    → HasNoOtherLinks mapped (placed_object graph place).class table row
 
 -- A healthy session in which no rollback is awaited and no orphan waits, and whose objects state tables that can be written. What the
 -- rows of those that are to be deleted hold in foreign keys is known.

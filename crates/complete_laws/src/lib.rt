@@ -12,7 +12,7 @@ use told_laws::objects_have_own_rows;
 /// In a healthy session, over every mapping and with objects that are to be deleted, in which no rollback is awaited and no orphan
 /// waits, a flush answers and leaves the tables that the objects state, whenever these are legal, their new rows have keys, no row
 /// waits for itself, no unique value passes between rows, no foreign key is guessed, and no deleted row holds a value in a column of a
-/// foreign key that is neither of the key nor of an attribute of its object's class. So do a commit, and the beginning of a savepoint
+/// foreign key that is no attribute of its object's class, since another class owns it. So do a commit, and the beginning of a savepoint
 /// where fewer than 64 are open.
 pub fn stated_objects_are_written()
     ensures flush { FlushAnswersWhere MayBeWritten }
