@@ -1,0 +1,12 @@
+pub mod Levels
+pub mod Scopes
+pub mod Forms
+pub mod Stands
+pub mod Aliases
+pub mod Grown
+pub mod Simple
+pub mod Referring
+pub mod Tied
+pub mod Main
+pub mod Rows
+pub mod Unjoined
