@@ -1,6 +1,7 @@
 -- What a select over inner joins answers: a row for each choice of one row of each source whose columns are tied and which passes.
-use Rattle.std.proofs.Common.{◌≡◌, ℕ, zero, suc, ◌+◌, ◌<◌, ◌==◌, Bool, true, false, ◌&&◌, List, [], ◌∷◌, ◌++◌, filter, length, map, Option, None, Some, Ok, if◌then◌else◌, is_some, refl, sym, ap, subst, ◌∙◌, arith, append_assoc, append-nil}
+use Rattle.std.proofs.Common.{◌≡◌, inr, inl, ℕ, zero, suc, ◌+◌, ◌<◌, ◌==◌, Bool, true, false, ◌&&◌, List, [], ◌∷◌, ◌++◌, filter, length, map, Option, None, Some, Ok, if◌then◌else◌, is_some, refl, sym, ap, subst, ◌∙◌, arith, append_assoc, append-nil}
 use Rattle.std.specs.Prelude.{slice_get}
+use Rattle.std.specs.Cmp.Lexicographic.{pointwise}
 use Rattle.std.specs.Option.{option_and_then}
 use Rattle.std.specs.List.{AllByRecursion, flat_map, list_all}
 use Rattle.std.proofs.lemmas.Bool.{and_parts, eq-eqb, eqb-true, ne_eqb}
@@ -12,6 +13,7 @@ use Rattle.base_core.specs.declared.value.Value.{Value}
 use Rattle.base_core.proofs.Lists.{get_after, get_before}
 use Rattle.schema_core.specs.declared.table.ColumnSpec.{ColumnSpec}
 use Rattle.schema_core.specs.Catalog.{Catalog, spec_of}
+use Rattle.schema_core.specs.WellFormed.{is_row, may_hold}
 use Rattle.expr_types.specs.declared.expr.CompareOp.TheVariants as op
 use Rattle.expr_types.specs.declared.expr.Expr.{Expr}
 use Rattle.expr_types.specs.declared.expr.Expr.TheVariants as expr
@@ -22,9 +24,10 @@ use Rattle.sql_semantics.specs.Eval.{Meaning, Place, Row, Tables, after, compari
 use Rattle.sql_semantics.specs.Kinds.{Scope, column_in}
 use Rattle.sql_semantics.specs.Plain.{AreJoined, IfSet, IsFilter, IsPlainSelect, StandsIn, fits, sources_of}
 use Rattle.sql_semantics.specs.Rows.{Frame, answer, at, condition, each_from, joined_all, joined_row, kept_from, or_nulls, rows_of_join, sources, wider, width}
+use Rattle.sql_semantics.specs.Shapes.{AreRows}
 use Rattle.sql_semantics.specs.Truth.{all3, passes, value_of}
 use Rattle.sql_semantics.proofs.Equations.{evaluated-Compare, fits-And, fits-Column, fits-Compare}
-use Rattle.class_mapping.proofs.Having.{Has, all_of, from_filter, from_flat, from_map, has_filter, has_flat, has_map}
+use Rattle.class_mapping.proofs.Having.{Has, from_filter, from_flat, from_map, has_filter, has_flat, has_map}
 use Rattle.load_columns.specs.declared.placing.SourceColumn.{SourceColumn}
 use Rattle.load_columns.specs.Conditions.{all_of as all_conditions, conjoined, equal_column, equal_columns}
 use Rattle.load_selects.specs.declared.sources.Further.{Further}
@@ -35,7 +38,19 @@ use Rattle.answer_laws.proofs.Answered.{answer_is}
 use Rattle.answer_laws.proofs.Conditions.{AreTests, IsOne, no_tests, one_test, rows_of_tests}
 use Rattle.answer_laws.proofs.Totals.{kept_where}
 use Rattle.answer_laws.proofs.Values.{all_pass, all_value, column_value, equal_passes, equal_value}
-use Rattle.join_laws.specs.Pairs.{AreWide}
+
+-- ---- lists
+
+pub every_has : {A : Type 0} (P : A → Type 0) (xs : List A) (x : A) → AllByRecursion P xs → Has xs x → P x
+every_has P [] x all there = absurd there
+every_has P (y ∷ xs) x all (inl e) = subst P e all.0
+every_has P (y ∷ xs) x all (inr there) = every_has P xs x all.1 there
+
+pub pointwise_long : {A B : Type 0} (test : A → B → Bool) (xs : List A) (ys : List B) → pointwise test xs ys ≡ true → length ys ≡ length xs
+pointwise_long test [] [] h = refl
+pointwise_long test [] (y ∷ ys) h = absurd cc
+pointwise_long test (x ∷ xs) [] h = absurd cc
+pointwise_long test (x ∷ xs) (y ∷ ys) h = ap suc (pointwise_long test xs ys (and_parts (test x y) (pointwise test xs ys) h).1)
 
 -- ---- choices
 
@@ -291,9 +306,19 @@ module _ (schema : Catalog) (tables : Tables) where
       let there = in_by schema (slice_get scope column.source) column.column inside.0 inside.1 in
       ap (λ (row : Row). item_or_null (slice_get row column.column.0)) (same column.source (slice_get_within scope column.source there.0 there.1))
 
-  wide_row : (table : TableId) (row : Row) → AreWide schema tables → Has (rows_in tables table.0) row → length row ≡ width_of schema table
-  wide_row table row wide there =
-      eqb-true (length row) (width_of schema table) (all_of (λ (one : Row). length one == length (spec_of schema table).columns) (rows_in tables table.0) row (wide table) there)
+  -- a row of a table is as wide as the table
+  row_by : (found : Tables) (table : TableId) (row : Row) → AreRows schema found → Has (rows_in found table.0) row → is_row (spec_of schema table) row ≡ true
+  row_by [] table row held there = absurd there
+  row_by (x ∷ found) table row held there = by (x.0.0 == table.0) refl there (row_by found table row held.1)
+    where
+      by : (b : Bool) → (x.0.0 == table.0) ≡ b → Has (if b then x.1 else rows_in found table.0) row → (Has (rows_in found table.0) row → is_row (spec_of schema table) row ≡ true) → is_row (spec_of schema table) row ≡ true
+      by false is h more = more h
+      by true is h more =
+          let same : x.0 ≡ table = ap (λ (n : ℕ). let one : TableId = record { 0 = n } in one) (eqb-true x.0.0 table.0 is) in
+          ap (λ (one : TableId). is_row (spec_of schema one) row) (sym same) ∙ every_has (λ (r : Row). is_row (spec_of schema x.0) r ≡ true) x.1 row held.0 h
+
+  wide_row : (table : TableId) (row : Row) → AreRows schema tables → Has (rows_in tables table.0) row → length row ≡ width_of schema table
+  wide_row table row held there = pointwise_long may_hold (spec_of schema table).columns row (row_by tables table row held there)
 
   -- what holds of a choice by its first rows alone
   abbrev IsOfFirst : ℕ → (Choice → Type 0) → Type 0
@@ -316,7 +341,7 @@ module _ (schema : Catalog) (tables : Tables) where
         (subst (Has (rows_in tables tie.table.0)) (sym last) h.1.0, equal_inside (chosen other) (chosen one) (next scope tie) tie.ones tie.others (chosen_same one other (next scope tie) same) inside ∙ h.1.1),
       )
 
-  extended_chosen : (scope : List TableId) (tie : Tie) (P : Choice → Type 0) → AreWide schema tables → PairsInside schema (next scope tie) tie.ones tie.others → IsOfFirst (length scope) P → (rows : List Row) → ((row : Row) → Has rows row → Chosen scope P row)
+  extended_chosen : (scope : List TableId) (tie : Tie) (P : Choice → Type 0) → AreRows schema tables → PairsInside schema (next scope tie) tie.ones tie.others → IsOfFirst (length scope) P → (rows : List Row) → ((row : Row) → Has rows row → Chosen scope P row)
       → (row : Row) → Has (extended scope tie rows) row → Chosen (next scope tie) (λ choice. P choice × Here (length scope) tie choice) row
   extended_chosen scope tie P wide inside local rows each row there =
       let source : List Row = rows_in tables tie.table.0 in
@@ -344,7 +369,7 @@ module _ (schema : Catalog) (tables : Tables) where
       }
 
   -- each joined row is that of a choice
-  all_chosen : (scope : List TableId) (ties : List Tie) (P : Choice → Type 0) → AreWide schema tables → AreInside schema scope ties → IsOfFirst (length scope) P → (rows : List Row) → ((row : Row) → Has rows row → Chosen scope P row)
+  all_chosen : (scope : List TableId) (ties : List Tie) (P : Choice → Type 0) → AreRows schema tables → AreInside schema scope ties → IsOfFirst (length scope) P → (rows : List Row) → ((row : Row) → Has rows row → Chosen scope P row)
       → (row : Row) → Has (all_joined scope ties rows) row → Chosen (scope ++ tables_in ties) (λ choice. P choice × Meets tables choice (length scope) ties) row
   all_chosen scope [] P wide inside local rows each row there =
       let old = each row there in
@@ -362,7 +387,7 @@ module _ (schema : Catalog) (tables : Tables) where
       })
 
   -- and each choice that is tied has a joined row
-  choice_joined : (scope : List TableId) (ties : List Tie) (choice : Choice) → AreWide schema tables → AreInside schema scope ties → Full schema choice 0 scope → Meets tables choice (length scope) ties → (rows : List Row)
+  choice_joined : (scope : List TableId) (ties : List Tie) (choice : Choice) → AreRows schema tables → AreInside schema scope ties → Full schema choice 0 scope → Meets tables choice (length scope) ties → (rows : List Row)
       → Has rows (glued choice 0 scope) → Has (all_joined scope ties rows) (glued choice 0 (scope ++ tables_in ties)) × Full schema choice 0 (scope ++ tables_in ties)
   choice_joined scope [] choice wide inside full meets rows there =
       subst (λ (all : List TableId). Has rows (glued choice 0 all) × Full schema choice 0 all) (sym (append-nil scope)) (there, full)
@@ -398,7 +423,7 @@ pub all_inside : (schema : Catalog) (scope : List TableId) (u v : SourceColumn �
 all_inside schema scope u v [] same inside = refl
 all_inside schema scope u v (column ∷ columns) same inside = ap (λ (x : Value). x ∷ map u columns) (same column inside.0) ∙ ap (λ (xs : List Value). v column ∷ xs) (all_inside schema scope u v columns same inside.1)
 
-module _ (schema : Catalog) (tables : Tables) (first : TableId) (ties : List Tie) (items : List SourceColumn) (conditions : List Expr) (test : (SourceColumn → Value) → Bool) (wide : AreWide schema tables)
+module _ (schema : Catalog) (tables : Tables) (first : TableId) (ties : List Tie) (items : List SourceColumn) (conditions : List Expr) (test : (SourceColumn → Value) → Bool) (wide : AreRows schema tables)
     (inside : AreInside schema (first ∷ []) ties) (items_inside : AllByRecursion (IsInside schema (first ∷ map (λ (tie : Tie). tie.table) ties)) items)
     (local : IsLocal schema (first ∷ map (λ (tie : Tie). tie.table) ties) conditions test) (rows : List Row) (is : answer schema tables (select_of first (map joined_where ties) items conditions) ≡ Ok rows) where
   abbrev scope : List TableId

@@ -44,7 +44,7 @@ use Rattle.load_laws.proofs.MemberLemmas.{foreign_typed, owned_kinds, referred_i
 use Rattle.load_laws.proofs.PairLemmas.{members_are_plain}
 use Rattle.load_laws.proofs.Placed.{rank_finds}
 use Rattle.load_laws.proofs.Standing.{is_of}
-use Rattle.load_laws.proofs.Typed.{fit_kinds, typed_long}
+use Rattle.load_laws.proofs.Typed.{typed_long}
 use Rattle.load_selects.specs.declared.sources.Further.{Further}
 use Rattle.load_selects.specs.Branches.{discriminator_column, is_of_branch}
 use Rattle.load_selects.specs.Selects.{origin_of, select_of}
@@ -58,7 +58,7 @@ use Rattle.answer_laws.specs.Equal.{are_equal, equals_key}
 use Rattle.answer_laws.proofs.Conditions.{AreLong, equals_some, key_tests, keys_tests}
 use Rattle.answer_laws.proofs.Totals.{map_twice}
 use Rattle.join_laws.specs.Pairs.{HaveSame, IsPaired, cells_of, first_values, is_pair_of, paired_rows, rows_under}
-use Rattle.join_laws.proofs.Choices.{Choice, Fit, HasInside, IsChoice, IsInside, IsLocal, Meets, Tie, all_inside, are_tied, choice_row, chosen, chosen_row, column_inside, inside_of, joined_where, put_elsewhere, put_there, with_row}
+use Rattle.join_laws.proofs.Choices.{Choice, Fit, HasInside, IsChoice, IsInside, IsLocal, Meets, Tie, all_inside, are_tied, choice_row, chosen, chosen_row, column_inside, every_has, inside_of, joined_where, pointwise_long, put_elsewhere, put_there, with_row}
 use Rattle.join_laws.proofs.Ranks.{AreRanked, OthersMeet, attributes_chosen, branch_alike, branch_inside, branch_test, branch_tests, count_behind, equal_both, equal_itself, from_meets, high_place, key_chosen, key_in, key_long, lead_place, low_place, ranks_meet, same_equal, sources_tied, ties_behind, to_meets}
 use Rattle.join_laws.proofs.RootKeys.{key_read}
 
@@ -67,11 +67,6 @@ use Rattle.join_laws.proofs.RootKeys.{key_read}
 split_every : {A : Type 0} (P : A → Type 0) (xs ys : List A) → AllByRecursion P (xs ++ ys) → AllByRecursion P xs × AllByRecursion P ys
 split_every P [] ys all = (tt, all)
 split_every P (x ∷ xs) ys all = let rest = split_every P xs ys all.1 in ((all.0, rest.0), rest.1)
-
-every_has : {A : Type 0} (P : A → Type 0) (xs : List A) (x : A) → AllByRecursion P xs → Has xs x → P x
-every_has P [] x all there = absurd there
-every_has P (y ∷ xs) x all (inl e) = subst P e all.0
-every_has P (y ∷ xs) x all (inr there) = every_has P xs x all.1 there
 
 first_from : (before xs ys : Row) (n : ℕ) → length before ≡ n → map (λ (place : ℕ). value_or_null (slice_get (before ++ (xs ++ ys)) place)) (range_with_len n (length xs)) ≡ xs
 first_from before [] ys n long = refl
@@ -101,15 +96,6 @@ have_same one other there back = λ row. by row (list_any (same_values row) one)
     by row true b p q = p ∙ sym (within one other there row p)
     by row false true p q = absurd (let never = sym p ∙ within other one back row q in cc)
     by row false false p q = p ∙ sym q
-
-fit_long : (kinds : List Kind) (key : List Value) → fit_kinds kinds key ≡ true → length key ≡ length kinds
-fit_long [] [] h = refl
-fit_long [] (v ∷ key) h = absurd cc
-fit_long (kind ∷ kinds) [] h = absurd cc
-fit_long (kind ∷ kinds) (v ∷ key) h = ap suc (fit_long kinds key (and_parts_right h))
-  where
-    and_parts_right : fit_kinds (kind ∷ kinds) (v ∷ key) ≡ true → fit_kinds kinds key ≡ true
-    and_parts_right e = (and_parts (is_of kind v) (fit_kinds kinds key) e).1
 
 meets_split : (tables : Tables) (rows : Choice) (place : ℕ) (ones others : List Tie) → Meets tables rows place (ones ++ others) → Meets tables rows place ones × Meets tables rows (place + length ones) others
 meets_split tables rows place [] others meets = let same : place ≡ place + 0 = omega arith in (tt, subst (λ (p : ℕ). Meets tables rows p others) same meets)
@@ -244,7 +230,7 @@ module _ (mapped : Mapped) (relation : Relation) (far : TableKey) (tables : Tabl
   owner_key_long : (key : List Value) → is_key (root_spec mapped relation.class) key ≡ true → length key ≡ length (foreign_numbers mapped relation.foreign)
   owner_key_long key h =
       let kinds : List Kind = kinds_of (key_columns (spec_of mapped.schema keys.owner.table)) in
-      fit_long (kinds_of (key_columns (root_spec mapped relation.class))) key (key_fits mapped (root_table mapped relation.class) key h)
+      pointwise_long is_of (kinds_of (key_columns (root_spec mapped relation.class))) key (key_fits mapped (root_table mapped relation.class) key h)
       ∙ ap (λ (ks : List Kind). length ks) (owned_kinds mapped relation.foreign relation.class (class_tables mapped relation.class paired.has paired.related.class) keys.owner)
       ∙ sym (typed_long mapped.schema (origin_of second ∷ []) (columns_at 0 (foreign_numbers mapped relation.foreign)) kinds (foreign_typed mapped (origin_of second ∷ []) 0 relation.foreign relation.class paired.has keys.owner refl))
       ∙ length-map (foreign_numbers mapped relation.foreign) (column_at 0)
@@ -316,10 +302,10 @@ module _ (mapped : Mapped) (relation : Relation) (far : TableKey) (tables : Tabl
   IsOwn rows = IsChoice tables root own_ties own_test rows
 
   own_row : (rows : Choice) → IsOwn rows → Has all (map (chosen rows) items)
-  own_row rows one = choice_row mapped.schema tables root own_ties items own_branch own_test paired.wide own_inside.ties_in own_inside.items_in own_local all own_answered rows one
+  own_row rows one = choice_row mapped.schema tables root own_ties items own_branch own_test paired.held own_inside.ties_in own_inside.items_in own_local all own_answered rows one
 
   row_own : (row : Row) → Has all row → (rows : Choice) × IsOwn rows × (row ≡ map (chosen rows) items)
-  row_own row there = chosen_row mapped.schema tables root own_ties items own_branch own_test paired.wide own_inside.ties_in own_inside.items_in own_local all own_answered row there
+  row_own row there = chosen_row mapped.schema tables root own_ties items own_branch own_test paired.held own_inside.ties_in own_inside.items_in own_local all own_answered row there
 
   -- such a choice is one by ranks, under the root's key
   own_before : ((1 ≡ 0 + 1 + 0) × (0 ≤ 0)) ⊎ ((1 ≡ 0 + 0) × (0 < 0))
@@ -470,7 +456,7 @@ module _ (mapped : Mapped) (relation : Relation) (far : TableKey) (tables : Tabl
       member_led : (row : Row) → Has rows row → Has (paired_rows mapped relation far all pairs key) row
       member_led row there =
           let one =
-          chosen_row mapped.schema tables root member_ties items (member_conditions key) (member_test key) paired.wide member_inside.ties_in member_inside.items_in member_local rows answered row there in
+          chosen_row mapped.schema tables root member_ties items (member_conditions key) (member_test key) paired.held member_inside.ties_in member_inside.items_in member_local rows answered row there in
           let choice : Choice = one.0 in
           let split = meets_split tables choice 1 own_ties (pair_tie ∷ []) one.1.meets in
           let pair : Row = choice last in
@@ -511,7 +497,7 @@ module _ (mapped : Mapped) (relation : Relation) (far : TableKey) (tables : Tabl
             passes = ap (λ (b : Bool). b && own_test (chosen choice)) near ∙ branch;
           } in
           subst (Has rows) (attributes_chosen mapped class plain choice led.ranks at attribute_ranked ∙ sym led.is)
-          (choice_row mapped.schema tables root member_ties items (member_conditions key) (member_test key) paired.wide member_inside.ties_in member_inside.items_in member_local rows answered choice one)
+          (choice_row mapped.schema tables root member_ties items (member_conditions key) (member_test key) paired.held member_inside.ties_in member_inside.items_in member_local rows answered choice one)
 
   pub members_paired : (key : List Value) (rows : List Row) → is_key (root_spec mapped relation.class) key ≡ true → answer mapped.schema tables (members_select mapped relation key) ≡ Ok rows
       → HaveSame rows (paired_rows mapped relation far all pairs key)
@@ -694,7 +680,7 @@ module _ (mapped : Mapped) (relation : Relation) (far : TableKey) (tables : Tabl
           let from = from_map (drop width) (filter (λ r. same_values (first_values width r) key) rows) row there in
           let kept = from_filter (λ r. same_values (first_values width r) key) rows from.0 from.1 in
           let one =
-          chosen_row mapped.schema tables second batch_ties batch_items (batch_conditions held) (batch_test held) paired.wide batch_inside.ties_in batch_inside.items_in batch_local rows answered from.0 kept.0 in
+          chosen_row mapped.schema tables second batch_ties batch_items (batch_conditions held) (batch_test held) paired.held batch_inside.ties_in batch_inside.items_in batch_local rows answered from.0 kept.0 in
           let choice : Choice = one.0 in
           let first = one.1.meets.0 in
           let ranks : Choice = λ rank. choice (place_at_rank behind rank) in
@@ -702,7 +688,8 @@ module _ (mapped : Mapped) (relation : Relation) (far : TableKey) (tables : Tabl
           let pair : Row = choice 0 in
           let cut = cut_front (cells_near pair) (map (chosen ranks) items) width (near_long pair ∙ sym width_is) in
           let whole : from.0 ≡ cells_near pair ++ map (chosen ranks) items = one.2 ∙ batch_row choice ranks (λ rank table here. refl) in
-          let owner : cells_near pair ≡ key = same_equal (cells_near pair) key (ap (λ (k : List Value). same_values k key) (sym (ap (first_values width) whole ∙ cut.0)) ∙ kept.1) in
+          let front : first_values width from.0 ≡ cells_near pair = ap (first_values width) whole ∙ cut.0 in
+          let owner : cells_near pair ≡ key = same_equal (cells_near pair) key (ap (λ (k : List Value). same_values k key) (sym front) ∙ kept.1) in
           let behind_it : row ≡ map (chosen ranks) items = sym from.2 ∙ ap (drop width) whole ∙ cut.1 in
           let near : map (chosen choice) (near_columns 0) ≡ cells_near pair = pair_chosen choice 0 pair (foreign_numbers mapped relation.foreign) refl in
           let found = some_of (equals_key (cells_near pair)) held (ap (equals_some held) (sym near) ∙ tests.0) in
@@ -740,7 +727,7 @@ module _ (mapped : Mapped) (relation : Relation) (far : TableKey) (tables : Tabl
           let whole : map (chosen choice) batch_items ≡ cells_near led.pair ++ map (chosen led.ranks) items = batch_row choice led.ranks at in
           let cut = cut_front (cells_near led.pair) (map (chosen led.ranks) items) width (near_long led.pair ∙ sym width_is) in
           let in_rows : Has rows (cells_near led.pair ++ map (chosen led.ranks) items) =
-          subst (Has rows) whole (choice_row mapped.schema tables second batch_ties batch_items (batch_conditions held) (batch_test held) paired.wide batch_inside.ties_in batch_inside.items_in batch_local rows answered choice one) in
+          subst (Has rows) whole (choice_row mapped.schema tables second batch_ties batch_items (batch_conditions held) (batch_test held) paired.held batch_inside.ties_in batch_inside.items_in batch_local rows answered choice one) in
           let passes_key : same_values (first_values width (cells_near led.pair ++ map (chosen led.ranks) items)) key ≡ true =
           ap (λ (k : List Value). same_values k key) (cut.0 ∙ owner.same) ∙ same_equiv.refl key in
           subst (Has (rows_under mapped relation rows key)) (cut.1 ∙ sym led.is)

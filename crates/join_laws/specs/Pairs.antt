@@ -1,13 +1,12 @@
 -- The members of many-to-many collections: of the target's rows those to which a pair of the owner leads.
-use Rattle.std.specs.Prelude.{◌≡◌, ℕ, Bool, true, ◌&&◌, ◌==◌, List, drop, filter, length, map, slice_get, Some, Ok}
-use Rattle.std.specs.List.{All, list_all, list_any, range_with_len}
-use Rattle.base_core.specs.declared.ids.TableId.{TableId}
+use Rattle.std.specs.Prelude.{◌≡◌, ℕ, Bool, true, ◌&&◌, List, drop, filter, map, slice_get, Some, Ok}
+use Rattle.std.specs.List.{All, list_any, range_with_len}
 use Rattle.base_core.specs.declared.value.Value.{Value}
-use Rattle.schema_core.specs.Catalog.{Catalog, spec_of}
 use Rattle.schema_core.specs.Tables.{same_values, value_or_null}
 use Rattle.schema_core.specs.WellFormed.{is_key}
 use Rattle.sql_semantics.specs.Eval.{Row, Tables, item_or_null, rows_in}
 use Rattle.sql_semantics.specs.Rows.{answer}
+use Rattle.sql_semantics.specs.Shapes.{AreRows}
 use Rattle.class_types.specs.declared.mapped.Relation.{Relation}
 use Rattle.class_sides.specs.Keys.{TableKey}
 use Rattle.class_mapping.specs.Mapped.{Mapped, root_spec}
@@ -35,11 +34,7 @@ is_pair_of mapped relation far key row pair =
 abbrev pub paired_rows : Mapped → Relation → TableKey → List Row → List Row → List Value → List Row
 paired_rows mapped relation far all pairs key = filter (λ row. list_any (is_pair_of mapped relation far key row) pairs) all
 
--- ---- tables and rows
-
--- each row of a table has a value for each of its columns
-abbrev pub AreWide : Catalog → Tables → Type 0
-AreWide schema tables = (table : TableId) → list_all (λ row. length row == length (spec_of schema table).columns) (rows_in tables table.0) ≡ true
+-- ---- rows
 
 -- two lists have the same rows, in whatever order and however often
 abbrev pub HaveSame : List Row → List Row → Type 0
@@ -55,13 +50,13 @@ rows_under mapped relation rows key = map (drop (owner_width mapped relation)) (
 
 -- ---- the laws
 
--- a many-to-many relationship of a configured mapping, over tables in which the rows of the target are these
+-- a many-to-many relationship of a configured mapping, over tables that hold rows of theirs, in which the rows of the target are these
 pub record IsPaired (mapped : Mapped) (relation : Relation) (far : TableKey) (tables : Tables) (all : List Row) : Type 0 where
   pub has : HasHierarchies mapped
   pub related : IsRelated mapped relation
   pub many : relation.many ≡ true
   pub far_is : relation.far ≡ Some far
-  pub wide : AreWide mapped.schema tables
+  pub held : AreRows mapped.schema tables
   pub rows : AreRowsOf mapped relation.target tables all
 
 -- To the select of an owner's members the rows are answered to which its pairs lead.
