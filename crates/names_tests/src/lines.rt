@@ -18,6 +18,7 @@ use shell_lines::{Desk, Said};
 use shell_parts::Names;
 use shell_replies::{Reply, SessionNames, reply_of};
 use std::alloc::Global;
+use std::mem::drop;
 
 /// Does what a line comes to.
 #[tactic(auto, using(crate::proofs::Naming::naming))]
@@ -27,18 +28,18 @@ fn perform_said<K: Keeper>(
     names: &Names,
     session: &mut Session,
     keeper: &mut K,
-    said: Said,
+    said: &Said,
 ) -> Result<Answer, Refusal>
     requires in_step { IsInStep session.old (K.moment keeper.old) }
     requires named { AreNamed session.old names.now }
-    requires done { CanBeDone said }
+    requires done { CanBeDone said.now }
     ensures stays { StaysReady result (Configured session.new) (K.moment keeper.new) }
     ensures named { AreNamed session.new names.now }
     ensures answer { IfOk result (IsAnswerAt (Configured session.new)) }
 {
     match said {
         Said::Do(command) => {
-            let resolved = resolve(alloc, session.mapping(), names, &command)?;
+            let resolved = resolve(alloc, session.mapping(), names, command)?;
             perform(session, keeper, hooks, resolved)
         }
         _ => Ok(Answer::Nothing),
@@ -62,7 +63,9 @@ fn answer_to<K: Keeper>(
     ensures answer { IfOk result (IsAnswerAt (Configured session.new)) }
 {
     let said = desk.say(alloc, line.as_bytes())?;
-    perform_said(alloc, hooks, names, session, keeper, said)
+    let answer = perform_said(alloc, hooks, names, session, keeper, &said);
+    drop(said);
+    answer
 }
 
 /// A reply goes behind what is shown.
@@ -103,7 +106,11 @@ fn take(
             names.bind(&name, thing)?;
             Ok(())
         }
-        told => tell(alloc, session, &told, shown),
+        told => {
+            let done = tell(alloc, session, &told, shown);
+            drop(told);
+            done
+        }
     }
 }
 
@@ -127,7 +134,10 @@ fn bind_told(
             names.bind(&name, thing)?;
             Ok(())
         }
-        _ => Err(Refusal::NotBuilt),
+        other => {
+            drop(other);
+            Err(Refusal::NotBuilt)
+        }
     }
 }
 
@@ -216,7 +226,9 @@ fn tell_line<K: Keeper>(
             if calls::ends_early(&refusal) {
                 return Err(refusal);
             }
-            tell_refusal(alloc, session, desk.line(), &refusal, shown)
+            let done = tell_refusal(alloc, session, desk.line(), &refusal, shown);
+            drop(refusal);
+            done
         }
     }
 }

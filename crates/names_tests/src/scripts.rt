@@ -8,11 +8,12 @@ use base_core::Refusal;
 use class_mapping::Mapping;
 use class_types::Hooks;
 use keeper_core::{Keeper, Target};
-use keeper_mem::MemKeeper;
+use keeper_mem::{OverKeepers, over_memory};
 use session_scopes::Session;
 use shell_lines::{Desk, Said};
 use shell_parts::Names;
 use std::alloc::Global;
+use std::mem::drop;
 
 /// Takes a line of declarations.
 fn declare(
@@ -24,7 +25,10 @@ fn declare(
 ) -> Result<(), Refusal> {
     match desk.say(alloc, line.as_bytes())? {
         Said::Declare(block) => block.declare(hooks, mapping),
-        _ => Ok(()),
+        other => {
+            drop(other);
+            Ok(())
+        }
     }
 }
 
@@ -116,23 +120,45 @@ fn play_fresh<K: Keeper>(
     play_over(alloc, hooks, keeper, script, shown)
 }
 
-/// Plays a script over a keeper in memory.
-fn play_script(
+/// A script, and what it has told when it was played, and whether it was refused.
+#[derive(Drop)]
+struct Script<'x> {
     alloc: Global,
-    hooks: &Hooks,
-    script: &str,
-    shown: &mut String,
-) -> Result<(), Refusal> {
-    let mut keeper = MemKeeper::new(alloc, &[])?;
-    play_fresh(alloc, hooks, &mut keeper, script, shown)
+    script: &'x str,
+    shown: String,
+    refused: bool,
+}
+
+impl OverKeepers for Script<'_> {
+    fn run<K: Keeper>(&mut self, keeper: &mut K) {
+        let hooks = Hooks::new(self.alloc);
+        self.refused = match play_fresh(self.alloc, &hooks, keeper, self.script, &mut self.shown) {
+            Ok(()) => false,
+            Err(_) => true,
+        };
+    }
+}
+
+/// Plays a script over a keeper in memory.
+fn play_script(alloc: Global, script: &str, shown: &mut String) -> Result<(), Refusal> {
+    let mut played = Script {
+        alloc,
+        script,
+        shown: String::new(alloc),
+        refused: false,
+    };
+    over_memory(alloc, &[], &mut played)?;
+    if played.refused {
+        return Err(Refusal::NotBuilt);
+    }
+    Ok(shown.push_str(played.shown.as_str())?)
 }
 
 /// Plays scripts, and writes `----` between their answers.
 pub(crate) fn play_all(alloc: Global, text: &str) -> Result<String, Refusal> {
-    let hooks = Hooks::new(alloc);
     let mut shown = String::new(alloc);
     for script in text.split("----\n") {
-        play_script(alloc, &hooks, script, &mut shown)?;
+        play_script(alloc, script, &mut shown)?;
         shown.push_str("----\n")?;
     }
     Ok(shown)

@@ -1,6 +1,6 @@
 use Rattle.names_tests.proofs.Naming.{named_then}
 use Rattle.names_tests.proofs.lines.perform_said.Goals as goal
 
-pub returns-in-Do-clause-named : goal.returns-in-Do-clause-named
-returns-in-Do-clause-named g c = named_then g.K.Keeper.moment _ (c.args.session.now, c.args.keeper.now) (c.perform.new.session, c.perform.new.keeper) c.perform.result
+pub returns-in_ok-resolved-in-Do-clause-named : goal.returns-in_ok-resolved-in-Do-clause-named
+returns-in_ok-resolved-in-Do-clause-named g c = named_then g.K.Keeper.moment _ (c.args.session.now, c.args.keeper.now) (c.perform.new.session, c.perform.new.keeper) c.perform.result
     c.args.names.now c.perform.ensures.performed c.requires.named
