@@ -7,19 +7,18 @@ ghost use Rattle.object_arena.specs.Graph.{IsObject, object_at};
 ghost use Rattle.programs.specs.Programs.{ends_early};
 ghost use Rattle.load_calls.specs.Reading.{IsReady, StaysReady};
 
-use crate::owners::{are_owners, is_persistent, related};
+use crate::owners::{are_owners, is_persistent};
 use base_core::{ClassId, ListOf, ObjId, ObjList, Refusal, RelNo};
 use class_mapping::Mapping;
 use class_types::Hooks;
 use keeper_core::{Keeper, Notes, calls};
 use keeper_mem::{OverKeepers, over_memory};
-use load_batches::load_members;
 use load_calls::refresh;
-use load_ends::load_ends;
 use load_lines::{
     declare_all, fill, first_word, is_made, objects_of, put, tell_load, tell_objects,
 };
 use load_queries::{every_object, load_select};
+use load_selectin::load_selectin;
 use load_targets::load_lazy;
 use notations::{Reader, number};
 use object_arena::Arena;
@@ -58,7 +57,7 @@ fn load_link<K: Keeper>(
 }
 
 /// Loads the links of objects of a class at a place.
-#[tactic(auto, using(crate::proofs::OwnerLemmas::children_of))]
+#[tactic(auto, using(crate::proofs::OwnerLemmas::owners_known))]
 fn load_together<K: Keeper>(
     alloc: Global,
     arena: &mut Arena,
@@ -82,25 +81,14 @@ fn load_together<K: Keeper>(
     if class.0 >= mapping.count() || place.0 as usize >= mapping.relations(class).len() {
         return Err(Refusal::NotBuilt);
     }
-    let relation = related(mapping, class, place);
-    if !are_owners(&*arena, mapping, class, place, owners) {
+    if !are_owners(&*arena, mapping, class, owners) {
         return Err(Refusal::NotBuilt);
     }
-    if relation.many {
-        return load_members(
-            alloc, arena, mapping, keeper, relation, place, owners, notes,
-        );
-    }
-    if relation.far.is_some() {
-        return Err(Refusal::NotBuilt);
-    }
-    load_ends(
-        alloc, arena, mapping, keeper, owners, relation, place, notes,
-    )
+    load_selectin(alloc, arena, mapping, keeper, owners, place, notes)
 }
 
-/// Loads what an act asks for of objects.
-fn load<K: Keeper>(
+/// Loads the links that an act names, or refreshes its object.
+fn load_links<K: Keeper>(
     alloc: Global,
     arena: &mut Arena,
     mapping: &Mapping,
@@ -153,19 +141,37 @@ fn load_class<K: Keeper>(
     load_select(alloc, arena, mapping, keeper, &query, notes)
 }
 
-fn is_ended<T>(answer: &Result<T, Refusal>) -> bool
-    ensures { result ≡ false → IfErr answer.now (λ e. ends_early e ≡ false) }
+/// Loads what an act asks for, and answers the objects of its query.
+fn load<K: Keeper>(
+    alloc: Global,
+    arena: &mut Arena,
+    mapping: &Mapping,
+    keeper: &mut K,
+    act: &str,
+    notes: &mut Notes,
+) -> Result<ObjList, Refusal>
+    requires configured { mapping.now.configured ≡ true }
+    requires fit { IsFit mapping.now arena.old }
+    requires ready { IsReady mapping.now.schema (K.moment keeper.old) }
+    ensures stays { StaysReady mapping.now.schema result (K.moment keeper.new) }
+    ensures fits { IsFit mapping.now arena.new }
 {
-    match answer {
-        Ok(_loaded) => false,
-        Err(refusal) => calls::ends_early(refusal),
+    let (letter, words) = first_word(act);
+    if letter == "q" {
+        return load_class(alloc, arena, mapping, keeper, words, notes);
+    }
+    match load_links(alloc, arena, mapping, keeper, letter, words, notes) {
+        Ok(()) => Ok(ListOf::new(alloc)),
+        Err(refusal) => Err(refusal),
     }
 }
 
-fn with_none(alloc: Global, answer: Result<(), Refusal>) -> Result<ObjList, Refusal> {
+fn is_ended(answer: &Result<ObjList, Refusal>) -> bool
+    ensures { result ≡ false → IfErr answer.now (λ e. ends_early e ≡ false) }
+{
     match answer {
-        Ok(()) => Ok(ListOf::new(alloc)),
-        Err(refusal) => Err(refusal),
+        Ok(_objects) => false,
+        Err(refusal) => calls::ends_early(refusal),
     }
 }
 
@@ -184,34 +190,8 @@ fn tell<K: Keeper>(
     ensures stays { OnOk result (IsReady mapping.now.schema (K.moment keeper.new)) }
     ensures fits { IsFit mapping.now arena.new }
 {
-    let (letter, words) = first_word(act);
     let mut notes = ListOf::new(alloc);
-    let answer = load(alloc, arena, mapping, keeper, letter, words, &mut notes);
-    if is_ended(&answer) {
-        return Err(Refusal::Memory);
-    }
-    let answer = with_none(alloc, answer);
-    tell_load(alloc, mapping, act, &answer, &notes, shown)
-}
-
-/// Loads all objects of a class, and tells of it.
-fn tell_class<K: Keeper>(
-    alloc: Global,
-    arena: &mut Arena,
-    mapping: &Mapping,
-    keeper: &mut K,
-    act: &str,
-    shown: &mut String,
-) -> Result<(), Refusal>
-    requires configured { mapping.now.configured ≡ true }
-    requires fit { IsFit mapping.now arena.old }
-    requires ready { IsReady mapping.now.schema (K.moment keeper.old) }
-    ensures stays { OnOk result (IsReady mapping.now.schema (K.moment keeper.new)) }
-    ensures fits { IsFit mapping.now arena.new }
-{
-    let (_letter, words) = first_word(act);
-    let mut notes = ListOf::new(alloc);
-    let answer = load_class(alloc, arena, mapping, keeper, words, &mut notes);
+    let answer = load(alloc, arena, mapping, keeper, act, &mut notes);
     if is_ended(&answer) {
         return Err(Refusal::Memory);
     }
@@ -236,7 +216,6 @@ fn step<K: Keeper>(
     let (letter, words) = first_word(act);
     match letter {
         "h" | "k" | "s" | "c" => put(alloc, mapping, arena, letter, words),
-        "q" => tell_class(alloc, arena, mapping, keeper, act, shown),
         _ => tell(alloc, arena, mapping, keeper, act, shown),
     }
 }
