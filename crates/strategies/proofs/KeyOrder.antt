@@ -6,7 +6,7 @@ use Rattle.std.specs.List.{All, AllByRecursion}
 use Rattle.std.specs.Map.{values_of}
 use Rattle.std.specs.declared.cmp.Ordering.{Ordering}
 use Rattle.std.specs.declared.cmp.Ordering.TheVariants.{Less, Equal, Greater}
-use Rattle.std.specs.Ordering.{is_eq, match_ordering}
+use Rattle.std.specs.Ordering.{match_ordering}
 use Rattle.std.proofs.lemmas.Bool.{and_parts}
 use Rattle.std.proofs.lemmas.List.Elements.{All-from_recursion}
 use Rattle.base_core.specs.declared.ids.ClassId.{ClassId}
@@ -21,6 +21,7 @@ use Rattle.object_arena.specs.Identity.{has_key}
 use Rattle.load_filling.specs.Rows.{row_key}
 use Rattle.load_rows.specs.Reading.{identity_key}
 use Rattle.load_links.specs.Links.{in_key_order, with_key as with_object}
+use Rattle.join_laws.proofs.Ranks.{same_equal}
 use Rattle.strategies.specs.Filled.{keys_in_order, with_key}
 use Rattle.strategies.specs.Standing.{Stands}
 use Rattle.strategies.proofs.Goes.{StandFor}
@@ -124,15 +125,6 @@ ordered_all P graph objects all = All-from_recursion P (values_of (fold (with_ob
 key_by : (key : List Value) (identity : Option (List Value)) → has_key key identity ≡ true → same_values (unwrap_or identity []) key ≡ true
 key_by key None h = absurd cc
 key_by key (Some own) h = h
-
-is_equal : (r : Ordering) → is_eq r ≡ true → r ≡ Equal
-is_equal Less e = absurd cc
-is_equal Equal e = refl
-is_equal Greater e = absurd cc
-
--- values that are the same are equal
-pub same_equal : (one other : List Value) → same_values one other ≡ true → one ≡ other
-same_equal one other same = exact_values one other (is_equal (values_cmp one other) same)
 
 pub key_of_stand : (root : ClassId) (graph : Graph) (key : List Value) (object : ObjId) → Stands root graph key object → identity_key graph object ≡ key
 key_of_stand root graph key object h =

@@ -13,13 +13,13 @@ use Rattle.sql_semantics.specs.Rows.{answer}
 use Rattle.class_types.specs.declared.mapped.Relation.{Relation}
 use Rattle.class_sides.specs.Keys.{TableKey}
 use Rattle.class_mapping.specs.Mapped.{Mapped, root_of}
+use Rattle.class_mapping.specs.Paired.{HasPairs}
 use Rattle.programs.specs.Beside.{by_own, changes, on_own}
 use Rattle.object_arena.specs.declared.object.Link.{Link}
 use Rattle.object_arena.specs.declared.object.Link.TheVariants.{Unset, Unloaded, One, Many}
 use Rattle.object_arena.specs.Graph.{Graph, IsLink, IsObject, object_at, with_link}
 use Rattle.collection_selects.specs.Collections.{members_by, members_select, owner_columns}
-use Rattle.load_columns.specs.Conditions.{has_values}
-use Rattle.load_selects.specs.Selects.{class_rows}
+use Rattle.load_filling.specs.Rows.{row_key}
 use Rattle.load_rows.specs.Loading.{Loading}
 use Rattle.load_rows.specs.Reading.{identity_key}
 use Rattle.load_links.specs.Links.{collection_filled, collection_of, in_key_order, link_at, linked, with_loaded}
@@ -95,31 +95,47 @@ filled_link mapped relation place owner rows objects graph old stand made held u
           ∙ sym new.1 ∙ ap (collection_of base) same;
     })
 
+-- rows under the same keys fill a link alike
+pub filled_as : (mapped : Mapped) (relation : Relation) (one other : List Row) (old : Link) (graph : Graph) (now : Link) → keys_in_order (map (row_key mapped relation.target) one) ≡ keys_in_order (map (row_key mapped relation.target) other)
+    → IsFilled mapped relation one old graph now → IsFilled mapped relation other old graph now
+filled_as mapped relation one other old graph now same filled = record { base = filled.base; keys = filled.keys ∙ same; stand = filled.stand; link = filled.link }
+
 -- ---- the load
 
-pub lazy_fills : (mapped : Mapped) (relation : Relation) (place : RelNo) (owner : ObjId) (all : List Row) (w after : World) → IsOneToMany mapped relation → Stage mapped relation all w → IsWaiting mapped relation place w.own.graph owner
-    → Goes (load_collection mapped relation owner place) w tt after → HoldsRelated mapped relation place all w after owner
-unfolding load_collection read_members members_select
-lazy_fills mapped relation place owner all w after many stage waiting g =
+-- a lazy load fills with the rows that are answered, or with others under the same keys
+pub lazy_filled : (mapped : Mapped) (relation : Relation) (place : RelNo) (owner : ObjId) (wanted : List Row) (w after : World) → HasPairs mapped → length w.own.graph.roots ≡ length w.own.graph.objects → IsObject w.own.graph owner
+    → IsLink w.own.graph owner place → is_unloaded (link_at w.own.graph owner place) ≡ true
+    → ((rows : List Row) → answer mapped.schema (bare w.store.tables) (members_select mapped relation (identity_key w.own.graph owner)) ≡ Ok rows → keys_in_order (map (row_key mapped relation.target) rows) ≡ keys_in_order (map (row_key mapped relation.target) wanted))
+    → Goes (load_collection mapped relation owner place) w tt after → IsFilled mapped relation wanted (link_at w.own.graph owner place) after.own.graph (link_at after.own.graph owner place)
+unfolding load_collection read_members
+lazy_filled mapped relation place owner wanted w after has rooted_now made linked unloaded same g =
     let key : List Value = identity_key w.own.graph owner in
-    let select : Select = members_by mapped relation key relation.far in
-    let one = parted (by_own (λ (own : Loading). read mapped.schema (members_by mapped relation (identity_key own.graph owner) relation.far))) (λ (rows : List Row). take_members mapped relation owner place rows) w tt after (record { answer = g.answer; leaves = g.leaves }) in
-    let sent = read_goes mapped.schema select w one.value one.between (by_own_goes (λ (own : Loading). read mapped.schema (members_by mapped relation (identity_key own.graph owner) relation.far)) w one.value one.between one.first) in
+    let select : Select = members_select mapped relation key in
+    let one = parted (by_own (λ (own : Loading). read mapped.schema (members_select mapped relation (identity_key own.graph owner)))) (λ (rows : List Row). take_members mapped relation owner place rows) w tt after (record { answer = g.answer; leaves = g.leaves }) in
+    let sent = read_goes mapped.schema select w one.value one.between (by_own_goes (λ (own : Loading). read mapped.schema (members_select mapped relation (identity_key own.graph owner))) w one.value one.between one.first) in
     let two = parted (on_own (take_rows mapped relation.target one.value)) (λ (members : List ObjId). changes (collection_filled owner place members)) one.between tt after one.second in
     let own = on_own_goes (take_rows mapped relation.target one.value) one.between two.value two.between two.first in
     let graph : Graph = two.between.own.graph in
-    let rooted : length one.between.own.graph.roots ≡ length one.between.own.graph.objects = subst (λ (h : Graph). length h.roots ≡ length h.objects) (sym sent.graph) stage.graph.rooted in
-    let taken = rows_taken mapped relation.target many.has.paired one.value one.between.own two.value two.between.own rooted own.goes in
-    let answered : answer mapped.schema (bare w.store.tables) (class_rows mapped relation.target (has_values (owner_columns mapped relation) key)) ≡ Ok one.value =
-    ap (λ (far : Option TableKey). answer mapped.schema (bare w.store.tables) (members_by mapped relation key far)) (sym many.near) ∙ sent.answered in
-    let rows : one.value ≡ related_rows mapped relation all key =
-    rows_of_key mapped relation.target (bare w.store.tables) (owner_columns mapped relation) (key_of_owner mapped relation) key all one.value (tells_owners mapped relation many) waiting.keyed stage.rows answered in
+    let rooted : length one.between.own.graph.roots ≡ length one.between.own.graph.objects = subst (λ (h : Graph). length h.roots ≡ length h.objects) (sym sent.graph) rooted_now in
+    let taken = rows_taken mapped relation.target has one.value one.between.own two.value two.between.own rooted own.goes in
     let keeps : Keeps w.own.graph graph = subst (λ (h : Graph). Keeps h graph) sent.graph taken.keeps in
-    let stand : StandFor mapped relation.target graph (related_rows mapped relation all key) two.value =
-    subst (λ (rs : List Row). StandFor mapped relation.target graph rs two.value) rows (subst (StandFor mapped relation.target graph one.value) (sym taken.are) taken.stand) in
+    let stand : StandFor mapped relation.target graph one.value two.value = subst (StandFor mapped relation.target graph one.value) (sym taken.are) taken.stand in
     let end = changed_to (collection_filled owner place two.value) two.between tt after two.second in
-    let links : (object_at graph owner).links ≡ (object_at w.own.graph owner).links = keeps.links owner waiting.made in
-    let held : IsLink graph owner place = subst (λ (ls : List Link). place.0 < length ls) (sym links) waiting.has in
-    subst (λ (u : World). IsFilled mapped relation (related_rows mapped relation all key) (link_at w.own.graph owner place) u.own.graph (link_at u.own.graph owner place)) end
-    (filled_link mapped relation place owner (related_rows mapped relation all key) two.value graph (link_at w.own.graph owner place) stand (made_later w.own.graph graph owner keeps.all waiting.made) held waiting.unloaded
-    (link_kept w.own.graph graph owner place keeps waiting.made) two.between.own refl)
+    let links : (object_at graph owner).links ≡ (object_at w.own.graph owner).links = keeps.links owner made in
+    let held : IsLink graph owner place = subst (λ (ls : List Link). place.0 < length ls) (sym links) linked in
+    subst (λ (u : World). IsFilled mapped relation wanted (link_at w.own.graph owner place) u.own.graph (link_at u.own.graph owner place)) end
+    (filled_as mapped relation one.value wanted (link_at w.own.graph owner place) (collection_filled owner place two.value two.between.own).graph (link_at (collection_filled owner place two.value two.between.own).graph owner place) (same one.value sent.answered)
+    (filled_link mapped relation place owner one.value two.value graph (link_at w.own.graph owner place) stand (made_later w.own.graph graph owner keeps.all made) held unloaded
+    (link_kept w.own.graph graph owner place keeps made) two.between.own refl))
+
+pub lazy_fills : (mapped : Mapped) (relation : Relation) (place : RelNo) (owner : ObjId) (all : List Row) (w after : World) → IsOneToMany mapped relation → Stage mapped relation all w → IsWaiting mapped relation place w.own.graph owner
+    → Goes (load_collection mapped relation owner place) w tt after → HoldsRelated mapped relation place all w after owner
+unfolding members_select
+lazy_fills mapped relation place owner all w after many stage waiting g =
+    let key : List Value = identity_key w.own.graph owner in
+    lazy_filled mapped relation place owner (related_rows mapped relation all key) w after many.has.paired stage.graph.rooted waiting.made waiting.has waiting.unloaded
+    (λ rows answered.
+    ap (λ (rs : List Row). keys_in_order (map (row_key mapped relation.target) rs))
+    (rows_of_key mapped relation.target (bare w.store.tables) (owner_columns mapped relation) (key_of_owner mapped relation) key all rows (tells_owners mapped relation many) waiting.keyed stage.rows
+    (ap (λ (far : Option TableKey). answer mapped.schema (bare w.store.tables) (members_by mapped relation key far)) (sym many.near) ∙ answered)))
+    g

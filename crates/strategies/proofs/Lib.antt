@@ -4,3 +4,9 @@ pub mod KeyOrder
 pub mod Tells
 pub mod Lazy
 pub mod Batch
+pub mod Finding
+pub mod TargetKeys
+pub mod Targets
+pub mod Together
+pub mod SameKeys
+pub mod Paired

@@ -15,9 +15,11 @@ use Rattle.base_core.specs.declared.refusal.Refusal.{Refusal}
 use Rattle.base_core.specs.declared.refusal.Refusal.TheVariants.{LimitReached}
 use Rattle.base_core.specs.declared.value.Value.{Value}
 use Rattle.schema_core.specs.Tables.{same_values}
-use Rattle.class_mapping.specs.Mapped.{Mapped, root_of}
+use Rattle.class_mapping.specs.Mapped.{IsClass, Mapped, root_of}
 use Rattle.class_mapping.proofs.Having.{Has, from_filter}
 use Rattle.class_mapping.specs.Paired.{HasPairs, is_at_or_under}
+use Rattle.mapping_laws.specs.Hierarchies.{HasHierarchies}
+use Rattle.mapping_laws.proofs.Ties.{class_tables}
 use Rattle.object_arena.specs.declared.object.Link.{Link}
 use Rattle.object_arena.specs.declared.object.Link.TheVariants.{Unset}
 use Rattle.object_arena.specs.declared.object.Object.{Object}
@@ -27,6 +29,7 @@ use Rattle.object_arena.specs.Identity.{find_identity, has_key, holds, holds_at,
 use Rattle.object_arena.proofs.GraphLemmas.{same_equiv}
 use Rattle.object_arena.proofs.HolderLemmas.{place_holds}
 use Rattle.object_arena.proofs.TurnLemmas.{at_with}
+use Rattle.load_laws.proofs.Placed.{branch_under}
 use Rattle.load_selects.specs.Branches.{branch, class_ids, discriminator_of, is_under}
 use Rattle.load_filling.specs.Filled.{Found, filled_object, with_filled}
 use Rattle.load_filling.specs.Loaded.{load, loaded_object, with_loaded}
@@ -36,12 +39,16 @@ use Rattle.strategies.specs.Standing.{Keeps, Stands, Stays}
 
 -- ---- a view of the items of a list, with one of them replaced
 
+-- what holds of each item and itself, and of the replaced one and the new one, holds of what stands at each place before and after
+pub set_related : {A : Type 0} (P : A → A → Type 0) (xs : List A) (i j : ℕ) (new d : A) → ((x : A) → P x x) → P (get_or xs i d) new → P (get_or xs j d) (get_or (slice_set xs i new) j d)
+set_related P [] i j new d same e = same d
+set_related P (x ∷ xs) zero zero new d same e = e
+set_related P (x ∷ xs) zero (suc j) new d same e = same (get_or xs j d)
+set_related P (x ∷ xs) (suc i) zero new d same e = same x
+set_related P (x ∷ xs) (suc i) (suc j) new d same e = set_related P xs i j new d same e
+
 set_view : {A B : Type 0} (f : A → B) (xs : List A) (i j : ℕ) (new d : A) → f new ≡ f (get_or xs i d) → f (get_or (slice_set xs i new) j d) ≡ f (get_or xs j d)
-set_view f [] i j new d e = refl
-set_view f (x ∷ xs) zero zero new d e = e
-set_view f (x ∷ xs) zero (suc j) new d e = refl
-set_view f (x ∷ xs) (suc i) zero new d e = refl
-set_view f (x ∷ xs) (suc i) (suc j) new d e = set_view f xs i j new d e
+set_view f xs i j new d e = set_related (λ x y. f y ≡ f x) xs i j new d (λ x. refl) e
 
 -- ---- what stays
 
@@ -113,7 +120,7 @@ keeps_loaded mapped class key graph rooted =
       links = λ object h. ap (λ (o : Object). o.links) (get_or_append_left graph.objects (new ∷ []) no_object (place_of object) (omega (arith, h.0, h.1)));
     }
 
-itself : (n : ℕ) (b : Bool) → b ≡ true → (true && ((n == n) && b)) ≡ true
+pub itself : (n : ℕ) (b : Bool) → b ≡ true → (true && ((n == n) && b)) ≡ true
 itself n b e = grind (arith, nat_tests)
 
 loaded_stands : (mapped : Mapped) (class : ClassId) (key : List Value) (graph : Graph) → length graph.roots ≡ length graph.objects
@@ -168,9 +175,18 @@ named_by mapped class named values None has e = ap (root_of mapped) (sym (same_c
 named_by mapped class named values (Some name) has e = branch_root mapped class named has (named_among (has_identity mapped (value_named mapped class values name)) (branch mapped class) named e)
 
 -- it is of the class's hierarchy
-named_root : (mapped : Mapped) (class named : ClassId) (values : List Value) → HasPairs mapped → class_named mapped class values ≡ Some named → root_of mapped named ≡ root_of mapped class
+pub named_root : (mapped : Mapped) (class named : ClassId) (values : List Value) → HasPairs mapped → class_named mapped class values ≡ Some named → root_of mapped named ≡ root_of mapped class
 unfolding class_named
 named_root mapped class named values has e = named_by mapped class named values (discriminator_of mapped class) has e
+
+-- it is the class or one below it
+under_by : (mapped : Mapped) (class named : ClassId) (values : List Value) (name : Option (List ℕ)) → HasHierarchies mapped → IsClass mapped class → class_by mapped class values name ≡ Some named → is_at_or_under mapped named class ≡ true
+under_by mapped class named values None has declared e = branch_under mapped class has declared (class_tables mapped class has declared) named (inl (same_class class named e))
+under_by mapped class named values (Some name) has declared e = branch_under mapped class has declared (class_tables mapped class has declared) named (named_among (has_identity mapped (value_named mapped class values name)) (branch mapped class) named e)
+
+pub named_under : (mapped : Mapped) (class named : ClassId) (values : List Value) → HasHierarchies mapped → IsClass mapped class → class_named mapped class values ≡ Some named → is_at_or_under mapped named class ≡ true
+unfolding class_named
+named_under mapped class named values has declared e = under_by mapped class named values (discriminator_of mapped class) has declared e
 
 -- ---- the object of a row
 

@@ -1,2 +1,4 @@
 pub mod Standing
 pub mod Filled
+pub mod Ends
+pub mod Paired
