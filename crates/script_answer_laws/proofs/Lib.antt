@@ -1,0 +1,6 @@
+mod Answered
+mod Carried
+mod Counted
+mod Ended
+mod Stated
+mod Texts
