@@ -6,15 +6,16 @@ use printing::RowText;
 use schema_core::Schema;
 use sql_statements::has_cuts;
 use sql_text::Compiled;
-use std::alloc::Global;
+use std::alloc::{AllocError, Global};
+use std::mem::drop;
 
 /// A dialect's text, the names of its marks, and their values.
-fn show(
+fn show_parts(
     alloc: Global,
     shown: &mut String,
     dialect: &str,
-    compiled: Compiled,
-) -> Result<(), Refusal> {
+    compiled: &Compiled,
+) -> Result<(), AllocError> {
     let text = compiled.text.get();
     shown.push_str(format!(in alloc; "{dialect}> {text}\n")?.as_str())?;
     if !compiled.names.is_empty() {
@@ -27,6 +28,18 @@ fn show(
         shown.push_str(format!(in alloc; "{values}\n")?.as_str())?;
     }
     Ok(())
+}
+
+/// Shows what a dialect makes of a statement, and lets it go.
+fn show(
+    alloc: Global,
+    shown: &mut String,
+    dialect: &str,
+    compiled: Compiled,
+) -> Result<(), Refusal> {
+    let told = show_parts(alloc, shown, dialect, &compiled);
+    drop(compiled);
+    Ok(told?)
 }
 
 /// A statement's text in each dialect.
@@ -48,27 +61,37 @@ pub fn show_compiled(
 }
 
 /// One line with a text, or with the column that has none.
+fn put_line(
+    alloc: Global,
+    shown: &mut String,
+    dialect: &str,
+    text: &Result<Text, Refusal>,
+) -> Result<(), AllocError> {
+    match text {
+        Ok(text) => {
+            let text = text.get();
+            shown.push_str(format!(in alloc; "{dialect}> {text}\n")?.as_str())
+        }
+        Err(Refusal::CompileError(table, column)) => {
+            let table = table.0;
+            let column = column.0;
+            let line = format!(in alloc; "{dialect}> CompileError({table}.{column})\n")?;
+            shown.push_str(line.as_str())
+        }
+        Err(_) => Err(AllocError),
+    }
+}
+
+/// Shows a text, or the column that has none, and lets it go.
 fn show_line(
     alloc: Global,
     shown: &mut String,
     dialect: &str,
     text: Result<Text, Refusal>,
 ) -> Result<(), Refusal> {
-    match text {
-        Ok(text) => {
-            let text = text.get();
-            shown.push_str(format!(in alloc; "{dialect}> {text}\n")?.as_str())?;
-            Ok(())
-        }
-        Err(Refusal::CompileError(table, column)) => {
-            let table = table.0;
-            let column = column.0;
-            let line = format!(in alloc; "{dialect}> CompileError({table}.{column})\n")?;
-            shown.push_str(line.as_str())?;
-            Ok(())
-        }
-        Err(refusal) => Err(refusal),
-    }
+    let told = put_line(alloc, shown, dialect, &text);
+    drop(text);
+    Ok(told?)
 }
 
 /// The foreign keys that come later are added behind the table.
