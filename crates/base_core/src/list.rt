@@ -11,9 +11,15 @@ use std::marker::Model;
 use std::{mem, slice};
 
 /// A list of items. Contracts see the list alone, so two lists with the same items are equal.
-#[derive(Debug, Drop)]
+#[derive(Debug)]
 pub struct ListOf<T> {
     items: Vec<T>,
+}
+
+impl<T: Drop> Drop for ListOf<T> {
+    fn drop(self) {
+        let ListOf { items: _ } = self;
+    }
 }
 
 impl<T> Model for ListOf<T> {

@@ -6,9 +6,14 @@ use std::cmp::Ordering;
 use std::marker::Model;
 
 /// A text, seen as the list of its bytes.
-#[derive(Drop)]
 pub struct Text {
     text: String,
+}
+
+impl Drop for Text {
+    fn drop(self) {
+        let Text { text: _ } = self;
+    }
 }
 
 impl Model for Text {
@@ -97,9 +102,15 @@ impl Ord for Text {
 }
 
 /// A name, seen as the list of its bytes.
-#[derive(Debug, Drop)]
+#[derive(Debug)]
 pub struct Name {
     text: String,
+}
+
+impl Drop for Name {
+    fn drop(self) {
+        let Name { text: _ } = self;
+    }
 }
 
 impl Model for Name {
@@ -188,9 +199,14 @@ impl Ord for Name {
 }
 
 /// Bytes.
-#[derive(Drop)]
 pub struct Blob {
     bytes: Vec<u8>,
+}
+
+impl Drop for Blob {
+    fn drop(self) {
+        let Blob { bytes: _ } = self;
+    }
 }
 
 impl Model for Blob {

@@ -6,13 +6,25 @@ use std::alloc::AllocError;
 use std::cmp::Ordering;
 
 /// What a cell holds.
-#[derive(Clone, Drop, PartialEq, Eq)]
+#[derive(Clone, PartialEq, Eq)]
 pub enum Value {
     Null,
     Bool(bool),
     Int(i64),
     Text(Text),
     Bytes(Blob),
+}
+
+impl Drop for Value {
+    fn drop(self) {
+        match self {
+            Value::Null => {}
+            Value::Bool(_) => {}
+            Value::Int(_) => {}
+            Value::Text(_) => {}
+            Value::Bytes(_) => {}
+        }
+    }
 }
 
 impl PartialOrd for Value {

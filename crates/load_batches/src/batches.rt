@@ -31,6 +31,7 @@ use load_calls::read;
 use mapping_laws::has_hierarchies;
 use object_arena::Arena;
 use std::alloc::Global;
+use std::mem::drop;
 
 /// The select of the members of owners.
 fn select_of_batch(
@@ -78,7 +79,9 @@ fn read_batch<K: Keeper>(
     ensures refuses { IfErr result (CanRefuseRows mapping.now) }
 {
     let wanted = select_of_batch(alloc, mapping, relation, owners)?;
-    read(alloc, mapping, keeper, &wanted, notes)
+    let rows = read(alloc, mapping, keeper, &wanted, notes);
+    drop(wanted);
+    rows
 }
 
 /// The collections of the owners of a batch are read by one select; where there is no owner, none is sent.

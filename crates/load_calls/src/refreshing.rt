@@ -34,6 +34,7 @@ use load_selects::cells_select;
 use mapping_laws::has_hierarchies;
 use object_arena::{Arena, Object};
 use std::alloc::Global;
+use std::mem::drop;
 
 /// The attributes whose cells are expired, in order.
 fn expired_attrs(alloc: Global, object: &Object) -> Result<ListOf<AttrNo>, Refusal>
@@ -102,7 +103,9 @@ fn read_cells<K: Keeper>(
     ensures refuses { IfErr result (spec.CanRefuse mapping.now object) }
 {
     let select = select_of_cells(alloc, arena, mapping, object, attrs)?;
-    read(alloc, mapping, keeper, &select, notes)
+    let rows = read(alloc, mapping, keeper, &select, notes);
+    drop(select);
+    rows
 }
 
 /// The place of an attribute among others.

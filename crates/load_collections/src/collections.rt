@@ -31,6 +31,7 @@ use load_links::{fill_collection, identity_key, relation_at};
 use mapping_laws::has_hierarchies;
 use object_arena::Arena;
 use std::alloc::Global;
+use std::mem::drop;
 
 /// The select of the members of a persistent owner.
 fn select_of_members(
@@ -92,7 +93,9 @@ fn read_members<K: Keeper>(
     ensures refuses { IfErr result (CanRefuseRows mapping.now) }
 {
     let wanted = select_of_members(alloc, arena, mapping, relation, owner, place)?;
-    read(alloc, mapping, keeper, &wanted, notes)
+    let rows = read(alloc, mapping, keeper, &wanted, notes);
+    drop(wanted);
+    rows
 }
 
 /// Reads the collection of a persistent object at the place of a relationship, with or without a secondary table, by one select;

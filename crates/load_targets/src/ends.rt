@@ -31,6 +31,7 @@ use load_selects::key_select;
 use mapping_laws::has_hierarchies;
 use object_arena::Arena;
 use std::alloc::Global;
+use std::mem::drop;
 
 /// The select of the row of a class under a key.
 fn select_of_key(
@@ -75,7 +76,9 @@ fn read_key<K: Keeper>(
 {
     let _ = arena.count();
     let wanted = select_of_key(alloc, mapping, class, key)?;
-    read(alloc, mapping, keeper, &wanted, notes)
+    let rows = read(alloc, mapping, keeper, &wanted, notes);
+    drop(wanted);
+    rows
 }
 
 /// The object of the first row, if there is one.

@@ -15,6 +15,7 @@ use expr_types::{CopiedIn, Expr, Origin};
 use expr_typing::{has_aggregate, type_of};
 use schema_core::{Schema, same_kind};
 use std::alloc::{AllocError, Global};
+use std::mem::drop;
 
 /// The sources around an expression: their tables and their names, the innermost last.
 #[derive(Drop)]
@@ -59,7 +60,11 @@ fn is_normal(alloc: Global, e: &Expr) -> Result<bool, AllocError>
 {
     let copy = e.copied_in(alloc)?;
     match normal(alloc, copy) {
-        Ok(form) => Ok(same(&form, e)),
+        Ok(form) => {
+            let is = same(&form, e);
+            drop(form);
+            Ok(is)
+        }
         Err(_) => Err(AllocError),
     }
 }

@@ -16,6 +16,7 @@ use expr_types::{Bulk, Expr, Joined, Select};
 use expr_typing::type_of;
 use schema_core::{Schema, kind_of_value, same_kind};
 use std::alloc::{AllocError, Global};
+use std::mem::drop;
 
 /// Whether the expression is well typed.
 #[tactic(auto, using(crate::proofs::Firsts::judgements))]
@@ -178,7 +179,9 @@ fn kind_at(
     ensures cause { IfErr result (λ e. e ≡ Memory) }
 {
     let e = Expr::Column(0, column);
-    match type_of(alloc, schema, &[table], &e) {
+    let kind = type_of(alloc, schema, &[table], &e);
+    drop(e);
+    match kind {
         Ok(kind) => Ok(kind),
         Err(_) => Err(Refusal::Memory),
     }
