@@ -15,7 +15,7 @@ pub struct Cascade {
 }
 
 /// A relationship as it is declared.
-#[derive(Clone, Drop, PartialEq, Eq)]
+#[derive(Clone, PartialEq, Eq)]
 pub struct RelationSpec {
     /// Whether it is a collection.
     pub many: bool,
@@ -33,6 +33,22 @@ pub struct RelationSpec {
     pub post_update: bool,
 }
 
+impl Drop for RelationSpec {
+    fn drop(self) {
+        let RelationSpec {
+            many: _,
+            name: _,
+            target: _,
+            secondary: _,
+            partner: _,
+            backref: _,
+            using: _,
+            cascade: _,
+            post_update: _,
+        } = self;
+    }
+}
+
 impl Copied for RelationSpec {
     fn copied(&self) -> Result<RelationSpec, AllocError> {
         self.clone()
@@ -40,7 +56,7 @@ impl Copied for RelationSpec {
 }
 
 /// A class as it is declared.
-#[derive(Clone, Drop, PartialEq, Eq)]
+#[derive(Clone, PartialEq, Eq)]
 pub struct ClassSpec {
     pub name: Name,
     /// The class that it extends.
@@ -53,6 +69,21 @@ pub struct ClassSpec {
     pub relations: ListOf<RelationSpec>,
     /// Attributes, each with the name of its validator.
     pub validators: ListOf<(Name, Name)>,
+}
+
+impl Drop for ClassSpec {
+    fn drop(self) {
+        let ClassSpec {
+            name: _,
+            base: _,
+            table: _,
+            discriminator: _,
+            identity: _,
+            owned: _,
+            relations: _,
+            validators: _,
+        } = self;
+    }
 }
 
 impl Copied for ClassSpec {

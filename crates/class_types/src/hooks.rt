@@ -8,12 +8,20 @@ use base_core::{Kind, ListOf, Name, Refusal};
 use std::alloc::Global;
 
 /// Validators, each under its name.
-#[derive(Drop)]
 pub struct Hooks {
     pub(crate) names: ListOf<Name>,
     /// In the places of their names.
     pub(crate) validators: Vec<Validator>,
     ghost paired: { vec_len validators ≡ length names },
+}
+
+impl Drop for Hooks {
+    fn drop(self) {
+        let Hooks {
+            names: _,
+            validators: _,
+        } = self;
+    }
 }
 
 impl Hooks {

@@ -5,12 +5,23 @@ use base_core::{ClassId, ColumnNo, Copied, Kind, Name, RelNo, TableId};
 use std::alloc::AllocError;
 
 /// An attribute of a class: a column of one of its tables.
-#[derive(Clone, Drop, PartialEq, Eq)]
+#[derive(Clone, PartialEq, Eq)]
 pub struct Attribute {
     pub name: Name,
     pub table: TableId,
     pub column: ColumnNo,
     pub kind: Kind,
+}
+
+impl Drop for Attribute {
+    fn drop(self) {
+        let Attribute {
+            name: _,
+            table: _,
+            column: _,
+            kind: _,
+        } = self;
+    }
 }
 
 impl Copied for Attribute {
@@ -20,7 +31,7 @@ impl Copied for Attribute {
 }
 
 /// A relationship of a class.
-#[derive(Clone, Drop, PartialEq, Eq)]
+#[derive(Clone, PartialEq, Eq)]
 pub struct Relation {
     pub name: Name,
     /// The class that declares it.
@@ -35,6 +46,22 @@ pub struct Relation {
     pub partner: RelNo,
     pub cascade: Cascade,
     pub post_update: bool,
+}
+
+impl Drop for Relation {
+    fn drop(self) {
+        let Relation {
+            name: _,
+            class: _,
+            target: _,
+            many: _,
+            foreign: _,
+            far: _,
+            partner: _,
+            cascade: _,
+            post_update: _,
+        } = self;
+    }
 }
 
 impl Copied for Relation {

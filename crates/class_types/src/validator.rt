@@ -10,13 +10,22 @@ use base_core::{Kind, Value};
 pub type Test = Box<dyn Fn(&Value) -> bool>;
 
 /// The kind of the values that a validator takes, its rule, and a closure that answers the rule on each value of the kind.
-#[derive(Drop)]
 pub struct Validator {
     pub(crate) kind: Kind,
     pub(crate) rule: Rule,
     test: Test,
     ghost callable: { Test.IsAlwaysCallable test },
     ghost answers: { (value : _) (answer : Bool) → Test.post test value answer → kind_of_value value.now ≡ Some kind → answer ≡ obeys rule value.now },
+}
+
+impl Drop for Validator {
+    fn drop(self) {
+        let Validator {
+            kind: _,
+            rule: _,
+            test: _,
+        } = self;
+    }
 }
 
 impl Validator {
