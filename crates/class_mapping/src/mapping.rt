@@ -35,7 +35,6 @@ use std::mem::drop;
 
 /// Tables, and the classes over them. Once it is configured, it is valid, and says of each class which tables, attributes
 /// and relationships it has.
-#[derive(Drop)]
 pub struct Mapping {
     alloc: Global,
     schema: Schema,
@@ -47,6 +46,20 @@ pub struct Mapping {
     relations: ListOf<ListOf<Relation>>,
     /// Of each class its validators and those of the classes that it extends.
     validators: ListOf<ListOf<(Name, Name)>>,
+}
+
+impl Drop for Mapping {
+    fn drop(self) {
+        let Mapping {
+            alloc: _,
+            schema: _,
+            classes: _,
+            configured: _,
+            layouts: _,
+            relations: _,
+            validators: _,
+        } = self;
+    }
 }
 
 impl Model for Mapping {

@@ -32,13 +32,23 @@ const OBJECT_LIMIT: usize = 1_000_000;
 /// Objects, numbered from 1 in the order in which they are made, and the identity map.
 ///
 /// Objects that fit a mapping go on to fit it, whatever call is made; only a cell or a key that is put in must fit.
-#[derive(Drop)]
 pub struct Arena {
     alloc: Global,
     objects: Vec<Object>,
     /// The root class of each object's class.
     roots: Vec<ClassId>,
     index: IdentityIndex,
+}
+
+impl Drop for Arena {
+    fn drop(self) {
+        let Arena {
+            alloc: _,
+            objects: _,
+            roots: _,
+            index: _,
+        } = self;
+    }
 }
 
 impl Model for Arena {
