@@ -45,7 +45,6 @@ pub enum Attachment {
 
 /// A keeper of tables in memory, which tells everything. It numbers its calls other than `depth` from 1, and fails
 /// those whose numbers it was given, and a target that is a file.
-#[derive(Drop)]
 pub struct MemKeeper {
     store: TableLog,
     log: StatementLog,
@@ -54,6 +53,20 @@ pub struct MemKeeper {
     refusals: u64,
     attachment: Attachment,
     failing: Vec<u64>,
+}
+
+impl Drop for MemKeeper {
+    fn drop(self) {
+        let MemKeeper {
+            store: _,
+            log: _,
+            calls: _,
+            faults: _,
+            refusals: _,
+            attachment: _,
+            failing: _,
+        } = self;
+    }
 }
 
 impl Model for MemKeeper {

@@ -18,12 +18,21 @@ use std::marker::Model;
 
 /// A keeper of tables in memory, and over a file once it is given one. It fails no call of its own, and tells its tables unless it
 /// took a file.
-#[derive(Drop)]
 pub struct Shelf<D: Database> {
     rt: HostRuntime,
     pub(crate) memory: MemKeeper,
     /// The keeper over the file that it took.
     pub(crate) file: Option<SqliteKeeper<D>>,
+}
+
+impl<D: Database + Drop> Drop for Shelf<D> {
+    fn drop(self) {
+        let Shelf {
+            rt: _,
+            memory: _,
+            file: _,
+        } = self;
+    }
 }
 
 impl<D: Database> Model for Shelf<D> {

@@ -26,7 +26,6 @@ use std::marker::Model;
 
 /// A keeper of tables in a database of SQLite. It tells no tables: what a statement does is what SQLite does, and only what a
 /// keeper counts is proved, with the shapes of its answers.
-#[derive(Drop)]
 pub struct SqliteKeeper<D: Database> {
     pub(crate) rt: HostRuntime,
     pub(crate) alloc: Global,
@@ -38,6 +37,22 @@ pub struct SqliteKeeper<D: Database> {
     depth: u32,
     target: Option<Target>,
     attached: bool,
+}
+
+impl<D: Database + Drop> Drop for SqliteKeeper<D> {
+    fn drop(self) {
+        let SqliteKeeper {
+            rt: _,
+            alloc: _,
+            database: _,
+            log: _,
+            faults: _,
+            refusals: _,
+            depth: _,
+            target: _,
+            attached: _,
+        } = self;
+    }
 }
 
 impl<D: Database> Model for SqliteKeeper<D> {

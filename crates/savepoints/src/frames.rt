@@ -22,11 +22,20 @@ const SCOPE_LIMIT: usize = 65;
 
 /// The scopes in progress, each with a snapshot of where every object stood at its start, and which objects were touched or
 /// loaded inside. Contracts see the list of scopes, the innermost first, and the trace of each object.
-#[derive(Drop)]
 pub struct Frames {
     alloc: Global,
     scopes: Vec<Scope>,
     traces: Vec<Trace>,
+}
+
+impl Drop for Frames {
+    fn drop(self) {
+        let Frames {
+            alloc: _,
+            scopes: _,
+            traces: _,
+        } = self;
+    }
 }
 
 impl Model for Frames {

@@ -30,7 +30,6 @@ use touching::{touch_for_mark, touch_for_value};
 
 /// A session over a configured mapping: its objects, the scopes in progress with the handles of the savepoints,
 /// whether a flush failed that was not rolled back yet, and what the command did so far.
-#[derive(Drop)]
 pub struct Session {
     alloc: Global,
     mapping: Mapping,
@@ -41,6 +40,21 @@ pub struct Session {
     /// How many add numbers were given.
     added: u64,
     notes: Notes,
+}
+
+impl Drop for Session {
+    fn drop(self) {
+        let Session {
+            alloc: _,
+            mapping: _,
+            arena: _,
+            frames: _,
+            failed: _,
+            handles: _,
+            added: _,
+            notes: _,
+        } = self;
+    }
 }
 
 impl Model for Session {

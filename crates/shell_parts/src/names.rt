@@ -21,10 +21,15 @@ pub enum Bound {
 }
 
 /// The names that are bound, in the order in which they were bound first, each with what it was bound to last.
-#[derive(Drop)]
 pub struct Names {
     alloc: Global,
     bound: IndexMap<String, Bound>,
+}
+
+impl Drop for Names {
+    fn drop(self) {
+        let Names { alloc: _, bound: _ } = self;
+    }
 }
 
 impl Model for Names {

@@ -26,13 +26,23 @@ struct Rejected {
 
 /// The statements that a keeper was sent, the oldest first, and the last one that was refused. A statement that ends a scope
 /// always finds room.
-#[derive(Drop)]
 pub struct StatementLog {
     sent: Vec<Sent>,
     last: Option<Boxed<Rejected>>,
     scopes: u32,
     /// There is room for one more statement too.
     ready: bool,
+}
+
+impl Drop for StatementLog {
+    fn drop(self) {
+        let StatementLog {
+            sent: _,
+            last: _,
+            scopes: _,
+            ready: _,
+        } = self;
+    }
 }
 
 impl Model for StatementLog {

@@ -19,7 +19,6 @@ use table_rows::{TableMap, TableRows};
 /// Tables, with one log of what was replaced since the outermost scope started, the oldest first, and for each scope its
 /// first place in the log, the outermost first. The tables at a scope's start are the tables now with the changes behind
 /// its place undone. Outside all scopes both lists are empty.
-#[derive(Drop)]
 pub struct TableLog {
     tables: TableMap,
     log: Vec<LogEntry>,
@@ -27,6 +26,17 @@ pub struct TableLog {
     /// Entries whose keys' places are given up, where they stand empty, at the end of the outermost scope. There is room for
     /// all of the log too.
     entries_undone: Vec<LogEntry>,
+}
+
+impl Drop for TableLog {
+    fn drop(self) {
+        let TableLog {
+            tables: _,
+            log: _,
+            places: _,
+            entries_undone: _,
+        } = self;
+    }
 }
 
 impl Model for TableLog {
