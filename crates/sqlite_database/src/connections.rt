@@ -27,11 +27,13 @@ impl Opens for MemStore {
     }
 }
 
-/// A connection that was opened, or why it was not.
-fn connection_or_ending<S: Alter>(
-    answer: Result<Connection<S>, Error>,
-) -> Result<Connection<S>, Ending> {
-    Ok(answer?)
+/// What was opened, or why it was not, of any type: a call that is told that the type of files is a store of pages takes a minute to be
+/// proved.
+fn opened_or_ending<T>(answer: Result<T, Error>) -> Result<T, Ending> {
+    match answer {
+        Ok(database) => Ok(database),
+        Err(error) => Err(Ending::from(error)),
+    }
 }
 
 impl Opens for FileStore<File> {
@@ -43,7 +45,7 @@ impl Opens for FileStore<File> {
         match name {
             Some(name) => {
                 begin_file(&rt, name)?;
-                connection_or_ending(Connection::open(&rt, name))
+                opened_or_ending(Connection::open(&rt, name))
             }
             None => Err(Ending::Fault),
         }
