@@ -74,10 +74,18 @@ joined_where tie = record { table = tie.table; on = equal_columns tie.ones tie.o
 abbrev pub are_tied : Choice → Tie → Bool
 are_tied rows tie = equals_key (map (chosen rows) tie.ones) (map (chosen rows) tie.others)
 
--- each source from a place on gives one of its rows, and is tied
+-- what holds of each tie and of the place of its source, from a place on
+abbrev pub EachPlaced : (ℕ → Tie → Type 0) → ℕ → List Tie → Type 0
+EachPlaced P place [] = Unit {0}
+EachPlaced P place (tie ∷ ties) = P place tie × EachPlaced P (place + 1) ties
+
+-- the source at a place gives one of its rows, and is tied
+abbrev pub Meet : Tables → Choice → ℕ → Tie → Type 0
+Meet tables rows place tie = Has (rows_in tables tie.table.0) (rows place) × (are_tied rows tie ≡ true)
+
+-- each source from a place on does
 abbrev pub Meets : Tables → Choice → ℕ → List Tie → Type 0
-Meets tables rows place [] = Unit {0}
-Meets tables rows place (tie ∷ ties) = (Has (rows_in tables tie.table.0) (rows place) × (are_tied rows tie ≡ true)) × Meets tables rows (place + 1) ties
+Meets tables rows place ties = EachPlaced (Meet tables rows) place ties
 
 -- the sources have the column
 abbrev pub IsInside : Catalog → List TableId → SourceColumn → Type 0

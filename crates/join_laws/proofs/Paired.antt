@@ -1,11 +1,11 @@
 -- What is answered to the selects of the members of many-to-many collections: the rows of the target to which the owners' pairs lead.
-use Rattle.std.proofs.Common.{◌≡◌, ◌⊎◌, inl, inr, ℕ, zero, suc, ◌+◌, ◌-◌, ◌<◌, ◌≤◌, ◌==◌, nat_lt, Bool, true, false, ◌&&◌, List, [], ◌∷◌, ◌++◌, drop, filter, get_or, length, map, Option, Some, Ok, if◌then◌else◌, refl, sym, ap, subst, ◌∙◌, arith, append_assoc}
+use Rattle.std.proofs.Common.{◌≡◌, ◌⊎◌, inl, inr, ℕ, suc, ◌+◌, ◌-◌, ◌<◌, ◌≤◌, ◌==◌, nat_lt, Bool, true, false, ◌&&◌, List, [], ◌∷◌, ◌++◌, drop, filter, length, map, Some, Ok, if◌then◌else◌, refl, sym, ap, subst, ◌∙◌, arith, append_assoc}
 use Rattle.std.specs.Prelude.{slice_get}
-use Rattle.std.specs.List.{All, AllByRecursion, enumerate_from, list_any, range_with_len}
+use Rattle.std.specs.List.{All, AllByRecursion, list_any, range_with_len}
 use Rattle.std.proofs.lemmas.Bool.{and_parts, eqb-false, eqb-true, le-ltb, lt-ltb, ltb-false, ltb-true, ne_eqb}
 use Rattle.std.proofs.lemmas.List.{length-append, length-map, map-append}
 use Rattle.std.proofs.lemmas.List.Elements.{recursion_from_All}
-use Rattle.std.proofs.lemmas.Option.{same_Some, slice_get-get_or, slice_get_within}
+use Rattle.std.proofs.lemmas.Option.{slice_get_within}
 use Rattle.base_core.specs.declared.ids.ClassId.{ClassId}
 use Rattle.base_core.specs.declared.ids.ColumnNo.{ColumnNo}
 use Rattle.base_core.specs.declared.ids.TableId.{TableId}
@@ -23,22 +23,18 @@ use Rattle.sql_semantics.specs.Eval.{Row, Tables, item_or_null, rows_in}
 use Rattle.sql_semantics.specs.Plain.{IsPlainSelect, fits}
 use Rattle.sql_semantics.specs.Rows.{answer}
 use Rattle.sql_semantics.proofs.Equations.{fits-Compare}
-use Rattle.class_types.specs.declared.mapped.Attribute.{Attribute}
 use Rattle.class_types.specs.declared.mapped.Relation.{Relation}
-use Rattle.class_layouts.specs.Columns.{table_attributes}
-use Rattle.class_layouts.specs.Hierarchy.{line_of}
 use Rattle.class_sides.specs.Keys.{TableKey}
-use Rattle.class_mapping.specs.Mapped.{Mapped, attributes_of, no_table_id, root_spec, root_table, table_or_none, tables_of}
-use Rattle.class_mapping.proofs.Having.{Has, any_has, from_filter, from_flat, from_map, from_numbered, has_at, has_filter, has_map, some_of}
+use Rattle.class_mapping.specs.Mapped.{Mapped, root_spec, root_table, tables_of}
+use Rattle.class_mapping.proofs.Having.{Has, any_has, from_filter, from_map, has_filter, has_map, some_of}
 use Rattle.object_arena.proofs.GraphLemmas.{same_equiv}
 use Rattle.mapping_laws.specs.Hierarchies.{HasTables, kinds_of}
-use Rattle.mapping_laws.proofs.Attributes.{of_column}
 use Rattle.mapping_laws.proofs.Ties.{class_tables}
 use Rattle.load_columns.specs.declared.placing.Placement.{Placement}
 use Rattle.load_columns.specs.declared.placing.SourceColumn.{SourceColumn}
 use Rattle.load_columns.specs.Conditions.{column_of, has_one_of, has_values}
-use Rattle.load_columns.specs.Placing.{attribute_columns, column_at, columns_at, foreign_numbers, from_root, key_at_rank, key_numbers, place_at_rank, place_of_table, rank_of, referred_table, table_at_rank}
-use Rattle.load_laws.proofs.ClassLemmas.{rank_is, rows_plain}
+use Rattle.load_columns.specs.Placing.{attribute_columns, column_at, columns_at, foreign_numbers, from_root, key_numbers, place_at_rank, place_of_table, rank_of, referred_table}
+use Rattle.load_laws.proofs.ClassLemmas.{rank_is}
 use Rattle.load_laws.proofs.Keys.{key_fits}
 use Rattle.load_laws.proofs.MemberLemmas.{foreign_typed, owned_kinds, referred_is}
 use Rattle.load_laws.proofs.PairLemmas.{members_are_plain}
@@ -48,7 +44,7 @@ use Rattle.load_laws.proofs.Typed.{typed_long}
 use Rattle.load_selects.specs.declared.sources.Further.{Further}
 use Rattle.load_selects.specs.Branches.{discriminator_column, is_of_branch}
 use Rattle.load_selects.specs.Selects.{origin_of, select_of}
-use Rattle.load_selects.specs.Sources.{leading_by, other_tables, rank_tied, referred_place, refers}
+use Rattle.load_selects.specs.Sources.{leading_by, other_tables, referred_place, refers}
 use Rattle.load_filling.specs.Rows.{row_key}
 use Rattle.collection_selects.specs.Collections.{batch_by, batch_select, members_by, members_select, pair_columns, secondary_behind}
 use Rattle.pair_laws.specs.Members.{owner_width, owner_width_by}
@@ -58,9 +54,9 @@ use Rattle.answer_laws.specs.Equal.{are_equal, equals_key}
 use Rattle.answer_laws.proofs.Conditions.{AreLong, equals_some, key_tests, keys_tests}
 use Rattle.answer_laws.proofs.Totals.{map_twice}
 use Rattle.join_laws.specs.Pairs.{HaveSame, IsPaired, cells_of, first_values, is_pair_of, paired_rows, rows_under}
-use Rattle.join_laws.proofs.Choices.{Choice, Fit, HasInside, IsChoice, IsInside, IsLocal, Meets, Tie, all_inside, are_tied, choice_row, chosen, chosen_row, column_inside, every_has, inside_of, joined_where, pointwise_long, put_elsewhere, put_there, with_row}
-use Rattle.join_laws.proofs.Ranks.{AreRanked, OthersMeet, attributes_chosen, branch_alike, branch_inside, branch_test, branch_tests, count_behind, equal_both, equal_itself, from_meets, high_place, key_chosen, key_in, key_long, lead_place, low_place, ranks_meet, same_equal, sources_tied, ties_behind, to_meets}
-use Rattle.join_laws.proofs.RootKeys.{key_read}
+use Rattle.join_laws.proofs.Choices.{Choice, Fit, HasInside, IsChoice, IsInside, IsLocal, Meet, Meets, Tie, all_inside, are_tied, choice_row, chosen, chosen_row, column_inside, every_has, inside_of, joined_where, pointwise_long, put_elsewhere, put_there, with_row}
+use Rattle.join_laws.proofs.Ranks.{AreRanked, OthersMeet, attributes_chosen, branch_alike, branch_test, branch_tests, count_behind, equal_both, equal_itself, from_places, high_place, key_in, lead_place, low_place, ranks_meet, same_equal, sources_tied, ties_behind, to_places}
+use Rattle.join_laws.proofs.Owned.{AreHeld, IsOwn, attribute_ranked, behind_ranked, branch_local, lead_key, others_tied, own_before, own_ranked, own_row, own_test, own_ties, rank_long, ranked_own, root_there, row_key_is, row_own}
 
 -- ---- lists
 
@@ -199,9 +195,6 @@ module _ (mapped : Mapped) (relation : Relation) (far : TableKey) (tables : Tabl
   leads : slice_get own lead ≡ Some led_to
   leads = rank_finds own led_to (subst (Has own) (sym (referred_is mapped far class keys.member)) keys.member.inside)
 
-  root_there : slice_get own 0 ≡ Some root
-  root_there = ap (λ (found : List TableId). slice_get found 0) known.first
-
   -- ---- widths
 
   abbrev wide_key : ℕ
@@ -220,10 +213,6 @@ module _ (mapped : Mapped) (relation : Relation) (far : TableKey) (tables : Tabl
   cells_near pair = cells_of mapped relation.foreign pair
 
   -- the keys of a rank and of a pair are of one width
-  rank_long : (ranks : Choice) (rank : ℕ) (table : TableId) → slice_get own rank ≡ Some table → length (key_in mapped class ranks rank) ≡ wide_key
-  rank_long ranks rank table here =
-      length-map (key_numbers mapped (table_at_rank mapped class rank)) (λ (number : ColumnNo). item_or_null (slice_get (ranks rank) number.0)) ∙ key_long mapped class known rank table here
-
   cells_long : (pair : Row) → length (cells_far pair) ≡ wide_key
   cells_long pair = length-map (foreign_numbers mapped far) (λ (number : ColumnNo). item_or_null (slice_get pair number.0)) ∙ far_long
 
@@ -243,129 +232,34 @@ module _ (mapped : Mapped) (relation : Relation) (far : TableKey) (tables : Tabl
   pair_chosen rows place pair numbers same =
       map_twice (chosen rows) (column_at place) numbers ∙ ap (λ (row : Row). map (λ (number : ColumnNo). item_or_null (slice_get row number.0)) numbers) same
 
-  attribute_ranked : (table : TableId) (attribute : Attribute) → Has (attributes_of mapped class) attribute → attribute.table ≡ table → slice_get own (rank_of mapped class table) ≡ Some table
-  attribute_ranked table attribute there same =
-      let line : List ClassId = line_of mapped.classes class.0 in
-      let found = from_flat (table_attributes mapped.schema.tables mapped.classes line) (enumerate_from 0 own) attribute there in
-      let numbered = from_numbered 0 own found.0 found.1 in
-      let of : found.0.1 ≡ attribute.table = ap (λ (one : Attribute). one.table) (of_column mapped line found.0 attribute found.2).is in
-      rank_finds own table (subst (Has own) (of ∙ same) (has_at own numbered.0 found.0.1 numbered.2))
-
-  -- the key of the table to which pairs lead
-  lead_key : (rows ranks : Choice) (place : ℕ) → rows place ≡ ranks lead → map (chosen rows) (columns_at place (key_numbers mapped led_to)) ≡ key_in mapped class ranks lead
-  lead_key rows ranks place same =
-      map_twice (chosen rows) (column_at place) (key_numbers mapped led_to)
-      ∙ ap (λ (row : Row). map (λ (number : ColumnNo). item_or_null (slice_get row number.0)) (key_numbers mapped led_to)) same
-      ∙ ap (λ (found : Option TableId). map (λ (number : ColumnNo). item_or_null (slice_get (ranks lead) number.0)) (key_numbers mapped (table_or_none found))) (sym leads)
-
-  -- the key of a row of the target
-  row_key_is : (rows : Choice) → row_key mapped class (map (chosen rows) items) ≡ key_in mapped class rows 0
-  row_key_is rows =
-      key_read mapped class paired.has known (chosen rows)
-      ∙ ap (λ (found : Option TableId). map (chosen rows) (columns_at (place_at_rank plain 0) (key_numbers mapped (table_or_none found)))) (sym root_there)
-      ∙ key_chosen mapped class plain rows rows 0 (ap rows (rank_is 0))
-
   -- ---- the rows of the target alone
 
-  abbrev own_ties : List Tie
-  own_ties = ties_behind mapped class plain 0 own
+  stage : AreHeld mapped class tables all
+  stage = record { has = paired.has; is = paired.related.target; held = paired.held; rows = paired.rows }
 
   abbrev own_branch : List Expr
   own_branch = is_of_branch mapped class plain
 
-  abbrev own_test : (SourceColumn → Value) → Bool
-  own_test v = branch_test mapped class plain v
+  abbrev target_ties : List Tie
+  target_ties = own_ties mapped class
 
-  others_tied : other_tables mapped class plain ≡ map joined_where own_ties
-  others_tied = sources_tied mapped class plain 0 own
-
-  own_inside : HasInside mapped.schema root own_ties items own_branch
-  own_inside =
-      inside_of mapped.schema root own_ties items own_branch
-      (subst (λ (further : List Further). IsPlainSelect mapped.schema (select_of root further items own_branch)) others_tied (rows_plain mapped class paired.has paired.related.target known [] tt))
-
-  branch_local : (placement : Placement) (scope : List TableId) → AllByRecursion (Fit mapped.schema scope) (is_of_branch mapped class placement) → (u v : SourceColumn → Value)
-      → ((column : SourceColumn) → IsInside mapped.schema scope column → u column ≡ v column) → branch_test mapped class placement u ≡ branch_test mapped class placement v
-  branch_local placement scope fit u v same =
-      branch_alike mapped class placement placement u v (λ bare n named. same (discriminator_column mapped class placement n) (branch_inside mapped class placement scope fit bare n named))
-
-  abbrev own_scope : List TableId
-  own_scope = root ∷ map (λ (tie : Tie). tie.table) own_ties
-
-  own_local : IsLocal mapped.schema own_scope own_branch own_test
-  own_local = record { tests = branch_tests mapped class plain; local = branch_local plain own_scope own_inside.conditions_in }
-
-  own_answered : answer mapped.schema tables (select_of root (map joined_where own_ties) items own_branch) ≡ Ok all
-  own_answered = subst (λ (further : List Further). answer mapped.schema tables (select_of root further items own_branch) ≡ Ok all) others_tied paired.rows
-
-  abbrev IsOwn : Choice → Type 0
-  IsOwn rows = IsChoice tables root own_ties own_test rows
-
-  own_row : (rows : Choice) → IsOwn rows → Has all (map (chosen rows) items)
-  own_row rows one = choice_row mapped.schema tables root own_ties items own_branch own_test paired.held own_inside.ties_in own_inside.items_in own_local all own_answered rows one
-
-  row_own : (row : Row) → Has all row → (rows : Choice) × IsOwn rows × (row ≡ map (chosen rows) items)
-  row_own row there = chosen_row mapped.schema tables root own_ties items own_branch own_test paired.held own_inside.ties_in own_inside.items_in own_local all own_answered row there
-
-  -- such a choice is one by ranks, under the root's key
-  own_before : ((1 ≡ 0 + 1 + 0) × (0 ≤ 0)) ⊎ ((1 ≡ 0 + 0) × (0 < 0))
-  own_before = inl (omega arith, omega arith)
-
-  module _ (rows : Choice) (head : Has (rows_in tables root.0) (rows 0)) (meets : Meets tables rows 1 own_ties) where
-    others_meet : OthersMeet mapped class plain tables rows 0 own
-    others_meet = from_meets mapped class plain tables rows own 0 1 own_before meets
-
-    rank_row : (rank : ℕ) (table : TableId) → slice_get own rank ≡ Some table → Has (rows_in tables table.0) (rows rank)
-    rank_row zero table here = subst (λ (t : TableId). Has (rows_in tables t.0) (rows 0)) (same_Some root table (sym root_there ∙ here)) head
-    rank_row (suc k) table here =
-        let first : 0 + suc k ≡ suc k = omega arith in
-        let one = others_meet (suc k) table here (λ e. omega (arith, e)) in
-        subst (λ (p : ℕ). Has (rows_in tables table.0) (rows p)) (ap (place_at_rank plain) first ∙ rank_is (suc k)) one.0
-
-    rank_key : (rank : ℕ) (table : TableId) → slice_get own rank ≡ Some table → key_in mapped class rows rank ≡ key_in mapped class rows 0
-    rank_key zero table here = refl
-    rank_key (suc k) table here =
-        let less = slice_get_within own (suc k) table here in
-        let parent : TableId = get_or own k no_table_id in
-        let above : slice_get own k ≡ Some parent = slice_get-get_or own k no_table_id (omega (arith, less)) in
-        let first : 0 + suc k ≡ suc k = omega arith in
-        let one = others_meet (suc k) table here (λ e. omega (arith, e)) in
-        let before : 0 + suc k - 1 ≡ k = omega arith in
-        let itself : rank_tied plain (0 + suc k) ≡ suc k = ap (rank_tied plain) first ∙ ap (λ (b : Bool). if b then 0 else suc k) (ne_eqb (suc k) 0 (λ e. omega (arith, e))) in
-        let upper : map (chosen rows) (key_at_rank mapped class plain (0 + suc k - 1)) ≡ key_in mapped class rows k = ap (λ (r : ℕ). map (chosen rows) (key_at_rank mapped class plain r)) before ∙ key_chosen mapped class plain rows rows k (ap rows (rank_is k)) in
-        let lower : map (chosen rows) (key_at_rank mapped class plain (rank_tied plain (0 + suc k))) ≡ key_in mapped class rows (suc k) =
-        ap (λ (r : ℕ). map (chosen rows) (key_at_rank mapped class plain r)) itself ∙ key_chosen mapped class plain rows rows (suc k) (ap rows (rank_is (suc k))) in
-        let tied : equals_key (key_in mapped class rows k) (key_in mapped class rows (suc k)) ≡ true =
-        sym (ap (λ (key : List Value). equals_key key (map (chosen rows) (key_at_rank mapped class plain (rank_tied plain (0 + suc k))))) upper ∙ ap (equals_key (key_in mapped class rows k)) lower) ∙ one.1 in
-        sym (equal_both (key_in mapped class rows k) (key_in mapped class rows (suc k)) (rank_long rows k parent above ∙ sym (rank_long rows (suc k) table here)) tied).same ∙ rank_key k parent above
-
-    own_ranked : (key : List Value) → key_in mapped class rows 0 ≡ key → AreRanked mapped class tables rows key
-    own_ranked key same = record { rows = rank_row; keys = λ rank table here. rank_key rank table here ∙ same }
-
-  -- a choice by ranks is one of the target's rows
-  ranked_own : (ranks : Choice) (key : List Value) → AreRanked mapped class tables ranks key → has_null key ≡ false → own_test (chosen ranks) ≡ true → IsOwn ranks
-  ranked_own ranks key ranked given passes = record {
-    head = ranked.rows 0 root root_there;
-    meets =
-        to_meets mapped class plain tables ranks own 0 1 own_before
-        (ranks_meet mapped class plain tables ranks ranks key root root_there given ranked (λ rank table here. ap ranks (rank_is rank)));
-    passes = passes;
-  }
+  abbrev target_test : (SourceColumn → Value) → Bool
+  target_test v = own_test mapped class v
 
   -- a row of the target to which a pair leads
-  is_paired_row : (key : List Value) (ranks : Choice) (pair : Row) → IsOwn ranks → Has pairs pair → equals_key (cells_near pair) key ≡ true → key_in mapped class ranks 0 ≡ cells_far pair → has_null (cells_far pair) ≡ false
+  is_paired_row : (key : List Value) (ranks : Choice) (pair : Row) → IsOwn mapped class tables ranks → Has pairs pair → equals_key (cells_near pair) key ≡ true → key_in mapped class ranks 0 ≡ cells_far pair → has_null (cells_far pair) ≡ false
       → Has (paired_rows mapped relation far all pairs key) (map (chosen ranks) items)
   is_paired_row key ranks pair one there near same given =
       let row : Row = map (chosen ranks) items in
       let leads_there : is_pair_of mapped relation far key row pair ≡ true =
       ap (λ (b : Bool). b && equals_key (cells_far pair) (row_key mapped class row)) near
-      ∙ equal_itself (cells_far pair) (row_key mapped class row) (sym (row_key_is ranks ∙ same)) (ap has_null (row_key_is ranks ∙ same) ∙ given) in
-      has_filter (λ r. list_any (is_pair_of mapped relation far key r) pairs) all row (own_row ranks one) (any_has (is_pair_of mapped relation far key row) pairs pair there leads_there)
+      ∙ equal_itself (cells_far pair) (row_key mapped class row) (sym (row_key_is mapped class known paired.has ranks ∙ same)) (ap has_null (row_key_is mapped class known paired.has ranks ∙ same) ∙ given) in
+      has_filter (λ r. list_any (is_pair_of mapped relation far key r) pairs) all row (own_row mapped class tables all stage ranks one) (any_has (is_pair_of mapped relation far key row) pairs pair there leads_there)
 
   -- and what is known of each such row
   record IsLedTo (key : List Value) (row : Row) : Type 0 where
     ranks : Choice
-    is_own : IsOwn ranks
+    is_own : IsOwn mapped class tables ranks
     is : row ≡ map (chosen ranks) items
     pair : Row
     there : Has pairs pair
@@ -377,10 +271,10 @@ module _ (mapped : Mapped) (relation : Relation) (far : TableKey) (tables : Tabl
   led_to_row key row among =
       let kept = from_filter (λ r. list_any (is_pair_of mapped relation far key r) pairs) all row among in
       let found = some_of (is_pair_of mapped relation far key row) pairs kept.1 in
-      let one = row_own row kept.0 in
+      let one = row_own mapped class tables all stage row kept.0 in
       let both = and_parts (equals_key (cells_near found.0) key) (equals_key (cells_far found.0) (row_key mapped class row)) found.2 in
-      let root_key_is : row_key mapped class row ≡ key_in mapped class one.0 0 = ap (row_key mapped class) one.2 ∙ row_key_is one.0 in
-      let same = equal_both (cells_far found.0) (key_in mapped class one.0 0) (cells_long found.0 ∙ sym (rank_long one.0 0 root root_there)) (ap (equals_key (cells_far found.0)) (sym root_key_is) ∙ both.1) in
+      let root_key_is : row_key mapped class row ≡ key_in mapped class one.0 0 = ap (row_key mapped class) one.2 ∙ row_key_is mapped class known paired.has one.0 in
+      let same = equal_both (cells_far found.0) (key_in mapped class one.0 0) (cells_long found.0 ∙ sym (rank_long mapped class known one.0 0 root (root_there mapped class known))) (ap (equals_key (cells_far found.0)) (sym root_key_is) ∙ both.1) in
       record {
         ranks = one.0;
         is_own = one.1;
@@ -388,7 +282,7 @@ module _ (mapped : Mapped) (relation : Relation) (far : TableKey) (tables : Tabl
         pair = found.0;
         there = found.1;
         near = both.0;
-        ranked = own_ranked one.0 one.1.head one.1.meets (cells_far found.0) (sym same.same);
+        ranked = own_ranked mapped class tables all stage one.0 one.1.head one.1.meets (cells_far found.0) (sym same.same);
         given = ap has_null same.same ∙ same.known;
       }
 
@@ -401,16 +295,16 @@ module _ (mapped : Mapped) (relation : Relation) (far : TableKey) (tables : Tabl
   pair_tie = record { table = second; ones = columns_at (place_of_table mapped class plain led_to) (key_numbers mapped led_to); others = columns_at last (foreign_numbers mapped far) }
 
   abbrev member_ties : List Tie
-  member_ties = own_ties ++ pair_tie ∷ []
+  member_ties = target_ties ++ pair_tie ∷ []
 
   abbrev near_columns : ℕ → List SourceColumn
   near_columns place = pair_columns mapped relation place
 
-  last_place : 1 + length own_ties ≡ last
-  last_place = by (length own) (length own_ties) refl (count_behind mapped class plain own 0 1 own_before)
+  last_place : 1 + length target_ties ≡ last
+  last_place = by (length own) (length target_ties) refl (count_behind mapped class plain own 0 1 (own_before mapped class tables all stage))
     where
       some : 0 < length own
-      some = slice_get_within own 0 root root_there
+      some = slice_get_within own 0 root (root_there mapped class known)
 
       by : (n m : ℕ) → length own ≡ n → ((1 + m ≡ 0 + 1 + (0 + length own)) × (0 + length own ≤ 0)) ⊎ ((1 + m ≡ 0 + (0 + length own)) × (0 < 0 + length own)) → 1 + m ≡ n
       by n m long (inl c) = absurd (omega (arith, some, c.1))
@@ -418,13 +312,13 @@ module _ (mapped : Mapped) (relation : Relation) (far : TableKey) (tables : Tabl
 
   further_tied : other_tables mapped class plain ++ secondary_behind mapped relation far last ∷ [] ≡ map joined_where member_ties
   unfolding referred_place
-  further_tied = ap (λ (further : List Further). further ++ secondary_behind mapped relation far last ∷ []) others_tied ∙ sym (map-append joined_where own_ties (pair_tie ∷ []))
+  further_tied = ap (λ (further : List Further). further ++ secondary_behind mapped relation far last ∷ []) (others_tied mapped class tables all stage) ∙ sym (map-append joined_where target_ties (pair_tie ∷ []))
 
   abbrev member_conditions : List Value → List Expr
   member_conditions key = has_values (near_columns last) key ++ own_branch
 
   abbrev member_test : List Value → (SourceColumn → Value) → Bool
-  member_test key v = equals_key (map v (near_columns last)) key && own_test v
+  member_test key v = equals_key (map v (near_columns last)) key && target_test v
 
   abbrev member_select : List Value → Select
   member_select key = select_of root (map joined_where member_ties) items (member_conditions key)
@@ -445,10 +339,10 @@ module _ (mapped : Mapped) (relation : Relation) (far : TableKey) (tables : Tabl
     member_local =
         let fit = split_every (Fit mapped.schema member_scope) (has_values (near_columns last) key) own_branch member_inside.conditions_in in
         record {
-          tests = λ f. key_tests f (near_columns last) key own_branch (λ row. own_test (value_at f row)) (branch_tests mapped class plain f);
+          tests = λ f. key_tests f (near_columns last) key own_branch (λ row. target_test (value_at f row)) (branch_tests mapped class plain f);
           local = λ u v same.
-              ap (λ (b : Bool). b && own_test u) (values_local mapped member_scope u v (near_columns last) key same fit.0)
-              ∙ ap (λ (b : Bool). equals_key (map v (near_columns last)) key && b) (branch_local plain member_scope fit.1 u v same);
+              ap (λ (b : Bool). b && target_test u) (values_local mapped member_scope u v (near_columns last) key same fit.0)
+              ∙ ap (λ (b : Bool). equals_key (map v (near_columns last)) key && b) (branch_local mapped class plain member_scope fit.1 u v same);
         }
 
     module _ (rows : List Row) (answered : answer mapped.schema tables (member_select key) ≡ Ok rows) where
@@ -458,19 +352,19 @@ module _ (mapped : Mapped) (relation : Relation) (far : TableKey) (tables : Tabl
           let one =
           chosen_row mapped.schema tables root member_ties items (member_conditions key) (member_test key) paired.held member_inside.ties_in member_inside.items_in member_local rows answered row there in
           let choice : Choice = one.0 in
-          let split = meets_split tables choice 1 own_ties (pair_tie ∷ []) one.1.meets in
+          let split = meets_split tables choice 1 target_ties (pair_tie ∷ []) one.1.meets in
           let pair : Row = choice last in
           let pair_there : Has pairs pair = subst (λ (p : ℕ). Has pairs (choice p)) last_place split.1.0.0 in
-          let tests = and_parts (equals_key (map (chosen choice) (near_columns last)) key) (own_test (chosen choice)) one.1.passes in
-          let lead_is : map (chosen choice) pair_tie.ones ≡ key_in mapped class choice lead = lead_key choice choice (place_of_table mapped class plain led_to) (ap choice (rank_is lead)) in
+          let tests = and_parts (equals_key (map (chosen choice) (near_columns last)) key) (target_test (chosen choice)) one.1.passes in
+          let lead_is : map (chosen choice) pair_tie.ones ≡ key_in mapped class choice lead = lead_key mapped class lead led_to leads choice choice (place_of_table mapped class plain led_to) (ap choice (rank_is lead)) in
           let far_is : map (chosen choice) pair_tie.others ≡ cells_far pair = pair_chosen choice last pair (foreign_numbers mapped far) refl in
           let tied : equals_key (key_in mapped class choice lead) (cells_far pair) ≡ true =
           sym (ap (λ (k : List Value). equals_key k (map (chosen choice) pair_tie.others)) lead_is ∙ ap (equals_key (key_in mapped class choice lead)) far_is) ∙ split.1.0.1 in
-          let same = equal_both (key_in mapped class choice lead) (cells_far pair) (rank_long choice lead led_to leads ∙ sym (cells_long pair)) tied in
-          let own_one : IsOwn choice = record { head = one.1.head; meets = split.0; passes = tests.1 } in
+          let same = equal_both (key_in mapped class choice lead) (cells_far pair) (rank_long mapped class known choice lead led_to leads ∙ sym (cells_long pair)) tied in
+          let own_one : IsOwn mapped class tables choice = record { head = one.1.head; meets = split.0; passes = tests.1 } in
           subst (Has (paired_rows mapped relation far all pairs key)) (sym one.2)
           (is_paired_row key choice pair own_one pair_there (ap (λ (k : List Value). equals_key k key) (sym (pair_chosen choice last pair (foreign_numbers mapped relation.foreign) refl)) ∙ tests.0)
-          (sym (rank_key choice one.1.head split.0 lead led_to leads) ∙ same.same) same.known)
+          (sym ((own_ranked mapped class tables all stage choice one.1.head split.0 (key_in mapped class choice 0) refl).keys lead led_to leads) ∙ same.same) same.known)
 
       -- and each such row is answered
       led_member : (row : Row) → Has (paired_rows mapped relation far all pairs key) row → Has rows row
@@ -480,23 +374,23 @@ module _ (mapped : Mapped) (relation : Relation) (far : TableKey) (tables : Tabl
           let put : choice last ≡ led.pair = put_there led.ranks last led.pair in
           let below : (rank : ℕ) → rank < last → choice rank ≡ led.ranks rank = put_elsewhere led.ranks last led.pair in
           let at : (rank : ℕ) (table : TableId) → slice_get own rank ≡ Some table → choice (place_at_rank plain rank) ≡ led.ranks rank = λ rank table here. ap choice (rank_is rank) ∙ below rank (slice_get_within own rank table here) in
-          let meets_own = to_meets mapped class plain tables choice own 0 1 own_before (ranks_meet mapped class plain tables choice led.ranks (cells_far led.pair) root root_there led.given led.ranked at) in
+          let meets_own = to_places mapped class plain (Meet tables choice) own 0 1 (own_before mapped class tables all stage) (ranks_meet mapped class plain tables choice led.ranks (cells_far led.pair) root (root_there mapped class known) led.given led.ranked at) in
           let lead_is : map (chosen choice) pair_tie.ones ≡ cells_far led.pair =
-          lead_key choice led.ranks (place_of_table mapped class plain led_to) (at lead led_to leads) ∙ led.ranked.keys lead led_to leads in
+          lead_key mapped class lead led_to leads choice led.ranks (place_of_table mapped class plain led_to) (at lead led_to leads) ∙ led.ranked.keys lead led_to leads in
           let far_is : map (chosen choice) pair_tie.others ≡ cells_far led.pair = pair_chosen choice last led.pair (foreign_numbers mapped far) put in
           let tied : are_tied choice pair_tie ≡ true = equal_itself (map (chosen choice) pair_tie.ones) (map (chosen choice) pair_tie.others) (lead_is ∙ sym far_is) (ap has_null far_is ∙ led.given) in
-          let pair_meets : Meets tables choice (1 + length own_ties) (pair_tie ∷ []) =
+          let pair_meets : Meets tables choice (1 + length target_ties) (pair_tie ∷ []) =
           subst (λ (p : ℕ). Meets tables choice p (pair_tie ∷ [])) (sym last_place) ((subst (Has pairs) (sym put) led.there, tied), tt) in
-          let branch : own_test (chosen choice) ≡ true =
+          let branch : target_test (chosen choice) ≡ true =
           branch_alike mapped class plain plain (chosen choice) (chosen led.ranks)
-          (λ bare n named. ap (λ (r : Row). item_or_null (slice_get r (discriminator_column mapped class plain n).column.0)) (at 0 root root_there ∙ ap led.ranks (sym (rank_is 0)))) ∙ led.is_own.passes in
+          (λ bare n named. ap (λ (r : Row). item_or_null (slice_get r (discriminator_column mapped class plain n).column.0)) (at 0 root (root_there mapped class known) ∙ ap led.ranks (sym (rank_is 0)))) ∙ led.is_own.passes in
           let near : equals_key (map (chosen choice) (near_columns last)) key ≡ true = ap (λ (k : List Value). equals_key k key) (pair_chosen choice last led.pair (foreign_numbers mapped relation.foreign) put) ∙ led.near in
           let one : IsChoice tables root member_ties (member_test key) choice = record {
-            head = subst (Has (rows_in tables root.0)) (sym (below 0 (slice_get_within own 0 root root_there))) led.is_own.head;
-            meets = meets_join tables choice 1 own_ties (pair_tie ∷ []) meets_own pair_meets;
-            passes = ap (λ (b : Bool). b && own_test (chosen choice)) near ∙ branch;
+            head = subst (Has (rows_in tables root.0)) (sym (below 0 (slice_get_within own 0 root (root_there mapped class known)))) led.is_own.head;
+            meets = meets_join tables choice 1 target_ties (pair_tie ∷ []) meets_own pair_meets;
+            passes = ap (λ (b : Bool). b && target_test (chosen choice)) near ∙ branch;
           } in
-          subst (Has rows) (attributes_chosen mapped class plain choice led.ranks at attribute_ranked ∙ sym led.is)
+          subst (Has rows) (attributes_chosen mapped class plain choice led.ranks at (attribute_ranked mapped class) ∙ sym led.is)
           (choice_row mapped.schema tables root member_ties items (member_conditions key) (member_test key) paired.held member_inside.ties_in member_inside.items_in member_local rows answered choice one)
 
   pub members_paired : (key : List Value) (rows : List Row) → is_key (root_spec mapped relation.class) key ≡ true → answer mapped.schema tables (members_select mapped relation key) ≡ Ok rows
@@ -556,7 +450,7 @@ module _ (mapped : Mapped) (relation : Relation) (far : TableKey) (tables : Tabl
   batch_row choice ranks at =
       map-append (chosen choice) (near_columns 0) (attribute_columns mapped class behind)
       ∙ ap (λ (front : List Value). front ++ map (chosen choice) (attribute_columns mapped class behind)) (pair_chosen choice 0 (choice 0) (foreign_numbers mapped relation.foreign) refl)
-      ∙ ap (λ (rest : List Value). cells_near (choice 0) ++ rest) (attributes_chosen mapped class behind choice ranks at attribute_ranked)
+      ∙ ap (λ (rest : List Value). cells_near (choice 0) ++ rest) (attributes_chosen mapped class behind choice ranks at (attribute_ranked mapped class))
 
   behind_before : ((2 ≡ 1 + 1 + 0) × (0 ≤ lead)) ⊎ ((2 ≡ 1 + 0) × (lead < 0))
   behind_before = inl (omega arith, omega arith)
@@ -567,17 +461,7 @@ module _ (mapped : Mapped) (relation : Relation) (far : TableKey) (tables : Tabl
     by_rank = λ rank. choice (place_at_rank behind rank)
 
     others_behind : OthersMeet mapped class behind tables choice 0 own
-    others_behind = from_meets mapped class behind tables choice own 0 2 behind_before meets
-
-    other_row : (rank : ℕ) (table : TableId) → slice_get own rank ≡ Some table → (b : Bool) → (rank == lead) ≡ b → Has (rows_in tables table.0) (by_rank rank)
-    other_row rank table here true e =
-        let same = eqb-true rank lead e in
-        let one : led_to ≡ table = same_Some led_to table (sym leads ∙ ap (slice_get own) (sym same) ∙ here) in
-        subst (λ (p : ℕ). Has (rows_in tables table.0) (choice p)) (sym (lead_place mapped class behind rank same)) (subst (λ (t : TableId). Has (rows_in tables t.0) (choice 1)) one lead_row)
-    other_row rank table here false e =
-        let first : 0 + rank ≡ rank = omega arith in
-        let apart = eqb-false rank lead e in
-        subst (λ (r : ℕ). Has (rows_in tables table.0) (by_rank r)) first (others_behind rank table here (λ same. apart (omega (arith, same)))).0
+    others_behind = from_places mapped class behind (Meet tables choice) own 0 2 behind_before meets
 
     abbrev far_cells : List Value
     far_cells = cells_far (choice 0)
@@ -585,61 +469,21 @@ module _ (mapped : Mapped) (relation : Relation) (far : TableKey) (tables : Tabl
     lead_one : (key_in mapped class by_rank lead ≡ far_cells) × (has_null far_cells ≡ false)
     lead_one =
         let at : choice 1 ≡ by_rank lead = ap choice (sym (lead_place mapped class behind lead refl)) in
-        let one : map (chosen choice) lead_tie.ones ≡ key_in mapped class by_rank lead = lead_key choice by_rank 1 at in
+        let one : map (chosen choice) lead_tie.ones ≡ key_in mapped class by_rank lead = lead_key mapped class lead led_to leads choice by_rank 1 at in
         let other : map (chosen choice) lead_tie.others ≡ far_cells = pair_chosen choice 0 (choice 0) (foreign_numbers mapped far) refl in
         let tied : equals_key (key_in mapped class by_rank lead) far_cells ≡ true =
         sym (ap (λ (k : List Value). equals_key k (map (chosen choice) lead_tie.others)) one ∙ ap (equals_key (key_in mapped class by_rank lead)) other) ∙ lead_tied in
-        let same = equal_both (key_in mapped class by_rank lead) far_cells (rank_long by_rank lead led_to leads ∙ sym (cells_long (choice 0))) tied in
+        let same = equal_both (key_in mapped class by_rank lead) far_cells (rank_long mapped class known by_rank lead led_to leads ∙ sym (cells_long (choice 0))) tied in
         (same.same, same.known)
 
-    -- two ranks whose keys are tied
-    ranks_tied : (p q : ℕ) (one other : TableId) → slice_get own p ≡ Some one → slice_get own q ≡ Some other
-        → equals_key (map (chosen choice) (key_at_rank mapped class behind p)) (map (chosen choice) (key_at_rank mapped class behind q)) ≡ true → key_in mapped class by_rank p ≡ key_in mapped class by_rank q
-    ranks_tied p q one other here there tied =
-        let first = key_chosen mapped class behind choice by_rank p refl in
-        let second_key = key_chosen mapped class behind choice by_rank q refl in
-        (equal_both (key_in mapped class by_rank p) (key_in mapped class by_rank q) (rank_long by_rank p one here ∙ sym (rank_long by_rank q other there))
-        (sym (ap (λ (k : List Value). equals_key k (map (chosen choice) (key_at_rank mapped class behind q))) first ∙ ap (equals_key (key_in mapped class by_rank p)) second_key) ∙ tied)).same
+    far_ranked : AreRanked mapped class tables by_rank far_cells
+    far_ranked =
+        subst (AreRanked mapped class tables by_rank) lead_one.0
+        (behind_ranked mapped class known behind led_to leads tables choice lead_row others_behind)
 
-    behind_by : (rank : ℕ) (table : TableId) → slice_get own rank ≡ Some table → (b : Bool) → (rank == lead) ≡ b → ((parent : TableId) → slice_get own (rank - 1) ≡ Some parent → key_in mapped class by_rank (rank - 1) ≡ far_cells)
-        → key_in mapped class by_rank rank ≡ far_cells
-    behind_by rank table here true e more = ap (key_in mapped class by_rank) (eqb-true rank lead e) ∙ lead_one.0
-    behind_by zero table here false e more = let before : 0 ≡ 0 - 1 = omega arith in ap (key_in mapped class by_rank) before ∙ more table (ap (slice_get own) (sym before) ∙ here)
-    behind_by (suc k) table here false e more =
-        let less = slice_get_within own (suc k) table here in
-        let parent : TableId = get_or own k no_table_id in
-        let above : slice_get own k ≡ Some parent = slice_get-get_or own k no_table_id (omega (arith, less)) in
-        let before : suc k - 1 ≡ k = omega arith in
-        let first : 0 + suc k ≡ suc k = omega arith in
-        let apart = eqb-false (suc k) lead e in
-        let one = others_behind (suc k) table here (λ same. apart (omega (arith, same))) in
-        let lower : 0 + suc k - 1 ≡ k = omega arith in
-        let itself : rank_tied behind (0 + suc k) ≡ suc k = ap (rank_tied behind) first ∙ ap (λ (b : Bool). if b then lead else suc k) (ne_eqb (suc k) 0 (λ same. omega (arith, same))) in
-        let tied : equals_key (map (chosen choice) (key_at_rank mapped class behind k)) (map (chosen choice) (key_at_rank mapped class behind (suc k))) ≡ true =
-        sym
-        (ap (λ (r : ℕ). equals_key (map (chosen choice) (key_at_rank mapped class behind r)) (map (chosen choice) (key_at_rank mapped class behind (rank_tied behind (0 + suc k))))) lower
-        ∙ ap (λ (r : ℕ). equals_key (map (chosen choice) (key_at_rank mapped class behind k)) (map (chosen choice) (key_at_rank mapped class behind r))) itself) ∙ one.1 in
-        sym (ranks_tied k (suc k) parent table above here tied) ∙ ap (key_in mapped class by_rank) (sym before) ∙ more parent (ap (slice_get own) before ∙ above)
-
-    behind_key : (rank : ℕ) (table : TableId) → slice_get own rank ≡ Some table → key_in mapped class by_rank rank ≡ far_cells
-    behind_key zero table here = behind_zero table here (0 == lead) refl
-      where
-        behind_zero : (found : TableId) → slice_get own 0 ≡ Some found → (b : Bool) → (0 == lead) ≡ b → key_in mapped class by_rank 0 ≡ far_cells
-        behind_zero found there true e = ap (key_in mapped class by_rank) (eqb-true 0 lead e) ∙ lead_one.0
-        behind_zero found there false e =
-            let one = others_behind 0 found there (λ same. eqb-false 0 lead e (omega (arith, same))) in
-            ranks_tied 0 lead found led_to there leads one.1 ∙ lead_one.0
-    behind_key (suc k) table here =
-        behind_by (suc k) table here (suc k == lead) refl (λ parent above.
-        let before : suc k - 1 ≡ k = omega arith in
-        ap (key_in mapped class by_rank) before ∙ behind_key k parent (ap (slice_get own) (sym before) ∙ above))
-
-    behind_ranked : AreRanked mapped class tables by_rank far_cells
-    behind_ranked = record { rows = λ rank table here. other_row rank table here (rank == lead) refl; keys = behind_key }
-
-    behind_own : branch_test mapped class behind (chosen choice) ≡ true → IsOwn by_rank
+    behind_own : branch_test mapped class behind (chosen choice) ≡ true → IsOwn mapped class tables by_rank
     behind_own passes =
-        ranked_own by_rank far_cells behind_ranked lead_one.1
+        ranked_own mapped class tables all stage by_rank far_cells far_ranked lead_one.1
         (branch_alike mapped class plain behind (chosen by_rank) (chosen choice)
         (λ bare n named. ap (λ (r : Row). item_or_null (slice_get r (discriminator_column mapped class behind n).column.0)) (ap by_rank (rank_is 0))) ∙ passes)
 
@@ -670,7 +514,7 @@ module _ (mapped : Mapped) (relation : Relation) (far : TableKey) (tables : Tabl
           tests = λ f. keys_tests f (near_columns 0) held batch_branch (λ row. branch_test mapped class behind (value_at f row)) (all_long held held_long) (branch_tests mapped class behind f);
           local = λ u v same.
               ap (λ (values : List Value). equals_some held values && branch_test mapped class behind u) (all_inside mapped.schema batch_scope u v (near_columns 0) same near.0)
-              ∙ ap (λ (b : Bool). equals_some held (map v (near_columns 0)) && b) (branch_local behind batch_scope fit.1 u v same);
+              ∙ ap (λ (b : Bool). equals_some held (map v (near_columns 0)) && b) (branch_local mapped class behind batch_scope fit.1 u v same);
         }
 
     module _ (key : List Value) (among : list_any (same_values key) held ≡ true) (rows : List Row) (answered : answer mapped.schema tables (batch_plain held) ≡ Ok rows) where
@@ -697,7 +541,7 @@ module _ (mapped : Mapped) (relation : Relation) (far : TableKey) (tables : Tabl
           let given : has_null key ≡ false = ap has_null (sym owner ∙ same.same) ∙ same.known in
           let led = lead_one choice first.0 first.1 one.1.meets.1 in
           subst (Has (paired_rows mapped relation far all pairs key)) (sym behind_it)
-          (is_paired_row key ranks pair (behind_own choice first.0 first.1 one.1.meets.1 tests.1) one.1.head (equal_itself (cells_near pair) key owner given) (behind_key choice first.0 first.1 one.1.meets.1 0 root root_there) led.1)
+          (is_paired_row key ranks pair (behind_own choice first.0 first.1 one.1.meets.1 tests.1) one.1.head (equal_itself (cells_near pair) key owner given) ((far_ranked choice first.0 first.1 one.1.meets.1).keys 0 root (root_there mapped class known)) led.1)
 
       -- and each such row stands under the key
       led_batch : (row : Row) → Has (paired_rows mapped relation far all pairs key) row → Has (rows_under mapped relation rows key) row
@@ -705,10 +549,10 @@ module _ (mapped : Mapped) (relation : Relation) (far : TableKey) (tables : Tabl
           let led = led_to_row key row there in
           let choice : Choice = turned led.ranks led.pair lead in
           let at : (rank : ℕ) (table : TableId) → slice_get own rank ≡ Some table → choice (place_at_rank behind rank) ≡ led.ranks rank = λ rank table here. turned_at led.ranks led.pair lead mapped class rank in
-          let lead_is : map (chosen choice) lead_tie.ones ≡ cells_far led.pair = lead_key choice led.ranks 1 refl ∙ led.ranked.keys lead led_to leads in
+          let lead_is : map (chosen choice) lead_tie.ones ≡ cells_far led.pair = lead_key mapped class lead led_to leads choice led.ranks 1 refl ∙ led.ranked.keys lead led_to leads in
           let far_is : map (chosen choice) lead_tie.others ≡ cells_far led.pair = pair_chosen choice 0 led.pair (foreign_numbers mapped far) refl in
           let tied : are_tied choice lead_tie ≡ true = equal_itself (map (chosen choice) lead_tie.ones) (map (chosen choice) lead_tie.others) (lead_is ∙ sym far_is) (ap has_null far_is ∙ led.given) in
-          let others = to_meets mapped class behind tables choice own 0 2 behind_before (ranks_meet mapped class behind tables choice led.ranks (cells_far led.pair) led_to leads led.given led.ranked at) in
+          let others = to_places mapped class behind (Meet tables choice) own 0 2 behind_before (ranks_meet mapped class behind tables choice led.ranks (cells_far led.pair) led_to leads led.given led.ranked at) in
           let found = some_of (same_values key) held among in
           let key_is : key ≡ found.0 = same_equal key found.0 found.2 in
           let long : length key ≡ length (foreign_numbers mapped relation.foreign) = ap (λ (k : List Value). length k) key_is ∙ held_long found.0 found.1 in
@@ -718,7 +562,7 @@ module _ (mapped : Mapped) (relation : Relation) (far : TableKey) (tables : Tabl
           ap (equals_some held) near ∙ any_has (equals_key (cells_near led.pair)) held found.0 found.1 (subst (λ (k : List Value). equals_key (cells_near led.pair) k ≡ true) key_is led.near) in
           let branch : branch_test mapped class behind (chosen choice) ≡ true =
           branch_alike mapped class behind plain (chosen choice) (chosen led.ranks)
-          (λ bare n named. ap (λ (r : Row). item_or_null (slice_get r (discriminator_column mapped class plain n).column.0)) (at 0 root root_there ∙ ap led.ranks (sym (rank_is 0)))) ∙ led.is_own.passes in
+          (λ bare n named. ap (λ (r : Row). item_or_null (slice_get r (discriminator_column mapped class plain n).column.0)) (at 0 root (root_there mapped class known) ∙ ap led.ranks (sym (rank_is 0)))) ∙ led.is_own.passes in
           let one : IsChoice tables second batch_ties (batch_test held) choice = record {
             head = led.there;
             meets = ((led.ranked.rows lead led_to leads, tied), others);

@@ -45,7 +45,7 @@ use Rattle.answer_laws.specs.Equal.{are_equal, equals_key}
 use Rattle.answer_laws.proofs.Conditions.{AreTests, in_one, no_tests, one_test}
 use Rattle.answer_laws.proofs.Totals.{map_twice}
 use Rattle.answer_laws.proofs.Values.{equals_known}
-use Rattle.join_laws.proofs.Choices.{Choice, Fit, IsInside, Meets, Tie, are_tied, chosen, column_inside, joined_where}
+use Rattle.join_laws.proofs.Choices.{Choice, EachPlaced, Fit, IsInside, Meet, Tie, are_tied, chosen, column_inside, joined_where}
 
 -- ---- keys that are equal as SQL sees it
 
@@ -145,54 +145,59 @@ module _ (mapped : Mapped) (class : ClassId) where
     place_is rank count apart (inl c) = low_place rank (omega (arith, c.1, apart)) ∙ sym c.0
     place_is rank count apart (inr c) = high_place rank c.1 ∙ sym c.0
 
-    -- the table of a rank gives a row, and its key is tied
-    abbrev pub RankMeets : Tables → Choice → ℕ → TableId → Type 0
-    RankMeets tables rows rank table = Has (rows_in tables table.0) (rows (place_at_rank placement rank)) × (are_tied rows (tie_at (rank, table)) ≡ true)
+    -- what holds of the tie of each rank but the one that leads, and of its place
+    abbrev pub EachRanked : (ℕ → Tie → Type 0) → ℕ → List TableId → Type 0
+    EachRanked P rank found = (k : ℕ) (table : TableId) → slice_get found k ≡ Some table → ((rank + k ≡ placement.leading) → ⊥) → P (place_at_rank placement (rank + k)) (tie_at (rank + k, table))
 
+    -- the tables of these ranks give rows, and their keys are tied
     abbrev pub OthersMeet : Tables → Choice → ℕ → List TableId → Type 0
-    OthersMeet tables rows rank found = (k : ℕ) (table : TableId) → slice_get found k ≡ Some table → ((rank + k ≡ placement.leading) → ⊥) → RankMeets tables rows (rank + k) table
+    OthersMeet tables rows rank found = EachRanked (Meet tables rows) rank found
 
-    -- from the sources in order to the ranks
-    from_by : (tables : Tables) (rows : Choice) (rank count : ℕ) (first : TableId) (found : List TableId) (b : Bool) → (rank == placement.leading) ≡ b → Before rank count
-        → Meets tables rows count ((if b then [] else tie_at (rank, first) ∷ []) ++ ties_behind (rank + 1) found)
-        → ((next : ℕ) → Before (rank + 1) next → Meets tables rows next (ties_behind (rank + 1) found) → OthersMeet tables rows (rank + 1) found) → OthersMeet tables rows rank (first ∷ found)
-    from_by tables rows rank count first found true e before meets later zero table here apart = let same = eqb-true rank placement.leading e in absurd (apart (omega (arith, same)))
-    from_by tables rows rank count first found true e before meets later (suc k) table here apart =
-        let same : rank + 1 + k ≡ rank + suc k = omega arith in
-        subst (λ (r : ℕ). RankMeets tables rows r table) same (later count (before_lead rank count (eqb-true rank placement.leading e) before) meets k table here (λ leads. apart (omega (arith, leads))))
-    from_by tables rows rank count first found false e before meets later zero table here apart =
-        let one : first ≡ table = same_Some first table here in
-        let same : rank ≡ rank + 0 = omega arith in
-        let place : place_at_rank placement rank ≡ count = place_is rank count (eqb-false rank placement.leading e) before in
-        subst (λ (r : ℕ). RankMeets tables rows r table) same
-        (subst (λ (t : TableId). RankMeets tables rows rank t) one (subst (λ (p : ℕ). Has (rows_in tables first.0) (rows p)) (sym place) meets.0.0, meets.0.1))
-    from_by tables rows rank count first found false e before meets later (suc k) table here apart =
-        let same : rank + 1 + k ≡ rank + suc k = omega arith in
-        subst (λ (r : ℕ). RankMeets tables rows r table) same (later (count + 1) (before_more rank count (eqb-false rank placement.leading e) before) meets.1 k table here (λ leads. apart (omega (arith, leads))))
+    module _ (P : ℕ → Tie → Type 0) where
+      -- what holds at a rank
+      abbrev Ranked : ℕ → TableId → Type 0
+      Ranked rank table = P (place_at_rank placement rank) (tie_at (rank, table))
 
-    pub from_meets : (tables : Tables) (rows : Choice) (found : List TableId) (rank count : ℕ) → Before rank count → Meets tables rows count (ties_behind rank found) → OthersMeet tables rows rank found
-    from_meets tables rows [] rank count before meets k table here apart = absurd cc
-    from_meets tables rows (first ∷ found) rank count before meets k table here apart =
-        from_by tables rows rank count first found (rank == placement.leading) refl before meets (λ next more rest j other there alone. from_meets tables rows found (rank + 1) next more rest j other there alone) k table here apart
+      -- from the sources in order to the ranks
+      from_by : (rank count : ℕ) (first : TableId) (found : List TableId) (b : Bool) → (rank == placement.leading) ≡ b → Before rank count
+          → EachPlaced P count ((if b then [] else tie_at (rank, first) ∷ []) ++ ties_behind (rank + 1) found)
+          → ((next : ℕ) → Before (rank + 1) next → EachPlaced P next (ties_behind (rank + 1) found) → EachRanked P (rank + 1) found) → EachRanked P rank (first ∷ found)
+      from_by rank count first found true e before each later zero table here apart = let same = eqb-true rank placement.leading e in absurd (apart (omega (arith, same)))
+      from_by rank count first found true e before each later (suc k) table here apart =
+          let same : rank + 1 + k ≡ rank + suc k = omega arith in
+          subst (λ (r : ℕ). Ranked r table) same (later count (before_lead rank count (eqb-true rank placement.leading e) before) each k table here (λ leads. apart (omega (arith, leads))))
+      from_by rank count first found false e before each later zero table here apart =
+          let one : first ≡ table = same_Some first table here in
+          let same : rank ≡ rank + 0 = omega arith in
+          let place : place_at_rank placement rank ≡ count = place_is rank count (eqb-false rank placement.leading e) before in
+          subst (λ (r : ℕ). Ranked r table) same (subst (λ (t : TableId). Ranked rank t) one (subst (λ (p : ℕ). P p (tie_at (rank, first))) (sym place) each.0))
+      from_by rank count first found false e before each later (suc k) table here apart =
+          let same : rank + 1 + k ≡ rank + suc k = omega arith in
+          subst (λ (r : ℕ). Ranked r table) same (later (count + 1) (before_more rank count (eqb-false rank placement.leading e) before) each.1 k table here (λ leads. apart (omega (arith, leads))))
 
-    -- and back
-    to_by : (tables : Tables) (rows : Choice) (rank count : ℕ) (first : TableId) (found : List TableId) (b : Bool) → (rank == placement.leading) ≡ b → Before rank count → OthersMeet tables rows rank (first ∷ found)
-        → ((next : ℕ) → Before (rank + 1) next → Meets tables rows next (ties_behind (rank + 1) found)) → Meets tables rows count ((if b then [] else tie_at (rank, first) ∷ []) ++ ties_behind (rank + 1) found)
-    to_by tables rows rank count first found true e before others later = later count (before_lead rank count (eqb-true rank placement.leading e) before)
-    to_by tables rows rank count first found false e before others later =
-        let apart = eqb-false rank placement.leading e in
-        let same : rank + 0 ≡ rank = omega arith in
-        let here : RankMeets tables rows rank first = subst (λ (r : ℕ). RankMeets tables rows r first) same (others 0 first refl (λ leads. apart (omega (arith, leads)))) in
-        let place : place_at_rank placement rank ≡ count = place_is rank count apart before in
-        ((subst (λ (p : ℕ). Has (rows_in tables first.0) (rows p)) place here.0, here.1), later (count + 1) (before_more rank count apart before))
+      pub from_places : (found : List TableId) (rank count : ℕ) → Before rank count → EachPlaced P count (ties_behind rank found) → EachRanked P rank found
+      from_places [] rank count before each k table here apart = absurd cc
+      from_places (first ∷ found) rank count before each k table here apart =
+          from_by rank count first found (rank == placement.leading) refl before each (λ next more rest j other there alone. from_places found (rank + 1) next more rest j other there alone) k table here apart
 
-    pub to_meets : (tables : Tables) (rows : Choice) (found : List TableId) (rank count : ℕ) → Before rank count → OthersMeet tables rows rank found → Meets tables rows count (ties_behind rank found)
-    to_meets tables rows [] rank count before others = tt
-    to_meets tables rows (first ∷ found) rank count before others =
-        to_by tables rows rank count first found (rank == placement.leading) refl before others (λ next more.
-        to_meets tables rows found (rank + 1) next more (λ k table here apart.
-        let same : rank + suc k ≡ rank + 1 + k = omega arith in
-        subst (λ (r : ℕ). RankMeets tables rows r table) same (others (suc k) table here (λ leads. apart (omega (arith, leads))))))
+      -- and back
+      to_by : (rank count : ℕ) (first : TableId) (found : List TableId) (b : Bool) → (rank == placement.leading) ≡ b → Before rank count → EachRanked P rank (first ∷ found)
+          → ((next : ℕ) → Before (rank + 1) next → EachPlaced P next (ties_behind (rank + 1) found)) → EachPlaced P count ((if b then [] else tie_at (rank, first) ∷ []) ++ ties_behind (rank + 1) found)
+      to_by rank count first found true e before each later = later count (before_lead rank count (eqb-true rank placement.leading e) before)
+      to_by rank count first found false e before each later =
+          let apart = eqb-false rank placement.leading e in
+          let same : rank + 0 ≡ rank = omega arith in
+          let here : Ranked rank first = subst (λ (r : ℕ). Ranked r first) same (each 0 first refl (λ leads. apart (omega (arith, leads)))) in
+          let place : place_at_rank placement rank ≡ count = place_is rank count apart before in
+          (subst (λ (p : ℕ). P p (tie_at (rank, first))) place here, later (count + 1) (before_more rank count apart before))
+
+      pub to_places : (found : List TableId) (rank count : ℕ) → Before rank count → EachRanked P rank found → EachPlaced P count (ties_behind rank found)
+      to_places [] rank count before each = tt
+      to_places (first ∷ found) rank count before each =
+          to_by rank count first found (rank == placement.leading) refl before each (λ next more.
+          to_places found (rank + 1) next more (λ k table here apart.
+          let same : rank + suc k ≡ rank + 1 + k = omega arith in
+          subst (λ (r : ℕ). Ranked r table) same (each (suc k) table here (λ leads. apart (omega (arith, leads))))))
 
     -- how many sources stand before what is behind them all
     count_by : (rank count : ℕ) (first : TableId) (found : List TableId) (b : Bool) → (rank == placement.leading) ≡ b → Before rank count
@@ -236,7 +241,7 @@ module _ (mapped : Mapped) (class : ClassId) where
       → ((rank : ℕ) (table : TableId) → slice_get own rank ≡ Some table → rows (place_at_rank placement rank) ≡ ranks rank) → OthersMeet placement tables rows 0 own
   ranks_meet placement tables rows ranks key lead leads known ranked at k table here apart =
       let first : 0 + k ≡ k = omega arith in
-      subst (λ (r : ℕ). RankMeets placement tables rows r table) (sym first)
+      subst (λ (r : ℕ). Meet tables rows (place_at_rank placement r) (tie_at placement (r, table))) (sym first)
       (subst (Has (rows_in tables table.0)) (sym (at k table here)) (ranked.rows k table here), tied k table here)
     where
       key_there : (rank : ℕ) (found : TableId) → slice_get own rank ≡ Some found → map (chosen rows) (key_at_rank mapped class placement rank) ≡ key
