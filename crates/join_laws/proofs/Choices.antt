@@ -295,7 +295,7 @@ module _ (schema : Catalog) (tables : Tables) where
 
   -- ---- rows and choices
 
-  equal_inside : (u v : SourceColumn → Value) (scope : List TableId) (ones others : List SourceColumn) → ((column : SourceColumn) → IsInside schema scope column → u column ≡ v column) → PairsInside schema scope ones others
+  pub equal_inside : (u v : SourceColumn → Value) (scope : List TableId) (ones others : List SourceColumn) → ((column : SourceColumn) → IsInside schema scope column → u column ≡ v column) → PairsInside schema scope ones others
       → equals_key (map u ones) (map u others) ≡ equals_key (map v ones) (map v others)
   equal_inside u v scope [] others same inside = refl
   equal_inside u v scope (one ∷ ones) [] same inside = refl
@@ -325,7 +325,7 @@ module _ (schema : Catalog) (tables : Tables) where
           let same : x.0 ≡ table = ap (λ (n : ℕ). let one : TableId = record { 0 = n } in one) (eqb-true x.0.0 table.0 is) in
           ap (λ (one : TableId). is_row (spec_of schema one) row) (sym same) ∙ every_has (λ (r : Row). is_row (spec_of schema x.0) r ≡ true) x.1 row held.0 h
 
-  wide_row : (table : TableId) (row : Row) → AreRows schema tables → Has (rows_in tables table.0) row → length row ≡ width_of schema table
+  pub wide_row : (table : TableId) (row : Row) → AreRows schema tables → Has (rows_in tables table.0) row → length row ≡ width_of schema table
   wide_row table row held there = pointwise_long may_hold (spec_of schema table).columns row (row_by tables table row held there)
 
   -- what holds of a choice by its first rows alone
@@ -521,7 +521,7 @@ module _ (schema : Catalog) (scope : Scope) where
   parts_fit (e ∷ []) h = (h, tt)
   parts_fit (e ∷ g ∷ es) h = each_fits (e ∷ g ∷ es) (sym (fits-And schema scope (e ∷ g ∷ es)) ∙ h)
 
-  pairs_inside : (ones others : List SourceColumn) → AllByRecursion Fit (equal_columns ones others) → PairsInside schema scope ones others
+  pub pairs_inside : (ones others : List SourceColumn) → AllByRecursion Fit (equal_columns ones others) → PairsInside schema scope ones others
   pairs_inside [] others h = tt
   pairs_inside (one ∷ ones) [] h = tt
   pairs_inside (one ∷ ones) (other ∷ others) h = (equal_parts one other h.0, pairs_inside ones others h.1)

@@ -1,15 +1,16 @@
 -- The rows of a class by the ranks of its tables: each is that of a choice of a row of each table, all under one key.
-use Rattle.std.proofs.Common.{◌≡◌, ◌⊎◌, inl, ℕ, zero, suc, ◌+◌, ◌-◌, ◌<◌, ◌≤◌, ◌==◌, Bool, true, false, List, [], ◌∷◌, get_or, length, map, Option, Some, Ok, if◌then◌else◌, refl, sym, ap, subst, ◌∙◌, arith}
+use Rattle.std.proofs.Common.{◌≡◌, ◌⊎◌, inl, ℕ, zero, suc, ◌+◌, ◌-◌, ◌<◌, ◌≤◌, ◌==◌, nat_lt, Bool, true, false, List, [], ◌∷◌, get_or, length, map, Option, Some, Ok, if◌then◌else◌, refl, sym, ap, subst, ◌∙◌, arith}
 use Rattle.std.specs.Prelude.{slice_get}
 use Rattle.std.specs.List.{AllByRecursion, enumerate_from}
-use Rattle.std.proofs.lemmas.Bool.{eqb-false, eqb-true, ne_eqb}
+use Rattle.std.proofs.lemmas.Bool.{eq-eqb, eqb-false, eqb-true, le-ltb, lt-ltb, ltb-false, ltb-true, ne_eqb}
 use Rattle.std.proofs.lemmas.List.{length-map}
 use Rattle.std.proofs.lemmas.Option.{same_Some, slice_get-get_or, slice_get_within}
 use Rattle.base_core.specs.declared.ids.ClassId.{ClassId}
 use Rattle.base_core.specs.declared.ids.ColumnNo.{ColumnNo}
 use Rattle.base_core.specs.declared.ids.TableId.{TableId}
+use Rattle.base_core.specs.declared.value.Kind.{Kind}
 use Rattle.base_core.specs.declared.value.Value.{Value}
-use Rattle.schema_core.specs.Catalog.{key_columns}
+use Rattle.schema_core.specs.Catalog.{key_columns, spec_of}
 use Rattle.schema_core.specs.Tables.{has_null}
 use Rattle.expr_types.specs.declared.expr.Expr.{Expr}
 use Rattle.sql_semantics.specs.Eval.{Row, Tables, item_or_null, rows_in}
@@ -19,6 +20,7 @@ use Rattle.sql_semantics.specs.Shapes.{AreRows}
 use Rattle.class_types.specs.declared.mapped.Attribute.{Attribute}
 use Rattle.class_layouts.specs.Columns.{table_attributes}
 use Rattle.class_layouts.specs.Hierarchy.{line_of}
+use Rattle.class_sides.specs.Keys.{TableKey}
 use Rattle.class_mapping.specs.Mapped.{IsClass, Mapped, attributes_of, no_table_id, root_spec, root_table, table_or_none, tables_of}
 use Rattle.class_mapping.proofs.Having.{Has, from_flat, from_numbered, has_at}
 use Rattle.mapping_laws.specs.Hierarchies.{HasHierarchies, HasTables, kinds_of}
@@ -26,20 +28,86 @@ use Rattle.mapping_laws.proofs.Attributes.{of_column}
 use Rattle.mapping_laws.proofs.Ties.{class_tables}
 use Rattle.load_columns.specs.declared.placing.Placement.{Placement}
 use Rattle.load_columns.specs.declared.placing.SourceColumn.{SourceColumn}
-use Rattle.load_columns.specs.Placing.{attribute_columns, column_at, columns_at, from_root, key_at_rank, key_numbers, place_at_rank, rank_of, table_at_rank}
+use Rattle.load_columns.specs.Placing.{attribute_columns, column_at, columns_at, foreign_numbers, from_root, key_at_rank, key_numbers, place_at_rank, rank_of, table_at_rank}
 use Rattle.load_laws.proofs.ClassLemmas.{rank_is, rows_plain}
+use Rattle.load_laws.proofs.MemberLemmas.{RefersTo, foreign_typed, owned_kinds}
 use Rattle.load_laws.proofs.Placed.{rank_finds}
+use Rattle.load_laws.proofs.Typed.{typed_long}
 use Rattle.load_selects.specs.declared.sources.Further.{Further}
 use Rattle.load_selects.specs.Branches.{discriminator_column, is_of_branch}
-use Rattle.load_selects.specs.Selects.{select_of}
+use Rattle.load_selects.specs.Selects.{origin_of, select_of}
 use Rattle.load_selects.specs.Sources.{other_tables, rank_tied}
 use Rattle.load_filling.specs.Rows.{row_key}
 use Rattle.answer_laws.specs.Answers.{AreRowsOf}
 use Rattle.answer_laws.specs.Equal.{equals_key}
 use Rattle.answer_laws.proofs.Totals.{map_twice}
 use Rattle.join_laws.proofs.Choices.{Choice, Fit, HasInside, IsChoice, IsInside, IsLocal, Meet, Meets, Tie, choice_row, chosen, chosen_row, inside_of, joined_where}
-use Rattle.join_laws.proofs.Ranks.{AreRanked, OthersMeet, branch_alike, branch_inside, branch_test, branch_tests, equal_both, from_places, key_chosen, key_in, key_long, lead_place, ranks_meet, sources_tied, ties_behind, to_places}
+use Rattle.join_laws.proofs.Ranks.{AreRanked, OthersMeet, branch_alike, branch_inside, branch_test, branch_tests, equal_both, from_places, high_place, key_chosen, key_in, key_long, lead_place, low_place, ranks_meet, sources_tied, ties_behind, to_places}
 use Rattle.join_laws.proofs.RootKeys.{key_read}
+
+-- what a choice has in columns of the source at a place
+pub numbers_chosen : (rows : Choice) (place : ℕ) (row : Row) (numbers : List ColumnNo) → rows place ≡ row → map (chosen rows) (columns_at place numbers) ≡ map (λ (number : ColumnNo). item_or_null (slice_get row number.0)) numbers
+numbers_chosen rows place row numbers same =
+    map_twice (chosen rows) (column_at place) numbers ∙ ap (λ (found : Row). map (λ (number : ColumnNo). item_or_null (slice_get found number.0)) numbers) same
+
+-- a foreign key is as wide as the key of the class to which it refers
+pub foreign_long : (mapped : Mapped) (key : TableKey) (class : ClassId) → HasHierarchies mapped → HasTables mapped class → RefersTo mapped key class
+    → length (foreign_numbers mapped key) ≡ length (kinds_of (key_columns (root_spec mapped class)))
+foreign_long mapped key class has known to =
+    let kinds : List Kind = kinds_of (key_columns (spec_of mapped.schema to.table)) in
+    sym (length-map (foreign_numbers mapped key) (column_at 0))
+    ∙ typed_long mapped.schema (origin_of key.0 ∷ []) (columns_at 0 (foreign_numbers mapped key)) kinds (foreign_typed mapped (origin_of key.0 ∷ []) 0 key class has to refl)
+    ∙ ap (λ (found : List Kind). length found) (sym (owned_kinds mapped key class known to))
+
+-- ---- the choice of the tables of a class behind other rows, one of them before all others
+
+module _ (before ranks : Choice) (lead first : ℕ) where
+  abbrev pub turned : Choice
+  turned = λ place.
+      if nat_lt place first then before place else if place == first then ranks lead else if nat_lt place (first + 1 + lead) then ranks (place - (first + 1)) else ranks (place - first)
+
+  turned_by : (place : ℕ) (b c d : Bool) → nat_lt place first ≡ b → (place == first) ≡ c → nat_lt place (first + 1 + lead) ≡ d
+      → turned place ≡ (if b then before place else if c then ranks lead else if d then ranks (place - (first + 1)) else ranks (place - first))
+  turned_by place b c d p q r =
+      ap (λ (x : Bool). if x then before place else if place == first then ranks lead else if nat_lt place (first + 1 + lead) then ranks (place - (first + 1)) else ranks (place - first)) p
+      ∙ ap (λ (x : Bool). if b then before place else if x then ranks lead else if nat_lt place (first + 1 + lead) then ranks (place - (first + 1)) else ranks (place - first)) q
+      ∙ ap (λ (x : Bool). if b then before place else if c then ranks lead else if x then ranks (place - (first + 1)) else ranks (place - first)) r
+
+  pub turned_before : (place : ℕ) → place < first → turned place ≡ before place
+  turned_before place less =
+      ap (λ (x : Bool). if x then before place else if place == first then ranks lead else if nat_lt place (first + 1 + lead) then ranks (place - (first + 1)) else ranks (place - first)) (lt-ltb place first less)
+
+  pub turned_lead : turned first ≡ ranks lead
+  turned_lead = turned_by first false true (nat_lt first (first + 1 + lead)) (le-ltb first first (omega arith)) (eq-eqb first first refl) refl
+
+  abbrev behind : Placement
+  behind = record { leading = lead; first = first }
+
+  turned_low : (mapped : Mapped) (class : ClassId) (rank : ℕ) → rank < lead → turned (place_at_rank behind rank) ≡ ranks rank
+  turned_low mapped class rank less =
+      let place : ℕ = first + 1 + rank in
+      let back : place - (first + 1) ≡ rank = omega arith in
+      ap turned (low_place mapped class behind rank less)
+      ∙ turned_by place false false true (le-ltb place first (omega arith)) (ne_eqb place first (λ e. omega (arith, e))) (lt-ltb place (first + 1 + lead) (omega (arith, less)))
+      ∙ ap ranks back
+
+  turned_high : (mapped : Mapped) (class : ClassId) (rank : ℕ) → lead < rank → turned (place_at_rank behind rank) ≡ ranks rank
+  turned_high mapped class rank more =
+      let place : ℕ = first + rank in
+      let back : place - first ≡ rank = omega arith in
+      ap turned (high_place mapped class behind rank more)
+      ∙ turned_by place false false false (le-ltb place first (omega arith)) (ne_eqb place first (λ e. omega (arith, e, more))) (le-ltb place (first + 1 + lead) (omega (arith, more)))
+      ∙ ap ranks back
+
+  pub turned_at : (mapped : Mapped) (class : ClassId) (rank : ℕ) → turned (place_at_rank behind rank) ≡ ranks rank
+  turned_at mapped class rank = by (rank == lead) (nat_lt rank lead) refl refl
+    where
+      by : (b c : Bool) → (rank == lead) ≡ b → nat_lt rank lead ≡ c → turned (place_at_rank behind rank) ≡ ranks rank
+      by true c p q = let same = eqb-true rank lead p in ap turned (lead_place mapped class behind rank same) ∙ turned_lead ∙ ap ranks (sym same)
+      by false true p q = turned_low mapped class rank (ltb-true rank lead q)
+      by false false p q = let apart = eqb-false rank lead p in let most = ltb-false rank lead q in turned_high mapped class rank (omega (arith, apart, most))
+
+-- ---- choices of a row of each table of a class
 
 module _ (mapped : Mapped) (class : ClassId) where
   abbrev own : List TableId

@@ -1,18 +1,17 @@
 -- What is answered to the selects of the members of many-to-many collections: the rows of the target to which the owners' pairs lead.
-use Rattle.std.proofs.Common.{◌≡◌, ◌⊎◌, inl, inr, ℕ, suc, ◌+◌, ◌-◌, ◌<◌, ◌≤◌, ◌==◌, nat_lt, Bool, true, false, ◌&&◌, List, [], ◌∷◌, ◌++◌, drop, filter, length, map, Some, Ok, if◌then◌else◌, refl, sym, ap, subst, ◌∙◌, arith, append_assoc}
+use Rattle.std.proofs.Common.{◌≡◌, ◌⊎◌, inl, inr, ℕ, suc, ◌+◌, ◌-◌, ◌<◌, ◌≤◌, Bool, true, false, ◌&&◌, List, [], ◌∷◌, ◌++◌, drop, filter, length, map, Some, Ok, refl, sym, ap, subst, ◌∙◌, arith, append_assoc}
 use Rattle.std.specs.Prelude.{slice_get}
 use Rattle.std.specs.List.{All, AllByRecursion, list_any, range_with_len}
-use Rattle.std.proofs.lemmas.Bool.{and_parts, eqb-false, eqb-true, le-ltb, lt-ltb, ltb-false, ltb-true, ne_eqb}
+use Rattle.std.proofs.lemmas.Bool.{and_parts}
 use Rattle.std.proofs.lemmas.List.{length-append, length-map, map-append}
 use Rattle.std.proofs.lemmas.List.Elements.{recursion_from_All}
 use Rattle.std.proofs.lemmas.Option.{slice_get_within}
 use Rattle.base_core.specs.declared.ids.ClassId.{ClassId}
 use Rattle.base_core.specs.declared.ids.ColumnNo.{ColumnNo}
 use Rattle.base_core.specs.declared.ids.TableId.{TableId}
-use Rattle.base_core.specs.declared.value.Kind.{Kind}
 use Rattle.base_core.specs.declared.value.Value.{Value}
 use Rattle.base_core.proofs.Lists.{get_after}
-use Rattle.schema_core.specs.Catalog.{key_columns, spec_of}
+use Rattle.schema_core.specs.Catalog.{key_columns}
 use Rattle.schema_core.specs.Tables.{has_null, same_values, value_or_null}
 use Rattle.schema_core.specs.WellFormed.{is_key}
 use Rattle.expr_types.specs.declared.expr.Expr.{Expr}
@@ -36,14 +35,13 @@ use Rattle.load_columns.specs.Conditions.{column_of, has_one_of, has_values}
 use Rattle.load_columns.specs.Placing.{attribute_columns, column_at, columns_at, foreign_numbers, from_root, key_numbers, place_at_rank, place_of_table, rank_of, referred_table}
 use Rattle.load_laws.proofs.ClassLemmas.{rank_is}
 use Rattle.load_laws.proofs.Keys.{key_fits}
-use Rattle.load_laws.proofs.MemberLemmas.{foreign_typed, owned_kinds, referred_is}
+use Rattle.load_laws.proofs.MemberLemmas.{referred_is}
 use Rattle.load_laws.proofs.PairLemmas.{members_are_plain}
 use Rattle.load_laws.proofs.Placed.{rank_finds}
 use Rattle.load_laws.proofs.Standing.{is_of}
-use Rattle.load_laws.proofs.Typed.{typed_long}
 use Rattle.load_selects.specs.declared.sources.Further.{Further}
 use Rattle.load_selects.specs.Branches.{discriminator_column, is_of_branch}
-use Rattle.load_selects.specs.Selects.{origin_of, select_of}
+use Rattle.load_selects.specs.Selects.{select_of}
 use Rattle.load_selects.specs.Sources.{leading_by, other_tables, referred_place, refers}
 use Rattle.load_filling.specs.Rows.{row_key}
 use Rattle.collection_selects.specs.Collections.{batch_by, batch_select, members_by, members_select, pair_columns, secondary_behind}
@@ -52,15 +50,14 @@ use Rattle.pair_laws.proofs.Plainness.{IsSecondary, batch_is_plain, secondary_of
 use Rattle.answer_laws.specs.Answers.{value_at}
 use Rattle.answer_laws.specs.Equal.{are_equal, equals_key}
 use Rattle.answer_laws.proofs.Conditions.{AreLong, equals_some, key_tests, keys_tests}
-use Rattle.answer_laws.proofs.Totals.{map_twice}
 use Rattle.join_laws.specs.Pairs.{HaveSame, IsPaired, cells_of, first_values, is_pair_of, paired_rows, rows_under}
 use Rattle.join_laws.proofs.Choices.{Choice, Fit, HasInside, IsChoice, IsInside, IsLocal, Meet, Meets, Tie, all_inside, are_tied, choice_row, chosen, chosen_row, column_inside, every_has, inside_of, joined_where, pointwise_long, put_elsewhere, put_there, with_row}
-use Rattle.join_laws.proofs.Ranks.{AreRanked, OthersMeet, attributes_chosen, branch_alike, branch_test, branch_tests, count_behind, equal_both, equal_itself, from_places, high_place, key_in, lead_place, low_place, ranks_meet, same_equal, sources_tied, ties_behind, to_places}
-use Rattle.join_laws.proofs.Owned.{AreHeld, IsOwn, attribute_ranked, behind_ranked, branch_local, lead_key, others_tied, own_before, own_ranked, own_row, own_test, own_ties, rank_long, ranked_own, root_there, row_key_is, row_own}
+use Rattle.join_laws.proofs.Ranks.{AreRanked, OthersMeet, attributes_chosen, branch_alike, branch_test, branch_tests, count_behind, equal_both, equal_itself, from_places, key_in, lead_place, ranks_meet, same_equal, sources_tied, ties_behind, to_places}
+use Rattle.join_laws.proofs.Owned.{foreign_long, numbers_chosen, turned, turned_at, AreHeld, IsOwn, attribute_ranked, behind_ranked, branch_local, lead_key, others_tied, own_before, own_ranked, own_row, own_test, own_ties, rank_long, ranked_own, root_there, row_key_is, row_own}
 
 -- ---- lists
 
-split_every : {A : Type 0} (P : A → Type 0) (xs ys : List A) → AllByRecursion P (xs ++ ys) → AllByRecursion P xs × AllByRecursion P ys
+pub split_every : {A : Type 0} (P : A → Type 0) (xs ys : List A) → AllByRecursion P (xs ++ ys) → AllByRecursion P xs × AllByRecursion P ys
 split_every P [] ys all = (tt, all)
 split_every P (x ∷ xs) ys all = let rest = split_every P xs ys all.1 in ((all.0, rest.0), rest.1)
 
@@ -117,45 +114,6 @@ values_local mapped scope u v (column ∷ columns) (x ∷ key) same fit =
     ap (λ (y : Value). are_equal (y, x) && equals_key (map u columns) key) (same column (column_inside mapped.schema scope column both.0))
     ∙ ap (λ (b : Bool). are_equal (v column, x) && b) (values_local mapped scope u v columns key same fit.1)
 
--- ---- the choice of the tables of the target behind one of the pairs
-
-module _ (ranks : Choice) (pair : Row) (lead : ℕ) where
-  abbrev pub turned : Choice
-  turned = λ place. if place == 0 then pair else if place == 1 then ranks lead else if nat_lt place (lead + 2) then ranks (place - 2) else ranks (place - 1)
-
-  turned_by : (place : ℕ) (b c d : Bool) → (place == 0) ≡ b → (place == 1) ≡ c → nat_lt place (lead + 2) ≡ d → turned place ≡ (if b then pair else if c then ranks lead else if d then ranks (place - 2) else ranks (place - 1))
-  turned_by place b c d p q r =
-      ap (λ (x : Bool). if x then pair else if place == 1 then ranks lead else if nat_lt place (lead + 2) then ranks (place - 2) else ranks (place - 1)) p
-      ∙ ap (λ (x : Bool). if b then pair else if x then ranks lead else if nat_lt place (lead + 2) then ranks (place - 2) else ranks (place - 1)) q
-      ∙ ap (λ (x : Bool). if b then pair else if c then ranks lead else if x then ranks (place - 2) else ranks (place - 1)) r
-
-  abbrev behind_pair : Placement
-  behind_pair = record { leading = lead; first = 1 }
-
-  turned_low : (mapped : Mapped) (class : ClassId) (rank : ℕ) → rank < lead → turned (place_at_rank behind_pair rank) ≡ ranks rank
-  turned_low mapped class rank less =
-      let place : place_at_rank behind_pair rank ≡ 1 + 1 + rank = low_place mapped class behind_pair rank less in
-      let back : 1 + 1 + rank - 2 ≡ rank = omega arith in
-      ap turned place
-      ∙ turned_by (1 + 1 + rank) false false true (ne_eqb (1 + 1 + rank) 0 (λ e. omega (arith, e))) (ne_eqb (1 + 1 + rank) 1 (λ e. omega (arith, e))) (lt-ltb (1 + 1 + rank) (lead + 2) (omega (arith, less)))
-      ∙ ap ranks back
-
-  turned_high : (mapped : Mapped) (class : ClassId) (rank : ℕ) → lead < rank → turned (place_at_rank behind_pair rank) ≡ ranks rank
-  turned_high mapped class rank more =
-      let place : place_at_rank behind_pair rank ≡ 1 + rank = high_place mapped class behind_pair rank more in
-      let back : 1 + rank - 1 ≡ rank = omega arith in
-      ap turned place
-      ∙ turned_by (1 + rank) false false false (ne_eqb (1 + rank) 0 (λ e. omega (arith, e))) (ne_eqb (1 + rank) 1 (λ e. omega (arith, e, more))) (le-ltb (1 + rank) (lead + 2) (omega (arith, more)))
-      ∙ ap ranks back
-
-  turned_at : (mapped : Mapped) (class : ClassId) (rank : ℕ) → turned (place_at_rank behind_pair rank) ≡ ranks rank
-  turned_at mapped class rank = by (rank == lead) (nat_lt rank lead) refl refl
-    where
-      by : (b c : Bool) → (rank == lead) ≡ b → nat_lt rank lead ≡ c → turned (place_at_rank behind_pair rank) ≡ ranks rank
-      by true c p q = let same = eqb-true rank lead p in ap turned (lead_place mapped class behind_pair rank same) ∙ ap ranks (sym same)
-      by false true p q = turned_low mapped class rank (ltb-true rank lead q)
-      by false false p q = let apart = eqb-false rank lead p in let most = ltb-false rank lead q in turned_high mapped class rank (omega (arith, apart, most))
-
 -- ---- a relationship over a secondary table
 
 module _ (mapped : Mapped) (relation : Relation) (far : TableKey) (tables : Tables) (all : List Row) (paired : IsPaired mapped relation far tables all) where
@@ -200,12 +158,6 @@ module _ (mapped : Mapped) (relation : Relation) (far : TableKey) (tables : Tabl
   abbrev wide_key : ℕ
   wide_key = length (kinds_of (key_columns (root_spec mapped class)))
 
-  far_long : length (foreign_numbers mapped far) ≡ wide_key
-  far_long =
-      sym (length-map (foreign_numbers mapped far) (column_at 0))
-      ∙ typed_long mapped.schema (origin_of far.0 ∷ []) (columns_at 0 (foreign_numbers mapped far)) (kinds_of (key_columns (spec_of mapped.schema keys.member.table))) (foreign_typed mapped (origin_of far.0 ∷ []) 0 far class paired.has keys.member refl)
-      ∙ ap (λ (kinds : List Kind). length kinds) (sym (owned_kinds mapped far class known keys.member))
-
   abbrev cells_far : Row → List Value
   cells_far pair = cells_of mapped far pair
 
@@ -213,24 +165,16 @@ module _ (mapped : Mapped) (relation : Relation) (far : TableKey) (tables : Tabl
   cells_near pair = cells_of mapped relation.foreign pair
 
   -- the keys of a rank and of a pair are of one width
-  cells_long : (pair : Row) → length (cells_far pair) ≡ wide_key
-  cells_long pair = length-map (foreign_numbers mapped far) (λ (number : ColumnNo). item_or_null (slice_get pair number.0)) ∙ far_long
+  pub cells_long : (pair : Row) → length (cells_far pair) ≡ wide_key
+  cells_long pair = length-map (foreign_numbers mapped far) (λ (number : ColumnNo). item_or_null (slice_get pair number.0)) ∙ foreign_long mapped far class paired.has known keys.member
 
   owner_key_long : (key : List Value) → is_key (root_spec mapped relation.class) key ≡ true → length key ≡ length (foreign_numbers mapped relation.foreign)
   owner_key_long key h =
-      let kinds : List Kind = kinds_of (key_columns (spec_of mapped.schema keys.owner.table)) in
       pointwise_long is_of (kinds_of (key_columns (root_spec mapped relation.class))) key (key_fits mapped (root_table mapped relation.class) key h)
-      ∙ ap (λ (ks : List Kind). length ks) (owned_kinds mapped relation.foreign relation.class (class_tables mapped relation.class paired.has paired.related.class) keys.owner)
-      ∙ sym (typed_long mapped.schema (origin_of second ∷ []) (columns_at 0 (foreign_numbers mapped relation.foreign)) kinds (foreign_typed mapped (origin_of second ∷ []) 0 relation.foreign relation.class paired.has keys.owner refl))
-      ∙ length-map (foreign_numbers mapped relation.foreign) (column_at 0)
+      ∙ sym (foreign_long mapped relation.foreign relation.class paired.has (class_tables mapped relation.class paired.has paired.related.class) keys.owner)
 
   near_long : (pair : Row) → length (cells_near pair) ≡ length (foreign_numbers mapped relation.foreign)
   near_long pair = length-map (foreign_numbers mapped relation.foreign) (λ (number : ColumnNo). item_or_null (slice_get pair number.0))
-
-  -- what a choice has in columns of a secondary table
-  pair_chosen : (rows : Choice) (place : ℕ) (pair : Row) (numbers : List ColumnNo) → rows place ≡ pair → map (chosen rows) (columns_at place numbers) ≡ map (λ (number : ColumnNo). item_or_null (slice_get pair number.0)) numbers
-  pair_chosen rows place pair numbers same =
-      map_twice (chosen rows) (column_at place) numbers ∙ ap (λ (row : Row). map (λ (number : ColumnNo). item_or_null (slice_get row number.0)) numbers) same
 
   -- ---- the rows of the target alone
 
@@ -247,7 +191,7 @@ module _ (mapped : Mapped) (relation : Relation) (far : TableKey) (tables : Tabl
   target_test v = own_test mapped class v
 
   -- a row of the target to which a pair leads
-  is_paired_row : (key : List Value) (ranks : Choice) (pair : Row) → IsOwn mapped class tables ranks → Has pairs pair → equals_key (cells_near pair) key ≡ true → key_in mapped class ranks 0 ≡ cells_far pair → has_null (cells_far pair) ≡ false
+  pub is_paired_row : (key : List Value) (ranks : Choice) (pair : Row) → IsOwn mapped class tables ranks → Has pairs pair → equals_key (cells_near pair) key ≡ true → key_in mapped class ranks 0 ≡ cells_far pair → has_null (cells_far pair) ≡ false
       → Has (paired_rows mapped relation far all pairs key) (map (chosen ranks) items)
   is_paired_row key ranks pair one there near same given =
       let row : Row = map (chosen ranks) items in
@@ -257,17 +201,17 @@ module _ (mapped : Mapped) (relation : Relation) (far : TableKey) (tables : Tabl
       has_filter (λ r. list_any (is_pair_of mapped relation far key r) pairs) all row (own_row mapped class tables all stage ranks one) (any_has (is_pair_of mapped relation far key row) pairs pair there leads_there)
 
   -- and what is known of each such row
-  record IsLedTo (key : List Value) (row : Row) : Type 0 where
-    ranks : Choice
-    is_own : IsOwn mapped class tables ranks
-    is : row ≡ map (chosen ranks) items
-    pair : Row
-    there : Has pairs pair
-    near : equals_key (cells_near pair) key ≡ true
-    ranked : AreRanked mapped class tables ranks (cells_far pair)
-    given : has_null (cells_far pair) ≡ false
+  pub record IsLedTo (key : List Value) (row : Row) : Type 0 where
+    pub ranks : Choice
+    pub is_own : IsOwn mapped class tables ranks
+    pub is : row ≡ map (chosen ranks) items
+    pub pair : Row
+    pub there : Has pairs pair
+    pub near : equals_key (cells_near pair) key ≡ true
+    pub ranked : AreRanked mapped class tables ranks (cells_far pair)
+    pub given : has_null (cells_far pair) ≡ false
 
-  led_to_row : (key : List Value) (row : Row) → Has (paired_rows mapped relation far all pairs key) row → IsLedTo key row
+  pub led_to_row : (key : List Value) (row : Row) → Has (paired_rows mapped relation far all pairs key) row → IsLedTo key row
   led_to_row key row among =
       let kept = from_filter (λ r. list_any (is_pair_of mapped relation far key r) pairs) all row among in
       let found = some_of (is_pair_of mapped relation far key row) pairs kept.1 in
@@ -357,13 +301,13 @@ module _ (mapped : Mapped) (relation : Relation) (far : TableKey) (tables : Tabl
           let pair_there : Has pairs pair = subst (λ (p : ℕ). Has pairs (choice p)) last_place split.1.0.0 in
           let tests = and_parts (equals_key (map (chosen choice) (near_columns last)) key) (target_test (chosen choice)) one.1.passes in
           let lead_is : map (chosen choice) pair_tie.ones ≡ key_in mapped class choice lead = lead_key mapped class lead led_to leads choice choice (place_of_table mapped class plain led_to) (ap choice (rank_is lead)) in
-          let far_is : map (chosen choice) pair_tie.others ≡ cells_far pair = pair_chosen choice last pair (foreign_numbers mapped far) refl in
+          let far_is : map (chosen choice) pair_tie.others ≡ cells_far pair = numbers_chosen choice last pair (foreign_numbers mapped far) refl in
           let tied : equals_key (key_in mapped class choice lead) (cells_far pair) ≡ true =
           sym (ap (λ (k : List Value). equals_key k (map (chosen choice) pair_tie.others)) lead_is ∙ ap (equals_key (key_in mapped class choice lead)) far_is) ∙ split.1.0.1 in
           let same = equal_both (key_in mapped class choice lead) (cells_far pair) (rank_long mapped class known choice lead led_to leads ∙ sym (cells_long pair)) tied in
           let own_one : IsOwn mapped class tables choice = record { head = one.1.head; meets = split.0; passes = tests.1 } in
           subst (Has (paired_rows mapped relation far all pairs key)) (sym one.2)
-          (is_paired_row key choice pair own_one pair_there (ap (λ (k : List Value). equals_key k key) (sym (pair_chosen choice last pair (foreign_numbers mapped relation.foreign) refl)) ∙ tests.0)
+          (is_paired_row key choice pair own_one pair_there (ap (λ (k : List Value). equals_key k key) (sym (numbers_chosen choice last pair (foreign_numbers mapped relation.foreign) refl)) ∙ tests.0)
           (sym ((own_ranked mapped class tables all stage choice one.1.head split.0 (key_in mapped class choice 0) refl).keys lead led_to leads) ∙ same.same) same.known)
 
       -- and each such row is answered
@@ -377,14 +321,14 @@ module _ (mapped : Mapped) (relation : Relation) (far : TableKey) (tables : Tabl
           let meets_own = to_places mapped class plain (Meet tables choice) own 0 1 (own_before mapped class tables all stage) (ranks_meet mapped class plain tables choice led.ranks (cells_far led.pair) root (root_there mapped class known) led.given led.ranked at) in
           let lead_is : map (chosen choice) pair_tie.ones ≡ cells_far led.pair =
           lead_key mapped class lead led_to leads choice led.ranks (place_of_table mapped class plain led_to) (at lead led_to leads) ∙ led.ranked.keys lead led_to leads in
-          let far_is : map (chosen choice) pair_tie.others ≡ cells_far led.pair = pair_chosen choice last led.pair (foreign_numbers mapped far) put in
+          let far_is : map (chosen choice) pair_tie.others ≡ cells_far led.pair = numbers_chosen choice last led.pair (foreign_numbers mapped far) put in
           let tied : are_tied choice pair_tie ≡ true = equal_itself (map (chosen choice) pair_tie.ones) (map (chosen choice) pair_tie.others) (lead_is ∙ sym far_is) (ap has_null far_is ∙ led.given) in
           let pair_meets : Meets tables choice (1 + length target_ties) (pair_tie ∷ []) =
           subst (λ (p : ℕ). Meets tables choice p (pair_tie ∷ [])) (sym last_place) ((subst (Has pairs) (sym put) led.there, tied), tt) in
           let branch : target_test (chosen choice) ≡ true =
           branch_alike mapped class plain plain (chosen choice) (chosen led.ranks)
           (λ bare n named. ap (λ (r : Row). item_or_null (slice_get r (discriminator_column mapped class plain n).column.0)) (at 0 root (root_there mapped class known) ∙ ap led.ranks (sym (rank_is 0)))) ∙ led.is_own.passes in
-          let near : equals_key (map (chosen choice) (near_columns last)) key ≡ true = ap (λ (k : List Value). equals_key k key) (pair_chosen choice last led.pair (foreign_numbers mapped relation.foreign) put) ∙ led.near in
+          let near : equals_key (map (chosen choice) (near_columns last)) key ≡ true = ap (λ (k : List Value). equals_key k key) (numbers_chosen choice last led.pair (foreign_numbers mapped relation.foreign) put) ∙ led.near in
           let one : IsChoice tables root member_ties (member_test key) choice = record {
             head = subst (Has (rows_in tables root.0)) (sym (below 0 (slice_get_within own 0 root (root_there mapped class known)))) led.is_own.head;
             meets = meets_join tables choice 1 target_ties (pair_tie ∷ []) meets_own pair_meets;
@@ -449,7 +393,7 @@ module _ (mapped : Mapped) (relation : Relation) (far : TableKey) (tables : Tabl
   batch_row : (choice ranks : Choice) → ((rank : ℕ) (table : TableId) → slice_get own rank ≡ Some table → choice (place_at_rank behind rank) ≡ ranks rank) → map (chosen choice) batch_items ≡ cells_near (choice 0) ++ map (chosen ranks) items
   batch_row choice ranks at =
       map-append (chosen choice) (near_columns 0) (attribute_columns mapped class behind)
-      ∙ ap (λ (front : List Value). front ++ map (chosen choice) (attribute_columns mapped class behind)) (pair_chosen choice 0 (choice 0) (foreign_numbers mapped relation.foreign) refl)
+      ∙ ap (λ (front : List Value). front ++ map (chosen choice) (attribute_columns mapped class behind)) (numbers_chosen choice 0 (choice 0) (foreign_numbers mapped relation.foreign) refl)
       ∙ ap (λ (rest : List Value). cells_near (choice 0) ++ rest) (attributes_chosen mapped class behind choice ranks at (attribute_ranked mapped class))
 
   behind_before : ((2 ≡ 1 + 1 + 0) × (0 ≤ lead)) ⊎ ((2 ≡ 1 + 0) × (lead < 0))
@@ -470,7 +414,7 @@ module _ (mapped : Mapped) (relation : Relation) (far : TableKey) (tables : Tabl
     lead_one =
         let at : choice 1 ≡ by_rank lead = ap choice (sym (lead_place mapped class behind lead refl)) in
         let one : map (chosen choice) lead_tie.ones ≡ key_in mapped class by_rank lead = lead_key mapped class lead led_to leads choice by_rank 1 at in
-        let other : map (chosen choice) lead_tie.others ≡ far_cells = pair_chosen choice 0 (choice 0) (foreign_numbers mapped far) refl in
+        let other : map (chosen choice) lead_tie.others ≡ far_cells = numbers_chosen choice 0 (choice 0) (foreign_numbers mapped far) refl in
         let tied : equals_key (key_in mapped class by_rank lead) far_cells ≡ true =
         sym (ap (λ (k : List Value). equals_key k (map (chosen choice) lead_tie.others)) one ∙ ap (equals_key (key_in mapped class by_rank lead)) other) ∙ lead_tied in
         let same = equal_both (key_in mapped class by_rank lead) far_cells (rank_long mapped class known by_rank lead led_to leads ∙ sym (cells_long (choice 0))) tied in
@@ -535,7 +479,7 @@ module _ (mapped : Mapped) (relation : Relation) (far : TableKey) (tables : Tabl
           let front : first_values width from.0 ≡ cells_near pair = ap (first_values width) whole ∙ cut.0 in
           let owner : cells_near pair ≡ key = same_equal (cells_near pair) key (ap (λ (k : List Value). same_values k key) (sym front) ∙ kept.1) in
           let behind_it : row ≡ map (chosen ranks) items = sym from.2 ∙ ap (drop width) whole ∙ cut.1 in
-          let near : map (chosen choice) (near_columns 0) ≡ cells_near pair = pair_chosen choice 0 pair (foreign_numbers mapped relation.foreign) refl in
+          let near : map (chosen choice) (near_columns 0) ≡ cells_near pair = numbers_chosen choice 0 pair (foreign_numbers mapped relation.foreign) refl in
           let found = some_of (equals_key (cells_near pair)) held (ap (equals_some held) (sym near) ∙ tests.0) in
           let same = equal_both (cells_near pair) found.0 (near_long pair ∙ sym (held_long found.0 found.1)) found.2 in
           let given : has_null key ≡ false = ap has_null (sym owner ∙ same.same) ∙ same.known in
@@ -547,17 +491,17 @@ module _ (mapped : Mapped) (relation : Relation) (far : TableKey) (tables : Tabl
       led_batch : (row : Row) → Has (paired_rows mapped relation far all pairs key) row → Has (rows_under mapped relation rows key) row
       led_batch row there =
           let led = led_to_row key row there in
-          let choice : Choice = turned led.ranks led.pair lead in
-          let at : (rank : ℕ) (table : TableId) → slice_get own rank ≡ Some table → choice (place_at_rank behind rank) ≡ led.ranks rank = λ rank table here. turned_at led.ranks led.pair lead mapped class rank in
+          let choice : Choice = turned (λ k. led.pair) led.ranks lead 1 in
+          let at : (rank : ℕ) (table : TableId) → slice_get own rank ≡ Some table → choice (place_at_rank behind rank) ≡ led.ranks rank = λ rank table here. turned_at (λ k. led.pair) led.ranks lead 1 mapped class rank in
           let lead_is : map (chosen choice) lead_tie.ones ≡ cells_far led.pair = lead_key mapped class lead led_to leads choice led.ranks 1 refl ∙ led.ranked.keys lead led_to leads in
-          let far_is : map (chosen choice) lead_tie.others ≡ cells_far led.pair = pair_chosen choice 0 led.pair (foreign_numbers mapped far) refl in
+          let far_is : map (chosen choice) lead_tie.others ≡ cells_far led.pair = numbers_chosen choice 0 led.pair (foreign_numbers mapped far) refl in
           let tied : are_tied choice lead_tie ≡ true = equal_itself (map (chosen choice) lead_tie.ones) (map (chosen choice) lead_tie.others) (lead_is ∙ sym far_is) (ap has_null far_is ∙ led.given) in
           let others = to_places mapped class behind (Meet tables choice) own 0 2 behind_before (ranks_meet mapped class behind tables choice led.ranks (cells_far led.pair) led_to leads led.given led.ranked at) in
           let found = some_of (same_values key) held among in
           let key_is : key ≡ found.0 = same_equal key found.0 found.2 in
           let long : length key ≡ length (foreign_numbers mapped relation.foreign) = ap (λ (k : List Value). length k) key_is ∙ held_long found.0 found.1 in
           let owner = equal_both (cells_near led.pair) key (near_long led.pair ∙ sym long) led.near in
-          let near : map (chosen choice) (near_columns 0) ≡ cells_near led.pair = pair_chosen choice 0 led.pair (foreign_numbers mapped relation.foreign) refl in
+          let near : map (chosen choice) (near_columns 0) ≡ cells_near led.pair = numbers_chosen choice 0 led.pair (foreign_numbers mapped relation.foreign) refl in
           let held_one : equals_some held (map (chosen choice) (near_columns 0)) ≡ true =
           ap (equals_some held) near ∙ any_has (equals_key (cells_near led.pair)) held found.0 found.1 (subst (λ (k : List Value). equals_key (cells_near led.pair) k ≡ true) key_is led.near) in
           let branch : branch_test mapped class behind (chosen choice) ≡ true =
