@@ -79,6 +79,19 @@ abbrev pub EachPlaced : (ℕ → Tie → Type 0) → ℕ → List Tie → Type 0
 EachPlaced P place [] = Unit {0}
 EachPlaced P place (tie ∷ ties) = P place tie × EachPlaced P (place + 1) ties
 
+pub placed_split : (P : ℕ → Tie → Type 0) (place : ℕ) (ones others : List Tie) → EachPlaced P place (ones ++ others) → EachPlaced P place ones × EachPlaced P (place + length ones) others
+placed_split P place [] others each = let same : place ≡ place + 0 = omega arith in (tt, subst (λ (p : ℕ). EachPlaced P p others) same each)
+placed_split P place (tie ∷ ones) others each =
+    let rest = placed_split P (place + 1) ones others each.1 in
+    let same : place + 1 + length ones ≡ place + suc (length ones) = omega arith in
+    ((each.0, rest.0), subst (λ (p : ℕ). EachPlaced P p others) same rest.1)
+
+pub placed_join : (P : ℕ → Tie → Type 0) (place : ℕ) (ones others : List Tie) → EachPlaced P place ones → EachPlaced P (place + length ones) others → EachPlaced P place (ones ++ others)
+placed_join P place [] others each more = let same : place + 0 ≡ place = omega arith in subst (λ (p : ℕ). EachPlaced P p others) same more
+placed_join P place (tie ∷ ones) others each more =
+    let same : place + suc (length ones) ≡ place + 1 + length ones = omega arith in
+    (each.0, placed_join P (place + 1) ones others each.1 (subst (λ (p : ℕ). EachPlaced P p others) same more))
+
 -- the source at a place gives one of its rows, and is tied
 abbrev pub Meet : Tables → Choice → ℕ → Tie → Type 0
 Meet tables rows place tie = Has (rows_in tables tie.table.0) (rows place) × (are_tied rows tie ≡ true)

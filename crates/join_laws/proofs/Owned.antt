@@ -123,6 +123,12 @@ module _ (mapped : Mapped) (class : ClassId) where
   abbrev pub own_test : (SourceColumn → Value) → Bool
   own_test v = branch_test mapped class plain v
 
+  pub others_tied : other_tables mapped class plain ≡ map joined_where own_ties
+  others_tied = sources_tied mapped class plain 0 own
+
+  pub own_before : ((1 ≡ 0 + 1 + 0) × (0 ≤ 0)) ⊎ ((1 ≡ 0 + 0) × (0 < 0))
+  own_before = inl (omega arith, omega arith)
+
   -- a row of each table of the class, tied and of its branch
   abbrev pub IsOwn : Tables → Choice → Type 0
   IsOwn tables rows = IsChoice tables (root_table mapped class) own_ties own_test rows
@@ -231,6 +237,27 @@ module _ (mapped : Mapped) (class : ClassId) where
       pub behind_ranked : AreRanked mapped class tables by_rank key
       behind_ranked = record { rows = λ rank table here. other_row rank table here (rank == placement.leading) refl; keys = behind_key }
 
+    -- such a choice is one by ranks, under the root's key
+    pub own_ranked : (tables : Tables) (rows : Choice) → Has (rows_in tables (root_table mapped class).0) (rows 0) → Meets tables rows 1 own_ties → (k : List Value) → key_in mapped class rows 0 ≡ k → AreRanked mapped class tables rows k
+    own_ranked tables rows head meets k same =
+        let others = from_places mapped class plain (Meet tables rows) own 0 1 own_before meets in
+        let ranked = behind_ranked plain (root_table mapped class) root_there tables rows head others in
+        let key_of : Row → ℕ → List Value = λ row rank. map (λ (number : ColumnNo). item_or_null (slice_get row number.0)) (key_numbers mapped (table_at_rank mapped class rank)) in
+        record {
+          rows = λ rank table here. subst (λ (p : ℕ). Has (rows_in tables table.0) (rows p)) (rank_is rank) (ranked.rows rank table here);
+          keys = λ rank table here. ap (λ (p : ℕ). key_of (rows p) rank) (sym (rank_is rank)) ∙ ranked.keys rank table here ∙ ap (λ (p : ℕ). key_of (rows p) 0) (rank_is 0) ∙ same;
+        }
+
+    -- a choice by ranks is one of the class's rows
+    pub ranked_own : (tables : Tables) (ranks : Choice) (k : List Value) → AreRanked mapped class tables ranks k → has_null k ≡ false → own_test (chosen ranks) ≡ true → IsOwn tables ranks
+    ranked_own tables ranks k ranked given passes = record {
+      head = ranked.rows 0 (root_table mapped class) root_there;
+      meets =
+          to_places mapped class plain (Meet tables ranks) own 0 1 own_before
+          (ranks_meet mapped class plain tables ranks ranks k (root_table mapped class) root_there given ranked (λ rank table here. ap ranks (rank_is rank)));
+      passes = passes;
+    }
+
 -- ---- all rows of a class
 
 -- these are all rows of a class of a configured mapping, over tables that hold rows of theirs
@@ -253,13 +280,10 @@ module _ (mapped : Mapped) (class : ClassId) (tables : Tables) (all : List Row) 
   pub class_known : HasTables mapped class
   class_known = class_tables mapped class stage.has stage.is
 
-  pub others_tied : other_tables mapped class (from_root 0) ≡ map joined_where (own_ties mapped class)
-  others_tied = sources_tied mapped class (from_root 0) 0 (tables_of mapped class)
-
   own_inside : HasInside mapped.schema root (own_ties mapped class) items own_branch
   own_inside =
       inside_of mapped.schema root (own_ties mapped class) items own_branch
-      (subst (λ (further : List Further). IsPlainSelect mapped.schema (select_of root further items own_branch)) others_tied (rows_plain mapped class stage.has stage.is class_known [] tt))
+      (subst (λ (further : List Further). IsPlainSelect mapped.schema (select_of root further items own_branch)) (others_tied mapped class) (rows_plain mapped class stage.has stage.is class_known [] tt))
 
   abbrev own_scope : List TableId
   own_scope = root ∷ map (λ (tie : Tie). tie.table) (own_ties mapped class)
@@ -268,7 +292,7 @@ module _ (mapped : Mapped) (class : ClassId) (tables : Tables) (all : List Row) 
   own_local = record { tests = branch_tests mapped class (from_root 0); local = branch_local mapped class (from_root 0) own_scope own_inside.conditions_in }
 
   own_answered : answer mapped.schema tables (select_of root (map joined_where (own_ties mapped class)) items own_branch) ≡ Ok all
-  own_answered = subst (λ (further : List Further). answer mapped.schema tables (select_of root further items own_branch) ≡ Ok all) others_tied stage.rows
+  own_answered = subst (λ (further : List Further). answer mapped.schema tables (select_of root further items own_branch) ≡ Ok all) (others_tied mapped class) stage.rows
 
   -- such a choice is that of a row of the class
   pub own_row : (rows : Choice) → IsOwn mapped class tables rows → Has all (map (chosen rows) items)
@@ -277,27 +301,3 @@ module _ (mapped : Mapped) (class : ClassId) (tables : Tables) (all : List Row) 
   -- and each row of the class is that of one
   pub row_own : (row : Row) → Has all row → (rows : Choice) × IsOwn mapped class tables rows × (row ≡ map (chosen rows) items)
   row_own row there = chosen_row mapped.schema tables root (own_ties mapped class) items own_branch (own_test mapped class) stage.held own_inside.ties_in own_inside.items_in own_local all own_answered row there
-
-  -- it is one by ranks, under the root's key
-  pub own_before : ((1 ≡ 0 + 1 + 0) × (0 ≤ 0)) ⊎ ((1 ≡ 0 + 0) × (0 < 0))
-  own_before = inl (omega arith, omega arith)
-
-  pub own_ranked : (rows : Choice) → Has (rows_in tables root.0) (rows 0) → Meets tables rows 1 (own_ties mapped class) → (k : List Value) → key_in mapped class rows 0 ≡ k → AreRanked mapped class tables rows k
-  own_ranked rows head meets k same =
-      let others = from_places mapped class (from_root 0) (Meet tables rows) (tables_of mapped class) 0 1 own_before meets in
-      let ranked = behind_ranked mapped class class_known (from_root 0) root (root_there mapped class class_known) tables rows head others in
-      let key_of : Row → ℕ → List Value = λ row rank. map (λ (number : ColumnNo). item_or_null (slice_get row number.0)) (key_numbers mapped (table_at_rank mapped class rank)) in
-      record {
-        rows = λ rank table here. subst (λ (p : ℕ). Has (rows_in tables table.0) (rows p)) (rank_is rank) (ranked.rows rank table here);
-        keys = λ rank table here. ap (λ (p : ℕ). key_of (rows p) rank) (sym (rank_is rank)) ∙ ranked.keys rank table here ∙ ap (λ (p : ℕ). key_of (rows p) 0) (rank_is 0) ∙ same;
-      }
-
-  -- a choice by ranks is one of the class's rows
-  pub ranked_own : (ranks : Choice) (k : List Value) → AreRanked mapped class tables ranks k → has_null k ≡ false → own_test mapped class (chosen ranks) ≡ true → IsOwn mapped class tables ranks
-  ranked_own ranks k ranked given passes = record {
-    head = ranked.rows 0 root (root_there mapped class class_known);
-    meets =
-        to_places mapped class (from_root 0) (Meet tables ranks) (tables_of mapped class) 0 1 own_before
-        (ranks_meet mapped class (from_root 0) tables ranks ranks k root (root_there mapped class class_known) given ranked (λ rank table here. ap ranks (rank_is rank)));
-    passes = passes;
-  }

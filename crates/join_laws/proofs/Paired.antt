@@ -1,5 +1,5 @@
 -- What is answered to the selects of the members of many-to-many collections: the rows of the target to which the owners' pairs lead.
-use Rattle.std.proofs.Common.{◌≡◌, ◌⊎◌, inl, inr, ℕ, suc, ◌+◌, ◌-◌, ◌<◌, ◌≤◌, Bool, true, false, ◌&&◌, List, [], ◌∷◌, ◌++◌, drop, filter, length, map, Some, Ok, refl, sym, ap, subst, ◌∙◌, arith, append_assoc}
+use Rattle.std.proofs.Common.{◌≡◌, ◌⊎◌, inl, inr, ℕ, ◌+◌, ◌-◌, ◌<◌, ◌≤◌, Bool, true, false, ◌&&◌, List, [], ◌∷◌, ◌++◌, drop, filter, length, map, Some, Ok, refl, sym, ap, subst, ◌∙◌, arith, append_assoc}
 use Rattle.std.specs.Prelude.{slice_get}
 use Rattle.std.specs.List.{All, AllByRecursion, list_any, range_with_len}
 use Rattle.std.proofs.lemmas.Bool.{and_parts}
@@ -51,7 +51,7 @@ use Rattle.answer_laws.specs.Answers.{value_at}
 use Rattle.answer_laws.specs.Equal.{are_equal, equals_key}
 use Rattle.answer_laws.proofs.Conditions.{AreLong, equals_some, key_tests, keys_tests}
 use Rattle.join_laws.specs.Pairs.{HaveSame, IsPaired, cells_of, first_values, is_pair_of, paired_rows, rows_under}
-use Rattle.join_laws.proofs.Choices.{Choice, Fit, HasInside, IsChoice, IsInside, IsLocal, Meet, Meets, Tie, all_inside, are_tied, choice_row, chosen, chosen_row, column_inside, every_has, inside_of, joined_where, pointwise_long, put_elsewhere, put_there, with_row}
+use Rattle.join_laws.proofs.Choices.{placed_join, placed_split, Choice, Fit, HasInside, IsChoice, IsInside, IsLocal, Meet, Meets, Tie, all_inside, are_tied, choice_row, chosen, chosen_row, column_inside, every_has, inside_of, joined_where, pointwise_long, put_elsewhere, put_there, with_row}
 use Rattle.join_laws.proofs.Ranks.{AreRanked, OthersMeet, attributes_chosen, branch_alike, branch_test, branch_tests, count_behind, equal_both, equal_itself, from_places, key_in, lead_place, ranks_meet, same_equal, sources_tied, ties_behind, to_places}
 use Rattle.join_laws.proofs.Owned.{foreign_long, numbers_chosen, turned, turned_at, AreHeld, IsOwn, attribute_ranked, behind_ranked, branch_local, lead_key, others_tied, own_before, own_ranked, own_row, own_test, own_ties, rank_long, ranked_own, root_there, row_key_is, row_own}
 
@@ -89,19 +89,6 @@ have_same one other there back = λ row. by row (list_any (same_values row) one)
     by row true b p q = p ∙ sym (within one other there row p)
     by row false true p q = absurd (let never = sym p ∙ within other one back row q in cc)
     by row false false p q = p ∙ sym q
-
-meets_split : (tables : Tables) (rows : Choice) (place : ℕ) (ones others : List Tie) → Meets tables rows place (ones ++ others) → Meets tables rows place ones × Meets tables rows (place + length ones) others
-meets_split tables rows place [] others meets = let same : place ≡ place + 0 = omega arith in (tt, subst (λ (p : ℕ). Meets tables rows p others) same meets)
-meets_split tables rows place (tie ∷ ones) others meets =
-    let rest = meets_split tables rows (place + 1) ones others meets.1 in
-    let same : place + 1 + length ones ≡ place + suc (length ones) = omega arith in
-    ((meets.0, rest.0), subst (λ (p : ℕ). Meets tables rows p others) same rest.1)
-
-meets_join : (tables : Tables) (rows : Choice) (place : ℕ) (ones others : List Tie) → Meets tables rows place ones → Meets tables rows (place + length ones) others → Meets tables rows place (ones ++ others)
-meets_join tables rows place [] others meets more = let same : place + 0 ≡ place = omega arith in subst (λ (p : ℕ). Meets tables rows p others) same more
-meets_join tables rows place (tie ∷ ones) others meets more =
-    let same : place + suc (length ones) ≡ place + 1 + length ones = omega arith in
-    (meets.0, meets_join tables rows (place + 1) ones others meets.1 (subst (λ (p : ℕ). Meets tables rows p others) same more))
 
 -- the condition that columns hold a key looks at these columns
 values_local : (mapped : Mapped) (scope : List TableId) (u v : SourceColumn → Value) (columns : List SourceColumn) (key : List Value) → ((column : SourceColumn) → IsInside mapped.schema scope column → u column ≡ v column)
@@ -226,7 +213,7 @@ module _ (mapped : Mapped) (relation : Relation) (far : TableKey) (tables : Tabl
         pair = found.0;
         there = found.1;
         near = both.0;
-        ranked = own_ranked mapped class tables all stage one.0 one.1.head one.1.meets (cells_far found.0) (sym same.same);
+        ranked = own_ranked mapped class known tables one.0 one.1.head one.1.meets (cells_far found.0) (sym same.same);
         given = ap has_null same.same ∙ same.known;
       }
 
@@ -245,7 +232,7 @@ module _ (mapped : Mapped) (relation : Relation) (far : TableKey) (tables : Tabl
   near_columns place = pair_columns mapped relation place
 
   last_place : 1 + length target_ties ≡ last
-  last_place = by (length own) (length target_ties) refl (count_behind mapped class plain own 0 1 (own_before mapped class tables all stage))
+  last_place = by (length own) (length target_ties) refl (count_behind mapped class plain own 0 1 (own_before mapped class))
     where
       some : 0 < length own
       some = slice_get_within own 0 root (root_there mapped class known)
@@ -256,7 +243,7 @@ module _ (mapped : Mapped) (relation : Relation) (far : TableKey) (tables : Tabl
 
   further_tied : other_tables mapped class plain ++ secondary_behind mapped relation far last ∷ [] ≡ map joined_where member_ties
   unfolding referred_place
-  further_tied = ap (λ (further : List Further). further ++ secondary_behind mapped relation far last ∷ []) (others_tied mapped class tables all stage) ∙ sym (map-append joined_where target_ties (pair_tie ∷ []))
+  further_tied = ap (λ (further : List Further). further ++ secondary_behind mapped relation far last ∷ []) (others_tied mapped class) ∙ sym (map-append joined_where target_ties (pair_tie ∷ []))
 
   abbrev member_conditions : List Value → List Expr
   member_conditions key = has_values (near_columns last) key ++ own_branch
@@ -296,7 +283,7 @@ module _ (mapped : Mapped) (relation : Relation) (far : TableKey) (tables : Tabl
           let one =
           chosen_row mapped.schema tables root member_ties items (member_conditions key) (member_test key) paired.held member_inside.ties_in member_inside.items_in member_local rows answered row there in
           let choice : Choice = one.0 in
-          let split = meets_split tables choice 1 target_ties (pair_tie ∷ []) one.1.meets in
+          let split = placed_split (Meet tables choice) 1 target_ties (pair_tie ∷ []) one.1.meets in
           let pair : Row = choice last in
           let pair_there : Has pairs pair = subst (λ (p : ℕ). Has pairs (choice p)) last_place split.1.0.0 in
           let tests = and_parts (equals_key (map (chosen choice) (near_columns last)) key) (target_test (chosen choice)) one.1.passes in
@@ -308,7 +295,7 @@ module _ (mapped : Mapped) (relation : Relation) (far : TableKey) (tables : Tabl
           let own_one : IsOwn mapped class tables choice = record { head = one.1.head; meets = split.0; passes = tests.1 } in
           subst (Has (paired_rows mapped relation far all pairs key)) (sym one.2)
           (is_paired_row key choice pair own_one pair_there (ap (λ (k : List Value). equals_key k key) (sym (numbers_chosen choice last pair (foreign_numbers mapped relation.foreign) refl)) ∙ tests.0)
-          (sym ((own_ranked mapped class tables all stage choice one.1.head split.0 (key_in mapped class choice 0) refl).keys lead led_to leads) ∙ same.same) same.known)
+          (sym ((own_ranked mapped class known tables choice one.1.head split.0 (key_in mapped class choice 0) refl).keys lead led_to leads) ∙ same.same) same.known)
 
       -- and each such row is answered
       led_member : (row : Row) → Has (paired_rows mapped relation far all pairs key) row → Has rows row
@@ -318,7 +305,7 @@ module _ (mapped : Mapped) (relation : Relation) (far : TableKey) (tables : Tabl
           let put : choice last ≡ led.pair = put_there led.ranks last led.pair in
           let below : (rank : ℕ) → rank < last → choice rank ≡ led.ranks rank = put_elsewhere led.ranks last led.pair in
           let at : (rank : ℕ) (table : TableId) → slice_get own rank ≡ Some table → choice (place_at_rank plain rank) ≡ led.ranks rank = λ rank table here. ap choice (rank_is rank) ∙ below rank (slice_get_within own rank table here) in
-          let meets_own = to_places mapped class plain (Meet tables choice) own 0 1 (own_before mapped class tables all stage) (ranks_meet mapped class plain tables choice led.ranks (cells_far led.pair) root (root_there mapped class known) led.given led.ranked at) in
+          let meets_own = to_places mapped class plain (Meet tables choice) own 0 1 (own_before mapped class) (ranks_meet mapped class plain tables choice led.ranks (cells_far led.pair) root (root_there mapped class known) led.given led.ranked at) in
           let lead_is : map (chosen choice) pair_tie.ones ≡ cells_far led.pair =
           lead_key mapped class lead led_to leads choice led.ranks (place_of_table mapped class plain led_to) (at lead led_to leads) ∙ led.ranked.keys lead led_to leads in
           let far_is : map (chosen choice) pair_tie.others ≡ cells_far led.pair = numbers_chosen choice last led.pair (foreign_numbers mapped far) put in
@@ -331,7 +318,7 @@ module _ (mapped : Mapped) (relation : Relation) (far : TableKey) (tables : Tabl
           let near : equals_key (map (chosen choice) (near_columns last)) key ≡ true = ap (λ (k : List Value). equals_key k key) (numbers_chosen choice last led.pair (foreign_numbers mapped relation.foreign) put) ∙ led.near in
           let one : IsChoice tables root member_ties (member_test key) choice = record {
             head = subst (Has (rows_in tables root.0)) (sym (below 0 (slice_get_within own 0 root (root_there mapped class known)))) led.is_own.head;
-            meets = meets_join tables choice 1 target_ties (pair_tie ∷ []) meets_own pair_meets;
+            meets = placed_join (Meet tables choice) 1 target_ties (pair_tie ∷ []) meets_own pair_meets;
             passes = ap (λ (b : Bool). b && target_test (chosen choice)) near ∙ branch;
           } in
           subst (Has rows) (attributes_chosen mapped class plain choice led.ranks at (attribute_ranked mapped class) ∙ sym led.is)
@@ -427,7 +414,7 @@ module _ (mapped : Mapped) (relation : Relation) (far : TableKey) (tables : Tabl
 
     behind_own : branch_test mapped class behind (chosen choice) ≡ true → IsOwn mapped class tables by_rank
     behind_own passes =
-        ranked_own mapped class tables all stage by_rank far_cells far_ranked lead_one.1
+        ranked_own mapped class known tables by_rank far_cells far_ranked lead_one.1
         (branch_alike mapped class plain behind (chosen by_rank) (chosen choice)
         (λ bare n named. ap (λ (r : Row). item_or_null (slice_get r (discriminator_column mapped class behind n).column.0)) (ap by_rank (rank_is 0))) ∙ passes)
 

@@ -280,7 +280,7 @@ module _ (mapped : Mapped) (class : ClassId) where
           ap (λ (row : Row). item_or_null (slice_get row c) ∷ map (chosen rows) (map (attribute_column mapped class placement) attributes)) here
           ∙ ap (λ (rest : List Value). item_or_null (slice_get (ranks (place_at_rank (from_root 0) rank)) c) ∷ rest) (each attributes (λ a h. there a (inr h)))
 
-  abbrev names_test : Placement → (SourceColumn → Value) → Option (List ℕ) → Bool
+  abbrev pub names_test : Placement → (SourceColumn → Value) → Option (List ℕ) → Bool
   names_test placement v None = true
   names_test placement v (Some name) = list_any (λ x. are_equal (v (discriminator_column mapped class placement name), x)) (identities mapped class) && true
 
