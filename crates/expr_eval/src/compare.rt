@@ -61,6 +61,9 @@ pub(crate) fn among(x: &Value, list: &[Value]) -> Option<bool>
 {
     let mut found = Some(false);
     for value in list {
+        if let Some(true) = found {
+            return found;
+        }
         found = or3(found, compared(CompareOp::Equal, x, value));
     }
     found
