@@ -34,11 +34,20 @@ pub enum Said {
 }
 
 /// The block that is open, the number of the line that is done, from 1, and whether some command was refused.
-#[derive(Drop)]
 pub struct Desk {
     block: Option<Block>,
     line: u32,
     refused: bool,
+}
+
+impl Drop for Desk {
+    fn drop(self) {
+        let Desk {
+            block: _,
+            line: _,
+            refused: _,
+        } = self;
+    }
 }
 
 impl Model for Desk {

@@ -29,7 +29,6 @@ use std::marker::Model;
 use std::mem::drop;
 
 /// A run between two lines.
-#[derive(Drop)]
 pub struct Shell {
     alloc: Global,
     /// How texts are printed.
@@ -40,6 +39,18 @@ pub struct Shell {
     names: Names,
     /// Where the script stands.
     desk: Desk,
+}
+
+impl Drop for Shell {
+    fn drop(self) {
+        let Shell {
+            alloc: _,
+            options: _,
+            stage: _,
+            names: _,
+            desk: _,
+        } = self;
+    }
 }
 
 impl Model for Shell {

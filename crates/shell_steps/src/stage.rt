@@ -24,10 +24,18 @@ use std::alloc::Global;
 use std::mem::{drop, replace};
 
 /// Declarations until `configure`, and from then on the session.
-#[derive(Drop)]
 pub enum Stage {
     Declaring(Mapping),
     Configured(Session),
+}
+
+impl Drop for Stage {
+    fn drop(self) {
+        match self {
+            Stage::Declaring(_) => {}
+            Stage::Configured(_) => {}
+        }
+    }
 }
 
 impl Stage {
