@@ -12,6 +12,7 @@ use Rattle.base_core.specs.declared.ids.TableId.{TableId}
 use Rattle.base_core.specs.declared.value.Value.{Value}
 use Rattle.base_core.proofs.Lists.{get_after, get_before}
 use Rattle.schema_core.specs.declared.table.ColumnSpec.{ColumnSpec}
+use Rattle.schema_core.specs.declared.table.TableSpec.{TableSpec}
 use Rattle.schema_core.specs.Catalog.{Catalog, spec_of}
 use Rattle.schema_core.specs.WellFormed.{is_row, may_hold}
 use Rattle.expr_types.specs.declared.expr.CompareOp.TheVariants as op
@@ -327,19 +328,21 @@ module _ (schema : Catalog) (tables : Tables) where
       let there = in_by schema (slice_get scope column.source) column.column inside.0 inside.1 in
       ap (λ (row : Row). item_or_null (slice_get row column.column.0)) (same column.source (slice_get_within scope column.source there.0 there.1))
 
-  -- a row of a table is as wide as the table
-  row_by : (found : Tables) (table : TableId) (row : Row) → AreRows schema found → Has (rows_in found table.0) row → is_row (spec_of schema table) row ≡ true
-  row_by [] table row held there = absurd there
-  row_by (x ∷ found) table row held there = by (x.0.0 == table.0) refl there (row_by found table row held.1)
+  -- what is true of all rows of each table is true of a row of one
+  pub row_of_table : (test : TableSpec → Row → Bool) (found : Tables) (table : TableId) (row : Row) → AllByRecursion (λ one. AllByRecursion (λ r. test (spec_of schema one.0) r ≡ true) one.1) found → Has (rows_in found table.0) row
+      → test (spec_of schema table) row ≡ true
+  row_of_table test [] table row held there = absurd there
+  row_of_table test (x ∷ found) table row held there = by (x.0.0 == table.0) refl there (row_of_table test found table row held.1)
     where
-      by : (b : Bool) → (x.0.0 == table.0) ≡ b → Has (if b then x.1 else rows_in found table.0) row → (Has (rows_in found table.0) row → is_row (spec_of schema table) row ≡ true) → is_row (spec_of schema table) row ≡ true
+      by : (b : Bool) → (x.0.0 == table.0) ≡ b → Has (if b then x.1 else rows_in found table.0) row → (Has (rows_in found table.0) row → test (spec_of schema table) row ≡ true) → test (spec_of schema table) row ≡ true
       by false is h more = more h
       by true is h more =
           let same : x.0 ≡ table = ap (λ (n : ℕ). let one : TableId = record { 0 = n } in one) (eqb-true x.0.0 table.0 is) in
-          ap (λ (one : TableId). is_row (spec_of schema one) row) (sym same) ∙ every_has (λ (r : Row). is_row (spec_of schema x.0) r ≡ true) x.1 row held.0 h
+          ap (λ (one : TableId). test (spec_of schema one) row) (sym same) ∙ every_has (λ (r : Row). test (spec_of schema x.0) r ≡ true) x.1 row held.0 h
 
+  -- a row of a table is as wide as the table
   pub wide_row : (table : TableId) (row : Row) → AreRows schema tables → Has (rows_in tables table.0) row → length row ≡ width_of schema table
-  wide_row table row held there = pointwise_long may_hold (spec_of schema table).columns row (row_by tables table row held there)
+  wide_row table row held there = pointwise_long may_hold (spec_of schema table).columns row (row_of_table is_row tables table row held there)
 
   -- what holds of a choice by its first rows alone
   abbrev IsOfFirst : ℕ → (Choice → Type 0) → Type 0
