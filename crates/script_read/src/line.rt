@@ -40,10 +40,10 @@ fn ends(tokens: &Tokens<'_>, command: Command) -> Result<Command, Fault>
     ensures { Reads (spec.ends command tokens.now) result tokens.now }
 {
     if tokens.sees(Kind::LineEnd) {
-        Ok(command)
-    } else {
-        Err(tokens.refuse())
+        return Ok(command);
     }
+    drop(command);
+    Err(tokens.refuse())
 }
 
 #[tactic(auto, unfolding(crate::specs::Line::line_of))]
