@@ -14,14 +14,14 @@ returns-in_err-wanted-clause-stays g c = passed_stays c.args.mapping.now.schema 
 
 pub returns-clause-step : goal.returns-clause-step
 returns-clause-step g c = λ graph.
-    batch_read g.K.Keeper.moment c.args.mapping.now c.args.relation.now c.args.owners.now graph c.in_ok-wanted.wanted c.in_ok-wanted.ensures.select (c.read.ensures.step graph)
+    batch_read g.K.Keeper.moment c.args.mapping.now c.args.relation.now c.args.owners.now graph c.in_ok-wanted.wanted c.in_ok-wanted.ensures.select (c.read-rows.ensures.step graph)
 
 pub returns-clause-rows : goal.returns-clause-rows
 returns-clause-rows g c =
-    batch_rows c.args.mapping.now c.args.relation.now c.args.owners.now c.in_ok-wanted.wanted c.read.result c.in_ok-wanted.ensures.hierarchies c.requires.related c.in_ok-wanted.ensures.select c.read.ensures.kinds c.read.ensures.given
+    batch_rows c.args.mapping.now c.args.relation.now c.args.owners.now c.in_ok-wanted.wanted c.read-rows.result c.in_ok-wanted.ensures.hierarchies c.requires.related c.in_ok-wanted.ensures.select c.read-rows.ensures.kinds c.read-rows.ensures.given
 
 pub returns-in_err-wanted-clause-refuses : goal.returns-in_err-wanted-clause-refuses
 returns-in_err-wanted-clause-refuses g c = passed_memory (CanRefuseRows c.args.mapping.now) _ c.from_residual.result c.from_residual.ensures.1 c.in_err-wanted.ensures.cause tt
 
 pub returns-clause-refuses : goal.returns-clause-refuses
-returns-clause-refuses g c = refused_select c.args.mapping.now c.in_ok-wanted.wanted c.read.result c.read.ensures.refuses
+returns-clause-refuses g c = refused_select c.args.mapping.now c.in_ok-wanted.wanted c.read-rows.result c.read-rows.ensures.refuses

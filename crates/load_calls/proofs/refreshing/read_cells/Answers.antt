@@ -17,10 +17,10 @@ returns-in_err-select-clause-refuses g c = passed_memory (CanRefuse c.args.mappi
 
 pub returns-clause-step : goal.returns-clause-step
 returns-clause-step g c =
-    cells_read g.K.Keeper.moment c.args.mapping.now c.args.object c.args.attrs.now c.args.arena.now c.in_ok-select.select c.in_ok-select.ensures.select (c.read.ensures.step c.args.arena.now)
+    cells_read g.K.Keeper.moment c.args.mapping.now c.args.object c.args.attrs.now c.args.arena.now c.in_ok-select.select c.in_ok-select.ensures.select (c.read-rows.ensures.step c.args.arena.now)
 
 pub returns-clause-cells : goal.returns-clause-cells
-returns-clause-cells g c = IfOk-weaker c.read.result _ _ c.in_ok-select.ensures.cells c.read.ensures.kinds
+returns-clause-cells g c = IfOk-weaker c.read-rows.result _ _ c.in_ok-select.ensures.cells c.read-rows.ensures.kinds
 
 pub returns-clause-refuses : goal.returns-clause-refuses
-returns-clause-refuses g c = all_refuse c.args.mapping.now c.args.object c.in_ok-select.select c.read.result c.read.ensures.refuses
+returns-clause-refuses g c = all_refuse c.args.mapping.now c.args.object c.in_ok-select.select c.read-rows.result c.read-rows.ensures.refuses

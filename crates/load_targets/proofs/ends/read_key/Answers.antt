@@ -21,15 +21,15 @@ returns-in_err-wanted-clause-stays g c = passed_stays c.args.mapping.now.schema 
 
 pub returns-clause-step : goal.returns-clause-step
 returns-clause-step g c =
-    subst (λ (s : Select). Runs (moment_beside g.K.Keeper.moment) (λ (rows : List (List Value)). rows) (read c.args.mapping.now.schema s) (loading c.args.arena.now c.args.notes.now, c.args.keeper.now) c.read.result (loading c.args.arena.now c.read.new.notes, c.read.new.keeper))
-    c.in_ok-wanted.ensures.select (c.read.ensures.step c.args.arena.now)
+    subst (λ (s : Select). Runs (moment_beside g.K.Keeper.moment) (λ (rows : List (List Value)). rows) (read c.args.mapping.now.schema s) (loading c.args.arena.now c.args.notes.now, c.args.keeper.now) c.read-rows.result (loading c.args.arena.now c.read-rows.new.notes, c.read-rows.new.keeper))
+    c.in_ok-wanted.ensures.select (c.read-rows.ensures.step c.args.arena.now)
 
 pub returns-clause-rows : goal.returns-clause-rows
 returns-clause-rows g c =
-    key_rows c.args.mapping.now c.args.class c.args.key.now c.in_ok-wanted.wanted c.read.result c.in_ok-wanted.ensures.hierarchies c.requires.class c.in_ok-wanted.ensures.select c.read.ensures.kinds c.read.ensures.given
+    key_rows c.args.mapping.now c.args.class c.args.key.now c.in_ok-wanted.wanted c.read-rows.result c.in_ok-wanted.ensures.hierarchies c.requires.class c.in_ok-wanted.ensures.select c.read-rows.ensures.kinds c.read-rows.ensures.given
 
 pub returns-in_err-wanted-clause-refuses : goal.returns-in_err-wanted-clause-refuses
 returns-in_err-wanted-clause-refuses g c = passed_memory (CanRefuseRows c.args.mapping.now) _ c.from_residual.result c.from_residual.ensures.1 c.in_err-wanted.ensures.cause tt
 
 pub returns-clause-refuses : goal.returns-clause-refuses
-returns-clause-refuses g c = refused_select c.args.mapping.now c.in_ok-wanted.wanted c.read.result c.read.ensures.refuses
+returns-clause-refuses g c = refused_select c.args.mapping.now c.in_ok-wanted.wanted c.read-rows.result c.read-rows.ensures.refuses
