@@ -13,7 +13,7 @@ use Rattle.expr_types.specs.Level.{operands}
 use Rattle.expr_types.specs.Normal.{and_parts, and_parts_at, joined_parts, like_by, lower_argument, lower_argument_at, lower_argument_by, negation_of, negation_of_level, normal, normal_level, normal_like, opposite, or_parts, or_parts_at}
 use Rattle.expr_types.proofs.Folds.{bare, by_levels}
 use Rattle.main_selects.specs.Shifted.{shifted}
-use Rattle.joined_laws.proofs.Levels.{every_one, fold_moved, map_twice, moved, same_below, shifted_rolled}
+use Rattle.wide_laws.proofs.Levels.{every_one, fold_moved, map_twice, moved, same_below, shifted_rolled}
 
 module _ (own more : ℕ) where
   abbrev sh : Expr → Expr

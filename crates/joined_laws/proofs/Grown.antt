@@ -34,8 +34,10 @@ use Rattle.main_selects.specs.Shifted.{shifted}
 use Rattle.joined_parts.proofs.Widening.{count_sources}
 use Rattle.alias_names.specs.Names.{exists_names, filter_names, taken_names}
 use Rattle.joined_laws.proofs.Aliases.{alias_is_free}
-use Rattle.joined_laws.proofs.Scopes.{aggregates_stay, are_free}
-use Rattle.joined_laws.proofs.Stands.{filter_wide, lacking_settled, stands_wide, was_neither}
+use Rattle.wide_laws.proofs.Levels.{aggregates_stay}
+use Rattle.wide_laws.proofs.Selected.{is_absent, was_neither}
+use Rattle.joined_laws.proofs.Scopes.{are_free}
+use Rattle.joined_laws.proofs.Stands.{filter_wide, lacking_settled, stands_wide}
 
 abbrev Names : Type 0
 Names = List (List ℕ)
@@ -218,10 +220,6 @@ with_columns schema s wide columns grown there = record {
 is_empty : {A : Type 0} (xs : List A) → nat_lt 0 (length xs) ≡ false → xs ≡ []
 is_empty [] h = refl
 is_empty (x ∷ xs) h = let some : 0 < length (x ∷ xs) = omega arith in true_false (nat_lt 0 (length (x ∷ xs))) (lt-ltb 0 (length (x ∷ xs)) some) h
-
-is_absent : {A : Type 0} (o : Option A) → is_some o ≡ false → o ≡ None
-is_absent None h = refl
-is_absent (Some x) h = absurd cc
 
 all_settled : (own : ℕ) (es : List Expr) → list_any has_aggregate es ≡ false → list_all (is_well_grouped false [] own) es ≡ true
 all_settled own [] h = refl

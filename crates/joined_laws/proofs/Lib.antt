@@ -1,4 +1,3 @@
-pub mod Levels
 pub mod Scopes
 pub mod Forms
 pub mod Stands

@@ -52,7 +52,7 @@ use Rattle.joined_parts.proofs.Targets.{target_stands}
 use Rattle.joined_parts.proofs.Widening.{count_sources, option_of, table_of}
 use Rattle.alias_names.specs.Names.{exists_names, filter_names, names_at, taken_names}
 use Rattle.joined_laws.proofs.Grown.{IsGrown, grown_itself, grown_plain, grown_sources, inner_names, origins_of, with_columns, with_join}
-use Rattle.joined_laws.proofs.Levels.{fold_stays, moved}
+use Rattle.wide_laws.proofs.Levels.{fold_stays, moved}
 use Rattle.joined_laws.proofs.Referring.{declared_above}
 use Rattle.joined_laws.proofs.Simple.{IsSimple, equals_simple, in_simple, parts_renamed}
 use Rattle.joined_laws.proofs.Tied.{lead_inside, option_tied}

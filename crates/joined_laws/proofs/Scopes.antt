@@ -1,12 +1,11 @@
 -- An expression under more sources: its kind, and that it fits them, and their names.
-use Rattle.std.proofs.Common.{◌≡◌, ℕ, ◌+◌, ◌-◌, Bool, true, false, not, ◌&&◌, ◌||◌, if◌then◌else◌, List, [], ◌∷◌, ◌++◌, length, map, Option, Ok, refl, sym, ap, subst, ◌∙◌, arith, append_assoc}
-use Rattle.std.specs.Prelude.{is_some, nat_lt, slice_get}
+use Rattle.std.proofs.Common.{◌≡◌, ℕ, ◌+◌, ◌-◌, Bool, true, not, ◌&&◌, ◌||◌, List, [], ◌∷◌, ◌++◌, length, map, Option, Ok, refl, sym, ap, subst, ◌∙◌, append_assoc}
+use Rattle.std.specs.Prelude.{is_some, slice_get}
 use Rattle.std.specs.Option.{option_and_then}
 use Rattle.std.specs.List.{AllByRecursion, flat_map, list_all}
-use Rattle.std.proofs.lemmas.Bool.{and_parts, ltb-false, ltb-true}
+use Rattle.std.proofs.lemmas.Bool.{and_parts}
 use Rattle.std.proofs.lemmas.List.{length-map}
 use Rattle.std.proofs.lemmas.List.Folds.{list_all-append, list_any-append}
-use Rattle.base_core.proofs.Lists.{get_after, get_before}
 use Rattle.base_core.specs.declared.ids.ColumnNo.{ColumnNo}
 use Rattle.base_core.specs.declared.ids.TableId.{TableId}
 use Rattle.base_core.specs.declared.value.Kind.TheVariants as kinds
@@ -16,7 +15,7 @@ use Rattle.expr_types.specs.declared.expr.Origin.{Origin}
 use Rattle.expr_types.specs.declared.expr.Expr.{Expr, roll-Expr}
 use Rattle.expr_types.specs.declared.expr.Expr.TheOpen.{Expr-F}
 use Rattle.expr_types.specs.declared.expr.Expr.TheFolds.{fold-roll-Expr, map-Expr}
-use Rattle.expr_types.specs.Level.{aggregate_level, everywhere, has_aggregate, operands, scope_below}
+use Rattle.expr_types.specs.Level.{everywhere, operands, scope_below}
 use Rattle.expr_types.proofs.Folds.{bare, by_levels}
 use Rattle.expr_types.proofs.Operands.{operands_map}
 use Rattle.sql_semantics.specs.Kinds.{Judged, Scope, all_alike, all_of, call_kind, column_in, expression_kind, gives, in_scope, judged_level, kind_where, value_kind}
@@ -24,17 +23,9 @@ use Rattle.sql_semantics.specs.Plain.{adds_name, fits, fits_level, full_level, h
 use Rattle.pair_laws.proofs.Led.{was_false}
 use Rattle.main_selects.specs.Shifted.{shifted, shifted_place}
 use Rattle.alias_names.specs.Names.{exists_names, names_at, own_names}
-use Rattle.joined_laws.proofs.Levels.{every_one, fold_moved, fold_stays, moved}
+use Rattle.wide_laws.proofs.Levels.{between, every_one, fold_moved, fold_stays, get_shifted, moved}
 
 -- ---- what asks for no source
-
-pub aggregates_stay : (own more : ℕ) (e : Expr) → has_aggregate (shifted own more e) ≡ has_aggregate e
-unfolding has_aggregate
-aggregates_stay own more = fold_stays aggregate_level own more blind
-  where
-    blind : (x : Expr-F Bool) → aggregate_level (moved own more x) ≡ aggregate_level x
-    blind (Expr-F.Column s c) = refl
-    blind x = refl
 
 pub lists_stay : (own more : ℕ) (e : Expr) → has_full_lists (shifted own more e) ≡ has_full_lists e
 unfolding has_full_lists
@@ -46,25 +37,9 @@ lists_stay own more = fold_stays full_level own more blind
 
 -- ---- places
 
--- what stands in one of the first or last places stands there with more between them
-get_shifted : {A : Type 0} (own extra inner : List A) (source : ℕ) → slice_get (own ++ (extra ++ inner)) (shifted_place (length own) (length extra) source) ≡ slice_get (own ++ inner) source
-get_shifted {A = A} own extra inner source = by (nat_lt source (length own)) refl
-  where
-    by : (b : Bool) → nat_lt source (length own) ≡ b → slice_get (own ++ (extra ++ inner)) (if b then source else (source + length extra)) ≡ slice_get (own ++ inner) source
-    by true is = let less = ltb-true source (length own) is in get_before own (extra ++ inner) source less ∙ sym (get_before own inner source less)
-    by false is =
-        let above = ltb-false source (length own) is in
-        let k : ℕ = source - length own in
-        let here : source ≡ length own + k = omega (arith, above) in
-        let there : source + length extra ≡ length own + (length extra + k) = omega (arith, above) in
-        ap (slice_get (own ++ (extra ++ inner))) there ∙ get_after own (extra ++ inner) (length extra + k) ∙ get_after extra inner k ∙ sym (get_after own inner k) ∙ sym (ap (slice_get (own ++ inner)) here)
-
 column_shifted : (schema : Catalog) (own extra inner : Scope) (source : ℕ) (column : ColumnNo)
     → column_in schema (own ++ (extra ++ inner)) (shifted_place (length own) (length extra) source) column ≡ column_in schema (own ++ inner) source column
 column_shifted schema own extra inner source column = ap (λ (found : Option TableId). option_and_then (λ table. slice_get (spec_of schema table).columns column.0) found) (get_shifted own extra inner source)
-
-between : {A : Type 0} (own extra inner : List A) (x : A) → (own ++ (extra ++ inner)) ++ x ∷ [] ≡ own ++ (extra ++ (inner ++ x ∷ []))
-between own extra inner x = append_assoc own (extra ++ inner) (x ∷ []) ∙ ap (λ xs. own ++ xs) (append_assoc extra inner (x ∷ []))
 
 -- ---- tests at every level
 

@@ -18,7 +18,9 @@ use Rattle.sql_semantics.specs.Plain.{Found, IsFilter, StandsIn, fits, is_exists
 use Rattle.main_selects.specs.Shifted.{shifted}
 use Rattle.alias_names.specs.Names.{exists_names}
 use Rattle.joined_laws.proofs.Forms.{normal_shifted}
-use Rattle.joined_laws.proofs.Scopes.{aggregates_stay, apart_shifted, are_free, fits_shifted, kind_shifted, lists_stay}
+use Rattle.wide_laws.proofs.Levels.{aggregates_stay}
+use Rattle.wide_laws.proofs.Selected.{was_neither}
+use Rattle.joined_laws.proofs.Scopes.{apart_shifted, are_free, fits_shifted, kind_shifted, lists_stay}
 
 -- ---- under more sources
 
@@ -67,10 +69,6 @@ module _ (schema : Catalog) (sources more : List Origin) where
   }
 
 -- ---- without aggregates
-
-pub was_neither : (a b : Bool) → (a || b) ≡ false → (a ≡ false) × (b ≡ false)
-was_neither true b h = absurd cc
-was_neither false b h = (refl, h)
 
 same_aggregate : {A B : Type 0} (f : A → B) (x : Expr-F A) → is_aggregate (map-Expr A B f x) ≡ is_aggregate x
 same_aggregate f (Expr-F.Call k es) = refl

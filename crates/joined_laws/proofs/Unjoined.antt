@@ -25,7 +25,7 @@ use Rattle.joined_parts.specs.Parts.{parts_of}
 use Rattle.joined_rows.specs.declared.taking.Taken.{Taken}
 use Rattle.joined_rows.specs.Taking.{take_joined, take_members, take_one, take_owner, taken_with}
 use Rattle.load_joined.specs.Joined.{fill_options, fill_owners, fill_taken, load_joined, take_answers}
-use Rattle.joined_laws.proofs.Levels.{unshifted}
+use Rattle.wide_laws.proofs.Levels.{unshifted}
 use Rattle.joined_laws.proofs.Rows.{row_same}
 
 -- ---- its select

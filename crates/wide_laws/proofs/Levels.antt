@@ -1,13 +1,16 @@
 -- What is made of the operands of a level, and the levels of expressions under more sources.
-use Rattle.std.proofs.Common.{◌≡◌, ℕ, ◌+◌, Bool, true, false, if◌then◌else◌, List, [], ◌∷◌, map, refl, sym, ap, ◌∙◌, arith}
-use Rattle.std.specs.Prelude.{nat_lt}
+use Rattle.std.proofs.Common.{◌≡◌, ℕ, ◌+◌, ◌-◌, Bool, true, false, if◌then◌else◌, List, [], ◌∷◌, ◌++◌, length, map, refl, sym, ap, ◌∙◌, arith, append_assoc}
+use Rattle.std.specs.Prelude.{nat_lt, slice_get}
 use Rattle.std.specs.List.{AllByRecursion}
+use Rattle.std.proofs.lemmas.Bool.{ltb-false, ltb-true}
+use Rattle.base_core.proofs.Lists.{get_after, get_before}
 use Rattle.expr_types.specs.declared.expr.Expr.{Expr, roll-Expr}
 use Rattle.expr_types.specs.declared.expr.Expr.TheOpen.{Expr-F}
 use Rattle.expr_types.specs.declared.expr.Expr.TheFolds.{fold-Expr, fold-roll-Expr, map-Expr}
 use Rattle.expr_types.specs.declared.expr.Expr.TheVariants as expr
-use Rattle.expr_types.specs.Level.{operands}
+use Rattle.expr_types.specs.Level.{aggregate_level, has_aggregate, operands}
 use Rattle.expr_types.proofs.Folds.{bare, by_levels}
+use Rattle.sql_semantics.specs.Rows.{exists_tables, flat, own_table}
 use Rattle.main_selects.specs.Shifted.{shift_level, shifted, shifted_place}
 
 -- ---- operands
@@ -104,3 +107,39 @@ unshifted own =
     by_levels (λ e. shifted own 0 e ≡ e)
     (λ y. shifted_rolled own 0 (bare y) ∙ ap (λ x. roll-Expr (moved own 0 x)) (levels_alike (shifted own 0) (λ k. k.0) (λ k. k.0) y (every_one (λ k. shifted own 0 k.0 ≡ k.0) (λ k. k.1) (operands y)))
     ∙ ap roll-Expr (moved_none own (bare y)))
+
+-- ---- what asks for no source
+
+pub aggregates_stay : (own more : ℕ) (e : Expr) → has_aggregate (shifted own more e) ≡ has_aggregate e
+unfolding has_aggregate
+aggregates_stay own more = fold_stays aggregate_level own more blind
+  where
+    blind : (x : Expr-F Bool) → aggregate_level (moved own more x) ≡ aggregate_level x
+    blind (Expr-F.Column s c) = refl
+    blind x = refl
+
+pub tables_stay : (own more : ℕ) (e : Expr) → exists_tables (shifted own more e) ≡ exists_tables e
+unfolding exists_tables
+tables_stay own more = fold_stays (λ level. own_table level ++ flat (operands level)) own more blind
+  where
+    blind : (x : Expr-F (List ℕ)) → own_table (moved own more x) ++ flat (operands (moved own more x)) ≡ own_table x ++ flat (operands x)
+    blind (Expr-F.Column s c) = refl
+    blind x = refl
+
+-- ---- places
+
+-- what stands in one of the first or last places stands there with more between them
+pub get_shifted : {A : Type 0} (own extra inner : List A) (source : ℕ) → slice_get (own ++ (extra ++ inner)) (shifted_place (length own) (length extra) source) ≡ slice_get (own ++ inner) source
+get_shifted {A = A} own extra inner source = by (nat_lt source (length own)) refl
+  where
+    by : (b : Bool) → nat_lt source (length own) ≡ b → slice_get (own ++ (extra ++ inner)) (if b then source else (source + length extra)) ≡ slice_get (own ++ inner) source
+    by true is = let less = ltb-true source (length own) is in get_before own (extra ++ inner) source less ∙ sym (get_before own inner source less)
+    by false is =
+        let above = ltb-false source (length own) is in
+        let k : ℕ = source - length own in
+        let here : source ≡ length own + k = omega (arith, above) in
+        let there : source + length extra ≡ length own + (length extra + k) = omega (arith, above) in
+        ap (slice_get (own ++ (extra ++ inner))) there ∙ get_after own (extra ++ inner) (length extra + k) ∙ get_after extra inner k ∙ sym (get_after own inner k) ∙ sym (ap (slice_get (own ++ inner)) here)
+
+pub between : {A : Type 0} (own extra inner : List A) (x : A) → (own ++ (extra ++ inner)) ++ x ∷ [] ≡ own ++ (extra ++ (inner ++ x ∷ []))
+between own extra inner x = append_assoc own (extra ++ inner) (x ∷ []) ∙ ap (λ xs. own ++ xs) (append_assoc extra inner (x ∷ []))

@@ -1,0 +1,14 @@
+pub mod Levels
+pub mod Places
+pub mod Wider
+pub mod Ordered
+pub mod Kept
+pub mod Joins
+pub mod Lefts
+pub mod Selected
+pub mod Conditions
+pub mod Options
+pub mod Forms
+pub mod Created
+pub mod Main
+pub mod Blocks
