@@ -462,7 +462,7 @@ selectin_fills mapped relation place owners owner all w after many stage waiting
     let graph : Graph = w.own.graph in
     let own = one_waiting (IsWaiting mapped relation place graph) owners owner (recursion_from_All (IsWaiting mapped relation place graph) owners waiting) among in
     let key : List Value = identity_key graph owner in
-    all_filled mapped relation place owner (related_rows mapped relation all key) w many.has.paired stage.graph.rooted (IsWaiting mapped relation place graph) (λ object ready. ready.made) (λ object ready. ready.unloaded) own own.has
+    all_filled mapped relation place owner (related_rows mapped relation all key) w many.has.paired stage.rooted (IsWaiting mapped relation place graph) (λ object ready. ready.made) (λ object ready. ready.unloaded) own own.has
     (λ batch rows ready inside answered.
     let keys : List (List Value) = keys_of (with_keys graph batch) in
     let near_answered : answer mapped.schema (bare w.store.tables) (class_rows mapped relation.target (has_one_of (owner_columns mapped relation) keys)) ≡ Ok rows =

@@ -1,5 +1,5 @@
 -- What loads leave of the identity map: who had a key has it still, and the key of a row that was taken has an object.
-use Rattle.std.proofs.Common.{◌≡◌, ℕ, zero, suc, ◌+◌, ◌<◌, ◌≤◌, ◌==◌, nat_lt, Bool, true, false, not, ◌&&◌, ◌||◌, cond, List, [], ◌∷◌, ◌++◌, length, get_or, map, Option, None, Some, Result, Ok, Err, if◌then◌else◌, is_none, is_some, refl, sym, ap, subst, ◌∙◌, arith}
+use Rattle.std.proofs.Common.{◌≡◌, ◌⊎◌, inl, inr, ℕ, zero, suc, ◌+◌, ◌<◌, ◌≤◌, ◌==◌, nat_lt, Bool, true, false, ◌&&◌, ◌||◌, cond, List, [], ◌∷◌, ◌++◌, length, get_or, map, Option, None, Some, Result, Ok, Err, if◌then◌else◌, is_none, is_some, refl, sym, ap, subst, ◌∙◌, arith}
 use Rattle.std.specs.Prelude.{slice_get, slice_set}
 use Rattle.std.specs.List.{enumerate_from, list_any, position, position_or_len, zip}
 use Rattle.std.specs.Option.{option_and_then, option_map}
@@ -15,16 +15,18 @@ use Rattle.base_core.specs.declared.refusal.Refusal.{Refusal}
 use Rattle.base_core.specs.declared.refusal.Refusal.TheVariants.{LimitReached}
 use Rattle.base_core.specs.declared.value.Value.{Value}
 use Rattle.schema_core.specs.Tables.{same_values}
-use Rattle.class_mapping.specs.Mapped.{IsClass, Mapped, root_of}
+use Rattle.class_mapping.specs.Mapped.{IsClass, Mapped, relations_of, root_of}
 use Rattle.class_mapping.specs.Paired.{is_at_or_under}
 use Rattle.class_mapping.proofs.Having.{place_in_map}
 use Rattle.mapping_laws.specs.Hierarchies.{HasHierarchies}
 use Rattle.programs.specs.Programs.{each, give}
 use Rattle.object_arena.specs.declared.object.Cell.{Cell}
 use Rattle.object_arena.specs.declared.object.Link.{Link}
+use Rattle.object_arena.specs.declared.object.Link.TheVariants.{Unloaded}
 use Rattle.object_arena.specs.declared.object.Object.{Object}
 use Rattle.object_arena.specs.Graph.{Graph, IsObject, no_object, object_at, object_limit, place_of, with_link, with_object}
 use Rattle.object_arena.specs.Identity.{find_identity, holds, id_of_place}
+use Rattle.object_arena.proofs.GraphLemmas.{same_equiv}
 use Rattle.base_core.specs.declared.ids.RelNo.{RelNo}
 use Rattle.relations.specs.Mirror.{is_of}
 use Rattle.load_filling.specs.Filled.{Found, cell_read, filled_cell, filled_object, value_found, with_filled}
@@ -35,8 +37,8 @@ use Rattle.load_collections.specs.Collections.{take_next, take_rows}
 use Rattle.load_targets.specs.ForeignKeys.{value_of}
 use Rattle.join_laws.proofs.Ranks.{same_equal}
 use Rattle.strategies.specs.Filled.{Goes}
-use Rattle.strategies.proofs.Goes.{given, parted, row_taken}
-use Rattle.strategies.proofs.Standing.{found_stands, itself, named_root, named_under, row_object_taken, set_related}
+use Rattle.strategies.proofs.Goes.{given, parted, row_taken, same_answer}
+use Rattle.strategies.proofs.Standing.{found_stands, itself, named_root, named_under, set_related}
 
 -- ---- places among tests
 
@@ -250,6 +252,39 @@ module _ (mapped : Mapped) (class : ClassId) (first second : List Value → Bool
     of = λ key object none e. of_then key object (find_identity b root key) none refl e;
   }
 
+-- ---- what is found and made
+
+-- an object as a load makes it: no link of it is loaded, and nothing is kept for one
+abbrev pub IsUntouched : Mapped → Object → Type 0
+IsUntouched mapped object = object.links ≡ map (λ relation. Unloaded [] []) (relations_of mapped object.class)
+
+-- the object is found under the key; what is found of the objects that there were was found before, and the others are as a load
+-- makes them
+pub record Finds (mapped : Mapped) (root : ClassId) (key : List Value) (object : ObjId) (old new : Graph) : Type 0 where
+  pub found : find_identity new root key ≡ Some object
+  pub before : (other_root : ClassId) (other_key : List Value) (other : ObjId) → IsObject old other → find_identity new other_root other_key ≡ Some other → find_identity old other_root other_key ≡ Some other
+  pub made : (other : ObjId) → IsObject new other → IsObject old other ⊎ IsUntouched mapped (object_at new other)
+
+finds_filled : (mapped : Mapped) (root : ClassId) (key : List Value) (object : ObjId) (old new : Graph) (filled_one : ObjId) (values : Found) → Finds mapped root key object old new → Finds mapped root key object old (with_filled new filled_one values)
+unfolding with_filled
+finds_filled mapped root key object old new filled_one values finds =
+    let record_of : Object = filled_object values (object_at new filled_one) in
+    let same : Same new (with_filled new filled_one values) = same_filled new filled_one values in
+    record {
+      found = same.found root key ∙ finds.found;
+      before = λ other_root other_key other there e. finds.before other_root other_key other there (sym (same.found other_root other_key) ∙ e);
+      made = λ other there.
+          let long = same.long in
+          let links : (object_at (with_filled new filled_one values) other).links ≡ (object_at new other).links =
+          set_related (λ (x y : Object). y.links ≡ x.links) new.objects (place_of filled_one) (place_of other) record_of no_object (λ x. refl) refl in
+          by other links (same.classes other) (finds.made other (there.0, omega (arith, long, there.1)));
+    }
+  where
+    by : (other : ObjId) → (object_at (with_filled new filled_one values) other).links ≡ (object_at new other).links → (object_at (with_filled new filled_one values) other).class ≡ (object_at new other).class
+        → IsObject old other ⊎ IsUntouched mapped (object_at new other) → IsObject old other ⊎ IsUntouched mapped (object_at (with_filled new filled_one values) other)
+    by other links class (inl was) = inl was
+    by other links class (inr untouched) = inr (links ∙ untouched ∙ ap (λ (own : ClassId). map (λ relation. Unloaded [] []) (relations_of mapped own)) (sym class))
+
 -- ---- a row that is taken
 
 found_place : (o : Option ℕ) (object : ObjId) → option_map id_of_place o ≡ Some object → (place : ℕ) × (o ≡ Some place) × (id_of_place place ≡ object)
@@ -293,6 +328,9 @@ module _ (mapped : Mapped) (class : ClassId) (row : List Value) (old : Graph) (h
     of = λ key other none e. absurd cc;
   }
 
+  finds_held : (object : ObjId) → find_identity old row_root own_key ≡ Some object → Finds mapped row_root own_key object old old
+  finds_held object is = record { found = is; before = λ root key other there e. e; made = λ other there. inl there }
+
   -- one that is made
   module _ (named : ClassId) (names : class_named mapped class row ≡ Some named) where
     abbrev new : Object
@@ -318,13 +356,21 @@ module _ (mapped : Mapped) (class : ClassId) (row : List Value) (old : Graph) (h
         no_holder true b e = e
         no_holder false b e = refl
 
+    marks_long : (root : ClassId) (key : List Value) → length (marks root key old) ≡ length old.objects
+    marks_long root key =
+        let many : length (marks root key old) ≡ length (zip old.objects old.roots) = length-map (zip old.objects old.roots) (holds root key) in
+        let paired = length-zip old.objects old.roots in
+        omega (arith, many, paired, rooted)
+
     -- what is found under a key that nobody had
+    found_after : (root : ClassId) (key : List Value) → find_identity old root key ≡ None → find_identity after root key ≡ option_map id_of_place (cond (holds root key (new, root_of mapped named)) (Some (length (marks root key old))) None)
+    found_after root key none =
+        found_by_marks root key after
+        ∙ ap (λ (tests : List Bool). option_map id_of_place (seat tests)) (marks_are root key)
+        ∙ ap (option_map id_of_place) (seat_last (marks root key old) (holds root key (new, root_of mapped named)) (no_place (seat (marks root key old)) (sym (found_by_marks root key old) ∙ none)))
+
     found_new : (key : List Value) → find_identity old row_root key ≡ None → find_identity after row_root key ≡ option_map id_of_place (cond (asked key) (Some (length (marks row_root key old))) None)
-    found_new key none =
-        found_by_marks row_root key after
-        ∙ ap (λ (tests : List Bool). option_map id_of_place (seat tests)) (marks_are row_root key)
-        ∙ ap (option_map id_of_place) (seat_last (marks row_root key old) (holds row_root key (new, root_of mapped named)) (no_place (seat (marks row_root key old)) (sym (found_by_marks row_root key old) ∙ none)))
-        ∙ ap (λ (b : Bool). option_map id_of_place (cond b (Some (length (marks row_root key old))) None)) (new_holds key (asked key) refl)
+    found_new key none = found_after row_root key none ∙ ap (λ (b : Bool). option_map id_of_place (cond b (Some (length (marks row_root key old))) None)) (new_holds key (asked key) refl)
 
     kept : (root : ClassId) (key : List Value) (object : ObjId) → find_identity old root key ≡ Some object → find_identity after root key ≡ Some object
     kept root key object e =
@@ -339,10 +385,9 @@ module _ (mapped : Mapped) (class : ClassId) (row : List Value) (old : Graph) (h
 
     at_new : (key : List Value) (object : ObjId) → id_of_place (length (marks row_root key old)) ≡ object → object_at after object ≡ new
     at_new key object is =
-        let many : length (marks row_root key old) ≡ length (zip old.objects old.roots) = length-map (zip old.objects old.roots) (holds row_root key) in
-        let paired = length-zip old.objects old.roots in
+        let long = marks_long row_root key in
         let number : length (marks row_root key old) + 1 ≡ object.0 = ap (λ (o : ObjId). o.0) is in
-        let place : place_of object ≡ length old.objects = omega (arith, many, paired, number, rooted) in
+        let place : place_of object ≡ length old.objects = omega (arith, long, number) in
         ap (λ (n : ℕ). get_or (old.objects ++ new ∷ []) n no_object) place ∙ get_or-append_seam old.objects new [] no_object
 
     gains_loaded : Gains mapped class asked old after
@@ -358,8 +403,53 @@ module _ (mapped : Mapped) (class : ClassId) (row : List Value) (old : Graph) (h
           ∙ named_under mapped class named row has declared names;
     }
 
+    made_by : (other : ObjId) (b : Bool) → nat_lt (place_of other) (length old.objects) ≡ b → IsObject after other → IsObject old other ⊎ IsUntouched mapped (object_at after other)
+    made_by other true is there = inl (there.0, let less = ltb-true (place_of other) (length old.objects) is in omega (arith, there.0, less))
+    made_by other false is there =
+        let more = long_is in
+        let past = ltb-false (place_of other) (length old.objects) is in
+        let place : place_of other ≡ length old.objects = omega (arith, there.0, there.1, more, past) in
+        let at : object_at after other ≡ new = ap (λ (n : ℕ). get_or (old.objects ++ new ∷ []) n no_object) place ∙ get_or-append_seam old.objects new [] no_object in
+        inr (subst (IsUntouched mapped) (sym at) refl)
+
+    before_by : (root : ClassId) (key : List Value) (other : ObjId) (held : Option ObjId) → IsObject old other → find_identity old root key ≡ held → find_identity after root key ≡ Some other → held ≡ Some other
+    before_by root key other (Some one) there is e = sym (kept root key one is) ∙ e
+    before_by root key other None there is e =
+        let long = marks_long root key in
+        let number : length (marks root key old) + 1 ≡ other.0 =
+        ap (λ (o : ObjId). o.0) (made_place (holds root key (new, root_of mapped named)) (length (marks root key old)) other (sym (found_after root key is) ∙ e)) in
+        absurd (omega (arith, long, number, there.1))
+
+    finds_loaded : find_identity old row_root own_key ≡ None → Finds mapped row_root own_key (record { 0 = length old.objects + 1 }) old after
+    finds_loaded none = record {
+      found =
+          found_new own_key none ∙ ap (λ (b : Bool). option_map id_of_place (cond b (Some (length (marks row_root own_key old))) None)) (same_equiv.refl own_key)
+          ∙ ap (λ (n : ℕ). Some (id_of_place n)) (marks_long row_root own_key);
+      before = λ root key other there e. before_by root key other (find_identity old root key) there refl e;
+      made = λ other there. made_by other (nat_lt (place_of other) (length old.objects)) refl there;
+    }
+
   same_pair : {A B : Type 0} (x y : A × B) → ◌≡◌ {A = Result (A × B) Refusal} (Ok x) (Ok y) → x ≡ y
   same_pair x y e = cc
+
+  finds_made : (named : ClassId) (found : ObjId × Graph) (b : Bool) → class_named mapped class row ≡ Some named → find_identity old row_root own_key ≡ None
+      → (if b then Ok (record { 0 = length old.objects + 1 }, with_loaded mapped named own_key old) else Err (LimitReached Objects)) ≡ Ok found → Finds mapped row_root own_key found.0 old found.1
+  finds_made named found false names none e = absurd cc
+  finds_made named found true names none e =
+      subst (λ (one : ObjId × Graph). Finds mapped row_root own_key one.0 old one.1) (same_pair (record { 0 = length old.objects + 1 }, with_loaded mapped named own_key old) found e) (finds_loaded named names none)
+
+  finds_named : (named : Option ClassId) (found : ObjId × Graph) → class_named mapped class row ≡ named → find_identity old row_root own_key ≡ None → loaded_as mapped own_key old named ≡ Ok found → Finds mapped row_root own_key found.0 old found.1
+  unfolding load
+  finds_named None found names none e = absurd cc
+  finds_named (Some named) found names none e = finds_made named found (nat_lt (length old.objects) object_limit) names none e
+
+  finds_found : (holder : Option ObjId) (found : ObjId × Graph) → find_identity old row_root own_key ≡ holder → found_or_loaded mapped class row old holder ≡ Ok found → Finds mapped row_root own_key found.0 old found.1
+  finds_found None found is e = finds_named (class_named mapped class row) found refl is e
+  finds_found (Some object) found is e = subst (λ (one : ObjId × Graph). Finds mapped row_root own_key one.0 old one.1) (same_pair (object, old) found e) (finds_held object is)
+
+  finds_object : (found : ObjId × Graph) → row_object mapped class row old ≡ Ok found → Finds mapped row_root own_key found.0 old found.1
+  unfolding row_object
+  finds_object found e = finds_found (find_identity old row_root own_key) found refl e
 
   gains_made : (named : ClassId) (found : ObjId × Graph) (b : Bool) → class_named mapped class row ≡ Some named
       → (if b then Ok (record { 0 = length old.objects + 1 }, with_loaded mapped named own_key old) else Err (LimitReached Objects)) ≡ Ok found → Gains mapped class asked old found.1
@@ -395,6 +485,23 @@ module _ (mapped : Mapped) (class : ClassId) (has : HasHierarchies mapped) (decl
       → Gains mapped class (same_values (row_key mapped class row)) own.graph now.graph
   unfolding take_row
   row_gains row own now object rooted g = taken_by row own now object (row_object mapped class row own.graph) rooted refl (record { answer = g.answer; leaves = g.leaves })
+
+  found_by : (row : List Value) (own now : Loading) (object : ObjId) (r : Result (ObjId × Graph) Refusal) → length own.graph.roots ≡ length own.graph.objects → row_object mapped class row own.graph ≡ r
+      → Goes (λ (start : Loading). taken_as mapped class row start r) own object now → Finds mapped (root_of mapped class) (row_key mapped class row) object own.graph now.graph
+  unfolding filled
+  found_by row own now object (Err e) rooted is g = absurd (let no = g.answer in cc)
+  found_by row own now object (Ok found) rooted is g =
+      let values : Found = found_in_row mapped class row (object_at found.1 found.0).class in
+      let same : found.0 ≡ object = same_answer found.0 object g.answer in
+      subst (λ (graph : Graph). Finds mapped (root_of mapped class) (row_key mapped class row) object own.graph graph) (ap (λ (one : Loading). one.graph) g.leaves)
+      (subst (λ (one : ObjId). Finds mapped (root_of mapped class) (row_key mapped class row) one own.graph (with_filled found.1 found.0 values)) same
+      (finds_filled mapped (root_of mapped class) (row_key mapped class row) found.0 own.graph found.1 found.0 values (finds_object mapped class row own.graph has declared rooted found is)))
+
+  -- the identity map has the object of a row that is taken under the row's key
+  pub row_finds : (row : List Value) (own now : Loading) (object : ObjId) → length own.graph.roots ≡ length own.graph.objects → Goes (take_row mapped class row) own object now
+      → Finds mapped (root_of mapped class) (row_key mapped class row) object own.graph now.graph
+  unfolding take_row
+  row_finds row own now object rooted g = found_by row own now object (row_object mapped class row own.graph) rooted refl (record { answer = g.answer; leaves = g.leaves })
 
   -- one of these rows has the key
   abbrev pub has_key_of : List (List Value) → List Value → Bool

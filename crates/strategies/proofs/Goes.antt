@@ -41,7 +41,7 @@ pub parted : {W A B : Type 0} (m : W → Run W A) (next : A → W → Run W B) (
 unfolding ◌>>=◌
 parted m next w b v g = parted_by m next w b v (m w).after (m w).events (m w).answer refl refl g.answer g.leaves
 
-same_answer : {A : Type 0} (a b : A) → ◌≡◌ {A = Result A Refusal} (Ok a) (Ok b) → a ≡ b
+pub same_answer : {A : Type 0} (a b : A) → ◌≡◌ {A = Result A Refusal} (Ok a) (Ok b) → a ≡ b
 same_answer a b e = cc
 
 pub given : {W A : Type 0} (a b : A) (w v : W) → Goes (give a) w b v → (a ≡ b) × (w ≡ v)

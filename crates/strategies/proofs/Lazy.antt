@@ -133,7 +133,7 @@ pub lazy_fills : (mapped : Mapped) (relation : Relation) (place : RelNo) (owner 
 unfolding members_select
 lazy_fills mapped relation place owner all w after many stage waiting g =
     let key : List Value = identity_key w.own.graph owner in
-    lazy_filled mapped relation place owner (related_rows mapped relation all key) w after many.has.paired stage.graph.rooted waiting.made waiting.has waiting.unloaded
+    lazy_filled mapped relation place owner (related_rows mapped relation all key) w after many.has.paired stage.rooted waiting.made waiting.has waiting.unloaded
     (λ rows answered.
     ap (λ (rs : List Row). keys_in_order (map (row_key mapped relation.target) rs))
     (rows_of_key mapped relation.target (bare w.store.tables) (owner_columns mapped relation) (key_of_owner mapped relation) key all rows (tells_owners mapped relation many) waiting.keyed stage.rows

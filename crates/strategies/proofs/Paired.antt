@@ -1,9 +1,7 @@
 -- Lazy and select-in loads fill collections over a secondary table with the objects of the rows to which the owner's pairs lead.
-use Rattle.std.proofs.Common.{◌≡◌, ℕ, true, List, [], ◌∷◌, filter, map, Option, Some, Ok, refl, sym, ap, subst, ◌∙◌}
-use Rattle.std.specs.Prelude.{drop, slice_get}
-use Rattle.std.specs.List.{All, AllByRecursion, list_any, range_with_len}
+use Rattle.std.proofs.Common.{◌≡◌, true, List, [], ◌∷◌, map, Option, Some, refl, sym, ap, ◌∙◌}
+use Rattle.std.specs.List.{All, AllByRecursion, range_with_len}
 use Rattle.std.proofs.lemmas.List.Elements.{All-from_recursion, recursion_from_All}
-use Rattle.base_core.specs.declared.ids.AttrNo.{AttrNo}
 use Rattle.base_core.specs.declared.ids.ObjId.{ObjId}
 use Rattle.base_core.specs.declared.ids.RelNo.{RelNo}
 use Rattle.base_core.specs.declared.value.Value.{Value}
@@ -38,7 +36,7 @@ lazy_fills_pairs mapped relation far place owner all w after stage holding g =
     let tables : Tables = bare w.store.tables in
     let key : List Value = identity_key w.own.graph owner in
     let wanted : List Row = paired_rows mapped relation far all (rows_in tables relation.foreign.0.0) key in
-    lazy_filled mapped relation place owner wanted w after stage.paired.has.paired stage.graph.rooted holding.made holding.has holding.unloaded
+    lazy_filled mapped relation place owner wanted w after stage.paired.has.paired stage.rooted holding.made holding.has holding.unloaded
     (λ rows answered. same_keys_in_order (row_key mapped relation.target) rows wanted (members_paired mapped relation far tables all stage.paired key rows holding.keyed answered))
     g
 
@@ -66,7 +64,7 @@ selectin_fills_pairs mapped relation far place owners owner all w after stage ho
     let key : List Value = identity_key graph owner in
     let wanted : List Row = paired_rows mapped relation far all (rows_in tables relation.foreign.0.0) key in
     let own = one_waiting (IsHolding mapped relation place graph) owners owner (recursion_from_All (IsHolding mapped relation place graph) owners holding) among in
-    all_filled mapped relation place owner wanted w stage.paired.has.paired stage.graph.rooted (IsHolding mapped relation place graph) (λ object ready. ready.made) (λ object ready. ready.unloaded) own own.has
+    all_filled mapped relation place owner wanted w stage.paired.has.paired stage.rooted (IsHolding mapped relation place graph) (λ object ready. ready.made) (λ object ready. ready.unloaded) own own.has
     (λ batch rows ready inside answered.
     let keys : List (List Value) = keys_of (with_keys graph batch) in
     let keyed : All (λ one. is_key (root_spec mapped relation.class) one ≡ true) keys =

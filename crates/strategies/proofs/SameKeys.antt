@@ -1,7 +1,6 @@
 -- Keys in their order, each once, are the same of lists that have the same keys, in whatever order and however often.
-use Rattle.std.proofs.Common.{◌≡◌, ◌⊎◌, inl, inr, true, false, Bool, List, [], ◌∷◌, fold, map, refl, sym, ap, subst, ◌∙◌}
-use Rattle.std.specs.BTreeMap.{insert_entry}
-use Rattle.std.specs.List.{AllByRecursion, list_any}
+use Rattle.std.proofs.Common.{◌≡◌, ◌⊎◌, inl, inr, List, [], ◌∷◌, fold, map, refl, sym, ap, subst, ◌∙◌}
+use Rattle.std.specs.List.{AllByRecursion}
 use Rattle.std.specs.declared.cmp.Ordering.{Ordering}
 use Rattle.std.specs.declared.cmp.Ordering.TheVariants.{Less, Equal, Greater}
 use Rattle.std.specs.Ordering.{match_ordering, ordering_reverse}
@@ -160,7 +159,7 @@ same_in_order one other there back =
     of keys k (inr h) = absurd h
 
 -- lists of the same rows have the same keys
-row_within : (key : Row → Key) (one other : List Row) → HaveSame one other → (k : Key) → Has (map key one) k → Has (map key other) k
+pub row_within : (key : Row → Key) (one other : List Row) → HaveSame one other → (k : Key) → Has (map key one) k → Has (map key other) k
 row_within key one other same k there =
     let from = from_map key one k there in
     let found = some_of (same_values from.0) other (sym (same from.0) ∙ any_has (same_values from.0) one from.0 from.1 (same_equiv.refl from.0)) in

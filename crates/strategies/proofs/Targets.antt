@@ -1,7 +1,6 @@
 -- A lazy load leads a many-to-one link to what its owner's foreign key says.
-use Rattle.std.proofs.Common.{◌≡◌, ◌<◌, Bool, true, false, not, ◌&&◌, ◌||◌, List, [], ◌∷◌, filter, length, map, Option, None, Some, Ok, if◌then◌else◌, is_some, refl, sym, ap, subst, ◌∙◌, arith}
+use Rattle.std.proofs.Common.{◌≡◌, ◌<◌, Bool, true, false, not, ◌&&◌, ◌||◌, List, [], ◌∷◌, filter, length, Option, None, Some, if◌then◌else◌, is_some, refl, sym, ap, subst, ◌∙◌}
 use Rattle.std.specs.List.{list_any}
-use Rattle.std.specs.Option.{option_and_then, option_map}
 use Rattle.base_core.specs.declared.ids.ClassId.{ClassId}
 use Rattle.base_core.specs.declared.ids.ObjId.{ObjId}
 use Rattle.base_core.specs.declared.ids.RelNo.{RelNo}
@@ -25,7 +24,6 @@ use Rattle.load_columns.specs.Placing.{from_root, root_key}
 use Rattle.load_selects.specs.Selects.{class_rows, key_select}
 use Rattle.load_filling.specs.Rows.{row_key}
 use Rattle.load_rows.specs.Loading.{Loading, take_row}
-use Rattle.load_rows.specs.Reading.{identity_key}
 use Rattle.load_links.specs.Links.{end_filled, end_of, link_at, with_loaded}
 use Rattle.load_calls.specs.Reading.{World, read}
 use Rattle.load_targets.specs.ForeignKeys.{foreign_key, is_key_expired}
@@ -124,7 +122,7 @@ module _ (mapped : Mapped) (relation : Relation) (all : List Row) (w : World) (o
   first_taken (row ∷ rows) between v end are same g =
       let two = parted (take_row mapped class row) (λ (object : ObjId). give (Some object)) between.own end v.own g in
       let done = given (Some two.value) end two.between v.own two.second in
-      let rooted : length between.own.graph.roots ≡ length between.own.graph.objects = subst (λ (h : Graph). length h.roots ≡ length h.objects) (sym same) stage.graph.rooted in
+      let rooted : length between.own.graph.roots ≡ length between.own.graph.objects = subst (λ (h : Graph). length h.roots ≡ length h.objects) (sym same) stage.rooted in
       let taken = row_taken mapped class one.has.paired row between.own two.between two.value rooted two.first in
       let passes = first_passes (λ other. same_values (row_key mapped class other) key) all row rows (sym are) in
       let graph : two.between.graph ≡ v.own.graph = ap (λ (own : Loading). own.graph) done.1 in
@@ -154,7 +152,7 @@ module _ (mapped : Mapped) (relation : Relation) (all : List Row) (w : World) (o
   found_by v end None e is g = key_loaded v end is g
   found_by v end (Some object) e is g =
       let done = given (if_of w.own.graph mapped class object) end w v g in
-      let fits = fitting_end mapped class w.own.graph key object (found_stands w.own.graph (root_of mapped class) key object stage.graph.rooted e) in
+      let fits = fitting_end mapped class w.own.graph key object (found_stands w.own.graph (root_of mapped class) key object stage.rooted e) in
       subst (λ (u : World). Found (is_of w.own.graph mapped class object) u end) done.1
       (subst (λ (o : Option ObjId). Found (is_of w.own.graph mapped class object) w o) done.0 (record { some = fits.0; stands = fits.1; keeps = keeps_same w.own.graph }))
 

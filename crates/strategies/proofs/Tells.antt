@@ -17,8 +17,6 @@ use Rattle.schema_core.specs.Catalog.{same_name, spec_of}
 use Rattle.schema_core.specs.Declaration.{some_two}
 use Rattle.schema_core.specs.Tables.{value_or_null}
 use Rattle.schema_core.proofs.Names.{name_itself, same_names}
-use Rattle.sql_semantics.specs.Eval.{Row}
-use Rattle.sql_semantics.specs.Rows.{Frame}
 use Rattle.class_types.specs.declared.mapped.Attribute.{Attribute}
 use Rattle.class_types.specs.declared.mapped.Relation.{Relation}
 use Rattle.class_layouts.specs.Columns.{columns_in, table_attributes, tables_on}
@@ -40,7 +38,7 @@ use Rattle.load_columns.specs.Placing.{attribute_column, attribute_columns, colu
 use Rattle.collection_selects.specs.Collections.{owner_columns}
 use Rattle.load_filling.specs.Rows.{value_in}
 use Rattle.load_targets.specs.ForeignKeys.{attr_named, foreign_attrs}
-use Rattle.answer_laws.specs.Answers.{Reads, value_at, values_at}
+use Rattle.answer_laws.specs.Answers.{Reads, value_at}
 use Rattle.strategies.specs.Filled.{IsOneToMany, key_of_owner}
 
 -- ---- places in lists
@@ -109,30 +107,31 @@ module _ (mapped : Mapped) (class : ClassId) (table : TableId) (apart : some_two
       ap (λ (x : Attribute). x.column) (sym of.is) ∙ ap (λ (o : Option ℕ). let c : ColumnNo = record { 0 = unwrap_or o 0 } in c) (sym only)
 
   -- the value at the attribute of a column
-  one_value : (frame : Frame) (row : Row) (name : List ℕ) → has_attribute attributes table name ≡ true
-      → value_in (values_at frame (attribute_columns mapped class (from_root 0)) row) (attr_named attributes table name)
-      ≡ value_at frame row (column_at (place_of_table mapped class (from_root 0) table) (column_named mapped table name))
-  one_value frame row name h =
+  one_value : (v : SourceColumn → Value) (name : List ℕ) → has_attribute attributes table name ≡ true
+      → value_in (map v (attribute_columns mapped class (from_root 0))) (attr_named attributes table name)
+      ≡ v (column_at (place_of_table mapped class (from_root 0) table) (column_named mapped table name))
+  one_value v name h =
       let found = found_of (is_column table name) attributes h in
       let a : Attribute = found.0 in
       let at = place_there (is_column table name) attributes a found.1 in
       let parts = and_parts (a.table.0 == table.0) (same_name a.name name) found.3 in
       let same : a.table ≡ table = ap (λ (n : ℕ). let one : TableId = record { 0 = n } in one) (eqb-true a.table.0 table.0 parts.0) in
       let shown : Attribute → SourceColumn = attribute_column mapped class (from_root 0) in
-      let values : List Value = values_at frame (attribute_columns mapped class (from_root 0)) row in
+      let values : List Value = map v (attribute_columns mapped class (from_root 0)) in
       ap (λ (o : Option ℕ). value_or_null (slice_get values (unwrap_or o (length attributes)))) at.1
-      ∙ ap value_or_null (slice_get-map (value_at frame row) (map shown attributes) at.0 ∙ ap (option_map (value_at frame row)) (slice_get-map shown attributes at.0 ∙ ap (option_map shown) at.2))
-      ∙ ap (λ (t : TableId). value_at frame row (column_at (place_of_table mapped class (from_root 0) t) a.column)) same
-      ∙ ap (λ (c : ColumnNo). value_at frame row (column_at (place_of_table mapped class (from_root 0) table) c)) (column_is name a found.2 same parts.1)
+      ∙ ap value_or_null (slice_get-map v (map shown attributes) at.0 ∙ ap (option_map v) (slice_get-map shown attributes at.0 ∙ ap (option_map shown) at.2))
+      ∙ ap (λ (t : TableId). v (column_at (place_of_table mapped class (from_root 0) t) a.column)) same
+      ∙ ap (λ (c : ColumnNo). v (column_at (place_of_table mapped class (from_root 0) table) c)) (column_is name a found.2 same parts.1)
 
-  each_value : (frame : Frame) (row : Row) (names : List (List ℕ)) → list_all (has_attribute attributes table) names ≡ true
-      → map (value_in (values_at frame (attribute_columns mapped class (from_root 0)) row)) (map (attr_named attributes table) names)
-      ≡ map (value_at frame row) (columns_at (place_of_table mapped class (from_root 0) table) (map (column_named mapped table) names))
-  each_value frame row [] h = refl
-  each_value frame row (name ∷ names) h =
+  -- those at the attributes of several
+  pub each_value : (v : SourceColumn → Value) (names : List (List ℕ)) → list_all (has_attribute attributes table) names ≡ true
+      → map (value_in (map v (attribute_columns mapped class (from_root 0)))) (map (attr_named attributes table) names)
+      ≡ map v (columns_at (place_of_table mapped class (from_root 0) table) (map (column_named mapped table) names))
+  each_value v [] h = refl
+  each_value v (name ∷ names) h =
       let parts = and_parts (has_attribute attributes table name) (list_all (has_attribute attributes table) names) h in
-      ap (λ (v : Value). v ∷ map (value_in (values_at frame (attribute_columns mapped class (from_root 0)) row)) (map (attr_named attributes table) names)) (one_value frame row name parts.0)
-      ∙ ap (λ (vs : List Value). value_at frame row (column_at (place_of_table mapped class (from_root 0) table) (column_named mapped table name)) ∷ vs) (each_value frame row names parts.1)
+      ap (λ (x : Value). x ∷ map (value_in (map v (attribute_columns mapped class (from_root 0)))) (map (attr_named attributes table) names)) (one_value v name parts.0)
+      ∙ ap (λ (vs : List Value). v (column_at (place_of_table mapped class (from_root 0) table) (column_named mapped table name)) ∷ vs) (each_value v names parts.1)
 
 -- a row of the target of a one-to-many relationship tells the key of its owner
 pub tells_owners : (mapped : Mapped) (relation : Relation) → IsOneToMany mapped relation → Reads (attribute_columns mapped relation.target (from_root 0)) (owner_columns mapped relation) (key_of_owner mapped relation)
@@ -150,7 +149,7 @@ tells_owners mapped relation many =
     let names : List (List ℕ) = names_of tables key in
     let place : ℕ = place_of_table mapped relation.target (from_root 0) key.0 in
     record {
-      same = λ frame row. each_value mapped relation.target key.0 (table_faultless mapped key.0 many.has declared).apart frame row names first.1;
+      same = λ frame row. each_value mapped relation.target key.0 (table_faultless mapped key.0 many.has declared).apart (value_at frame row) names first.1;
       long = λ row.
           length-map (map (attr_named (attributes_of mapped relation.target) key.0) names) (value_in row) ∙ length-map names (attr_named (attributes_of mapped relation.target) key.0)
           ∙ sym (length-map (foreign_numbers mapped key) (column_at place) ∙ length-map names (column_named mapped key.0));

@@ -4,7 +4,7 @@ use Rattle.std.specs.Prelude.{slice_index_or, slice_set}
 use Rattle.std.specs.List.{All, AllByRecursion, flat_map, list_any}
 use Rattle.std.specs.Option.{option_and_then, option_map}
 use Rattle.std.proofs.lemmas.Bool.{and_parts, eqb-false, eqb-true}
-use Rattle.std.proofs.lemmas.List.{get_or-set_other, length-set}
+use Rattle.std.proofs.lemmas.List.{get_or-set_other}
 use Rattle.std.proofs.lemmas.List.Folds.{list_any-append}
 use Rattle.std.proofs.lemmas.List.Elements.{All-drop, All-from_recursion, All-take, recursion_from_All}
 use Rattle.base_core.specs.declared.ids.AttrNo.{AttrNo}
@@ -27,7 +27,7 @@ use Rattle.programs.specs.Beside.{on_own}
 use Rattle.programs.specs.Programs.{◌>>=◌, each, give}
 use Rattle.programs.specs.Store.{Store}
 use Rattle.object_arena.specs.declared.object.Link.{Link}
-use Rattle.object_arena.specs.declared.object.Link.TheVariants.{Unset, Unloaded, One, Many}
+use Rattle.object_arena.specs.declared.object.Link.TheVariants.{Unset}
 use Rattle.object_arena.specs.declared.object.Object.{Object}
 use Rattle.object_arena.specs.Graph.{Graph, IsLink, IsObject, is_among, no_object, object_at, place_of, with_link}
 use Rattle.object_arena.specs.Identity.{find_identity}
@@ -46,12 +46,12 @@ use Rattle.load_collections.specs.Collections.{take_rows}
 use Rattle.load_targets.specs.ForeignKeys.{foreign_attrs, foreign_key, is_key_expired, value_at, value_of}
 use Rattle.load_targets.specs.Targets.{if_of, load_target}
 use Rattle.load_batches.specs.Batches.{batch_at, batch_starts, is_unloaded}
-use Rattle.load_ends.specs.Ends.{end_known, fill_owner, fill_owners, if_unloaded, is_wanted, key_of, known_end, load_all, load_each, load_ends, load_from, load_keys, load_unloaded, take_targets, unloaded, wanted_keys, with_first, with_key_of, with_wanted}
+use Rattle.load_ends.specs.Ends.{end_known, fill_owner, fill_owners, if_unloaded, is_wanted, key_of, known_end, load_each, load_ends, load_from, load_keys, load_unloaded, take_targets, unloaded, wanted_keys, with_first, with_key_of}
 use Rattle.answer_laws.specs.Answers.{IsKeyOf}
 use Rattle.answer_laws.proofs.Filters.{rows_of_keys}
 use Rattle.strategies.specs.Filled.{Goes, Stage}
 use Rattle.strategies.specs.Ends.{IsLed, IsManyToOne, IsPointing, LeadAlike, LeadsToTarget, StandsIfAny, has_row, leads_by, leads_to_one}
-use Rattle.strategies.specs.Standing.{Keeps, Stands, Stays}
+use Rattle.strategies.specs.Standing.{Keeps, Stays}
 use Rattle.strategies.proofs.Batch.{held_loaded, one_waiting, or_assoc, or_true, some_in_a_batch, stays_loaded}
 use Rattle.strategies.proofs.Finding.{Gains, HoldsOn, Same, gains_none, gains_then, has_key_of, rows_gain, same_link, same_same, same_then}
 use Rattle.strategies.proofs.Goes.{by_own_goes, change_to, given, on_own_goes, parted, read_goes, rows_taken}
@@ -73,7 +73,7 @@ among_more keys key other true there = by (list_any (same_values other) keys)
     by true = there
     by false = list_any-append (same_values key) keys (other ∷ []) ∙ ap (λ (b : Bool). b || list_any (same_values key) (other ∷ [])) there
 
-among_first : (keys : List (List Value)) (key : List Value) → list_any (same_values key) (with_first keys key) ≡ true
+pub among_first : (keys : List (List Value)) (key : List Value) → list_any (same_values key) (with_first keys key) ≡ true
 among_first keys key = by (list_any (same_values key) keys) refl
   where
     by : (b : Bool) → list_any (same_values key) keys ≡ b → list_any (same_values key) (if b then keys else (keys ++ key ∷ [])) ≡ true
@@ -146,7 +146,7 @@ any_kept t p (x ∷ xs) h = by (p x) h (any_kept t p xs)
         here true e = refl
         here false e = more e
 
-any_same : {A : Type 0} (t p : A → Bool) (xs : List A) → ((x : A) → t x ≡ true → p x ≡ true) → list_any t (filter p xs) ≡ list_any t xs
+pub any_same : {A : Type 0} (t p : A → Bool) (xs : List A) → ((x : A) → t x ≡ true → p x ≡ true) → list_any t (filter p xs) ≡ list_any t xs
 any_same t p [] so = refl
 any_same t p (x ∷ xs) so = by (t x) (p x) refl refl (any_same t p xs so)
   where
@@ -197,7 +197,7 @@ module _ (mapped : Mapped) (relation : Relation) (all : List Row) (key : List Va
   At sure u = Between mapped relation all key w sure u
 
   began : At false w
-  began = record { keeps = keeps_same w.own.graph; rooted = stage.graph.rooted; store = refl; asked = λ k. false; gains = gains_none mapped relation.target w.own.graph; told = λ e. absurd cc }
+  began = record { keeps = keeps_same w.own.graph; rooted = stage.rooted; store = refl; asked = λ k. false; gains = gains_none mapped relation.target w.own.graph; told = λ e. absurd cc }
 
   -- a batch that reads some keys
   some_read : (sure : Bool) (u v : World) (keys : List (List Value)) → AllByRecursion (IsKeyOf target_columns) keys → At sure u
@@ -457,7 +457,7 @@ module _ (mapped : Mapped) (relation : Relation) (place : RelNo) (owners : List 
       let end =
       end_is mapped relation all own_key start graph rooted
       (λ object e. same.found root own_key ∙ between.gains.found root own_key object e)
-      (λ object e. same.classes object ∙ between.gains.classes object (found_stands start root own_key object stage.graph.rooted e).0)
+      (λ object e. same.classes object ∙ between.gains.classes object (found_stands start root own_key object stage.rooted e).0)
       (λ given none.
       ap is_some (same.found root own_key) ∙ between.gains.some own_key none
       ∙ subst (λ (b : Bool). Told b (between.asked own_key) (has_row mapped relation.target all own_key)) (all_asked none given) between.told)
@@ -506,7 +506,7 @@ selectin_leads mapped relation place owners owner all w after one stage pointing
 
 -- ---- both lead alike
 
-ends_alike : (root : ClassId) (one other : Graph) (key : List Value) (leads : Bool) (end same : Option ObjId) → is_some end ≡ leads → is_some same ≡ leads → StandsIfAny root one key end → StandsIfAny root other key same
+pub ends_alike : (root : ClassId) (one other : Graph) (key : List Value) (leads : Bool) (end same : Option ObjId) → is_some end ≡ leads → is_some same ≡ leads → StandsIfAny root one key end → StandsIfAny root other key same
     → option_map (identity_key one) end ≡ option_map (identity_key other) same
 ends_alike root one other key leads None None p q h k = refl
 ends_alike root one other key leads None (Some object) p q h k = absurd (let never = p ∙ sym q in cc)

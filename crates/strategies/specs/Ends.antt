@@ -1,5 +1,5 @@
 -- What loads fill of many-to-one links: the object to which an owner's foreign key leads, whatever the strategy.
-use Rattle.std.specs.Prelude.{◌≡◌, Bool, true, false, not, ◌&&◌, List, map, Option, None, Some, is_some}
+use Rattle.std.specs.Prelude.{◌≡◌, Bool, true, false, not, ◌&&◌, List, Option, None, Some, is_some}
 use Rattle.std.specs.List.{All, list_any}
 use Rattle.std.specs.Option.{option_map}
 use Rattle.base_core.specs.declared.ids.ClassId.{ClassId}

@@ -1,5 +1,5 @@
 -- What loads fill: links with the objects that stand for the related rows, whatever the strategy.
-use Rattle.std.specs.Prelude.{◌≡◌, true, List, [], filter, fold, map, None, Some, Ok}
+use Rattle.std.specs.Prelude.{◌≡◌, true, List, [], filter, fold, length, map, None, Some, Ok}
 use Rattle.std.specs.BTreeMap.{insert_entry}
 use Rattle.std.specs.List.{All}
 use Rattle.std.specs.Map.{keys_of}
@@ -17,7 +17,6 @@ use Rattle.mapping_laws.specs.Hierarchies.{HasHierarchies}
 use Rattle.programs.specs.Programs.{Run}
 use Rattle.object_arena.specs.declared.object.Link.{Link}
 use Rattle.object_arena.specs.Graph.{Graph, IsLink, IsObject, is_among}
-use Rattle.object_arena.specs.Identity.{IsGraph}
 use Rattle.collection_selects.specs.Collections.{owner_columns}
 use Rattle.load_filling.specs.Rows.{row_key, value_in}
 use Rattle.load_rows.specs.Reading.{identity_key}
@@ -76,9 +75,9 @@ pub record IsWaiting (mapped : Mapped) (relation : Relation) (place : RelNo) (gr
   pub unloaded : is_unloaded (link_at graph owner place) ≡ true
   pub keyed : IsKeyOf (owner_columns mapped relation) (identity_key graph owner)
 
--- the objects are those of an arena, and the rows of the target's class are these
+-- each object has its root class, and the rows of the target's class are these
 pub record Stage (mapped : Mapped) (relation : Relation) (all : List Row) (w : World) : Type 0 where
-  pub graph : IsGraph w.own.graph.objects w.own.graph.roots
+  pub rooted : length w.own.graph.roots ≡ length w.own.graph.objects
   pub rows : AreRowsOf mapped relation.target (bare w.store.tables) all
 
 -- two links were filled from one, each in its graph, with objects of the same identities in the same order

@@ -1,5 +1,5 @@
 -- What loads fill of collections over a secondary table: the same, whatever the strategy.
-use Rattle.std.specs.Prelude.{◌≡◌, true, List}
+use Rattle.std.specs.Prelude.{◌≡◌, true, List, length}
 use Rattle.std.specs.List.{All}
 use Rattle.base_core.specs.declared.ids.ObjId.{ObjId}
 use Rattle.base_core.specs.declared.ids.RelNo.{RelNo}
@@ -10,7 +10,6 @@ use Rattle.class_types.specs.declared.mapped.Relation.{Relation}
 use Rattle.class_sides.specs.Keys.{TableKey}
 use Rattle.class_mapping.specs.Mapped.{Mapped, root_spec}
 use Rattle.object_arena.specs.Graph.{Graph, IsLink, IsObject, is_among}
-use Rattle.object_arena.specs.Identity.{IsGraph}
 use Rattle.load_rows.specs.Reading.{identity_key}
 use Rattle.load_links.specs.Links.{link_at}
 use Rattle.load_calls.specs.Reading.{World}
@@ -26,9 +25,9 @@ pub record IsHolding (mapped : Mapped) (relation : Relation) (place : RelNo) (gr
   pub unloaded : is_unloaded (link_at graph owner place) ≡ true
   pub keyed : is_key (root_spec mapped relation.class) (identity_key graph owner) ≡ true
 
--- the objects are those of an arena, the relationship is over a secondary table, and the rows of the target's class are these
+-- each object has its root class, the relationship is over a secondary table, and the rows of the target's class are these
 pub record PairedStage (mapped : Mapped) (relation : Relation) (far : TableKey) (all : List Row) (w : World) : Type 0 where
-  pub graph : IsGraph w.own.graph.objects w.own.graph.roots
+  pub rooted : length w.own.graph.roots ≡ length w.own.graph.objects
   pub paired : IsPaired mapped relation far (bare w.store.tables) all
 
 -- the collection of an owner holds the objects of the rows to which its pairs lead
