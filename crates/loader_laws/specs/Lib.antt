@@ -1,0 +1,6 @@
+pub mod Linked
+pub mod Calls
+pub mod Statements
+pub mod OwnRows
+pub mod Options
+pub mod Expired
