@@ -9,6 +9,7 @@ use object_arena::{Arena, Cell, Link, Object};
 use printing::{RowText, ValueText};
 use sql_statements::has_cuts;
 use std::alloc::{AllocError, Global};
+use std::mem::drop;
 
 fn word_of(refusal: &Refusal) -> &'static str {
     match refusal {
@@ -71,8 +72,7 @@ fn say_note(
     }
 }
 
-/// What a load answered and noted.
-pub fn tell_load(
+fn say_load(
     alloc: Global,
     mapping: &Mapping,
     act: &str,
@@ -86,6 +86,21 @@ pub fn tell_load(
         say_note(alloc, mapping, note, said)?;
     }
     Ok(())
+}
+
+/// What a load answered and noted. Both are let go.
+pub fn tell_load(
+    alloc: Global,
+    mapping: &Mapping,
+    act: &str,
+    answer: Result<ObjList, Refusal>,
+    notes: Notes,
+    said: &mut String,
+) -> Result<(), Refusal> {
+    let told = say_load(alloc, mapping, act, &answer, &notes, said);
+    drop(answer);
+    drop(notes);
+    told
 }
 
 fn say_objects(alloc: Global, objects: &ObjList, said: &mut String) -> Result<(), AllocError> {

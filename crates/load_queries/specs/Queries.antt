@@ -4,6 +4,7 @@ use Rattle.std.specs.BTreeSet.{BTreeSet, contains}
 use Rattle.std.specs.Ordering.{nat_cmp}
 use Rattle.base_core.specs.declared.ids.ClassId.{ClassId}
 use Rattle.base_core.specs.declared.ids.ObjId.{ObjId}
+use Rattle.base_core.specs.declared.ids.RelNo.{RelNo}
 use Rattle.base_core.specs.declared.value.Value.{Value}
 use Rattle.expr_types.specs.declared.expr.Origin.{Origin}
 use Rattle.expr_types.specs.declared.select.ObjectQuery.{ObjectQuery}
@@ -42,9 +43,9 @@ pub record ReadsObjects (mapped : Mapped) (class : ClassId) (s : Select) : Type 
   pub items : s.items ≡ map item_of (attribute_columns mapped class (from_root 0))
   pub sources : sources_of s ≡ map origin_of (tables_of mapped class) ++ more
 
--- the query for all objects of a class
-abbrev pub every_object : Mapped → ClassId → ObjectQuery
-every_object mapped class = record { class = class; select = class_rows mapped class []; joined = []; selectin = [] }
+-- the query for all objects of a class, with joined options at places, and with places whose links are read by further selects
+abbrev pub every_object : Mapped → ClassId → List RelNo → List RelNo → ObjectQuery
+every_object mapped class joined selectin = record { class = class; select = class_rows mapped class []; joined = joined; selectin = selectin }
 
 -- the objects of rows where each comes first
 abbrev pub take_objects : Mapped → ClassId → List (List Value) → Loading → Run Loading (List ObjId)

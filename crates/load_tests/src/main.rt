@@ -6,7 +6,8 @@
 //! letter with its words: `h CLASS KEY` makes a persistent object of which nothing is known; `s OBJECT ATTRIBUTE VALUE` lets a
 //! cell hold a value, and `c` one that is unwritten; `k OBJECT RELATIONSHIP ADDED/REMOVED` keeps changes of an unloaded
 //! collection; `r OBJECT` refreshes, and `l OBJECT RELATIONSHIP` loads a link; `b CLASS RELATIONSHIP OBJECTS` loads the links
-//! of objects of a class, or of classes under it, together, and `q CLASS` all objects of a class. Classes, objects and
+//! of objects of a class, or of classes under it, together; `q CLASS RELATIONSHIPS` loads all objects of a class, and their links
+//! of these relationships by further selects, and `j CLASS RELATIONSHIPS` the same by one select with joins. Classes, objects and
 //! relationships are numbers, those of objects from 1.
 //!
 //! Written are, for each load, its act with the answer, and the objects of a query; the statements that it sent, as SQLite is sent
@@ -17,12 +18,14 @@
 //! The lines have: root classes with keys of one and of two columns; hierarchies by one table and by joined tables, three
 //! deep; a class that leads to itself; secondary tables; objects that the map has, with cells that are held; rows that were
 //! deleted; rows that name a class beside the one that was selected, or no class; 501 users, each with an address that is read
-//! alone; the collections of 500, of 501 and of 1001 owners at once; a refused batch behind one that stays loaded; queries for all
-//! objects of a class, of one that others extend too, and of one whose rows name no class.
+//! alone, with those of the others, and joined; the collections of 500, of 501 and of 1001 owners at once; a refused batch of
+//! collections behind one that stays loaded, and one of ends; queries for all objects of a class, of one that others extend too,
+//! and of one whose rows name no class or one beside it.
 #![tactic(auto)]
 
 mod owners;
 mod player;
+mod queries;
 
 use notations::answers;
 use player::Player;

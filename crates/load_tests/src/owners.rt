@@ -1,16 +1,18 @@
 //! Owners of the links that are loaded together.
 
-ghost use Rattle.std.specs.Prelude.{◌≡◌, true};
+ghost use Rattle.std.specs.Prelude.{◌≡◌, ◌<◌, true, IfOk, OnOk};
 ghost use Rattle.std.specs.List.{All};
 ghost use Rattle.object_arena.specs.declared.object.State.TheVariants.{Persistent};
 ghost use Rattle.object_arena.specs.Graph.{IsObject, object_at};
 ghost use Rattle.load_selectin.specs.Selectin.{IsOwnerOf};
 
-use base_core::{ClassId, ObjId};
+use base_core::{ClassId, ListOf, ObjId, Refusal, RelNo};
 use class_mapping::Mapping;
 use load_lines::is_made;
 use load_selectin::is_owner;
+use notations::number;
 use object_arena::{Arena, State};
+use std::alloc::Global;
 
 pub(crate) fn is_persistent(arena: &Arena, object: ObjId) -> bool
     requires { IsObject arena.now object }
@@ -47,4 +49,30 @@ pub(crate) fn are_owners(
         }
     }
     true
+}
+
+/// A place goes behind others, where there is one in a word and it is below so many.
+fn push_place(places: &mut ListOf<RelNo>, word: &str, count: usize) -> Result<(), Refusal>
+    requires { All (λ place. place.0 < count) places.old }
+    ensures { OnOk result (All (λ place. place.0 < count) places.new) }
+{
+    if word.is_empty() {
+        return Ok(());
+    }
+    let place = number(word);
+    if place as usize >= count {
+        return Err(Refusal::NotBuilt);
+    }
+    places.push(RelNo(place))
+}
+
+/// Places below so many, with commas between them; there may be none.
+pub(crate) fn places_of(alloc: Global, words: &str, count: usize) -> Result<ListOf<RelNo>, Refusal>
+    ensures { IfOk result (All (λ place. place.0 < count)) }
+{
+    let mut places = ListOf::new(alloc);
+    for word in words.split(',') {
+        push_place(&mut places, word, count)?;
+    }
+    Ok(places)
 }

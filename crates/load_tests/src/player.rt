@@ -8,6 +8,7 @@ ghost use Rattle.programs.specs.Programs.{ends_early};
 ghost use Rattle.load_calls.specs.Reading.{IsReady, StaysReady};
 
 use crate::owners::{are_owners, is_persistent};
+use crate::queries::load_class;
 use base_core::{ClassId, ListOf, ObjId, ObjList, Refusal, RelNo};
 use class_mapping::Mapping;
 use class_types::Hooks;
@@ -17,7 +18,6 @@ use load_calls::refresh;
 use load_lines::{
     declare_all, fill, first_word, is_made, objects_of, put, tell_load, tell_objects,
 };
-use load_queries::{every_object, load_select};
 use load_selectin::load_selectin;
 use load_targets::load_lazy;
 use notations::{Reader, number};
@@ -57,7 +57,6 @@ fn load_link<K: Keeper>(
 }
 
 /// Loads the links of objects of a class at a place.
-#[tactic(auto, using(crate::proofs::OwnerLemmas::owners_known))]
 fn load_together<K: Keeper>(
     alloc: Global,
     arena: &mut Arena,
@@ -118,29 +117,6 @@ fn load_links<K: Keeper>(
     load_link(alloc, object, place, arena, mapping, keeper, notes)
 }
 
-/// Loads all objects of a class.
-fn load_class<K: Keeper>(
-    alloc: Global,
-    arena: &mut Arena,
-    mapping: &Mapping,
-    keeper: &mut K,
-    words: &str,
-    notes: &mut Notes,
-) -> Result<ObjList, Refusal>
-    requires configured { mapping.now.configured ≡ true }
-    requires fit { IsFit mapping.now arena.old }
-    requires ready { IsReady mapping.now.schema (K.moment keeper.old) }
-    ensures stays { StaysReady mapping.now.schema result (K.moment keeper.new) }
-    ensures fits { IsFit mapping.now arena.new }
-{
-    let class = ClassId(number(words));
-    if class.0 >= mapping.count() {
-        return Err(Refusal::NotBuilt);
-    }
-    let query = every_object(alloc, mapping, class)?;
-    load_select(alloc, arena, mapping, keeper, &query, notes)
-}
-
 /// Loads what an act asks for, and answers the objects of its query.
 fn load<K: Keeper>(
     alloc: Global,
@@ -157,8 +133,8 @@ fn load<K: Keeper>(
     ensures fits { IsFit mapping.now arena.new }
 {
     let (letter, words) = first_word(act);
-    if letter == "q" {
-        return load_class(alloc, arena, mapping, keeper, words, notes);
+    if letter == "q" || letter == "j" {
+        return load_class(alloc, arena, mapping, keeper, letter, words, notes);
     }
     match load_links(alloc, arena, mapping, keeper, letter, words, notes) {
         Ok(()) => Ok(ListOf::new(alloc)),
@@ -192,10 +168,12 @@ fn tell<K: Keeper>(
 {
     let mut notes = ListOf::new(alloc);
     let answer = load(alloc, arena, mapping, keeper, act, &mut notes);
-    if is_ended(&answer) {
+    let has_ended = is_ended(&answer);
+    tell_load(alloc, mapping, act, answer, notes, shown)?;
+    if has_ended {
         return Err(Refusal::Memory);
     }
-    tell_load(alloc, mapping, act, &answer, &notes, shown)
+    Ok(())
 }
 
 /// Does an act.

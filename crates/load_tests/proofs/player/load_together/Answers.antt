@@ -1,4 +1,4 @@
-use Rattle.std.proofs.Common.{rules, ◌≡◌, ℕ, ◌<◌, length}
+use Rattle.std.proofs.Common.{rules}
 use Rattle.load_tests.proofs.OwnerLemmas.{owners_known}
 use Rattle.load_tests.proofs.player.load_together.Goals as goal
 
