@@ -1,23 +1,46 @@
-//! Runs scripts over the keeper in memory, and lets calls of the keeper, reads and writes fail.
+//! Runs scripts over the keeper in memory, and lets calls of the keeper, reads and writes fail; and, behind a line `==== sessions`,
+//! runs scripts in which several names stand for one object.
 //!
-//! `# ` begins a line that is written as it stands, and with it another script, of which each line stands behind `> `. `words`
-//! has the program's words; `calls`, `reads` and `writes` have the numbers of those that fail, with blanks between them. `run` is
-//! answered by what the run writes, and its status. `each call`, `each read` and `each write` run the script once for each of
-//! these, which fails then, until a run is as the one in which none fails: the answer is the status of all runs before it, each of
+//! Before that line `# ` begins a line that is written as it stands, and with it another script, of which each line stands behind
+//! `> `. `words` has the program's words; `calls`, `reads` and `writes` have the numbers of those that fail, with blanks between them.
+//! `run` is answered by what the run writes, and its status. `each call`, `each read` and `each write` run the script once for each
+//! of these, which fails then, until a run is as the one in which none fails: the answer is the status of all runs before it, each of
 //! which has written the first of what the whole run writes, or the first run that is not so.
+//!
+//! Behind it a script stands between lines `----`: declarations, `configure`, and lines of the session, of which is written what they
+//! answer. `NAME = related TERM.NAME` binds what `show TERM.NAME` tells: the object to which a link leads, `null`, or the list of a
+//! collection's members; nothing is told then. All else is as the program does it, line numbers of refusals too.
 #![tactic(auto)]
 
+mod lines;
 mod player;
 mod runs;
+mod scripts;
 
+use base_core::Refusal;
 use notations::answers;
 use player::Player;
+use scripts::play_all;
+use std::alloc::{AllocError, Global};
 use std::io;
+
+/// What is written for the runs.
+fn play_runs(alloc: Global, text: &str) -> Result<String, AllocError> {
+    answers(alloc, &mut Player::new(alloc), text)
+}
+
+/// What is written for the runs and then for the sessions.
+fn told(alloc: Global, text: &str) -> Result<String, Refusal> {
+    let (runs, sessions) = text.split_once("==== sessions\n").unwrap_or((text, ""));
+    let mut shown = play_runs(alloc, runs)?;
+    play_all(alloc, sessions, &mut shown)?;
+    Ok(shown)
+}
 
 fn main(rt: HostRuntime) -> io::Result<()> {
     let alloc = rt.alloc();
     let text = io::read_to_string(alloc, rt.reader())?;
-    match answers(alloc, &mut Player::new(alloc), &text) {
+    match told(alloc, &text) {
         Ok(shown) => rt.print(shown),
         Err(_) => rt.println("refused"),
     }

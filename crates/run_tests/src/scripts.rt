@@ -1,4 +1,4 @@
-//! Whole scripts.
+//! Whole scripts of sessions.
 
 ghost use Rattle.std.specs.Prelude.{◌≡◌, None, true, OnOk};
 ghost use Rattle.session_parts.specs.Depths.{HasDepth};
@@ -154,12 +154,11 @@ fn play_script(alloc: Global, script: &str, shown: &mut String) -> Result<(), Re
     Ok(shown.push_str(played.shown.as_str())?)
 }
 
-/// Plays scripts, and writes `----` between their answers.
-pub(crate) fn play_all(alloc: Global, text: &str) -> Result<String, Refusal> {
-    let mut shown = String::new(alloc);
+/// Plays scripts, and writes `----` behind the answers of each.
+pub(crate) fn play_all(alloc: Global, text: &str, shown: &mut String) -> Result<(), Refusal> {
     for script in text.split("----\n") {
-        play_script(alloc, script, &mut shown)?;
+        play_script(alloc, script, shown)?;
         shown.push_str("----\n")?;
     }
-    Ok(shown)
+    Ok(())
 }

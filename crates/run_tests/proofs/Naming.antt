@@ -18,7 +18,7 @@ use Rattle.command_resolve.specs.declared.answer.Answer.{Answer}
 use Rattle.command_resolve.specs.declared.answer.Answer.TheVariants as answer
 use Rattle.command_resolve.specs.Standing.{IsOfDeclared, IsThere}
 use Rattle.command_resolve.specs.Terms.{Bindings}
-use Rattle.names_tests.specs.Named.{AreNamed}
+use Rattle.run_tests.specs.Named.{AreNamed}
 
 named : (session : SessionState) (names : Bindings) → AreBound (Configured session) names → AreNamed session names
 named session names bound = record { there = bound.0; declared = bound.1 }

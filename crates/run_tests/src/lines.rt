@@ -5,7 +5,7 @@ ghost use Rattle.session_scopes.specs.SessionState.{IsInStep};
 ghost use Rattle.shell_lines.specs.Desk.{CanBeDone};
 ghost use Rattle.shell_steps.specs.ShellState.{IsAnswerAt, StaysReady};
 ghost use Rattle.shell_steps.specs.declared.stage.Stage.TheVariants.{Configured};
-ghost use Rattle.names_tests.specs.Named.{AreNamed};
+ghost use Rattle.run_tests.specs.Named.{AreNamed};
 
 use base_core::Refusal;
 use class_types::Hooks;
