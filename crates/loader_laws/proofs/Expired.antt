@@ -40,7 +40,7 @@ use Rattle.strategies.proofs.Standing.{made_later, set_related, stays_put, stays
 use Rattle.loader_laws.specs.Linked.{IsStage}
 use Rattle.loader_laws.specs.Expired.{ReadsKeyFirst}
 use Rattle.loader_laws.proofs.Frames.{graph_put}
-use Rattle.loader_laws.proofs.Kinds.{owned_at, owned_keyed, owned_related}
+use Rattle.loader_laws.proofs.EachKind.{owned_at, owned_keyed, owned_related}
 use Rattle.loader_laws.proofs.Loads.{lazily, lazy_by}
 
 -- ---- the reading of cells

@@ -1,4 +1,4 @@
-pub mod Kinds
+pub mod EachKind
 pub mod Ends
 pub mod Loads
 pub mod Statements

@@ -39,7 +39,7 @@ use Rattle.strategies.proofs.Together.{lead_alike, selectin_leads}
 use Rattle.loader_laws.specs.Calls.{HoldsRelated}
 use Rattle.loader_laws.specs.Linked.{AgreesWithMap, HoldAlike, HoldsRows, IsReady, IsStage, link_with, referred_rows, related_by, related_to}
 use Rattle.loader_laws.proofs.Ends.{alike_holds, led_holds}
-use Rattle.loader_laws.proofs.Kinds.{IsOpen, IsSet, far_many, holds, many_to_one, one_to_many, opened, owned_related, paired_stage, plain_stage, points, waits}
+use Rattle.loader_laws.proofs.EachKind.{IsOpen, IsSet, far_many, holds, many_to_one, one_to_many, opened, owned_related, paired_stage, plain_stage, points, waits}
 
 -- ---- the calls by the kind of the relationship
 

@@ -66,7 +66,7 @@ use Rattle.loader_laws.specs.Calls.{HoldsRelated}
 use Rattle.loader_laws.specs.Linked.{AgreesWithMap, HoldsRows, IsOfItsRow, IsReady, IsStage, link_with, referred_rows, related_by, related_to}
 use Rattle.loader_laws.specs.Options.{HoldsItsKey, IsAnswered, Leaves, is_left}
 use Rattle.loader_laws.proofs.Frames.{IsFramed, framed_batch, framed_ends, framed_targets, leaves_same, leaves_then}
-use Rattle.loader_laws.proofs.Kinds.{IsOpen, IsSet, opened}
+use Rattle.loader_laws.proofs.EachKind.{IsOpen, IsSet, opened}
 use Rattle.loader_laws.proofs.Loads.{among_unread, every_unread, together, unread, unread_goes}
 
 -- ---- what the loads of one place leave

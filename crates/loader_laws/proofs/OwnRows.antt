@@ -64,7 +64,7 @@ use Rattle.strategies.specs.Ends.{has_row}
 use Rattle.strategies.proofs.KeyOrder.{key_of_stand}
 use Rattle.strategies.proofs.Standing.{found_stands}
 use Rattle.loader_laws.specs.Linked.{IsStage}
-use Rattle.loader_laws.proofs.Kinds.{kinds_known}
+use Rattle.loader_laws.proofs.EachKind.{kinds_known}
 use Rattle.loader_laws.specs.OwnRows.{AreOfTheirRows, AreRowsOfOne, has_row_under, is_named_under, key_in_table, names_by, names_class}
 
 -- ---- values, lists and lines

@@ -3,6 +3,6 @@ pub mod Sources
 pub mod Ranked
 pub mod Owners
 pub mod Partnered
-pub mod Kinds
+pub mod EachKind
 pub mod Options
 pub mod Joined

@@ -51,7 +51,7 @@ use Rattle.wide_laws.proofs.Lefts.{partners_append, partners_some}
 use Rattle.wide_laws.proofs.Places.{wide_long}
 use Rattle.option_laws.specs.Tied.{KeyReader, ReadsKeys, tied_at}
 use Rattle.option_laws.proofs.Behind.{left_source}
-use Rattle.option_laws.proofs.Kinds.{IsBehindOwner, member_tied, tied_member}
+use Rattle.option_laws.proofs.EachKind.{IsBehindOwner, member_tied, tied_member}
 use Rattle.option_laws.proofs.Owners.{IsOwner, StandsFirst, owner_more}
 use Rattle.option_laws.proofs.Partnered.{member_at, partner_wide, place_below}
 use Rattle.option_laws.proofs.Ranked.{IsOption}
