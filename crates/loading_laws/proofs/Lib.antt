@@ -1,0 +1,3 @@
+pub mod Inherited
+pub mod Joining
+pub mod Whole
