@@ -51,7 +51,7 @@ use Rattle.joined_strategies.proofs.Objects.{answer_alike, joined_answered, sele
 use Rattle.joined_strategies.proofs.Owners.{added_by, from_steps, is_ready}
 use Rattle.loader_laws.specs.Linked.{HoldAlike}
 use Rattle.loader_laws.proofs.Ends.{alike_holds}
-use Rattle.loader_laws.proofs.Kinds.{IsOpen, IsSet, far_many, holds, many_to_one, one_to_many, opened, paired_stage, owned_related, plain_stage, points, waits}
+use Rattle.loader_laws.proofs.EachKind.{IsOpen, IsSet, far_many, holds, many_to_one, one_to_many, opened, paired_stage, owned_related, plain_stage, points, waits}
 use Rattle.loader_laws.proofs.Loads.{alike_filled, lazy_by}
 use Rattle.loading_laws.specs.Loadable.{AreRowsOfClasses, IsLoadable}
 use Rattle.loading_laws.specs.Whole.{AreBothRead, IsOwner}
