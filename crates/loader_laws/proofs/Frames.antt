@@ -164,14 +164,14 @@ end_waits end (Unloaded added removed) now e = refl
 end_waits end (One other changed) now e = absurd cc
 end_waits end (Many members base) now e = absurd cc
 
-collection_leaves : (place : RelNo) (owner : ObjId) (read : List ObjId) (own : Loading) → IsGraph own.graph.objects own.graph.roots → Leaves place own.graph (collection_filled owner place read own).graph
+pub collection_leaves : (place : RelNo) (owner : ObjId) (read : List ObjId) (own : Loading) → IsGraph own.graph.objects own.graph.roots → Leaves place own.graph (collection_filled owner place read own).graph
 unfolding collection_filled
 collection_leaves place owner read own is =
     let base : List ObjId = in_key_order own.graph read in
     let old : Link = link_at own.graph owner place in
     filled_by place owner (collection_of base old) own is (λ one e. collection_waits base old one e)
 
-end_leaves : (place : RelNo) (owner : ObjId) (end : Option ObjId) (own : Loading) → IsGraph own.graph.objects own.graph.roots → Leaves place own.graph (end_filled owner place end own).graph
+pub end_leaves : (place : RelNo) (owner : ObjId) (end : Option ObjId) (own : Loading) → IsGraph own.graph.objects own.graph.roots → Leaves place own.graph (end_filled owner place end own).graph
 unfolding end_filled
 end_leaves place owner end own is =
     let old : Link = link_at own.graph owner place in
@@ -202,7 +202,7 @@ module _ (place : RelNo) where
   framed_change f leaves = λ own now u is g. subst (λ (v : Loading). Leaves place own.graph v.graph) (change_to f own u now g) (leaves own is)
 
   module _ (mapped : Mapped) (class : ClassId) (has : HasHierarchies mapped) (declared : IsClass mapped class) where
-    framed_row : (row : List Value) → IsFramed (take_row mapped class row)
+    pub framed_row : (row : List Value) → IsFramed (take_row mapped class row)
     framed_row row = λ own now object is g.
         let taken = row_taken mapped class has.paired row own now object is.rooted g in
         let gains = row_gains mapped class has declared row own now object is.rooted g in

@@ -6,3 +6,4 @@ pub mod OwnRows
 pub mod Frames
 pub mod Options
 pub mod Expired
+pub mod Refused

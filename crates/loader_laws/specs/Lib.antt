@@ -4,3 +4,4 @@ pub mod Statements
 pub mod OwnRows
 pub mod Options
 pub mod Expired
+pub mod Refused

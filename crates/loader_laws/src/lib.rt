@@ -6,6 +6,7 @@ ghost use Rattle.loader_laws.specs.Calls.{LazyFillsLinks, LoadersAgree, Selectin
 ghost use Rattle.loader_laws.specs.Expired.{LazyReadsKeyFirst};
 ghost use Rattle.loader_laws.specs.Options.{OptionsFillLinks, SelectinLeaves};
 ghost use Rattle.loader_laws.specs.OwnRows.{MapAgreesWithRows};
+ghost use Rattle.loader_laws.specs.Refused.{SelectinLeavesAlways};
 ghost use Rattle.loader_laws.specs.Statements.{SelectinAsksInBatches};
 
 /// A lazy load fills an unloaded link with the persistent objects of the rows that are related to its owner, whatever the kind of the
@@ -42,6 +43,11 @@ pub fn identity_map_agrees_with_rows()
 /// A select-in load leaves links that are loaded as they are, and those at other places; and identities, classes and held cells.
 pub fn selectin_loads_leave_the_rest()
     ensures { SelectinLeaves }
+{}
+
+/// So much it leaves whatever it answers: where a batch is refused the links that earlier ones filled stay filled.
+pub fn selectin_loads_leave_the_rest_always()
+    ensures { SelectinLeavesAlways }
 {}
 
 /// Links at several places are loaded one place after the other: in the end the link at each of the places, of each owner that had it
