@@ -228,9 +228,15 @@ fn repeated(
 
 fn answers(alloc: Global, inside: Inside, line: &[u8], column: u32) -> bool {
     match read_line(alloc, line, 7, inside) {
-        Ok(_) => column == 0,
+        Ok(command) => {
+            drop(command);
+            column == 0
+        }
         Err(Refusal::ScriptError(number, at)) => number == 7 && at == column,
-        Err(_) => false,
+        Err(refusal) => {
+            drop(refusal);
+            false
+        }
     }
 }
 
