@@ -1,4 +1,5 @@
 pub mod Exact
+pub mod Greatest
 pub mod Lists
 pub mod Pushing
 pub mod Tests

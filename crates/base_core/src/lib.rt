@@ -1,6 +1,7 @@
 //! Values in their order, names, lists, the numbers of objects and tables, and one refusal for all layers.
 #![tactic(auto)]
 
+mod ascending;
 mod copied;
 mod ids;
 mod list;
@@ -9,6 +10,7 @@ mod refusal;
 mod text;
 mod value;
 
+pub use ascending::is_above_all;
 pub use copied::{Copied, both};
 pub use ids::{AttrNo, ClassId, ColumnNo, ObjId, RelNo, TableId};
 pub use list::ListOf;

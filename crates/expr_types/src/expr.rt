@@ -43,10 +43,16 @@ impl Func {
 }
 
 /// A source of rows: a table, and the name under which it stands where it has one of its own.
-#[derive(Clone, Drop, PartialEq, Eq)]
+#[derive(Clone, PartialEq, Eq)]
 pub struct Origin {
     pub table: TableId,
     pub alias: Option<Name>,
+}
+
+impl Drop for Origin {
+    fn drop(self) {
+        let Origin { table: _, alias: _ } = self;
+    }
 }
 
 impl Copied for Origin {

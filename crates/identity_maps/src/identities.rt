@@ -8,7 +8,7 @@ ghost use Rattle.base_core.specs.declared.value.Value.{Value};
 ghost use Rattle.base_core.specs.declared.refusal.Refusal.TheVariants.{Memory};
 ghost use Rattle.identity_maps.specs.Entries.{IsPut, IsSame, entry_of};
 
-use base_core::{ClassId, Key, ObjId, Refusal};
+use base_core::{ClassId, Key, ObjId, Refusal, is_above_all};
 use std::alloc::Global;
 use std::collections::BTreeMap;
 
@@ -40,7 +40,7 @@ impl IdentityMap {
         ensures { result ≡ entry_of self.now.maps.items root key.now }
     {
         match self.maps.get(root.0 as usize) {
-            Some(map) => map.get(key).copied(),
+            Some(map) => object_under(map, key),
             None => None,
         }
     }
@@ -80,6 +80,16 @@ impl IdentityMap {
         }
         move_in(&mut self.maps[root.0 as usize], key, object)
     }
+}
+
+/// The object under a key. Keys often come in their order, and one above all others is under none of them.
+fn object_under(map: &Keyed, key: &Key) -> Option<ObjId>
+    ensures { result ≡ get values_cmp map.now key.now }
+{
+    if is_above_all(map, key) {
+        return None;
+    }
+    map.get(key).copied()
 }
 
 /// Puts an object under a key. The only refusal is out of memory, and it changes nothing.

@@ -14,6 +14,7 @@ use notations::{declared, number};
 use plain_statements::{is_plain_bulk, is_plain_select, is_well_formed};
 use schema_core::{RowStmt, Schema};
 use std::alloc::Global;
+use std::mem::drop;
 
 /// Two tables, of which the second refers to the first.
 const TABLES: [&str; 2] = ["a id:ikn n:in !n", "b id:ikn n:i n>a"];
@@ -205,7 +206,11 @@ fn bulk_call<K: Keeper>(
     requires { (K.moment keeper.old).attached ≡ true }
 {
     match bulk(alloc, kind, table, words) {
-        Ok(statement) => send_bulk(alloc, schema, keeper, &statement),
+        Ok(statement) => {
+            let answer = send_bulk(alloc, schema, keeper, &statement);
+            drop(statement);
+            answer
+        }
         Err(_) => '-',
     }
 }
@@ -235,7 +240,9 @@ fn query_call<K: Keeper>(alloc: Global, schema: &Schema, keeper: &mut K, table: 
     requires { (K.moment keeper.old).attached ≡ true }
 {
     let select = all_rows(alloc, table);
-    ask(alloc, schema, keeper, &select)
+    let answer = ask(alloc, schema, keeper, &select);
+    drop(select);
+    answer
 }
 
 /// What a call answers.

@@ -17,10 +17,16 @@ impl Copied for RowCell {
     }
 }
 
-#[derive(Clone, Drop, PartialEq, Eq)]
+#[derive(Clone, PartialEq, Eq)]
 pub struct NewRow {
     pub name: RowName,
     pub cells: ListOf<RowCell>,
+}
+
+impl Drop for NewRow {
+    fn drop(self) {
+        let NewRow { name: _, cells: _ } = self;
+    }
 }
 
 impl Copied for NewRow {
@@ -29,11 +35,21 @@ impl Copied for NewRow {
     }
 }
 
-#[derive(Clone, Drop, PartialEq, Eq)]
+#[derive(Clone, PartialEq, Eq)]
 pub struct ChangedRow {
     pub name: RowName,
     pub key: Key,
     pub cells: ListOf<(ColumnNo, RowCell)>,
+}
+
+impl Drop for ChangedRow {
+    fn drop(self) {
+        let ChangedRow {
+            name: _,
+            key: _,
+            cells: _,
+        } = self;
+    }
 }
 
 impl Copied for ChangedRow {
@@ -42,11 +58,17 @@ impl Copied for ChangedRow {
     }
 }
 
-#[derive(Clone, Drop, PartialEq, Eq)]
+#[derive(Clone, PartialEq, Eq)]
 pub struct GoneRow {
     pub name: RowName,
     /// The row as last read or written; NULL in a column that some class owns and that is no attribute of the object's class.
     pub base: RowValues,
+}
+
+impl Drop for GoneRow {
+    fn drop(self) {
+        let GoneRow { name: _, base: _ } = self;
+    }
 }
 
 impl Copied for GoneRow {
@@ -56,7 +78,7 @@ impl Copied for GoneRow {
 }
 
 /// What a flush changes.
-#[derive(Clone, Drop, PartialEq, Eq)]
+#[derive(Clone, PartialEq, Eq)]
 pub struct RowChanges {
     /// New rows in order of rank.
     pub fresh: ListOf<NewRow>,
@@ -67,8 +89,20 @@ pub struct RowChanges {
     pub warnings: ListOf<Warning>,
 }
 
+impl Drop for RowChanges {
+    fn drop(self) {
+        let RowChanges {
+            fresh: _,
+            changed: _,
+            gone: _,
+            post: _,
+            warnings: _,
+        } = self;
+    }
+}
+
 /// A statement of a flush, in which keys of new rows may still stand open.
-#[derive(Clone, Drop, PartialEq, Eq)]
+#[derive(Clone, PartialEq, Eq)]
 pub enum Planned {
     /// Places in `fresh`.
     Insert {
@@ -84,6 +118,23 @@ pub enum Planned {
         table: TableId,
         key: Key,
     },
+}
+
+impl Drop for Planned {
+    fn drop(self) {
+        match self {
+            Planned::Insert {
+                table: _,
+                places: _,
+            } => {}
+            Planned::Update {
+                table: _,
+                key: _,
+                cells: _,
+            } => {}
+            Planned::Remove { table: _, key: _ } => {}
+        }
+    }
 }
 
 impl Copied for Planned {

@@ -15,10 +15,18 @@ use std::alloc::Global;
 use std::marker::Model;
 
 /// The declared tables, each by its number, from 0 in the order of declaration.
-#[derive(Drop)]
 pub struct Schema {
     tables: ListOf<TableSpec>,
     resolved: bool,
+}
+
+impl Drop for Schema {
+    fn drop(self) {
+        let Schema {
+            tables: _,
+            resolved: _,
+        } = self;
+    }
 }
 
 impl Model for Schema {

@@ -9,7 +9,7 @@ use base_core::{ColumnNo, Copied, IntegrityKind, Key, ListOf, Refusal, RowList, 
 use std::alloc::{AllocError, AllocFailed};
 
 /// A statement that writes rows.
-#[derive(Clone, Drop, PartialEq, Eq)]
+#[derive(Clone, PartialEq, Eq)]
 pub enum RowStmt {
     /// One value for each column in every row, of which there are 1 to 1000. A NULL in a generated key draws one, in all rows
     /// or in none.
@@ -27,6 +27,20 @@ pub enum RowStmt {
         table: TableId,
         key: Key,
     },
+}
+
+impl Drop for RowStmt {
+    fn drop(self) {
+        match self {
+            RowStmt::Insert { table: _, rows: _ } => {}
+            RowStmt::Update {
+                table: _,
+                key: _,
+                cells: _,
+            } => {}
+            RowStmt::Delete { table: _, key: _ } => {}
+        }
+    }
 }
 
 impl Copied for RowStmt {

@@ -14,7 +14,7 @@ pub enum ColumnKind {
 }
 
 /// A column as it is declared.
-#[derive(Clone, Drop, PartialEq, Eq)]
+#[derive(Clone, PartialEq, Eq)]
 pub struct ColumnSpec {
     pub name: Name,
     pub kind: ColumnKind,
@@ -23,21 +23,52 @@ pub struct ColumnSpec {
     pub not_null: bool,
 }
 
+impl Drop for ColumnSpec {
+    fn drop(self) {
+        let ColumnSpec {
+            name: _,
+            kind: _,
+            key: _,
+            not_null: _,
+        } = self;
+    }
+}
+
 /// A foreign key as it is declared: its columns refer to the whole primary key of the table named.
-#[derive(Clone, Drop, PartialEq, Eq)]
+#[derive(Clone, PartialEq, Eq)]
 pub struct ForeignSpec {
     pub columns: ListOf<Name>,
     pub target: Name,
 }
 
+impl Drop for ForeignSpec {
+    fn drop(self) {
+        let ForeignSpec {
+            columns: _,
+            target: _,
+        } = self;
+    }
+}
+
 /// A table as it is declared.
-#[derive(Clone, Drop, PartialEq, Eq)]
+#[derive(Clone, PartialEq, Eq)]
 pub struct TableSpec {
     pub name: Name,
     pub columns: ListOf<ColumnSpec>,
     /// The columns of each unique constraint.
     pub uniques: ListOf<ListOf<Name>>,
     pub foreigns: ListOf<ForeignSpec>,
+}
+
+impl Drop for TableSpec {
+    fn drop(self) {
+        let TableSpec {
+            name: _,
+            columns: _,
+            uniques: _,
+            foreigns: _,
+        } = self;
+    }
 }
 
 impl Copied for ColumnSpec {

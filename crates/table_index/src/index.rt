@@ -1,14 +1,16 @@
 //! One index.
 
-ghost use Rattle.std.specs.Prelude.{◌≡◌, ◌⊎◌, true, false, List, None, IfOk};
+ghost use Rattle.std.specs.Prelude.{◌≡◌, ◌⊎◌, true, false, cond, List, None, IfOk};
+ghost use Rattle.std.specs.BTreeMap.{get};
 ghost use Rattle.std.specs.List.{list_any};
 ghost use Rattle.std.specs.Option.{option_copied};
+ghost use Rattle.base_core.specs.Order.{values_cmp};
 ghost use Rattle.base_core.specs.declared.value.Value.{Value};
 ghost use Rattle.schema_core.specs.Tables.{same_values};
 ghost use Rattle.table_index.specs.Indexed.{Found, IsComplete, cells_at, has_cells_of, is_entered, keys_at, keys_in};
 
 use crate::columns::cells_at;
-use base_core::{Copied, Key, ListOf, RowValues, Value};
+use base_core::{Copied, Key, ListOf, RowValues, Value, is_above_all};
 use std::alloc::{AllocError, Global};
 use std::collections::{BTreeMap, BTreeSet};
 
@@ -37,6 +39,34 @@ fn keys_of(alloc: Global, found: Option<BTreeSet<Key>>) -> BTreeSet<Key>
     }
 }
 
+/// The keys under a value. Values often come in their order, and under one above all others there are none.
+fn keys_under<'x>(
+    holders: &'x BTreeMap<RowValues, BTreeSet<Key>>,
+    value: &RowValues,
+) -> Option<&'x BTreeSet<Key>>
+    ensures { option_copied result ≡ get values_cmp holders.now value.now }
+{
+    if is_above_all(holders, value) {
+        return None;
+    }
+    holders.get(value)
+}
+
+/// The keys under a value are taken out.
+fn taken(
+    holders: &mut BTreeMap<RowValues, BTreeSet<Key>>,
+    value: &RowValues,
+) -> Option<BTreeSet<Key>>
+    ensures value { result ≡ get values_cmp holders.old value.now }
+    ensures others { (other : List Value) → get values_cmp holders.new other
+        ≡ cond (same_values value.now other) None (get values_cmp holders.old other) }
+{
+    if is_above_all(holders, value) {
+        return None;
+    }
+    holders.remove(value)
+}
+
 impl ValueIndex {
     /// An index of no rows.
     pub fn new(alloc: Global, columns: Vec<usize>) -> ValueIndex
@@ -60,7 +90,7 @@ impl ValueIndex {
     fn has_key(&self, value: &RowValues, key: &Key) -> bool
         ensures { result ≡ list_any (same_values key.now) (keys_at self.now.holders value.now) }
     {
-        match self.holders.get(value) {
+        match keys_under(&self.holders, value) {
             Some(keys) => keys.contains(key),
             None => false,
         }
@@ -90,7 +120,7 @@ impl ValueIndex {
     {
         let ValueIndex { columns, holders } = self;
         let mut holders = holders;
-        let mut keys = keys_of(alloc, holders.remove(&value));
+        let mut keys = keys_of(alloc, taken(&mut holders, &value));
         keys.insert(key.copied()?)?;
         holders.insert(value, keys)?;
         Ok(ValueIndex { columns, holders })

@@ -14,5 +14,5 @@ returns-clause-entered c =
 
 pub returns-clause-others : goal.returns-clause-others
 returns-clause-others c =
-    keys_kept c.args.self.holders c.remove.new.self c.insert-2.new.self c.args.value c.in_ok-copied.field-0 c.keys_of-keys.result c.insert.new.self c.remove.ensures.updates.0 c.in_ok-insert-2.ensures.updates.0
-    (c.keys_of-keys.ensures ∙ ap keys_in c.remove.ensures.value) c.in_ok-insert.ensures.updates.0
+    keys_kept c.args.self.holders c.taken.new.holders c.insert-2.new.self c.args.value c.in_ok-copied.field-0 c.keys_of-keys.result c.insert.new.self c.taken.ensures.others c.in_ok-insert-2.ensures.updates.0
+    (c.keys_of-keys.ensures ∙ ap keys_in c.taken.ensures.value) c.in_ok-insert.ensures.updates.0
