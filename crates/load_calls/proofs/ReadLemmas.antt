@@ -1,6 +1,6 @@
 -- A select that is noted and sent, as a run of the world that has the objects and the notes beside the keeper.
 use Rattle.std.specs.List.{AllByRecursion}
-use Rattle.std.proofs.Common.{◌≡◌, ℕ, ◌≤◌, Bool, true, false, cond, List, [], ◌∷◌, ◌++◌, Option, None, Some, Result, Ok, Err, IfErr, IsErrAnd, MatchBool, sym, ap, subst, ◌∙◌}
+use Rattle.std.proofs.Common.{◌≡◌, ℕ, ◌≤◌, Bool, true, false, cond, List, [], ◌∷◌, ◌++◌, Option, None, Some, Result, Ok, Err, IfErr, IsErrAnd, OnOk, MatchBool, sym, ap, subst, ◌∙◌}
 use Rattle.base_core.specs.declared.refusal.Refusal.{Refusal}
 use Rattle.base_core.specs.declared.refusal.Refusal.TheVariants.{Memory}
 use Rattle.base_core.specs.declared.value.Value.{Value}
@@ -48,6 +48,11 @@ pub read_done : {K : Type 0} (moment : K → Moment Store) (schema : Catalog) (s
 unfolding read
 read_done moment schema select graph {before = before} {after = after} {r = r} is call =
     on_keeper_noted {note = with_statements} (Noted (query_noted schema select graph before after r is)) call.step
+
+-- what was noted before it was sent, whatever is answered
+pub query_sent : {A P : Type 0} (r : Result A Refusal) → P → OnOk r P
+query_sent (Ok x) p = p
+query_sent (Err e) p = tt
 
 -- ---- the keeper
 

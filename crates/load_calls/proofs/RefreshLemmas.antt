@@ -1,5 +1,5 @@
 -- The reading of expired cells, put together of its parts.
-use Rattle.std.proofs.Common.{◌≡◌, ℕ, zero, suc, ◌+◌, ◌<◌, true, ◌==◌, List, [], ◌∷◌, length, filter, get_or, Option, None, Some, Result, Ok, Err, IfErr, IfOk, OnOk, if◌then◌else◌, not, refl, sym, ap, subst, ◌∙◌, arith}
+use Rattle.std.proofs.Common.{◌≡◌, ℕ, zero, suc, ◌+◌, ◌<◌, true, ◌==◌, List, [], ◌∷◌, ◌++◌, length, filter, get_or, Option, None, Some, Result, Ok, Err, IfErr, IfOk, IsErrAnd, OnOk, if◌then◌else◌, not, refl, sym, ap, subst, ◌∙◌, arith}
 use Rattle.std.specs.Prelude.{slice_get, is_some, unwrap_or}
 use Rattle.std.specs.Option.{option_and_then, option_map}
 use Rattle.std.specs.List.{All, AllByRecursion, enumerate_from, position, range_with_len}
@@ -23,14 +23,16 @@ use Rattle.object_arena.specs.declared.object.State.TheVariants.{Transient, Pend
 use Rattle.object_arena.specs.Fit.{ObjectFits, identity_fits, key_fits, value_fits}
 use Rattle.object_arena.specs.Graph.{Graph, has_identity, object_at}
 use Rattle.object_arena.specs.Identity.{is_identified}
+use Rattle.programs.specs.declared.sent.Sent.TheVariants as sent
 use Rattle.programs.specs.Alone.{IsQuiet}
 use Rattle.programs.specs.Beside.{moment_beside, on_own}
-use Rattle.programs.specs.Moment.{Moment, Runs}
+use Rattle.programs.specs.Moment.{Moment, Runs, parts}
 use Rattle.programs.specs.Programs.{Run, quiet}
 use Rattle.programs.specs.Store.{Store}
 use Rattle.programs.proofs.Lifting.{chosen, quietly}
 use Rattle.programs.proofs.Sequence.{done, then_err, then_ok}
 use Rattle.keeper_core.specs.declared.notes.Note.{Note}
+use Rattle.keeper_core.specs.declared.notes.Note.TheVariants as note
 use Rattle.sql_semantics.specs.Plain.{IsPlainSelect}
 use Rattle.sql_semantics.specs.Shapes.{AreOfItems}
 use Rattle.mapping_laws.specs.Hierarchies.{HasHierarchies}
@@ -44,8 +46,9 @@ use Rattle.load_rows.specs.Loading.{Loading, filled, loading}
 use Rattle.load_rows.specs.Reading.{identity_key}
 use Rattle.row_laws.specs.Cells.{AreCellsOf}
 use Rattle.load_calls.specs.Reading.{read}
+use Rattle.load_calls.proofs.ReadLemmas.{passed_refusal}
 use Rattle.keeper_core.specs.Keeping.{RefusesSelect}
-use Rattle.load_calls.specs.Refreshing.{CanRefuse, IsDeletedOrMemory, attr_of, expired_attrs, found_among, found_at, is_expired, read_cells, refresh, refresh_cells, take_cells}
+use Rattle.load_calls.specs.Refreshing.{CanRefuse, CanRefuseCells, IsDeletedOrMemory, IsShownDeleted, Scene, attr_of, expired_attrs, found_among, found_at, is_expired, read_cells, refresh, refresh_cells, take_cells, with_cells_select}
 
 abbrev Rows : Type 0
 Rows = List (List Value)
@@ -186,12 +189,25 @@ refresh_refused moment mapped object attrs graph is some p = chosen_cells moment
 -- ---- refusals
 
 -- what refuses the select of an object's cells
-pub select_refuses : (mapped : Mapped) (object : ObjId) (s : Select) (e : Refusal) → RefusesSelect mapped.schema s e → CanRefuse mapped object e
-select_refuses mapped object s (OperationalError table) h = h.1
-select_refuses mapped object s (DataError op a b) h = tt
-select_refuses mapped object s KeeperFault h = tt
-select_refuses mapped object s Memory h = tt
-select_refuses mapped object s e h = absurd h.0
+select_refuses : (mapped : Mapped) (s : Select) (e : Refusal) → RefusesSelect mapped.schema s e → CanRefuseCells mapped e
+select_refuses mapped s (OperationalError table) h = h.1
+select_refuses mapped s (DataError op a b) h = tt
+select_refuses mapped s KeeperFault h = tt
+select_refuses mapped s Memory h = tt
+select_refuses mapped s e h = absurd h.0
+
+-- it refuses the reading of them
+pub cells_refuse : (mapped : Mapped) (object : ObjId) (e : Refusal) → CanRefuseCells mapped e → CanRefuse mapped object e
+cells_refuse mapped object (ObjectDeletedError deleted) h = absurd h
+cells_refuse mapped object e h = h
+
+-- and never as deleted
+cells_show : (mapped : Mapped) (object : ObjId) (old new : Scene) (e : Refusal) → CanRefuseCells mapped e → IsShownDeleted mapped object old new e
+cells_show mapped object old new (ObjectDeletedError deleted) h = absurd h
+cells_show mapped object old new e h = tt
+
+pub passed_show : {A : Type 0} (mapped : Mapped) (object : ObjId) (old new : Scene) (e : Refusal) (r : Result A Refusal) → IsErrAnd r (λ d. d ≡ e) → CanRefuseCells mapped e → IfErr r (IsShownDeleted mapped object old new)
+passed_show mapped object old new e r passed h = passed_refusal (IsShownDeleted mapped object old new) e r passed (cells_show mapped object old new e h)
 
 pub deleted_refuses : (mapped : Mapped) (object : ObjId) (e : Refusal) → IsDeletedOrMemory object e → CanRefuse mapped object e
 deleted_refuses mapped object (ObjectDeletedError deleted) h = h
@@ -247,10 +263,38 @@ cells_told mapped graph object attrs own (Ok s) has fits is there made = λ rows
     (recursion_from_All (IsAttribute mapped (object_at graph object).class) attrs there) (subst (λ (t : Select). AreOfItems mapped.schema t rows) made kinds)
 cells_told mapped graph object attrs own (Err e) has fits is there made = tt
 
-pub all_refuse : (mapped : Mapped) (object : ObjId) (s : Select) (r : Result Rows Refusal) → IfErr r (RefusesSelect mapped.schema s) → IfErr r (CanRefuse mapped object)
-all_refuse mapped object s (Ok rows) h = tt
-all_refuse mapped object s (Err e) h = select_refuses mapped object s e h
+pub all_refuse : (mapped : Mapped) (s : Select) (r : Result Rows Refusal) → IfErr r (RefusesSelect mapped.schema s) → IfErr r (CanRefuseCells mapped)
+all_refuse mapped s (Ok rows) h = tt
+all_refuse mapped s (Err e) h = select_refuses mapped s e h
 
 pub err_deleted : (mapped : Mapped) (object : ObjId) (r : Result (Unit {0}) Refusal) → IfErr r (IsDeletedOrMemory object) → IfErr r (CanRefuse mapped object)
 err_deleted mapped object (Ok u) h = tt
 err_deleted mapped object (Err e) h = deleted_refuses mapped object e h
+
+-- ---- an object that is answered as deleted
+
+left_by : (object : ObjId) (attrs : List AttrNo) (rows : Rows) (own now : Loading) (e : Refusal) → take_cells object attrs rows own ≡ quiet (Err e) now → now ≡ own
+unfolding take_cells
+left_by object attrs [] own now e is = sym (ap (λ (run : Run Loading (Unit {0})). run.after) is)
+left_by object attrs (row ∷ rows) own now e is =
+    let never : (let taken : Result (Unit {0}) Refusal = Ok tt in taken ≡ Err e) = ap (λ (run : Run Loading (Unit {0})). run.answer) is in absurd cc
+
+-- its row was asked for, and is not among those that were given
+pub without_row : {K : Type 0} (moment : K → Moment Store) (mapped : Mapped) (object : ObjId) (attrs : List AttrNo) (own mid now : Loading) {old new : K} {rows : Rows} (r : Result (Unit {0}) Refusal)
+    → attrs ≡ expired_attrs (object_at own.graph object) → (attrs ≡ [] → ⊥) → mid ≡ with_cells_select mapped object attrs own
+    → Runs (moment_beside moment) (λ (rows : Rows). rows) (read_cells mapped object attrs) (own, old) (Ok rows) (mid, new) → IsQuiet (λ (u : Unit {0}). u) (take_cells object attrs rows mid) r now
+    → IfErr r (IsShownDeleted mapped object (own, moment old) (now, moment new))
+unfolding moment_beside
+without_row moment mapped object attrs own mid now (Ok u) is some noted p q = tt
+without_row moment mapped object attrs own mid now {rows = rows} (Err (ObjectDeletedError deleted)) is some noted p q = record {
+  expired = λ none. some (is ∙ none);
+  noted = left_by object attrs rows mid now (ObjectDeletedError deleted) q.0 ∙ noted ∙ ap (λ (xs : List AttrNo). with_cells_select mapped object xs own) is;
+  answered = (parts p).keeps.calm;
+}
+without_row moment mapped object attrs own mid now (Err e) is some noted p q = tt
+
+-- the select of some cells is theirs, noted
+pub cells_noted : (mapped : Mapped) (object : ObjId) (attrs : List AttrNo) (graph : Graph) (before after : List Note) (select : Select) (r : Result Rows Refusal) → select ≡ cells_select mapped (object_at graph object).class attrs (identity_key graph object)
+    → OnOk r (after ≡ before ++ note.Sent (sent.Query select) ∷ []) → OnOk r (loading graph after ≡ with_cells_select mapped object attrs (loading graph before))
+cells_noted mapped object attrs graph before after select (Ok rows) is noted = ap (loading graph) (noted ∙ ap (λ (s : Select). before ++ note.Sent (sent.Query s) ∷ []) is)
+cells_noted mapped object attrs graph before after select (Err e) is noted = tt

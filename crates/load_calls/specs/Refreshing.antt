@@ -9,7 +9,10 @@ use Rattle.base_core.specs.declared.refusal.Refusal.{Refusal}
 use Rattle.base_core.specs.declared.refusal.Refusal.TheVariants.{DataError, KeeperFault, Memory, ObjectDeletedError, OperationalError}
 use Rattle.schema_core.specs.Catalog.{IsTable}
 use Rattle.class_mapping.specs.Mapped.{Mapped}
+use Rattle.programs.specs.declared.sent.Sent.TheVariants as sent
+use Rattle.programs.specs.Store.{Store}
 use Rattle.programs.specs.Programs.{Run, ◌>>=◌, give, quiet}
+use Rattle.programs.specs.Moment.{IsCalm, Moment, counters}
 use Rattle.programs.specs.Beside.{by_own, on_own}
 use Rattle.object_arena.specs.declared.object.Cell.{Cell}
 use Rattle.object_arena.specs.declared.object.Object.{Object}
@@ -18,7 +21,7 @@ use Rattle.load_selects.specs.Selects.{cells_select}
 use Rattle.load_filling.specs.Filled.{Found}
 use Rattle.load_rows.specs.Loading.{Loading, filled}
 use Rattle.load_rows.specs.Reading.{identity_key}
-use Rattle.load_calls.specs.Reading.{World, read}
+use Rattle.load_calls.specs.Reading.{World, read, with_statement}
 
 abbrev pub attr_of : ℕ × Cell → AttrNo
 attr_of placed = record { 0 = placed.0 }
@@ -65,11 +68,38 @@ IsDeletedOrMemory object (ObjectDeletedError deleted) = deleted ≡ object
 IsDeletedOrMemory object Memory = Unit {0}
 IsDeletedOrMemory object e = ⊥
 
--- its row is not there, a table was not created, the store failed, or memory ran out; a keeper that tells nothing may also refuse a select for a result outside 64 bits
+-- a table was not created, the store failed, or memory ran out; a keeper that tells nothing may also refuse a select for a result outside 64 bits
+abbrev pub CanRefuseCells : Mapped → Refusal → Type 0
+CanRefuseCells mapped (OperationalError table) = IsTable mapped.schema table
+CanRefuseCells mapped (DataError op a b) = Unit {0}
+CanRefuseCells mapped KeeperFault = Unit {0}
+CanRefuseCells mapped Memory = Unit {0}
+CanRefuseCells mapped e = ⊥
+
+-- and the row of the object is not there
 abbrev pub CanRefuse : Mapped → ObjId → Refusal → Type 0
 CanRefuse mapped object (ObjectDeletedError deleted) = deleted ≡ object
-CanRefuse mapped object (OperationalError table) = IsTable mapped.schema table
-CanRefuse mapped object (DataError op a b) = Unit {0}
-CanRefuse mapped object KeeperFault = Unit {0}
-CanRefuse mapped object Memory = Unit {0}
-CanRefuse mapped object e = ⊥
+CanRefuse mapped object e = CanRefuseCells mapped e
+
+-- ---- what shows it, whatever is told
+
+-- the select of some cells of an object is noted, and nothing else has changed
+abbrev pub with_cells_select : Mapped → ObjId → List AttrNo → Loading → Loading
+with_cells_select mapped object attrs own =
+    with_statement (sent.Query (cells_select mapped (object_at own.graph object).class attrs (identity_key own.graph object))) own
+
+-- what stands beside the keeper, and what is seen of the keeper
+abbrev pub Scene : Type 0
+Scene = Loading × Moment Store
+
+-- An object has expired cells; the select of them was sent, noted, and not refused, and no object changed: the rows that were given
+-- for it have none of the object.
+pub record IsWithoutRow (mapped : Mapped) (object : ObjId) (old new : Scene) : Type 0 where
+  pub expired : expired_attrs (object_at old.0.graph object) ≡ [] → ⊥
+  pub noted : new.0 ≡ with_cells_select mapped object (expired_attrs (object_at old.0.graph object)) old.0
+  pub answered : IsCalm (counters old.1) (counters new.1)
+
+-- an object is answered as deleted only where its row was asked for and not given
+abbrev pub IsShownDeleted : Mapped → ObjId → Scene → Scene → Refusal → Type 0
+IsShownDeleted mapped object old new (ObjectDeletedError deleted) = IsWithoutRow mapped object old new
+IsShownDeleted mapped object old new e = Unit {0}

@@ -51,6 +51,8 @@ pub fn read<K: Keeper>(
     ensures kinds { IfOk result (λ rows. AreOfItems mapping.now.schema select.now rows) }
     ensures given { IfOk result (λ rows. AreGiven mapping.now.schema select.now rows) }
     ensures refuses { IfErr result (RefusesSelect mapping.now.schema select.now) }
+    ensures noted { OnOk result
+        (notes.new ≡ notes.old ++ note.Sent (sent.Query select.now) ∷ []) }
 {
     match note_select(alloc, select, notes) {
         Ok(()) => calls::query(alloc, keeper, mapping.schema(), select),

@@ -100,7 +100,9 @@ fn read_cells<K: Keeper>(
     ensures stays { StaysReady mapping.now.schema result (K.moment keeper.new) }
     ensures cells { IfOk result (AllByRecursion
         (AreCellsOf mapping.now (object_at arena.now object).class attrs.now)) }
-    ensures refuses { IfErr result (spec.CanRefuse mapping.now object) }
+    ensures refuses { IfErr result (spec.CanRefuseCells mapping.now) }
+    ensures noted { OnOk result (loading arena.now notes.new
+        ≡ spec.with_cells_select mapping.now object attrs.now (loading arena.now notes.old)) }
 {
     let select = select_of_cells(alloc, arena, mapping, object, attrs)?;
     let rows = read(alloc, mapping, keeper, &select, notes);
@@ -198,8 +200,8 @@ fn take_cells(
 /// Reads the expired cells of a persistent object by one select, where it has any. The object is noted then.
 ///
 /// # Errors
-/// `ObjectDeletedError` of the object where it has no row, `OperationalError` where a table of its class was not created,
-/// `KeeperFault`. These change no object. `Memory`.
+/// `ObjectDeletedError` of the object where it has no row, over every keeper only after the select of its expired cells was sent and
+/// answered, `OperationalError` where a table of its class was not created, `KeeperFault`. These change no object. `Memory`.
 pub fn refresh<K: Keeper>(
     alloc: Global,
     arena: &mut Arena,
@@ -220,6 +222,9 @@ pub fn refresh<K: Keeper>(
     ensures fits { IsFit mapping.now arena.new }
     ensures classes { classes_of arena.new ≡ classes_of arena.old }
     ensures refuses { IfErr result (spec.CanRefuse mapping.now object) }
+    ensures shown { IfErr result (spec.IsShownDeleted mapping.now object
+        (loading arena.old notes.old, K.moment keeper.old)
+        (loading arena.new notes.new, K.moment keeper.new)) }
 {
     let attrs = expired_attrs(alloc, arena.object(object))?;
     if attrs.is_empty() {

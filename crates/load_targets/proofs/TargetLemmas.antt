@@ -1,5 +1,5 @@
 -- The reading of a many-to-one link, put together of its parts.
-use Rattle.std.proofs.Common.{◌≡◌, ◌<◌, Bool, true, false, List, length, Option, Some, Result, Ok, Err, IfErr, IfOk, OnOk, if◌then◌else◌, refl, sym, ap, subst, ◌∙◌}
+use Rattle.std.proofs.Common.{◌≡◌, ◌<◌, Bool, true, false, List, length, Option, Some, Result, Ok, Err, IfErr, IfOk, IsErrAnd, OnOk, if◌then◌else◌, refl, sym, ap, subst, ◌∙◌}
 use Rattle.std.proofs.lemmas.Option.{slice_get-get_or}
 use Rattle.base_core.specs.declared.ids.AttrNo.{AttrNo}
 use Rattle.base_core.specs.declared.ids.ClassId.{ClassId}
@@ -7,7 +7,7 @@ use Rattle.base_core.specs.declared.ids.ObjId.{ObjId}
 use Rattle.base_core.specs.declared.ids.RelNo.{RelNo}
 use Rattle.base_core.specs.declared.value.Value.{Value}
 use Rattle.base_core.specs.declared.refusal.Refusal.{Refusal}
-use Rattle.base_core.specs.declared.refusal.Refusal.TheVariants.{Memory}
+use Rattle.base_core.specs.declared.refusal.Refusal.TheVariants.{Memory, ObjectDeletedError}
 use Rattle.schema_core.specs.Tables.{has_null}
 use Rattle.class_types.specs.declared.mapped.Relation.{Relation}
 use Rattle.class_mapping.specs.Mapped.{IsClass, Mapped, attributes_of, relations_of}
@@ -27,8 +27,10 @@ use Rattle.load_filling.specs.Growing.{Grows}
 use Rattle.load_filling.proofs.LoadedLemmas.{grows_same}
 use Rattle.load_rows.specs.Loading.{Loading, loading}
 use Rattle.load_links.specs.Links.{end_filled}
-use Rattle.load_calls.specs.Refreshing.{refresh}
+use Rattle.load_calls.specs.Refreshing.{IsShownDeleted, Scene, refresh}
+use Rattle.load_calls.proofs.ReadLemmas.{passed_refusal}
 use Rattle.load_collections.specs.Collections.{load_collection}
+use Rattle.load_collections.specs.Refusals.{CanRefuseRows}
 use Rattle.load_collections.proofs.CollectionLemmas.{related_at}
 use Rattle.load_targets.specs.ForeignKeys.{foreign_attrs, foreign_key, is_expired_among, is_key_expired, values_at}
 use Rattle.load_targets.specs.Targets.{find_or_load, load_by, load_end, load_lazy, load_target, read_target, refresh_if, refresh_key}
@@ -185,3 +187,17 @@ pub end_chosen : {K : Type 0} (moment : K → Moment Store) (mapped : Mapped) (g
     → Runs (moment_beside moment) (λ (u : Unit {0}). u) (load_target mapped (relation_of mapped (object_at graph object).class place) object place) (loading graph before, old) r (now, new)
     → Runs (moment_beside moment) (λ (u : Unit {0}). u) (load_lazy mapped object place) (loading graph before, old) r (now, new)
 end_chosen moment mapped graph object place is p = lazy_by moment mapped graph object place false is p
+
+-- ---- refusals
+
+-- what refuses rows never says that an object was deleted
+rows_show : (mapped : Mapped) (object : ObjId) (old new : Scene) (e : Refusal) → CanRefuseRows mapped e → IsShownDeleted mapped object old new e
+rows_show mapped object old new (ObjectDeletedError deleted) h = absurd h
+rows_show mapped object old new e h = tt
+
+pub refused_show : {A : Type 0} (mapped : Mapped) (object : ObjId) (old new : Scene) (r : Result A Refusal) → IfErr r (CanRefuseRows mapped) → IfErr r (IsShownDeleted mapped object old new)
+refused_show mapped object old new (Ok x) h = tt
+refused_show mapped object old new (Err e) h = rows_show mapped object old new e h
+
+pub passed_show : {A : Type 0} (mapped : Mapped) (object : ObjId) (old new : Scene) (e : Refusal) (r : Result A Refusal) → IsErrAnd r (λ d. d ≡ e) → CanRefuseRows mapped e → IfErr r (IsShownDeleted mapped object old new)
+passed_show mapped object old new e r passed h = passed_refusal (IsShownDeleted mapped object old new) e r passed (rows_show mapped object old new e h)

@@ -10,6 +10,7 @@ ghost use Rattle.programs.specs.Moment.{Runs};
 ghost use Rattle.load_filling.specs.Growing.{Grows};
 ghost use Rattle.load_rows.specs.Loading.{loading};
 ghost use Rattle.load_calls.specs.Reading.{IsReady, StaysReady};
+ghost use Rattle.load_calls.specs.Refreshing.{IsShownDeleted};
 ghost use Rattle.load_collections.specs.Refusals.{CanRefuseLoad};
 ghost use Rattle.load_targets.specs.Targets as spec;
 
@@ -51,6 +52,9 @@ pub fn load_lazy<K: Keeper>(
     ensures grows { Grows arena.old arena.new }
     ensures fits { IsFit mapping.now arena.new }
     ensures refuses { IfErr result (CanRefuseLoad mapping.now object) }
+    ensures shown { IfErr result (IsShownDeleted mapping.now object
+        (loading arena.old notes.old, K.moment keeper.old)
+        (loading arena.new notes.new, K.moment keeper.new)) }
 {
     let relation = relation_at(mapping, arena.object(object).class, place);
     if relation.many {

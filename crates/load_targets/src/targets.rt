@@ -13,7 +13,7 @@ ghost use Rattle.programs.specs.Moment.{Runs};
 ghost use Rattle.load_filling.specs.Growing.{Grows};
 ghost use Rattle.load_rows.specs.Loading.{loading};
 ghost use Rattle.load_calls.specs.Reading.{IsReady, StaysReady};
-ghost use Rattle.load_calls.specs.Refreshing.{CanRefuse};
+ghost use Rattle.load_calls.specs.Refreshing.{CanRefuse, IsShownDeleted};
 ghost use Rattle.load_collections.specs.Refusals.{CanRefuseLoad, CanRefuseRows};
 ghost use Rattle.load_targets.specs.ForeignKeys.{foreign_key};
 ghost use Rattle.load_targets.specs.Targets as spec;
@@ -53,6 +53,9 @@ fn refresh_key<K: Keeper>(
     ensures fits { IsFit mapping.now arena.new }
     ensures classes { classes_of arena.new ≡ classes_of arena.old }
     ensures refuses { IfErr result (CanRefuse mapping.now child) }
+    ensures shown { IfErr result (IsShownDeleted mapping.now child
+        (loading arena.old notes.old, K.moment keeper.old)
+        (loading arena.new notes.new, K.moment keeper.new)) }
 {
     let record = arena.object(child);
     let attrs = foreign_attrs(alloc, mapping, record.class, relation)?;
@@ -158,6 +161,9 @@ pub fn load_target<K: Keeper>(
     ensures grows { Grows arena.old arena.new }
     ensures fits { IsFit mapping.now arena.new }
     ensures refuses { IfErr result (CanRefuseLoad mapping.now child) }
+    ensures shown { IfErr result (IsShownDeleted mapping.now child
+        (loading arena.old notes.old, K.moment keeper.old)
+        (loading arena.new notes.new, K.moment keeper.new)) }
 {
     let relation = relation_at(mapping, arena.object(child).class, place);
     refresh_key(alloc, arena, mapping, keeper, relation, child, notes)?;

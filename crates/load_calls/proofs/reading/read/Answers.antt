@@ -3,7 +3,7 @@ use Rattle.schema_core.specs.Catalog.{Catalog}
 use Rattle.sql_semantics.specs.Shapes.{AreGiven, AreOfItems}
 use Rattle.programs.proofs.Lifting.{spoiled}
 use Rattle.keeper_core.specs.Keeping.{HoldsLegalRows, HoldsRows, IsQuery}
-use Rattle.load_calls.proofs.ReadLemmas.{holds_rows, read_done, stays_after}
+use Rattle.load_calls.proofs.ReadLemmas.{holds_rows, query_sent, read_done, stays_after}
 use Rattle.load_calls.proofs.reading.read.Goals as goal
 
 pub returns-in-Ok-clause-step : goal.returns-in-Ok-clause-step
@@ -32,3 +32,6 @@ returns-in-Ok-clause-refuses g c =
 
 pub returns-in-Err-clause-step : goal.returns-in-Err-clause-step
 returns-in-Err-clause-step g c = λ graph. spoiled g.K.Keeper.moment
+
+pub returns-in-Ok-clause-noted : goal.returns-in-Ok-clause-noted
+returns-in-Ok-clause-noted g c = query_sent c.query.result c.in-Ok.ensures.ok

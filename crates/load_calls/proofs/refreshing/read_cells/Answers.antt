@@ -1,9 +1,9 @@
 use Rattle.std.proofs.lemmas.Result.{IfOk-weaker}
 use Rattle.programs.proofs.Lifting.{no_room}
 use Rattle.programs.proofs.Sequence.{passed_on}
-use Rattle.load_calls.specs.Refreshing.{CanRefuse}
+use Rattle.load_calls.specs.Refreshing.{CanRefuseCells}
 use Rattle.load_calls.proofs.ReadLemmas.{passed_memory, passed_stays}
-use Rattle.load_calls.proofs.RefreshLemmas.{all_refuse, cells_read}
+use Rattle.load_calls.proofs.RefreshLemmas.{all_refuse, cells_noted, cells_read}
 use Rattle.load_calls.proofs.refreshing.read_cells.Goals as goal
 
 pub returns-in_err-select-clause-step : goal.returns-in_err-select-clause-step
@@ -13,7 +13,7 @@ pub returns-in_err-select-clause-stays : goal.returns-in_err-select-clause-stays
 returns-in_err-select-clause-stays g c = passed_stays c.args.mapping.now.schema (g.K.Keeper.moment c.args.keeper.now) _ c.from_residual.result c.from_residual.ensures.1 c.in_err-select.ensures.cause
 
 pub returns-in_err-select-clause-refuses : goal.returns-in_err-select-clause-refuses
-returns-in_err-select-clause-refuses g c = passed_memory (CanRefuse c.args.mapping.now c.args.object) _ c.from_residual.result c.from_residual.ensures.1 c.in_err-select.ensures.cause tt
+returns-in_err-select-clause-refuses g c = passed_memory (CanRefuseCells c.args.mapping.now) _ c.from_residual.result c.from_residual.ensures.1 c.in_err-select.ensures.cause tt
 
 pub returns-clause-step : goal.returns-clause-step
 returns-clause-step g c =
@@ -23,4 +23,8 @@ pub returns-clause-cells : goal.returns-clause-cells
 returns-clause-cells g c = IfOk-weaker c.read-rows.result _ _ c.in_ok-select.ensures.cells c.read-rows.ensures.kinds
 
 pub returns-clause-refuses : goal.returns-clause-refuses
-returns-clause-refuses g c = all_refuse c.args.mapping.now c.args.object c.in_ok-select.select c.read-rows.result c.read-rows.ensures.refuses
+returns-clause-refuses g c = all_refuse c.args.mapping.now c.in_ok-select.select c.read-rows.result c.read-rows.ensures.refuses
+
+pub returns-clause-noted : goal.returns-clause-noted
+returns-clause-noted g c =
+    cells_noted c.args.mapping.now c.args.object c.args.attrs.now c.args.arena.now c.args.notes.now c.read-rows.new.notes c.in_ok-select.select c.read-rows.result c.in_ok-select.ensures.select c.read-rows.ensures.noted

@@ -4,9 +4,10 @@ use Rattle.std.proofs.lemmas.Bool.{false≢true}
 use Rattle.object_arena.specs.Graph.{object_at}
 use Rattle.programs.proofs.Lifting.{no_room}
 use Rattle.programs.proofs.Sequence.{passed_on}
-use Rattle.load_calls.specs.Refreshing.{CanRefuse, expired_attrs}
+use Rattle.load_rows.specs.Loading.{loading}
+use Rattle.load_calls.specs.Refreshing.{CanRefuse, IsShownDeleted, expired_attrs}
 use Rattle.load_calls.proofs.ReadLemmas.{passed_memory, passed_refusal, passed_stays, ready_stays}
-use Rattle.load_calls.proofs.RefreshLemmas.{are_attributes, err_deleted, nothing_expired, refresh_refused, refreshed}
+use Rattle.load_calls.proofs.RefreshLemmas.{are_attributes, cells_refuse, err_deleted, nothing_expired, passed_show, refresh_refused, refreshed, without_row}
 use Rattle.load_calls.proofs.refreshing.refresh.Goals as goal
 
 pub returns-in_err-attrs-clause-step : goal.returns-in_err-attrs-clause-step
@@ -35,7 +36,7 @@ returns-in_err-rows-clause-step g c =
     c.in_err-rows.ensures.step)
 
 pub returns-in_err-rows-clause-refuses : goal.returns-in_err-rows-clause-refuses
-returns-in_err-rows-clause-refuses g c = passed_refusal (CanRefuse c.args.mapping.now c.args.object) _ c.from_residual-in_err-rows.result c.from_residual-in_err-rows.ensures.1 c.in_err-rows.ensures.refuses
+returns-in_err-rows-clause-refuses g c = passed_refusal (CanRefuse c.args.mapping.now c.args.object) _ c.from_residual-in_err-rows.result c.from_residual-in_err-rows.ensures.1 (cells_refuse c.args.mapping.now c.args.object _ c.in_err-rows.ensures.refuses)
 
 pub returns-clause-step : goal.returns-clause-step
 returns-clause-step g c =
@@ -50,3 +51,18 @@ returns-clause-fits g c = c.take_cells.ensures.keeps.fits c.args.mapping.now c.i
 
 pub returns-clause-refuses : goal.returns-clause-refuses
 returns-clause-refuses g c = err_deleted c.args.mapping.now c.args.object c.take_cells.result c.take_cells.ensures.cause
+
+pub returns-in_err-attrs-clause-shown : goal.returns-in_err-attrs-clause-shown
+returns-in_err-attrs-clause-shown g c =
+    passed_memory (IsShownDeleted c.args.mapping.now c.args.object (loading c.args.arena.now c.args.notes.now, g.K.Keeper.moment c.args.keeper.now) (loading c.args.arena.now c.args.notes.now, g.K.Keeper.moment c.args.keeper.now)) _
+    c.from_residual.result c.from_residual.ensures.1 c.in_err-attrs.ensures.cause tt
+
+pub returns-in_err-rows-clause-shown : goal.returns-in_err-rows-clause-shown
+returns-in_err-rows-clause-shown g c =
+    passed_show c.args.mapping.now c.args.object (loading c.args.arena.now c.args.notes.now, g.K.Keeper.moment c.args.keeper.now) (loading c.args.arena.now c.read_cells.new.notes, g.K.Keeper.moment c.read_cells.new.keeper) _
+    c.from_residual-in_err-rows.result c.from_residual-in_err-rows.ensures.1 c.in_err-rows.ensures.refuses
+
+pub returns-clause-shown : goal.returns-clause-shown
+returns-clause-shown g c =
+    without_row g.K.Keeper.moment c.args.mapping.now c.args.object c.as_slice-attrs.result.now (loading c.args.arena.now c.args.notes.now) (loading c.args.arena.now c.read_cells.new.notes) (loading c.take_cells.new.arena c.take_cells.new.notes) c.take_cells.result
+    (c.as_slice-attrs.ensures ∙ c.in_ok-attrs.ensures.attrs ∙ ap expired_attrs c.object.ensures.is) (λ e. false≢true (c.if-is_empty.ensures.1 (sym c.as_slice-attrs.ensures ∙ e))) c.in_ok-rows.ensures.noted c.in_ok-rows.ensures.step c.take_cells.ensures.step

@@ -3,8 +3,9 @@ use Rattle.class_types.specs.declared.mapped.Relation.{Relation}
 use Rattle.class_mapping.specs.Mapped.{relations_of}
 use Rattle.object_arena.specs.declared.object.Object.{Object}
 use Rattle.object_arena.specs.Fit.{relation_of}
+use Rattle.load_rows.specs.Loading.{loading}
 use Rattle.load_collections.proofs.RefusalLemmas.{refused_load}
-use Rattle.load_targets.proofs.TargetLemmas.{collection_chosen, end_chosen}
+use Rattle.load_targets.proofs.TargetLemmas.{collection_chosen, end_chosen, refused_show}
 use Rattle.load_targets.proofs.lazy.load_lazy.Goals as goal
 
 pub relation_at-relation-requires-clause-class : goal.relation_at-relation-requires-clause-class
@@ -25,3 +26,11 @@ returns-clause-step g c =
 
 pub returns-then-relation-clause-refuses : goal.returns-then-relation-clause-refuses
 returns-then-relation-clause-refuses g c = refused_load c.args.mapping.now c.args.object c.load_collection.result c.load_collection.ensures.refuses
+
+pub returns-then-relation-clause-shown : goal.returns-then-relation-clause-shown
+returns-then-relation-clause-shown g c =
+    refused_show c.args.mapping.now c.args.object (loading c.args.arena.now c.args.notes.now, g.K.Keeper.moment c.args.keeper.now) (loading c.load_collection.new.arena c.load_collection.new.notes, g.K.Keeper.moment c.load_collection.new.keeper) c.load_collection.result
+    c.load_collection.ensures.refuses
+
+pub returns-clause-shown : goal.returns-clause-shown
+returns-clause-shown g c = c.load_target.ensures.shown

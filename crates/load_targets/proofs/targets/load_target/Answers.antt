@@ -6,12 +6,14 @@ use Rattle.object_arena.specs.declared.object.Object.{Object}
 use Rattle.object_arena.specs.Fit.{end_fits, relation_of}
 use Rattle.object_arena.specs.Graph.{object_at}
 use Rattle.programs.proofs.Sequence.{passed_on}
+use Rattle.load_rows.specs.Loading.{loading}
+use Rattle.load_calls.specs.Refreshing.{IsShownDeleted}
 use Rattle.load_calls.proofs.ReadLemmas.{passed_refusal, ready_stays}
 use Rattle.load_collections.specs.Refusals.{CanRefuseLoad}
 use Rattle.load_collections.proofs.RefusalLemmas.{lost_alone_refuses, of_refresh, of_rows}
 use Rattle.load_collections.proofs.CollectionLemmas.{class_there, owner_there, same_relation}
 use Rattle.load_collections.proofs.RowsLemmas.{grows_then}
-use Rattle.load_targets.proofs.TargetLemmas.{refresh_refused, same_grow, target_loaded, target_refused}
+use Rattle.load_targets.proofs.TargetLemmas.{passed_show, refresh_refused, same_grow, target_loaded, target_refused}
 use Rattle.load_targets.proofs.targets.load_target.Goals as goal
 
 pub relation_at-relation-requires-clause-class : goal.relation_at-relation-requires-clause-class
@@ -90,3 +92,18 @@ returns-in_err-end-clause-refuses g c =
 
 pub returns-clause-refuses : goal.returns-clause-refuses
 returns-clause-refuses g c = lost_alone_refuses (CanRefuseLoad c.args.mapping.now c.args.child) c.fill_end.result c.fill_end.ensures.cause tt
+
+pub returns-in_err-refresh_key-clause-shown : goal.returns-in_err-refresh_key-clause-shown
+returns-in_err-refresh_key-clause-shown g c =
+    passed_refusal (IsShownDeleted c.args.mapping.now c.args.child (loading c.args.arena.now c.args.notes.now, g.K.Keeper.moment c.args.keeper.now) (loading c.refresh_key.new.arena c.refresh_key.new.notes, g.K.Keeper.moment c.refresh_key.new.keeper)) _
+    c.from_residual.result c.from_residual.ensures.1 c.in_err-refresh_key.ensures.shown
+
+pub returns-in_err-end-clause-shown : goal.returns-in_err-end-clause-shown
+returns-in_err-end-clause-shown g c =
+    passed_show c.args.mapping.now c.args.child (loading c.args.arena.now c.args.notes.now, g.K.Keeper.moment c.args.keeper.now) (loading c.read_target.new.arena c.read_target.new.notes, g.K.Keeper.moment c.read_target.new.keeper) _
+    c.from_residual-in_err-end.result c.from_residual-in_err-end.ensures.1 c.in_err-end.ensures.refuses
+
+pub returns-clause-shown : goal.returns-clause-shown
+returns-clause-shown g c =
+    lost_alone_refuses (IsShownDeleted c.args.mapping.now c.args.child (loading c.args.arena.now c.args.notes.now, g.K.Keeper.moment c.args.keeper.now) (loading c.fill_end.new.arena c.fill_end.new.notes, g.K.Keeper.moment c.read_target.new.keeper)) c.fill_end.result
+    c.fill_end.ensures.cause tt

@@ -1,7 +1,8 @@
 use Rattle.std.proofs.Common.{◌∙◌}
 use Rattle.programs.proofs.Lifting.{no_room}
 use Rattle.programs.proofs.Sequence.{passed_on}
-use Rattle.load_calls.specs.Refreshing.{CanRefuse}
+use Rattle.load_rows.specs.Loading.{loading}
+use Rattle.load_calls.specs.Refreshing.{CanRefuse, IsShownDeleted}
 use Rattle.load_calls.proofs.ReadLemmas.{passed_memory}
 use Rattle.load_targets.proofs.TargetLemmas.{asked_by, expired_is, key_held, key_refreshed}
 use Rattle.load_targets.proofs.targets.refresh_key.Goals as goal
@@ -26,3 +27,11 @@ returns-clause-step g c =
 
 pub returns-in_err-attrs-clause-refuses : goal.returns-in_err-attrs-clause-refuses
 returns-in_err-attrs-clause-refuses g c = passed_memory (CanRefuse c.args.mapping.now c.args.child) _ c.from_residual.result c.from_residual.ensures.1 c.in_err-attrs.ensures.cause tt
+
+pub returns-in_err-attrs-clause-shown : goal.returns-in_err-attrs-clause-shown
+returns-in_err-attrs-clause-shown g c =
+    passed_memory (IsShownDeleted c.args.mapping.now c.args.child (loading c.args.arena.now c.args.notes.now, g.K.Keeper.moment c.args.keeper.now) (loading c.args.arena.now c.args.notes.now, g.K.Keeper.moment c.args.keeper.now)) _
+    c.from_residual.result c.from_residual.ensures.1 c.in_err-attrs.ensures.cause tt
+
+pub returns-clause-shown : goal.returns-clause-shown
+returns-clause-shown g c = c.refresh.ensures.shown
