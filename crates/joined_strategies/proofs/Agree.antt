@@ -45,20 +45,20 @@ module _ (mapped : Mapped) (query : ObjectQuery) (plain joined all : List Row) (
   key = row_key mapped query.class row
 
   -- the own select changes no tables
-  same_store : first.store ≡ w.store
+  pub same_store : first.store ≡ w.store
   same_store = (selected_in mapped query plain joined objects w first loaded.joining loaded.selected).store
 
-  are_first : AreRowsOf mapped relation.target (bare first.store.tables) all → AreRowsOf mapped relation.target (bare w.store.tables) all
+  pub are_first : AreRowsOf mapped relation.target (bare first.store.tables) all → AreRowsOf mapped relation.target (bare w.store.tables) all
   are_first are = subst (λ (store : Store). AreRowsOf mapped relation.target (bare store.tables) all) same_store are
 
   -- the owner has the key of its row
-  own_key : identity_key first.own.graph one ≡ key
+  pub own_key : identity_key first.own.graph one ≡ key
   own_key =
       let rooted = (selected_in mapped query plain joined objects w first loaded.joining loaded.selected).extends.rooted in
       key_of_stand (root_of mapped query.class) first.own.graph key one (found_stands first.own.graph (root_of mapped query.class) key one rooted loaded.lazy_owner.found)
 
   -- its link is as before, or unloaded where it was made
-  first_is : link_at first.own.graph one place ≡ first_link mapped query.class place w.own.graph row
+  pub first_is : link_at first.own.graph one place ≡ first_link mapped query.class place w.own.graph row
   first_is =
       let joining = loaded.joining in
       let within = place_within mapped query.class query.joined place joining.places loaded.joined_owner.asked in
@@ -71,11 +71,11 @@ module _ (mapped : Mapped) (query : ObjectQuery) (plain joined all : List Row) (
   alike lazy rows filled other =
       record { base = filled.base; same = other.base; one_link = filled.link; other_link = other.link ∙ ap (collection_of other.base) (sym first_is); alike = filled.keys ∙ sym other.keys }
 
-  filled_joined : relation.many ≡ true → AreRowsOf mapped relation.target (bare first.store.tables) all
+  pub filled_joined : relation.many ≡ true → AreRowsOf mapped relation.target (bare first.store.tables) all
       → IsFilled mapped relation (tied_rows mapped query.class relation (bare w.store.tables) all row) (first_link mapped query.class place w.own.graph row) after.own.graph (link_at after.own.graph owner place)
   filled_joined many are = joined_fills mapped query plain joined all answered w after row place owner loaded.joining many (are_first are) loaded.loaded loaded.joined_owner
 
-  tied_is : (far : Option TableKey) → relation.many ≡ true → relation.far ≡ far → tied_rows mapped query.class relation (bare w.store.tables) all row ≡ tied_by mapped query.class relation (bare w.store.tables) all row true far
+  pub tied_is : (far : Option TableKey) → relation.many ≡ true → relation.far ≡ far → tied_rows mapped query.class relation (bare w.store.tables) all row ≡ tied_by mapped query.class relation (bare w.store.tables) all row true far
   tied_is far many is =
       ap (λ (b : Bool). tied_by mapped query.class relation (bare w.store.tables) all row b relation.far) many
       ∙ ap (λ (f : Option TableKey). tied_by mapped query.class relation (bare w.store.tables) all row true f) is

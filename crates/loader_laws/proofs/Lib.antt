@@ -4,6 +4,8 @@ pub mod Loads
 pub mod Statements
 pub mod OwnRows
 pub mod Frames
+pub mod Later
 pub mod Options
 pub mod Expired
+pub mod Lazily
 pub mod Refused

@@ -116,7 +116,7 @@ unread_goes mapped relation place owners w after false g =
 -- ---- what is filled
 
 -- a collection is filled with rows
-filled_holds : (mapped : Mapped) (relation : Relation) (rows : List Row) (old : Link) (graph : Graph) (now : Link) → relation.many ≡ true → IsFilled mapped relation rows old graph now → HoldsRows mapped relation rows old graph now
+pub filled_holds : (mapped : Mapped) (relation : Relation) (rows : List Row) (old : Link) (graph : Graph) (now : Link) → relation.many ≡ true → IsFilled mapped relation rows old graph now → HoldsRows mapped relation rows old graph now
 filled_holds mapped relation rows old graph now many filled = record {
   objects = filled.base;
   keys = filled.keys;

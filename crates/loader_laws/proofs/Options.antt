@@ -1,50 +1,36 @@
 -- Links at several places, loaded one place after the other.
-use Rattle.std.proofs.Common.{◌≡◌, ℕ, ◌+◌, ◌-◌, ◌<◌, ◌==◌, Bool, true, false, not, ◌&&◌, ◌||◌, List, [], ◌∷◌, ◌++◌, length, Option, None, Some, if◌then◌else◌, is_none, is_some, refl, sym, ap, subst, ◌∙◌, arith}
-use Rattle.std.specs.List.{All, AllByRecursion, flat_map, list_any, zip}
-use Rattle.std.specs.Prelude.{unwrap_or}
-use Rattle.std.specs.Option.{option_map}
-use Rattle.std.specs.List.{position}
+use Rattle.std.proofs.Common.{◌≡◌, ℕ, ◌<◌, ◌==◌, Bool, true, false, not, ◌&&◌, ◌||◌, List, [], ◌∷◌, ◌++◌, length, Option, None, Some, if◌then◌else◌, is_some, refl, sym, ap, subst, ◌∙◌, arith}
+use Rattle.std.specs.List.{All, AllByRecursion, flat_map, list_any}
 use Rattle.std.proofs.lemmas.Bool.{and_parts, eq-eqb, eqb-false, eqb-true, ne_eqb}
 use Rattle.std.proofs.lemmas.List.Elements.{All-from_recursion, recursion_from_All}
-use Rattle.base_core.specs.declared.ids.AttrNo.{AttrNo}
 use Rattle.base_core.specs.declared.ids.ClassId.{ClassId}
 use Rattle.base_core.specs.declared.ids.ObjId.{ObjId}
 use Rattle.base_core.specs.declared.ids.RelNo.{RelNo}
 use Rattle.base_core.specs.declared.value.Value.{Value}
 use Rattle.schema_core.specs.Catalog.{Catalog}
-use Rattle.schema_core.specs.Tables.{value_or_null}
-use Rattle.schema_core.specs.WellFormed.{is_key}
 use Rattle.expr_types.specs.declared.select.Select.{Select}
 use Rattle.sql_semantics.specs.Created.{bare}
-use Rattle.sql_semantics.specs.Eval.{Row, rows_in}
-use Rattle.sql_semantics.specs.Shapes.{AreRows}
+use Rattle.sql_semantics.specs.Eval.{Row}
 use Rattle.class_types.specs.declared.mapped.Relation.{Relation}
-use Rattle.class_sides.specs.Keys.{TableKey}
-use Rattle.class_mapping.specs.Mapped.{IsClass, Mapped, relations_of, root_of, root_spec}
-use Rattle.class_mapping.specs.Paired.{IsAt, is_at_or_under}
-use Rattle.class_mapping.specs.Related.{IsRelated}
+use Rattle.class_mapping.specs.Mapped.{IsClass, Mapped, relations_of}
+use Rattle.class_mapping.specs.Paired.{is_at_or_under}
+use Rattle.class_mapping.specs.Related.{AreRelated, IsRelated}
 use Rattle.class_mapping.proofs.Having.{some_of}
-use Rattle.class_mapping.proofs.Lists.{or_left, or_right}
 use Rattle.mapping_laws.specs.Hierarchies.{HasHierarchies}
 use Rattle.programs.specs.Programs.{Run, ◌>>=◌, each}
 use Rattle.programs.specs.Beside.{by_own, on_own}
-use Rattle.programs.specs.Store.{Store}
 use Rattle.object_arena.specs.declared.object.Link.{Link}
-use Rattle.object_arena.specs.declared.object.Link.TheVariants.{Unset, Unloaded, One, Many}
 use Rattle.object_arena.specs.declared.object.Object.{Object}
 use Rattle.object_arena.specs.declared.object.State.{State}
 use Rattle.object_arena.specs.Fit.{relation_of}
 use Rattle.object_arena.specs.Graph.{Graph, IsObject, has_identity, is_among, is_persistent, no_object, object_at, place_of, root_at}
-use Rattle.object_arena.specs.Identity.{IsGraph, find_identity, has_key, holds, id_of_place, is_identified}
-use Rattle.object_arena.proofs.GraphLemmas.{held_position, same_equiv}
-use Rattle.object_arena.proofs.HolderLemmas.{place_holds}
+use Rattle.object_arena.specs.Identity.{IsGraph, has_key, holds, is_identified}
+use Rattle.object_arena.proofs.GraphLemmas.{same_equiv}
 use Rattle.relations.specs.Mirror.{is_of}
 use Rattle.load_rows.specs.Loading.{Loading}
-use Rattle.load_rows.specs.Reading.{identity_key}
-use Rattle.load_links.specs.Links.{link_at, linked}
+use Rattle.load_links.specs.Links.{link_at}
 use Rattle.load_calls.specs.Reading.{World, read}
 use Rattle.load_collections.proofs.CollectionLemmas.{related_at}
-use Rattle.load_targets.specs.ForeignKeys.{foreign_attrs, is_expired_among, is_key_expired, value_at, value_of, values_at}
 use Rattle.load_batches.specs.Batches.{IsOwner, batch_at, batch_starts, fill_batch, is_unloaded, keys_of, load_batch, load_each, load_from, load_members, read_batch, unloaded_owners}
 use Rattle.load_batches.specs.declared.owners.Owner.{Owner}
 use Rattle.collection_selects.specs.Collections.{batch_select}
@@ -53,20 +39,17 @@ use Rattle.load_selects.specs.Selects.{targets_select}
 use Rattle.load_selectin.specs.Selectin.{IsOption, IsOwnerOf, if_owner, is_owner, load_option, load_options, load_selectin, load_together, owners_among}
 use Rattle.load_selectin.proofs.OwnerLemmas.{owner_tested, owner_under}
 use Rattle.answer_laws.specs.Answers.{AreRowsOf}
-use Rattle.strategies.specs.Ends.{has_row}
-use Rattle.join_laws.specs.Pairs.{paired_rows}
 use Rattle.join_laws.proofs.Choices.{every_has}
-use Rattle.strategies.specs.Filled.{Goes, related_rows}
-use Rattle.strategies.specs.Standing.{Stands, Stays}
+use Rattle.strategies.specs.Filled.{Goes}
 use Rattle.strategies.proofs.Batch.{one_waiting}
 use Rattle.strategies.proofs.Goes.{by_own_goes, given, on_own_goes, parted, read_goes}
-use Rattle.strategies.proofs.Lazy.{later_filled}
-use Rattle.strategies.proofs.Standing.{found_stands, made_later, stays_then}
+use Rattle.strategies.proofs.Standing.{made_later}
 use Rattle.loader_laws.specs.Calls.{HoldsRelated}
-use Rattle.loader_laws.specs.Linked.{AgreesWithMap, HoldsRows, IsOfItsRow, IsReady, IsStage, link_with, referred_rows, related_by, related_to}
-use Rattle.loader_laws.specs.Options.{HoldsItsKey, IsAnswered, Leaves, is_left}
+use Rattle.loader_laws.specs.Linked.{AgreesWithMap, HoldsRows, IsReady, IsStage, related_to}
+use Rattle.loader_laws.specs.Options.{HoldsItsKey, IsAnswered, Leaves}
 use Rattle.loader_laws.proofs.Frames.{IsFramed, framed_batch, framed_ends, framed_targets, leaves_same, leaves_then}
 use Rattle.loader_laws.proofs.EachKind.{IsOpen, IsSet, opened}
+use Rattle.loader_laws.proofs.Later.{Kept, agrees_before, holds_left, kept_by, kept_same, kept_then, key_held, open_later, related_later, set_later}
 use Rattle.loader_laws.proofs.Loads.{among_unread, every_unread, together, unread, unread_goes}
 
 -- ---- what the loads of one place leave
@@ -150,120 +133,28 @@ selectin_leaves mapped relation place (first ∷ more) w after stage owned g =
     let chosen = by_own_goes (λ (l : Loading). load_together mapped (relation_of mapped (object_at l.graph first).class place) place (first ∷ more)) w tt after (record { answer = g.answer; leaves = g.leaves }) in
     (together_left place mapped (relation_of mapped class place) stage.has related.target (first ∷ more) w after (relation_of mapped class place).many stage.graph chosen).leaves
 
--- ---- what loads of any places keep
+-- ---- one option after the other
 
-record Kept (old new : Graph) : Type 0 where
-  stays : Stays old new
-  graph : IsGraph new.objects new.roots
-  classes : (object : ObjId) → IsObject old object → (object_at new object).class ≡ (object_at old object).class
-  cells : (object : ObjId) → IsObject old object → (attr : AttrNo) → is_none (value_of (object_at old object) attr) ≡ false → value_of (object_at new object) attr ≡ value_of (object_at old object) attr
+module _ (mapped : Mapped) (class : ClassId) (objects : List ObjId) (has : HasHierarchies mapped) (are : AreRelated mapped) (less : IsClass mapped class) where
+  -- each option leaves what there was
+  option_left : (q : RelNo) (n : Unit {0}) (u v : World) → IsOption mapped class q → IsGraph u.own.graph.objects u.own.graph.roots → Goes (load_option mapped class objects q n) u tt v → IsLeft q u v
+  option_left q n u v inside is g =
+      let there : Relation = relation_of mapped class q in
+      let chosen = by_own_goes (λ (l : Loading). load_together mapped there q (owners_among mapped class l.graph objects)) u tt v (record { answer = g.answer; leaves = g.leaves }) in
+      together_left q mapped there has (related_at mapped class q are less inside).target (owners_among mapped class u.own.graph objects) u v there.many is chosen
 
-kept_by : (place : RelNo) (old new : Graph) → Leaves place old new → Kept old new
-kept_by place old new leaves = record { stays = leaves.stays; graph = leaves.graph; classes = leaves.classes; cells = leaves.cells }
+  kept_each : (places : List RelNo) (n : Unit {0}) (u v : World) → AllByRecursion (IsOption mapped class) places → IsGraph u.own.graph.objects u.own.graph.roots → Goes (each (load_option mapped class objects) n places) u tt v → Kept u.own.graph v.own.graph
+  unfolding each
+  kept_each [] n u v inside is g = subst (λ (x : World). Kept u.own.graph x.own.graph) (given n tt u v g).1 (kept_same u.own.graph is)
+  kept_each (q ∷ places) n u v inside is g =
+      let two = parted (load_option mapped class objects q n) (λ (m : Unit {0}). each (load_option mapped class objects) m places) u tt v g in
+      let one = option_left q n u two.between inside.0 is two.first in
+      kept_then u.own.graph two.between.own.graph v.own.graph (kept_by q u.own.graph two.between.own.graph one.leaves) (kept_each places two.value two.between v inside.1 one.leaves.graph two.second)
 
-kept_same : (graph : Graph) → IsGraph graph.objects graph.roots → Kept graph graph
-kept_same graph is = let none : RelNo = record { 0 = 0 } in kept_by none graph graph (leaves_same none graph is)
-
-kept_then : (a b c : Graph) → Kept a b → Kept b c → Kept a c
-kept_then a b c p q = record {
-  stays = stays_then a b c p.stays q.stays;
-  graph = q.graph;
-  classes = λ object made. q.classes object (made_later a b object p.stays made) ∙ p.classes object made;
-  cells = λ object made attr held. let one = p.cells object made attr held in q.cells object (made_later a b object p.stays made) attr (ap is_none one ∙ held) ∙ one;
-}
-
--- the cells of a foreign key that are held
-values_held : (old new : Object) (attrs : List AttrNo) → is_expired_among attrs old ≡ false → ((attr : AttrNo) → is_none (value_of old attr) ≡ false → value_of new attr ≡ value_of old attr)
-    → (is_expired_among attrs new ≡ false) × (values_at attrs new ≡ values_at attrs old)
-values_held old new [] held same = (refl, refl)
-values_held old new (attr ∷ attrs) held same =
-    let here : Bool = is_none (value_of old attr) in
-    let first = same attr (or_left here (is_expired_among attrs old) held) in
-    let rest = values_held old new attrs (or_right here (is_expired_among attrs old) held) same in (
-      ap (λ (b : Bool). b || is_expired_among attrs new) (ap is_none first ∙ or_left here (is_expired_among attrs old) held) ∙ rest.0,
-      ap (λ (v : Value). v ∷ values_at attrs new) (ap value_or_null first) ∙ ap (λ (vs : List Value). value_at old attr ∷ vs) rest.1,
-    )
-
-module _ (mapped : Mapped) (relation : Relation) (old new : Graph) (object : ObjId) (made : IsObject old object) (kept : Kept old new) (held : is_key_expired mapped relation (object_at old object) ≡ false) where
-  abbrev attrs : List AttrNo
-  attrs = foreign_attrs mapped (object_at old object).class relation
-
-  both : (is_expired_among attrs (object_at new object) ≡ false) × (values_at attrs (object_at new object) ≡ values_at attrs (object_at old object))
-  both = values_held (object_at old object) (object_at new object) attrs held (kept.cells object made)
-
-  key_held : is_key_expired mapped relation (object_at new object) ≡ false
-  key_held = ap (λ (class : ClassId). is_expired_among (foreign_attrs mapped class relation) (object_at new object)) (kept.classes object made) ∙ both.0
-
-  key_same : ends.key_of mapped relation new object ≡ ends.key_of mapped relation old object
-  key_same = ap (λ (class : ClassId). values_at (foreign_attrs mapped class relation) (object_at new object)) (kept.classes object made) ∙ both.1
-
--- who was found is found
-found_later : (old new : Graph) (root : ClassId) (key : List Value) (object : ObjId) → IsGraph old.objects old.roots → Kept old new → find_identity old root key ≡ Some object → find_identity new root key ≡ Some object
-found_later old new root key object is kept found = by (position (holds root key) (zip new.objects new.roots)) refl
-  where
-    stands : Stands root new key object
-    stands = kept.stays.stand root key object (found_stands old root key object is.rooted found)
-
-    by : (at : Option ℕ) → position (holds root key) (zip new.objects new.roots) ≡ at → option_map id_of_place at ≡ Some object
-    by None here = absurd (held_position new.objects new.roots root key (place_of object) kept.graph.rooted stands.1 here)
-    by (Some place) here =
-        let there = place_holds new.objects new.roots root key place kept.graph.rooted here in
-        let one : place ≡ place_of object = kept.graph.one root key place (place_of object) there.1 stands.1 in
-        let some = stands.0.0 in
-        let number : place + 1 ≡ object.0 = omega (arith, one, some) in
-        ap (λ (n : ℕ). let o : ObjId = record { 0 = n } in Some o) number
-
-agrees_before : (mapped : Mapped) (relation : Relation) (all : List Row) (old new : Graph) (owner : ObjId) → IsGraph old.objects old.roots → IsObject old owner → Kept old new → HoldsItsKey mapped relation old owner → AgreesWithMap mapped relation all new owner → AgreesWithMap mapped relation all old owner
-agrees_before mapped relation all old new owner is made kept holds_key agrees = λ single.
-    let root : ClassId = root_of mapped relation.target in
-    let key : List Value = ends.key_of mapped relation old owner in
-    let same = key_same mapped relation old new owner made kept (holds_key single) in
-    by (find_identity old root key) refl (subst (λ (k : List Value). IsOfItsRow mapped relation.target all new k (find_identity new root k)) same (agrees single))
-  where
-    by : (found : Option ObjId) → find_identity old (root_of mapped relation.target) (ends.key_of mapped relation old owner) ≡ found
-        → IsOfItsRow mapped relation.target all new (ends.key_of mapped relation old owner) (find_identity new (root_of mapped relation.target) (ends.key_of mapped relation old owner))
-        → IsOfItsRow mapped relation.target all old (ends.key_of mapped relation old owner) found
-    by None here of = tt
-    by (Some object) here of =
-        let root : ClassId = root_of mapped relation.target in
-        let key : List Value = ends.key_of mapped relation old owner in
-        let there : IsObject old object = (found_stands old root key object is.rooted here).0 in
-        let shown : is_of new mapped relation.target object ≡ has_row mapped relation.target all key =
-        subst (λ (found : Option ObjId). IsOfItsRow mapped relation.target all new key found) (found_later old new root key object is kept here) of in
-        ap (λ (class : ClassId). is_at_or_under mapped class relation.target) (sym (kept.classes object there)) ∙ shown
-
--- ---- links that are filled
-
-loaded_by : (many : Bool) (objects : List ObjId) (old now : Link) → Some now ≡ link_with many objects old → is_unloaded now ≡ false
-loaded_by true objects Unset now e = absurd cc
-loaded_by true objects (Unloaded added removed) now e = ap (λ (found : Option Link). unloaded_in found) e
-  where
-    unloaded_in : Option Link → Bool
-    unloaded_in None = false
-    unloaded_in (Some link) = is_unloaded link
-loaded_by true objects (One end changed) now e = absurd cc
-loaded_by true objects (Many members base) now e = absurd cc
-loaded_by false objects Unset now e = absurd cc
-loaded_by false objects (Unloaded added removed) now e = ap (λ (found : Option Link). unloaded_in found) e
-  where
-    unloaded_in : Option Link → Bool
-    unloaded_in None = false
-    unloaded_in (Some link) = is_unloaded link
-loaded_by false objects (One end changed) now e = absurd cc
-loaded_by false objects (Many members base) now e = absurd cc
-
-base_is : (members base others same : List ObjId) → Some (Many members base) ≡ Some (Many others same) → base ≡ same
-base_is members base others same e = cc
-
-holds_later : (mapped : Mapped) (relation : Relation) (rows : List Row) (old now : Link) (graph new : Graph) → Stays graph new → HoldsRows mapped relation rows old graph now → HoldsRows mapped relation rows old new now
-holds_later mapped relation rows old now graph new stays held =
-    let filled = later_filled mapped relation rows (Unloaded [] []) (Many (linked [] [] held.objects) held.objects) graph new stays (record { base = held.objects; keys = held.keys; stand = held.stand; link = refl }) in
-    let same : filled.base ≡ held.objects = sym (base_is (linked [] [] held.objects) held.objects (linked [] [] filled.base) filled.base filled.link) in
-    record { objects = filled.base; keys = filled.keys; stand = filled.stand; link = held.link ∙ ap (λ (objects : List ObjId). link_with relation.many objects old) (sym same) }
-
-and_false : (b : Bool) → (b && false) ≡ false
-and_false true = refl
-and_false false = refl
+  -- what the loads of all options keep
+  pub options_kept : (places : List RelNo) (u v : World) → All (IsOption mapped class) places → IsGraph u.own.graph.objects u.own.graph.roots → Goes (load_options mapped class objects places) u tt v → Kept u.own.graph v.own.graph
+  unfolding load_options
+  options_kept places u v inside is g = kept_each places tt u v (recursion_from_All (IsOption mapped class) places inside) is (record { answer = g.answer; leaves = g.leaves })
 
 -- ---- one owner and the options
 
@@ -294,18 +185,7 @@ module _ (mapped : Mapped) (class : ClassId) (place : RelNo) (objects : List Obj
   Done u = HoldsRows mapped relation wanted old u.own.graph (link_at u.own.graph owner place)
 
   done_step : (q : RelNo) (u v : World) → IsObject u.own.graph owner → IsLeft q u v → Done u → Done v
-  done_step q u v made left done =
-      let now : Link = link_at u.own.graph owner place in
-      let loaded : is_unloaded now ≡ false = loaded_by relation.many done.objects old now done.link in
-      let stays : is_left q u.own.graph owner place ≡ true = ap (λ (b : Bool). not (place.0 == q.0 && b)) loaded ∙ ap (λ (b : Bool). not b) (and_false (place.0 == q.0)) in
-      subst (λ (link : Link). HoldsRows mapped relation wanted old v.own.graph link) (sym (left.leaves.links owner made place stays)) (holds_later mapped relation wanted old now u.own.graph v.own.graph left.leaves.stays done)
-
-  -- each option leaves what there was
-  option_left : (q : RelNo) (n : Unit {0}) (u v : World) → IsOption mapped class q → IsGraph u.own.graph.objects u.own.graph.roots → Goes (load_option mapped class objects q n) u tt v → IsLeft q u v
-  option_left q n u v inside is g =
-      let there : Relation = relation_of mapped class q in
-      let chosen = by_own_goes (λ (l : Loading). load_together mapped there q (owners_among mapped class l.graph objects)) u tt v (record { answer = g.answer; leaves = g.leaves }) in
-      together_left q mapped there stage.has (related_at mapped class q stage.related less inside).target (owners_among mapped class u.own.graph objects) u v there.many is chosen
+  done_step q u v made left done = holds_left mapped relation place q owner wanted old u.own.graph v.own.graph made left.leaves done
 
   record Tail (u v : World) : Type 0 where
     kept : Kept u.own.graph v.own.graph
@@ -318,7 +198,7 @@ module _ (mapped : Mapped) (class : ClassId) (place : RelNo) (objects : List Obj
       record { kept = subst (λ (x : World). Kept u.own.graph x.own.graph) same (kept_same u.own.graph is); done = λ done. subst Done same done }
   tail_go (q ∷ places) n u v inside is made g =
       let two = parted (load_option mapped class objects q n) (λ (m : Unit {0}). each (load_option mapped class objects) m places) u tt v g in
-      let one = option_left q n u two.between inside.0 is two.first in
+      let one = option_left mapped class objects stage.has stage.related less q n u two.between inside.0 is two.first in
       let rest = tail_go places two.value two.between v inside.1 one.leaves.graph (made_later u.own.graph two.between.own.graph owner one.leaves.stays made) two.second in
       record { kept = kept_then u.own.graph two.between.own.graph v.own.graph (kept_by q u.own.graph two.between.own.graph one.leaves) rest.kept; done = λ done. rest.done (done_step q u two.between made one done) }
 
@@ -379,14 +259,7 @@ module _ (mapped : Mapped) (class : ClassId) (place : RelNo) (objects : List Obj
   open_at : (u : World) (object : ObjId) → Waits u → IsOwnerOf mapped start class object → HoldsItsKey mapped relation start object → is_unloaded (link_at u.own.graph object place) ≡ true → IsOpen mapped relation place u.own.graph object
   open_at u object waits is held unloaded =
       let ready : IsReady mapped relation place start object = record { owner = owner_under mapped start class place object stage.has.paired within is; held = held } in
-      let first : IsOpen mapped relation place start object = opened mapped relation place w object stage ready (ap is_unloaded (sym (waits.links object is.made)) ∙ unloaded) in
-      record {
-        made = made_later start u.own.graph object waits.kept.stays is.made;
-        at = subst (λ (own : ClassId). IsAt mapped own place.0 relation) (sym (waits.kept.classes object is.made)) first.at;
-        unloaded = unloaded;
-        keyed = ap (λ (identity : Option (List Value)). is_key (root_spec mapped relation.class) (unwrap_or identity [])) (waits.kept.stays.identities object is.made) ∙ first.keyed;
-        held = λ single. key_held mapped relation start u.own.graph object is.made waits.kept (held single);
-      }
+      open_later mapped relation place start u.own.graph object (opened mapped relation place w object stage ready (ap is_unloaded (sym (waits.links object is.made)) ∙ unloaded)) waits.kept unloaded
 
   open_each : (u : World) (some : List ObjId) → Waits u → AllByRecursion (IsOwnerOf mapped start class) some → AllByRecursion (HoldsItsKey mapped relation start) some
       → AllByRecursion (λ one. is_unloaded (link_at u.own.graph one place) ≡ true → IsOpen mapped relation place u.own.graph one) some
@@ -412,32 +285,10 @@ module _ (mapped : Mapped) (class : ClassId) (place : RelNo) (objects : List Obj
 
   -- the rows that are related are the same then
   same_related : (u : World) → Waits u → related_to mapped relation (bare u.store.tables) all u.own.graph owner ≡ wanted
-  same_related u waits =
-      ap (λ (store : Store). related_to mapped relation (bare store.tables) all u.own.graph owner) waits.store
-      ∙ by relation.far relation.many refl
-    where
-      same_key : identity_key u.own.graph owner ≡ identity_key start owner
-      same_key = ap (λ (identity : Option (List Value)). unwrap_or identity []) (waits.kept.stays.identities owner owner_is.made)
-
-      by : (far : Option TableKey) (many : Bool) → relation.many ≡ many → related_by mapped relation (bare w.store.tables) all u.own.graph owner far ≡ related_by mapped relation (bare w.store.tables) all start owner far
-      by (Some far) many is = ap (paired_rows mapped relation far all (rows_in (bare w.store.tables) relation.foreign.0.0)) same_key
-      by None true is =
-          ap (λ (b : Bool). if b then related_rows mapped relation all (identity_key u.own.graph owner) else referred_rows mapped relation all (ends.key_of mapped relation u.own.graph owner)) is
-          ∙ ap (related_rows mapped relation all) same_key
-          ∙ ap (λ (b : Bool). if b then related_rows mapped relation all (identity_key start owner) else referred_rows mapped relation all (ends.key_of mapped relation start owner)) (sym is)
-      by None false is =
-          ap (λ (b : Bool). if b then related_rows mapped relation all (identity_key u.own.graph owner) else referred_rows mapped relation all (ends.key_of mapped relation u.own.graph owner)) is
-          ∙ ap (referred_rows mapped relation all) (key_same mapped relation start u.own.graph owner owner_is.made waits.kept (owner_holds is))
-          ∙ ap (λ (b : Bool). if b then related_rows mapped relation all (identity_key start owner) else referred_rows mapped relation all (ends.key_of mapped relation start owner)) (sym is)
+  same_related u waits = related_later mapped relation all w u owner owner_is.made waits.kept waits.store owner_holds
 
   set_then : (u : World) → Waits u → IsSet mapped relation all u
-  set_then u waits = record {
-    has = stage.has;
-    related = related;
-    rooted = waits.kept.graph.rooted;
-    held = subst (λ (store : Store). AreRows mapped.schema (bare store.tables)) (sym waits.store) stage.held;
-    rows = subst (λ (store : Store). AreRowsOf mapped relation.target (bare store.tables) all) (sym waits.store) rows;
-  }
+  set_then u waits = set_later mapped relation all w u (record { has = stage.has; related = related; rooted = stage.graph.rooted; held = stage.held; rows = rows }) waits.kept waits.store
 
   -- the option of the place
   filled_there : (n : Unit {0}) (u v : World) → Waits u → AgreesWithMap mapped relation all u.own.graph owner → Goes (load_option mapped class objects place n) u tt v → Done v
@@ -459,7 +310,7 @@ module _ (mapped : Mapped) (class : ClassId) (place : RelNo) (objects : List Obj
   options_go [] n u v inside there waits agrees g = absurd cc
   options_go (q ∷ places) n u v inside there waits agrees g =
       let two = parted (load_option mapped class objects q n) (λ (m : Unit {0}). each (load_option mapped class objects) m places) u tt v g in
-      let one = option_left q n u two.between inside.0 waits.kept.graph two.first in
+      let one = option_left mapped class objects stage.has stage.related less q n u two.between inside.0 waits.kept.graph two.first in
       let made : IsObject u.own.graph owner = made_later start u.own.graph owner waits.kept.stays owner_is.made in
       let rest = tail_go places two.value two.between v inside.1 one.leaves.graph (made_later u.own.graph two.between.own.graph owner one.leaves.stays made) two.second in
       let kept : Kept u.own.graph v.own.graph = kept_then u.own.graph two.between.own.graph v.own.graph (kept_by q u.own.graph two.between.own.graph one.leaves) rest.kept in

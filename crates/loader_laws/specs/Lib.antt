@@ -4,4 +4,5 @@ pub mod Statements
 pub mod OwnRows
 pub mod Options
 pub mod Expired
+pub mod Lazily
 pub mod Refused

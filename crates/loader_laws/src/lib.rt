@@ -4,6 +4,7 @@
 
 ghost use Rattle.loader_laws.specs.Calls.{LazyFillsLinks, LoadersAgree, SelectinFillsLinks};
 ghost use Rattle.loader_laws.specs.Expired.{LazyReadsKeyFirst};
+ghost use Rattle.loader_laws.specs.Lazily.{LazyLeaves, LinksReadLazily};
 ghost use Rattle.loader_laws.specs.Options.{OptionsFillLinks, SelectinLeaves};
 ghost use Rattle.loader_laws.specs.OwnRows.{MapAgreesWithRows};
 ghost use Rattle.loader_laws.specs.Refused.{SelectinLeavesAlways};
@@ -32,6 +33,16 @@ pub fn loaders_agree()
 /// the store and the link, and then leads it by the key that the owner has then.
 pub fn lazy_loads_read_keys_first()
     ensures { LazyReadsKeyFirst }
+{}
+
+/// A lazy load leaves of the objects that there were all but the one link: other links, identities, classes and held cells.
+pub fn lazy_loads_leave_the_rest()
+    ensures { LazyLeaves }
+{}
+
+/// Links that are read lazily, one after another, hold in the end what is related to their owners.
+pub fn links_read_lazily()
+    ensures { LinksReadLazily }
 {}
 
 /// Where each persistent object whose row is there is of the class that its row names, and has of its hierarchy's tables a row in just

@@ -65,7 +65,7 @@ use Rattle.to_one_laws.specs.ToOne.{AreInKeyOrder, ToOneOptionsPutOne}
 -- ---- rows under one key
 
 -- the key's cells of a row, by the columns' numbers
-key_numbered : (columns : List ColumnSpec) (row before : Row) (n : ℕ) → length before ≡ n → length row ≡ length columns
+pub key_numbered : (columns : List ColumnSpec) (row before : Row) (n : ℕ) → length before ≡ n → length row ≡ length columns
     → map (λ (placed : ℕ × ColumnSpec). item_or_null (slice_get (before ++ row) placed.0)) (filter (λ (placed : ℕ × ColumnSpec). placed.1.key) (enumerate_from n columns)) ≡ key_cells columns row
 key_numbered [] [] before n at long = refl
 key_numbered [] (v ∷ row) before n at long = absurd cc

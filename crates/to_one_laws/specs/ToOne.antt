@@ -5,8 +5,10 @@ use Rattle.std.specs.List.Sorted.{IsStrictlySortedBy}
 use Rattle.base_core.specs.declared.ids.TableId.{TableId}
 use Rattle.base_core.specs.Order.{values_cmp}
 use Rattle.schema_core.specs.Catalog.{Catalog, spec_of}
-use Rattle.schema_core.specs.Tables.{key_of}
+use Rattle.schema_core.specs.Tables as held
+use Rattle.schema_core.specs.Tables.{AreAscending, Legal, key_of}
 use Rattle.expr_types.specs.declared.select.ObjectQuery.{ObjectQuery}
+use Rattle.sql_semantics.specs.Created.{bare}
 use Rattle.sql_semantics.specs.Eval.{Tables, rows_in}
 use Rattle.sql_semantics.specs.Shapes.{AreLegalRows, AreRows}
 use Rattle.class_mapping.specs.Mapped.{IsClass, Mapped, relations_of}
@@ -19,6 +21,10 @@ use Rattle.option_laws.specs.Tied.{BeginsWith}
 -- each table has its rows in the order of their keys, each key once
 abbrev pub AreInKeyOrder : Catalog → Tables → Type 0
 AreInKeyOrder schema tables = (table : TableId) → IsStrictlySortedBy values_cmp (map (key_of (spec_of schema table)) (rows_in tables table.0))
+
+-- Legal tables have them so.
+abbrev pub LegalTablesAreInKeyOrder : Type 0
+LegalTablesAreInKeyOrder = (schema : Catalog) (tables : held.Tables) → Legal schema tables → AreAscending tables → AreInKeyOrder schema (bare tables)
 
 -- a query for the objects of a class of a configured mapping whose joined options are many-to-one, over tables with legal rows in
 -- key order
