@@ -101,7 +101,7 @@ named_under mapped class above has declared under table name there =
     let begins = has.lines.nested class.0 above under in
     named_by mapped (line_of mapped.classes above.0) (line_of mapped.classes class.0) begins.0 above.0 (has.lines.own above.0 (subst (λ (n : ℕ). above.0 < n) (sym has.lined) declared)) begins.1 table name there
 
-all_under : (mapped : Mapped) (class above : ClassId) → HasHierarchies mapped → IsClass mapped above → is_at_or_under mapped class above ≡ true → (table : TableId) (names : List (List ℕ))
+pub all_under : (mapped : Mapped) (class above : ClassId) → HasHierarchies mapped → IsClass mapped above → is_at_or_under mapped class above ≡ true → (table : TableId) (names : List (List ℕ))
     → list_all (has_attribute (attributes_of mapped above) table) names ≡ true → list_all (has_attribute (attributes_of mapped class) table) names ≡ true
 all_under mapped class above has declared under table [] all = refl
 all_under mapped class above has declared under table (name ∷ names) all =

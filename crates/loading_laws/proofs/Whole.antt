@@ -15,6 +15,7 @@ use Rattle.sql_semantics.specs.Rows.{answer}
 use Rattle.class_types.specs.declared.mapped.Relation.{Relation}
 use Rattle.class_sides.specs.Keys.{TableKey}
 use Rattle.class_mapping.specs.Mapped.{IsClass, Mapped, root_of}
+use Rattle.class_mapping.specs.Related.{IsRelated}
 use Rattle.class_mapping.proofs.Having.{Has, from_map, true_false}
 use Rattle.programs.specs.Beside.{on_own}
 use Rattle.programs.specs.Store.{Store}
@@ -55,6 +56,7 @@ use Rattle.loader_laws.proofs.EachKind.{IsOpen, IsSet, far_many, holds, many_to_
 use Rattle.loader_laws.proofs.Loads.{alike_filled, lazy_by}
 use Rattle.loading_laws.specs.Loadable.{AreRowsOfClasses, IsLoadable}
 use Rattle.loading_laws.specs.Whole.{AreBothRead, IsOwner}
+use Rattle.loading_laws.proofs.First.{leaves_ready, readable}
 use Rattle.loading_laws.proofs.Inherited.{reads_keys}
 use Rattle.loading_laws.proofs.Joining.{are_joined, read_key}
 
@@ -221,9 +223,13 @@ all_links_agree mapped query rows_of objects answered w first after lazy place o
       lazy_owner = record { found = one_found; of = own.one_of };
       joined_owner = record { asked = own.asked; among = row.among; found = owner_found; of = own.owner_of; unloaded = ap is_unloaded (sym ready.waits) ∙ own.unloaded };
     } in
-    let target : IsClass mapped relation.target = (owned_related mapped relation place first one own.stage own.ready.owner).target in
+    let left = leaves_ready mapped query w (readable mapped query w both.query_is) objects first both.selected in
+    let stage = left.stage in
+    let own_ready = left.ready place one within own.one_among own.one_of in
+    let related : IsRelated mapped relation = owned_related mapped relation place first one stage own_ready.owner in
+    let target : IsClass mapped relation.target = related.target in
     let rows_first : AreRowsOf mapped relation.target (bare first.store.tables) all = subst (λ (store : Store). AreRowsOf mapped relation.target (bare store.tables) all) (sym selected.store) (both.rows relation.target target) in
-    let set : IsSet mapped relation all first = record { has = own.stage.has; related = owned_related mapped relation place first one own.stage own.ready.owner; rooted = own.stage.graph.rooted; held = own.stage.held; rows = rows_first } in
-    let free = opened mapped relation place first one own.stage own.ready own.unloaded in
+    let set : IsSet mapped relation all first = record { has = stage.has; related = related; rooted = stage.graph.rooted; held = stage.held; rows = rows_first } in
+    let free = opened mapped relation place first one stage own_ready own.unloaded in
     links_agree mapped query plain answers.joined all objects answered w first after lazy row.row place one owner loaded set free (λ single. own.settled single plain row.row answers.own_rows row.is)
-    (lazy_by mapped relation place one first lazy own.ready.owner g)
+    (lazy_by mapped relation place one first lazy own_ready.owner g)

@@ -1,2 +1,3 @@
 pub mod Loadable
+pub mod First
 pub mod Whole

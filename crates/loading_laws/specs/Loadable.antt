@@ -12,6 +12,7 @@ use Rattle.class_mapping.specs.Mapped.{IsClass, Mapped, relations_of}
 use Rattle.class_mapping.specs.Related.{AreRelated}
 use Rattle.mapping_laws.specs.Hierarchies.{HasHierarchies}
 use Rattle.object_arena.specs.Fit.{IsFit}
+use Rattle.object_arena.specs.Identity.{IsGraph}
 use Rattle.load_selects.specs.Selects.{item_of}
 use Rattle.main_selects.specs.MainSelect.{main_select}
 use Rattle.load_calls.specs.Reading.{World}
@@ -19,8 +20,8 @@ use Rattle.answer_laws.specs.Answers.{AreRowsOf}
 use Rattle.wide_laws.specs.Answers.{CutsOwners, own_columns}
 use Rattle.option_laws.specs.Tied.{BeginsWith}
 
--- A query for the objects of a class of a configured mapping, with joined options of its relationships, over objects that fit the mapping
--- and tables with legal rows: its first sources are the class's tables and its items the class's attributes; it and its main select
+-- A query for the objects of a class of a configured mapping, with joined options of its relationships, over an arena's objects that fit the
+-- mapping and tables with legal rows: its first sources are the class's tables and its items the class's attributes; it and its main select
 -- may be sent, it has no groups, and it leaves out no rows but those of its own sources.
 pub record IsLoadable (mapped : Mapped) (query : ObjectQuery) (w : World) : Type 0 where
   pub has : HasHierarchies mapped
@@ -35,6 +36,7 @@ pub record IsLoadable (mapped : Mapped) (query : ObjectQuery) (w : World) : Type
   pub cuts : CutsOwners mapped (bare w.store.tables) query
   pub held : AreRows mapped.schema (bare w.store.tables)
   pub legal : AreLegalRows mapped.schema (bare w.store.tables)
+  pub graph : IsGraph w.own.graph.objects w.own.graph.roots
   pub fit : IsFit mapped w.own.graph
 
 -- all rows of each class

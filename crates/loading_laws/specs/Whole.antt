@@ -24,7 +24,7 @@ use Rattle.load_targets.specs.Targets.{load_lazy}
 use Rattle.strategies.specs.Filled.{Goes}
 use Rattle.joined_strategies.specs.Agree.{HoldsItsKey}
 use Rattle.joined_strategies.specs.Joined.{AnswerAlike}
-use Rattle.loader_laws.specs.Linked.{HoldAlike, IsReady, IsStage}
+use Rattle.loader_laws.specs.Linked.{HoldAlike}
 use Rattle.loading_laws.specs.Loadable.{AreRowsOfClasses, IsLoadable}
 
 -- from one world a query's objects are read by its own select, and by its main select with its options
@@ -55,8 +55,6 @@ pub record IsOwner (mapped : Mapped) (query : ObjectQuery) (rows_of : ClassId �
   pub same : identity_key first.own.graph one ≡ identity_key after.own.graph owner
   pub one_of : is_of first.own.graph mapped query.class one ≡ true
   pub owner_of : is_of after.own.graph mapped query.class owner ≡ true
-  pub stage : IsStage mapped first
-  pub ready : IsReady mapped (relation_of mapped query.class place) place first.own.graph one
   pub unloaded : is_unloaded (link_at first.own.graph one place) ≡ true
   pub settled : IsSettled mapped query (relation_of mapped query.class place) rows_of w first one
 
