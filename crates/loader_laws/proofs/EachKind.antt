@@ -1,5 +1,5 @@
 -- What an owner of a link has by the conditions of the loads, for relationships of each kind.
-use Rattle.std.proofs.Common.{◌≡◌, ℕ, zero, suc, ◌-◌, ◌<◌, Bool, true, false, ◌&&◌, ◌||◌, List, [], ◌∷◌, length, Option, Some, None, if◌then◌else◌, is_some, refl, sym, ap, subst, ◌∙◌, arith}
+use Rattle.std.proofs.Common.{◌≡◌, ℕ, zero, suc, ◌<◌, Bool, true, false, ◌&&◌, ◌||◌, List, [], ◌∷◌, length, Option, Some, None, if◌then◌else◌, is_some, refl, sym, ap, subst, ◌∙◌, arith}
 use Rattle.std.specs.Prelude.{slice_index_or}
 use Rattle.std.specs.List.{list_all}
 use Rattle.std.proofs.lemmas.Bool.{and_parts}
@@ -107,14 +107,17 @@ opened mapped relation place w owner stage ready unloaded = record {
 
 -- ---- relationships over a secondary table are many
 
-pub far_many : (mapped : Mapped) (relation : Relation) (place : RelNo) (graph : Graph) (owner : ObjId) (far : TableKey) → HasHierarchies mapped → IsRelated mapped relation → IsOpen mapped relation place graph owner → relation.far ≡ Some far → relation.many ≡ true
-far_many mapped relation place graph owner far has related one is =
-    let class : ClassId = (object_at graph owner).class in
+-- at a place of a class
+pub far_at : (mapped : Mapped) (class : ClassId) (place : ℕ) (relation : Relation) (far : TableKey) → HasHierarchies mapped → IsRelated mapped relation → IsAt mapped class place relation → relation.far ≡ Some far → relation.many ≡ true
+far_at mapped class place relation far has related at is =
     let partner = related.partner in
-    let back : IsBack mapped class relation (Some partner.0) = subst (IsBack mapped class relation) partner.1.there (has.paired.back class place.0 relation one.at) in
+    let back : IsBack mapped class relation (Some partner.0) = subst (IsBack mapped class relation) partner.1.there (has.paired.back class place relation at) in
     let both : (if is_some (Some far) then relation.many && partner.0.many else differ relation.many partner.0.many) ≡ true =
     ap (λ (end : Option TableKey). if is_some end then relation.many && partner.0.many else differ relation.many partner.0.many) (sym is) ∙ back.0 in
     (and_parts relation.many partner.0.many both).0
+
+pub far_many : (mapped : Mapped) (relation : Relation) (place : RelNo) (graph : Graph) (owner : ObjId) (far : TableKey) → HasHierarchies mapped → IsRelated mapped relation → IsOpen mapped relation place graph owner → relation.far ≡ Some far → relation.many ≡ true
+far_many mapped relation place graph owner far has related one is = far_at mapped (object_at graph owner).class place.0 relation far has related one.at is
 
 -- ---- keys have no NULL, and are as wide as the columns that refer to them
 

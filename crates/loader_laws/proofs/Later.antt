@@ -68,6 +68,17 @@ kept_then a b c p q = record {
   cells = λ object made attr held. let one = p.cells object made attr held in q.cells object (made_later a b object p.stays made) attr (ap is_none one ∙ held) ∙ one;
 }
 
+-- a world that loads left: so much of the objects is kept, and the store is the same
+pub record IsLater (w v : World) : Type 0 where
+  pub kept : Kept w.own.graph v.own.graph
+  pub store : v.store ≡ w.store
+
+pub later_same : (w v : World) → w ≡ v → IsGraph w.own.graph.objects w.own.graph.roots → IsLater w v
+later_same w v same is = subst (IsLater w) same (record { kept = kept_same w.own.graph is; store = refl })
+
+pub later_then : (a b c : World) → IsLater a b → IsLater b c → IsLater a c
+later_then a b c p q = record { kept = kept_then a.own.graph b.own.graph c.own.graph p.kept q.kept; store = q.store ∙ p.store }
+
 -- the cells of a foreign key that are held
 values_held : (old new : Object) (attrs : List AttrNo) → is_expired_among attrs old ≡ false → ((attr : AttrNo) → is_none (value_of old attr) ≡ false → value_of new attr ≡ value_of old attr)
     → (is_expired_among attrs new ≡ false) × (values_at attrs new ≡ values_at attrs old)
@@ -157,9 +168,9 @@ holds_later mapped relation rows old now graph new stays held =
     let same : filled.base ≡ held.objects = sym (base_is (linked [] [] held.objects) held.objects (linked [] [] filled.base) filled.base filled.link) in
     record { objects = filled.base; keys = filled.keys; stand = filled.stand; link = held.link ∙ ap (λ (objects : List ObjId). link_with relation.many objects old) (sym same) }
 
-none_waits : (b : Bool) → not (b && false) ≡ true
-none_waits true = refl
-none_waits false = refl
+left_by : (here waiting : Bool) → waiting ≡ false → not (here && waiting) ≡ true
+left_by true waiting loaded = ap (λ (b : Bool). not b) loaded
+left_by false waiting loaded = refl
 
 -- a link that holds what is related does so after further loads
 pub holds_left : (mapped : Mapped) (relation : Relation) (place q : RelNo) (owner : ObjId) (rows : List Row) (old : Link) (graph new : Graph) → IsObject graph owner → Leaves q graph new → HoldsRows mapped relation rows old graph (link_at graph owner place)
@@ -167,7 +178,7 @@ pub holds_left : (mapped : Mapped) (relation : Relation) (place q : RelNo) (owne
 holds_left mapped relation place q owner rows old graph new made leaves held =
     let now : Link = link_at graph owner place in
     let loaded : is_unloaded now ≡ false = loaded_by relation.many held.objects old now held.link in
-    let stays : is_left q graph owner place ≡ true = ap (λ (b : Bool). not (place.0 == q.0 && b)) loaded ∙ none_waits (place.0 == q.0) in
+    let stays : is_left q graph owner place ≡ true = left_by (place.0 == q.0) (is_unloaded now) loaded in
     subst (λ (link : Link). HoldsRows mapped relation rows old new link) (sym (leaves.links owner made place stays)) (holds_later mapped relation rows old now graph new leaves.stays held)
 
 -- ---- what the laws of each kind ask, later

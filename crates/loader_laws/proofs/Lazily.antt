@@ -44,7 +44,7 @@ use Rattle.loader_laws.specs.Linked.{AgreesWithMap, HoldsRows, IsReady, IsStage,
 use Rattle.loader_laws.specs.Options.{Leaves, is_left}
 use Rattle.loader_laws.proofs.EachKind.{IsOpen, IsSet, opened, owned_related}
 use Rattle.loader_laws.proofs.Frames.{collection_leaves, end_leaves, framed_row, framed_rows, leaves_same, leaves_then}
-use Rattle.loader_laws.proofs.Later.{Kept, agrees_before, holds_left, kept_by, kept_same, kept_then, key_held, open_later, related_later, set_later}
+use Rattle.loader_laws.proofs.Later.{IsLater, Kept, agrees_before, holds_left, kept_by, kept_same, kept_then, key_held, later_same, later_then, open_later, related_later, set_later}
 use Rattle.loader_laws.proofs.Loads.{lazily, lazy_by}
 
 -- ---- what one read leaves
@@ -189,6 +189,28 @@ load_goes mapped start owner place u v made kept g =
     subst (λ (class : ClassId). Goes (load_by mapped (relation_of mapped class place) owner place) u tt v) (kept.classes owner made)
     (by_own_goes (λ (own : Loading). load_by mapped (relation_of mapped (object_at own.graph owner).class place) owner place) u tt v (record { answer = g.answer; leaves = g.leaves }))
 
+module _ (mapped : Mapped) (w : World) (stage : IsStage mapped w) where
+  -- one read of several
+  one_read : (object : ObjId) (other : RelNo) (u v : World) → CanBeRead mapped w.own.graph (object, other) → Kept w.own.graph u.own.graph → Goes (load_lazy mapped object other) u tt v → IsReadAt other object u v
+  one_read object other u v can kept g =
+      let there : Relation = relation_of mapped (object_at w.own.graph object).class other in
+      link_read other object mapped there stage.has (owned_related mapped there other w object stage can.owner).target u v there.many refl kept.graph (made_later w.own.graph u.own.graph object kept.stays can.owner.made)
+      (λ single. key_held mapped there w.own.graph u.own.graph object can.owner.made kept (can.held single)) (load_goes mapped w.own.graph object other u v can.owner.made kept g)
+
+  kept_each : (links : List (ObjId × RelNo)) (n : Unit {0}) (u v : World) → AllByRecursion (CanBeRead mapped w.own.graph) links → Kept w.own.graph u.own.graph → Goes (each (load_link mapped) n links) u tt v → IsLater u v
+  unfolding each
+  kept_each [] n u v can kept g = later_same u v (given n tt u v g).1 kept.graph
+  kept_each ((object, other) ∷ links) n u v can kept g =
+      let two = parted (load_link mapped (object, other) n) (λ (m : Unit {0}). each (load_link mapped) m links) u tt v g in
+      let x : World = two.between in
+      let one = one_read object other u x can.0 kept two.first in
+      let here : Kept u.own.graph x.own.graph = kept_by other u.own.graph x.own.graph one.left.leaves in
+      later_then u x v (record { kept = here; store = one.store }) (kept_each links two.value x v can.1 (kept_then w.own.graph u.own.graph x.own.graph kept here) two.second)
+
+  -- what the reads of all of them keep
+  pub links_kept : (links : List (ObjId × RelNo)) (after : World) → All (CanBeRead mapped w.own.graph) links → Goes (load_links mapped links) w tt after → IsLater w after
+  links_kept links after can g = kept_each links tt w after (recursion_from_All (CanBeRead mapped w.own.graph) links can) (kept_same w.own.graph stage.graph) g
+
 module _ (mapped : Mapped) (relation : Relation) (place : RelNo) (owner : ObjId) (all : List Row) (w : World) (stage : IsStage mapped w) (ready : IsReady mapped relation place w.own.graph owner)
     (rows : AreRowsOf mapped relation.target (bare w.store.tables) all) (unloaded : is_unloaded (link_at w.own.graph owner place) ≡ true) where
   abbrev start : Graph
@@ -210,12 +232,6 @@ module _ (mapped : Mapped) (relation : Relation) (place : RelNo) (owner : ObjId)
     store : u.store ≡ w.store
     link : link_at u.own.graph owner place ≡ link_at start owner place
 
-  one_read : (object : ObjId) (other : RelNo) (u v : World) → CanBeRead mapped start (object, other) → Kept start u.own.graph → Goes (load_lazy mapped object other) u tt v → IsReadAt other object u v
-  one_read object other u v can kept g =
-      let there : Relation = relation_of mapped (object_at start object).class other in
-      link_read other object mapped there stage.has (owned_related mapped there other w object stage can.owner).target u v there.many refl kept.graph (made_later start u.own.graph object kept.stays can.owner.made)
-      (λ single. key_held mapped there start u.own.graph object can.owner.made kept (can.held single)) (load_goes mapped start object other u v can.owner.made kept g)
-
   record Tail (u v : World) : Type 0 where
     kept : Kept u.own.graph v.own.graph
     done : Done u → Done v
@@ -228,7 +244,7 @@ module _ (mapped : Mapped) (relation : Relation) (place : RelNo) (owner : ObjId)
   tail_go ((object, other) ∷ links) n u v can kept g =
       let two = parted (load_link mapped (object, other) n) (λ (m : Unit {0}). each (load_link mapped) m links) u tt v g in
       let x : World = two.between in
-      let leaves : Leaves other u.own.graph x.own.graph = (one_read object other u x can.0 kept two.first).left.leaves in
+      let leaves : Leaves other u.own.graph x.own.graph = (one_read mapped w stage object other u x can.0 kept two.first).left.leaves in
       let rest = tail_go links two.value x v can.1 (kept_then start u.own.graph x.own.graph kept (kept_by other u.own.graph x.own.graph leaves)) two.second in
       record {
         kept = kept_then u.own.graph x.own.graph v.own.graph (kept_by other u.own.graph x.own.graph leaves) rest.kept;
@@ -270,7 +286,7 @@ module _ (mapped : Mapped) (relation : Relation) (place : RelNo) (owner : ObjId)
   links_go ((object, other) ∷ links) n u v can there waits agrees g =
       let two = parted (load_link mapped (object, other) n) (λ (m : Unit {0}). each (load_link mapped) m links) u tt v g in
       let x : World = two.between in
-      let one = one_read object other u x can.0 waits.kept two.first in
+      let one = one_read mapped w stage object other u x can.0 waits.kept two.first in
       let leaves : Kept u.own.graph x.own.graph = kept_by other u.own.graph x.own.graph one.left.leaves in
       let rest = tail_go links two.value x v can.1 (kept_then start u.own.graph x.own.graph waits.kept leaves) two.second in
       let before : AgreesWithMap mapped relation all u.own.graph owner =
@@ -296,7 +312,3 @@ module _ (mapped : Mapped) (relation : Relation) (place : RelNo) (owner : ObjId)
   pub links_read : (links : List (ObjId × RelNo)) (after : World) → All (CanBeRead mapped start) links → list_any (is_link owner place) links ≡ true → AgreesWithMap mapped relation all after.own.graph owner → Goes (load_links mapped links) w tt after
       → HoldsRelated mapped relation place all w after owner
   links_read links after can there agrees g = links_go links tt w after (recursion_from_All (CanBeRead mapped start) links can) there began agrees g
-
-  -- what the reads keep
-  pub links_kept : (links : List (ObjId × RelNo)) (after : World) → All (CanBeRead mapped start) links → Goes (load_links mapped links) w tt after → Kept start after.own.graph
-  links_kept links after can g = (tail_go links tt w after (recursion_from_All (CanBeRead mapped start) links can) (kept_same start stage.graph) g).kept

@@ -49,7 +49,7 @@ use Rattle.loader_laws.specs.Linked.{AgreesWithMap, HoldsRows, IsReady, IsStage,
 use Rattle.loader_laws.specs.Options.{HoldsItsKey, IsAnswered, Leaves}
 use Rattle.loader_laws.proofs.Frames.{IsFramed, framed_batch, framed_ends, framed_targets, leaves_same, leaves_then}
 use Rattle.loader_laws.proofs.EachKind.{IsOpen, IsSet, opened}
-use Rattle.loader_laws.proofs.Later.{Kept, agrees_before, holds_left, kept_by, kept_same, kept_then, key_held, open_later, related_later, set_later}
+use Rattle.loader_laws.proofs.Later.{IsLater, Kept, agrees_before, holds_left, kept_by, kept_same, kept_then, key_held, later_same, later_then, open_later, related_later, set_later}
 use Rattle.loader_laws.proofs.Loads.{among_unread, every_unread, together, unread, unread_goes}
 
 -- ---- what the loads of one place leave
@@ -143,16 +143,16 @@ module _ (mapped : Mapped) (class : ClassId) (objects : List ObjId) (has : HasHi
       let chosen = by_own_goes (λ (l : Loading). load_together mapped there q (owners_among mapped class l.graph objects)) u tt v (record { answer = g.answer; leaves = g.leaves }) in
       together_left q mapped there has (related_at mapped class q are less inside).target (owners_among mapped class u.own.graph objects) u v there.many is chosen
 
-  kept_each : (places : List RelNo) (n : Unit {0}) (u v : World) → AllByRecursion (IsOption mapped class) places → IsGraph u.own.graph.objects u.own.graph.roots → Goes (each (load_option mapped class objects) n places) u tt v → Kept u.own.graph v.own.graph
+  kept_each : (places : List RelNo) (n : Unit {0}) (u v : World) → AllByRecursion (IsOption mapped class) places → IsGraph u.own.graph.objects u.own.graph.roots → Goes (each (load_option mapped class objects) n places) u tt v → IsLater u v
   unfolding each
-  kept_each [] n u v inside is g = subst (λ (x : World). Kept u.own.graph x.own.graph) (given n tt u v g).1 (kept_same u.own.graph is)
+  kept_each [] n u v inside is g = later_same u v (given n tt u v g).1 is
   kept_each (q ∷ places) n u v inside is g =
       let two = parted (load_option mapped class objects q n) (λ (m : Unit {0}). each (load_option mapped class objects) m places) u tt v g in
       let one = option_left q n u two.between inside.0 is two.first in
-      kept_then u.own.graph two.between.own.graph v.own.graph (kept_by q u.own.graph two.between.own.graph one.leaves) (kept_each places two.value two.between v inside.1 one.leaves.graph two.second)
+      later_then u two.between v (record { kept = kept_by q u.own.graph two.between.own.graph one.leaves; store = one.store }) (kept_each places two.value two.between v inside.1 one.leaves.graph two.second)
 
   -- what the loads of all options keep
-  pub options_kept : (places : List RelNo) (u v : World) → All (IsOption mapped class) places → IsGraph u.own.graph.objects u.own.graph.roots → Goes (load_options mapped class objects places) u tt v → Kept u.own.graph v.own.graph
+  pub options_kept : (places : List RelNo) (u v : World) → All (IsOption mapped class) places → IsGraph u.own.graph.objects u.own.graph.roots → Goes (load_options mapped class objects places) u tt v → IsLater u v
   unfolding load_options
   options_kept places u v inside is g = kept_each places tt u v (recursion_from_All (IsOption mapped class) places inside) is (record { answer = g.answer; leaves = g.leaves })
 

@@ -37,7 +37,7 @@ use Rattle.object_arena.specs.declared.object.Object.{Object}
 use Rattle.object_arena.specs.declared.object.State.{State}
 use Rattle.object_arena.specs.declared.object.State.TheVariants.{Persistent}
 use Rattle.object_arena.specs.Fit.{ObjectFits, key_fits}
-use Rattle.object_arena.specs.Graph.{Graph, is_persistent, no_class_id, no_object, object_at, place_of, root_at}
+use Rattle.object_arena.specs.Graph.{Graph, IsObject, is_persistent, no_class_id, no_object, object_at, place_of, root_at}
 use Rattle.object_arena.specs.Identity.{find_identity, has_key}
 use Rattle.object_arena.proofs.GraphLemmas.{same_equiv}
 use Rattle.relations.specs.Mirror.{is_of}
@@ -342,12 +342,19 @@ persistent_by : (state : State) → is_persistent state ≡ true → state ≡ P
 persistent_by Persistent is = refl
 persistent_by state is = absurd cc
 
-pub map_agrees : (mapped : Mapped) (class : ClassId) (key : List Value) (object : ObjId) (all : List Row) (w : World) → IsStage mapped w → list_all (is_over_table mapped.schema.tables) mapped.classes.specs ≡ true → IsClass mapped class
-    → AreRowsOf mapped class (bare w.store.tables) all → AreOfTheirRows mapped (bare w.store.tables) w.own.graph → find_identity w.own.graph (root_of mapped class) key ≡ Some object
-    → has_row_under mapped (bare w.store.tables) key (root_table mapped class) ≡ true → is_of w.own.graph mapped class object ≡ has_row mapped class all key
-map_agrees mapped class key object all w stage over less rows own found present =
+-- an object that the identity map has under a key: it is persistent, fits its class, which is of the hierarchy, and no part of its key is
+-- NULL
+record IsHolder (mapped : Mapped) (class : ClassId) (key : List Value) (object : ObjId) (w : World) : Type 0 where
+  made : IsObject w.own.graph object
+  persistent : (object_at w.own.graph object).state ≡ Persistent
+  declared : IsClass mapped (object_at w.own.graph object).class
+  same_root : root_of mapped (object_at w.own.graph object).class ≡ root_of mapped class
+  named : identity_key w.own.graph object ≡ key
+  known : has_null (identity_key w.own.graph object) ≡ false
+
+holder_of : (mapped : Mapped) (class : ClassId) (key : List Value) (object : ObjId) (w : World) → IsStage mapped w → find_identity w.own.graph (root_of mapped class) key ≡ Some object → IsHolder mapped class key object w
+holder_of mapped class key object w stage found =
     let graph : Graph = w.own.graph in
-    let tables : Tables = bare w.store.tables in
     let root : ClassId = root_of mapped class in
     let stands = found_stands graph root key object stage.graph.rooted found in
     let record_of : Object = object_at graph object in
@@ -358,15 +365,32 @@ map_agrees mapped class key object all w stage over less rows own found present 
     let own_class : ClassId = record_of.class in
     let rooted : root_at graph object ≡ root_of mapped own_class =
     ap (λ (roots : List ClassId). slice_index_or roots (place_of object) no_class_id) stage.fit.roots ∙ get_or-map (λ (o : Object). root_of mapped o.class) graph.objects (place_of object) no_object no_class_id inside in
-    let same_root : root_of mapped own_class ≡ root = sym rooted ∙ ap class_numbered (eqb-true (root_at graph object).0 root.0 (and_parts ((root_at graph object).0 == root.0) (has_key key record_of.identity) parts.1).0) in
-    let named : identity_key graph object ≡ key = key_of_stand root graph key object stands in
     let fit : key_fits mapped own_class (identity_key graph object) ≡ true = own_key_fits mapped graph object record_of fits refl persistent (stage.graph.identified (place_of object) no_object inside) in
     let keyed : is_key (root_spec mapped own_class) (identity_key graph object) ≡ true = sym (keys_alike mapped own_class (identity_key graph object) stage.has (class_tables mapped own_class stage.has fits.class)) ∙ fit in
-    let known : has_null (identity_key graph object) ≡ false =
-    kinds_known (kinds_of (key_columns (root_spec mapped own_class))) (identity_key graph object) (table_key_fits mapped (root_table mapped own_class) (identity_key graph object) keyed) in
+    record {
+      made = stands.0;
+      persistent = persistent;
+      declared = fits.class;
+      same_root = sym rooted ∙ ap class_numbered (eqb-true (root_at graph object).0 root.0 (and_parts ((root_at graph object).0 == root.0) (has_key key record_of.identity) parts.1).0);
+      named = key_of_stand root graph key object stands;
+      known = kinds_known (kinds_of (key_columns (root_spec mapped own_class))) (identity_key graph object) (table_key_fits mapped (root_table mapped own_class) (identity_key graph object) keyed);
+    }
+
+-- a key that it has has no NULL
+pub found_known : (mapped : Mapped) (class : ClassId) (key : List Value) (object : ObjId) (w : World) → IsStage mapped w → find_identity w.own.graph (root_of mapped class) key ≡ Some object → has_null key ≡ false
+found_known mapped class key object w stage found = let one = holder_of mapped class key object w stage found in ap has_null (sym one.named) ∙ one.known
+
+pub map_agrees : (mapped : Mapped) (class : ClassId) (key : List Value) (object : ObjId) (all : List Row) (w : World) → IsStage mapped w → list_all (is_over_table mapped.schema.tables) mapped.classes.specs ≡ true → IsClass mapped class
+    → AreRowsOf mapped class (bare w.store.tables) all → AreOfTheirRows mapped (bare w.store.tables) w.own.graph → find_identity w.own.graph (root_of mapped class) key ≡ Some object
+    → has_row_under mapped (bare w.store.tables) key (root_table mapped class) ≡ true → is_of w.own.graph mapped class object ≡ has_row mapped class all key
+map_agrees mapped class key object all w stage over less rows own found present =
+    let graph : Graph = w.own.graph in
+    let tables : Tables = bare w.store.tables in
+    let holder = holder_of mapped class key object w stage found in
+    let own_class : ClassId = (object_at graph object).class in
     let there : has_row_under mapped tables (identity_key graph object) (root_table mapped own_class) ≡ true =
-    ap (λ (k : List Value). has_row_under mapped tables k (root_table mapped own_class)) named
-    ∙ ap (λ (r : ClassId). has_row_under mapped tables key (table_or_none (own_table mapped.schema.tables mapped.classes r.0))) same_root ∙ present in
-    let one : AreRowsOfOne mapped tables own_class (identity_key graph object) = own.each object stands.0 persistent there in
-    subst (λ (k : List Value). is_of graph mapped class object ≡ has_row mapped class all k) named
-    (class_is mapped class tables all (record { has = stage.has; is = less; held = stage.held; rows = rows }) over (identity_key graph object) known own_class fits.class same_root one)
+    ap (λ (k : List Value). has_row_under mapped tables k (root_table mapped own_class)) holder.named
+    ∙ ap (λ (r : ClassId). has_row_under mapped tables key (table_or_none (own_table mapped.schema.tables mapped.classes r.0))) holder.same_root ∙ present in
+    let one : AreRowsOfOne mapped tables own_class (identity_key graph object) = own.each object holder.made holder.persistent there in
+    subst (λ (k : List Value). is_of graph mapped class object ≡ has_row mapped class all k) holder.named
+    (class_is mapped class tables all (record { has = stage.has; is = less; held = stage.held; rows = rows }) over (identity_key graph object) holder.known own_class holder.declared holder.same_root one)
