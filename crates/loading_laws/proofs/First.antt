@@ -1,9 +1,9 @@
 -- A query's own select leaves an arena's objects that fit the mapping, and the objects of its rows are ready for loads of their links.
-use Rattle.std.proofs.Common.{◌≡◌, ℕ, suc, ◌<◌, ◌==◌, ◌&&◌, true, List, [], ◌∷◌, ◌++◌, length, map, Ok, is_none, refl, sym, ap, subst, ◌∙◌}
+use Rattle.std.proofs.Common.{◌≡◌, ℕ, suc, ◌<◌, ◌==◌, ◌&&◌, true, List, [], ◌∷◌, ◌++◌, length, Ok, is_none, refl, sym, ap, subst, ◌∙◌}
 use Rattle.std.specs.Prelude.{slice_get, Option, Some}
 use Rattle.std.specs.List.{All, AllByRecursion}
 use Rattle.std.proofs.lemmas.Bool.{and_parts}
-use Rattle.std.proofs.lemmas.List.{length-map, map-append}
+use Rattle.std.proofs.lemmas.List.{length-map}
 use Rattle.std.proofs.lemmas.List.Elements.{All-from_recursion, recursion_from_All}
 use Rattle.base_core.proofs.Lists.{every_append}
 use Rattle.base_core.specs.declared.ids.ClassId.{ClassId}
@@ -11,19 +11,15 @@ use Rattle.base_core.specs.declared.ids.ObjId.{ObjId}
 use Rattle.base_core.specs.declared.ids.RelNo.{RelNo}
 use Rattle.base_core.specs.declared.value.Value.{Value}
 use Rattle.expr_types.specs.declared.expr.Expr.{Expr}
-use Rattle.expr_types.specs.declared.expr.Origin.{Origin}
-use Rattle.expr_types.specs.declared.select.Joined.{Joined}
 use Rattle.expr_types.specs.declared.select.ObjectQuery.{ObjectQuery}
-use Rattle.expr_types.specs.declared.select.Select.{Select}
 use Rattle.sql_semantics.specs.Created.{bare}
 use Rattle.sql_semantics.specs.Eval.{Row, Tables}
 use Rattle.sql_semantics.specs.Rows.{answer}
 use Rattle.sql_semantics.specs.Shapes.{AreRows, EachItem, IsOfItsKind, scope_of}
 use Rattle.select_rows.proofs.ItemKinds.{rows_of_kinds}
 use Rattle.select_rows.proofs.NotNull.{rows_given}
-use Rattle.class_mapping.specs.Mapped.{IsClass, Mapped, attributes_of, relations_of, root_of, root_table}
+use Rattle.class_mapping.specs.Mapped.{IsClass, Mapped, attributes_of, relations_of, root_of}
 use Rattle.mapping_laws.specs.Hierarchies.{HasHierarchies}
-use Rattle.mapping_laws.proofs.Ties.{class_tables}
 use Rattle.programs.specs.Beside.{on_own}
 use Rattle.programs.specs.Programs.{each, give}
 use Rattle.programs.specs.Store.{Store}
@@ -35,19 +31,16 @@ use Rattle.object_arena.specs.Identity.{IsGraph, has_key}
 use Rattle.relations.specs.Mirror.{is_of}
 use Rattle.load_columns.specs.declared.placing.SourceColumn.{SourceColumn}
 use Rattle.load_columns.specs.Placing.{attribute_column, attribute_columns, from_root}
-use Rattle.load_selects.specs.Selects.{inner_joined, item_of, origin_of}
-use Rattle.load_selects.specs.Sources.{other_tables}
-use Rattle.load_laws.proofs.ClassLemmas.{sources_are}
+use Rattle.load_selects.specs.Selects.{item_of}
 use Rattle.load_filling.specs.Rows.{row_key}
 use Rattle.load_rows.specs.Loading.{Loading, take_row}
 use Rattle.load_rows.specs.Reading.{IsRowOf}
 use Rattle.load_calls.specs.Reading.{World, read}
 use Rattle.load_collections.specs.Collections.{take_next, take_rows}
-use Rattle.load_queries.specs.Queries.{ReadsObjects, firsts, load_select, take_objects}
+use Rattle.load_queries.specs.Queries.{firsts, load_select, take_objects}
 use Rattle.load_queries.proofs.FirstSteps.{firsts_all}
 use Rattle.load_queries.proofs.QuerySteps.{query_rows}
 use Rattle.load_selectin.proofs.OwnerLemmas.{owner_under}
-use Rattle.option_laws.specs.Tied.{BeginsWith}
 use Rattle.strategies.specs.Filled.{Goes}
 use Rattle.strategies.specs.Standing.{Stands}
 use Rattle.strategies.proofs.Batch.{one_waiting}
@@ -58,6 +51,7 @@ use Rattle.loader_laws.proofs.Frames.{framed_row, leaves_same, leaves_then}
 use Rattle.loading_laws.specs.First.{IsReadable, LeavesReady}
 use Rattle.loading_laws.specs.Loadable.{IsLoadable}
 use Rattle.loading_laws.proofs.Fits.{row_fit}
+use Rattle.loading_laws.proofs.Rows.{held_of, legal_of, reads_of}
 use Rattle.loading_laws.proofs.Held.{HoldsColumns, key_held, row_holds}
 
 -- ---- the rows of a query
@@ -236,26 +230,11 @@ module _ (mapped : Mapped) (query : ObjectQuery) (w : World) (readable : IsReada
 
 -- ---- a query that can be loaded by any strategy
 
--- its own select reads the class's objects
-pub reads_objects : (mapped : Mapped) (class : ClassId) (s : Select) → HasHierarchies mapped → IsClass mapped class → s.items ≡ map item_of (attribute_columns mapped class (from_root 0)) → BeginsWith mapped class s → ReadsObjects mapped class s
-reads_objects mapped class s has declared items begins =
-    let origin : Joined → Origin = λ join. join.origin in
-    let others : List Joined = map inner_joined (other_tables mapped class (from_root 0)) in
-    record {
-      more = map origin begins.more;
-      items = items;
-      sources =
-          ap (λ (first : Origin). first ∷ map origin s.joins) begins.first
-          ∙ ap (λ (joins : List Joined). origin_of (root_table mapped class) ∷ map origin joins) begins.joins
-          ∙ ap (λ (origins : List Origin). origin_of (root_table mapped class) ∷ origins) (map-append origin others begins.more)
-          ∙ ap (λ (origins : List Origin). origins ++ map origin begins.more) (sources_are mapped class has declared (class_tables mapped class has declared) [] []);
-    }
-
 pub readable : (mapped : Mapped) (query : ObjectQuery) (w : World) → IsLoadable mapped query w → IsReadable mapped query w
 readable mapped query w is = record {
-  stage = record { has = is.has; related = is.related; graph = is.graph; fit = is.fit; held = is.held };
-  legal = is.legal;
+  stage = record { has = is.has; related = is.related; graph = is.graph; fit = is.fit; held = held_of mapped query w is };
+  legal = legal_of mapped query w is;
   class = is.class;
-  reads = reads_objects mapped query.class query.select is.has is.class is.reads is.begins;
+  reads = reads_of mapped query w is;
   plain = is.plain;
 }

@@ -82,14 +82,11 @@ abbrev pub HoldsColumns : Mapped → ClassId → Object → Type 0
 HoldsColumns mapped class object =
     (attr : AttrNo) (attribute : Attribute) → slice_get (attributes_of mapped object.class) attr.0 ≡ Some attribute → list_any (is_same_column attribute) (attributes_of mapped class) ≡ true → is_none (value_of object attr) ≡ false
 
-abbrev value_in_cell : Option Cell → Option Value
-value_in_cell found = option_and_then (λ cell. cell.value) found
-
 read_held : (cell : Cell) (found : Option Value) (v : Value) (b : Bool) → is_none cell.value ≡ b → found ≡ Some v → is_none (if b then cell_read cell found else cell).value ≡ false
 read_held cell found v true is e = ap (λ (o : Option Value). is_none (cell_read cell o).value) e
 read_held cell found v false is e = is
 
-cell_held : (found : Found) (cells : List Cell) (first n j : ℕ) (v : Value) → n < length cells → j ≡ first + n → value_found found j ≡ Some v → is_none (value_in_cell (slice_get (map (filled_cell found) (enumerate_from first cells)) n)) ≡ false
+cell_held : (found : Found) (cells : List Cell) (first n j : ℕ) (v : Value) → n < length cells → j ≡ first + n → value_found found j ≡ Some v → is_none (option_and_then (λ (one : Cell). one.value) (slice_get (map (filled_cell found) (enumerate_from first cells)) n)) ≡ false
 cell_held found [] first n j v less same e = absurd (omega (arith, less))
 cell_held found (cell ∷ cells) first zero j v less same e =
     let here : first ≡ j = omega (arith, same) in

@@ -1,6 +1,12 @@
 pub mod Inherited
+pub mod Rows
+pub mod RowKeys
 pub mod Fits
 pub mod Held
 pub mod First
+pub mod Fresh
+pub mod Settled
 pub mod Joining
+pub mod Related
 pub mod Whole
+pub mod Strategies

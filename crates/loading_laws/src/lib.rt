@@ -1,8 +1,8 @@
-//! Lazy and joined loading answer the same objects and fill the same links, whatever the tables hold. Each of these functions does nothing
-//! when it runs.
+//! Lazy, joined and select-in loading answer the same objects and fill the same links. Each of these functions does nothing when it runs.
 #![tactic(auto)]
 
 ghost use Rattle.loading_laws.specs.First.{OwnSelectsLeaveReady};
+ghost use Rattle.loading_laws.specs.Strategies.{StrategiesAgree};
 ghost use Rattle.loading_laws.specs.Whole.{LinksAgree, LoadsAnswerAlike};
 
 /// A query's own select leaves an arena's objects that fit the mapping, over the same tables. Each object that it answers is persistent;
@@ -21,4 +21,14 @@ pub fn loads_answer_alike()
 /// identities as the joined load did, in the same order, and puts the same kept changes to them.
 pub fn links_agree()
     ensures { LinksAgree }
+{}
+
+/// The objects of a query that are read by its own select, by its main select with its joined options, and by its own select with further
+/// selects for its select-in options, are of the same identities, in the same order and each once. The link of each of them at the place
+/// of an option, read lazily behind the own select, filled by the joined load, or filled by the select-in load, holds in the end the
+/// persistent objects of the rows that are related to it, in the order of their keys and each once, and the kept changes. Nothing was left
+/// to flush, the link was unloaded, and behind the loads the objects fit the mapping, and each persistent one whose row is there is of the
+/// class that the row names and has of its hierarchy's tables a row in just those of its class.
+pub fn strategies_agree()
+    ensures { StrategiesAgree }
 {}
