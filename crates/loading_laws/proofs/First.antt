@@ -134,7 +134,7 @@ module _ (mapped : Mapped) (class : ClassId) (has : HasHierarchies mapped) (decl
 
 -- ---- what its own select leaves
 
-persistent_one : (state : State) → is_persistent state ≡ true → state ≡ Persistent
+pub persistent_one : (state : State) → is_persistent state ≡ true → state ≡ Persistent
 persistent_one Transient h = absurd cc
 persistent_one Pending h = absurd cc
 persistent_one Persistent h = refl

@@ -1,6 +1,6 @@
 -- The object of a row that is taken holds what the row has: none of its cells is expired whose column is an attribute of the row's class.
 -- So an object of the class holds the foreign keys of the class's many-to-one relationships.
-use Rattle.std.proofs.Common.{◌≡◌, ℕ, zero, suc, ◌+◌, ◌<◌, ◌==◌, Bool, true, false, ◌&&◌, ◌||◌, cond, List, [], ◌∷◌, get_or, length, map, Option, None, Some, Result, Ok, Err, if◌then◌else◌, is_none, is_some, refl, sym, ap, subst, ◌∙◌, arith}
+use Rattle.std.proofs.Common.{◌≡◌, ℕ, zero, suc, ◌+◌, ◌<◌, ◌==◌, Bool, true, false, ◌&&◌, ◌||◌, cond, List, [], ◌∷◌, get_or, length, map, Option, None, Some, Result, Ok, Err, if◌then◌else◌, is_none, refl, sym, ap, subst, ◌∙◌, arith}
 use Rattle.std.specs.Prelude.{slice_get, unwrap_or}
 use Rattle.std.specs.Option.{option_and_then, option_map}
 use Rattle.std.specs.List.{enumerate_from, list_all, list_any, position, position_or_len}
@@ -23,13 +23,12 @@ use Rattle.schema_core.specs.Tables.{value_or_null}
 use Rattle.class_types.specs.declared.mapped.Attribute.{Attribute}
 use Rattle.class_types.specs.declared.mapped.Relation.{Relation}
 use Rattle.class_sides.specs.Keys.{TableKey, foreign_at, names_of}
-use Rattle.class_sides.specs.Pairs.{differ}
 use Rattle.class_sides.specs.Sides.{has_attribute}
-use Rattle.class_mapping.specs.Mapped.{IsClass, Mapped, attributes_of, layout_of, partner_of, relations_of, root_of, tables_of}
-use Rattle.class_mapping.specs.Paired.{IsBack, is_at_or_under}
+use Rattle.class_mapping.specs.Mapped.{IsClass, Mapped, attributes_of, layout_of, relations_of, root_of, tables_of}
+use Rattle.class_mapping.specs.Paired.{IsAt, is_at_or_under}
 use Rattle.class_mapping.specs.Related.{AreRelated, IsRelated, has_keys, one_side}
 use Rattle.class_mapping.specs.Valid.{is_among, refers_by}
-use Rattle.class_mapping.proofs.Having.{any_has, found_of, has_at, true_false}
+use Rattle.class_mapping.proofs.Having.{any_has, found_of, has_at}
 use Rattle.mapping_laws.specs.Hierarchies.{HasHierarchies}
 use Rattle.mapping_laws.proofs.Tables.{tables_declared}
 use Rattle.mapping_laws.proofs.Ties.{table_faultless}
@@ -50,6 +49,7 @@ use Rattle.load_rows.specs.Reading.{IsRowOf}
 use Rattle.load_laws.proofs.MemberLemmas.{among_has}
 use Rattle.load_collections.proofs.CollectionLemmas.{related_at}
 use Rattle.load_targets.specs.ForeignKeys.{attr_named, foreign_attrs, is_expired_among, is_key_expired, value_of}
+use Rattle.load_targets.proofs.KeyLemmas.{one_without}
 use Rattle.joined_laws.proofs.Referring.{declared_above}
 use Rattle.strategies.specs.Filled.{Goes}
 use Rattle.strategies.proofs.Goes.{same_answer}
@@ -86,7 +86,7 @@ read_held : (cell : Cell) (found : Option Value) (v : Value) (b : Bool) → is_n
 read_held cell found v true is e = ap (λ (o : Option Value). is_none (cell_read cell o).value) e
 read_held cell found v false is e = is
 
-cell_held : (found : Found) (cells : List Cell) (first n j : ℕ) (v : Value) → n < length cells → j ≡ first + n → value_found found j ≡ Some v → is_none (option_and_then (λ (one : Cell). one.value) (slice_get (map (filled_cell found) (enumerate_from first cells)) n)) ≡ false
+cell_held : (found : Found) (cells : List Cell) (first n j : ℕ) (v : Value) → n < length cells → j ≡ first + n → value_found found j ≡ Some v → is_none (option_and_then (λ cell. cell.value) (slice_get (map (filled_cell found) (enumerate_from first cells)) n)) ≡ false
 cell_held found [] first n j v less same e = absurd (omega (arith, less))
 cell_held found (cell ∷ cells) first zero j v less same e =
     let here : first ≡ j = omega (arith, same) in
@@ -191,17 +191,8 @@ module _ (mapped : Mapped) (has : HasHierarchies mapped) (related : AreRelated m
   own_related : IsRelated mapped relation
   own_related = related_at mapped class place related declared within
 
-  led_back : IsBack mapped class relation (partner_of mapped relation)
-  led_back = has.paired.back class place.0 relation (slice_get-get_or (relations_of mapped class) place.0 no_relation within)
-
-  near_by : (far : Option TableKey) → relation.far ≡ far → relation.many ≡ false → relation.far ≡ None
-  near_by None is single = is
-  near_by (Some far) is single =
-      let partner = own_related.partner in
-      let back : IsBack mapped class relation (Some partner.0) = subst (IsBack mapped class relation) partner.1.there led_back in
-      let both : (if is_some (Some far) then relation.many && partner.0.many else differ relation.many partner.0.many) ≡ true =
-      ap (λ (end : Option TableKey). if is_some end then relation.many && partner.0.many else differ relation.many partner.0.many) (sym is) ∙ back.0 in
-      true_false relation.many (and_parts relation.many partner.0.many both).0 single
+  there_at : IsAt mapped class place.0 relation
+  there_at = slice_get-get_or (relations_of mapped class) place.0 no_relation within
 
   -- an object of the class holds its foreign key of a many-to-one relationship
   pub key_held : (object : Object) → HoldsColumns mapped class object → is_at_or_under mapped object.class class ≡ true → relation.many ≡ false → is_key_expired mapped relation object ≡ false
@@ -211,7 +202,7 @@ module _ (mapped : Mapped) (has : HasHierarchies mapped) (related : AreRelated m
       let key : TableKey = relation.foreign in
       let names : List (List ℕ) = names_of tables key in
       let side : ClassId = relation.class in
-      let near : relation.far ≡ None = near_by relation.far refl single in
+      let near : relation.far ≡ None = one_without mapped class place.0 relation has own_related there_at single in
       let joined : (is_among (tables_of mapped side) key.0 && list_all (has_attribute (layout_of mapped side).attributes key.0) names && refers_by tables (tables_of mapped (one_side relation)) (foreign_at tables key)) ≡ true =
       ap (λ (many : Bool). let far_side : ClassId = if many then relation.target else relation.class in is_among (tables_of mapped far_side) key.0 && list_all (has_attribute (layout_of mapped far_side).attributes key.0) names && refers_by tables (tables_of mapped (one_side relation)) (foreign_at tables key)) (sym single)
       ∙ ap (has_keys mapped relation) (sym near) ∙ own_related.keys in
@@ -219,6 +210,6 @@ module _ (mapped : Mapped) (has : HasHierarchies mapped) (related : AreRelated m
       let first = and_parts (is_among (tables_of mapped side) key.0) (list_all (has_attribute (layout_of mapped side).attributes key.0) names) split.0 in
       let table_is : key.0.0 < length tables = tables_declared mapped side key.0 (among_has (tables_of mapped side) key.0 first.0) in
       let above : list_all (has_attribute (attributes_of mapped class) key.0) names ≡ true =
-      all_under mapped class side has own_related.class (declared_above mapped class relation own_related led_back) key.0 names first.1 in
+      all_under mapped class side has own_related.class (declared_above mapped class relation own_related (has.paired.back class place.0 relation there_at)) key.0 names first.1 in
       let own : list_all (has_attribute (attributes_of mapped object.class) key.0) names ≡ true = all_under mapped object.class class has declared under key.0 names above in
       names_held mapped key.0 class object (table_faultless mapped key.0 has table_is).apart holds names own above

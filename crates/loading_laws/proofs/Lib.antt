@@ -4,6 +4,9 @@ pub mod RowKeys
 pub mod Fits
 pub mod Held
 pub mod First
+pub mod FitLinks
+pub mod FitLoads
+pub mod FitOptions
 pub mod Fresh
 pub mod Settled
 pub mod Joining

@@ -11,7 +11,7 @@ use Rattle.base_core.specs.declared.value.Value.{Value}
 use Rattle.expr_types.specs.declared.select.ObjectQuery.{ObjectQuery}
 use Rattle.sql_semantics.specs.Created.{bare}
 use Rattle.sql_semantics.specs.Eval.{Row}
-use Rattle.sql_semantics.specs.Shapes.{AreRows}
+use Rattle.sql_semantics.specs.Shapes.{AreLegalRows, AreRows}
 use Rattle.class_types.specs.declared.mapped.Relation.{Relation}
 use Rattle.class_mapping.specs.Mapped.{Mapped, root_of}
 use Rattle.class_mapping.proofs.Having.{Has, all_from, any_has, from_flat, has_flat, some_of}
@@ -19,7 +19,7 @@ use Rattle.programs.specs.Programs.{give}
 use Rattle.programs.specs.Store.{Store}
 use Rattle.object_arena.specs.declared.object.Link.{Link}
 use Rattle.object_arena.specs.declared.object.State.{State}
-use Rattle.object_arena.specs.Fit.{relation_of}
+use Rattle.object_arena.specs.Fit.{IsFit, relation_of}
 use Rattle.object_arena.specs.Graph.{Graph, is_among, is_persistent, object_at}
 use Rattle.object_arena.specs.Identity.{find_identity}
 use Rattle.relations.specs.Mirror.{is_of}
@@ -48,9 +48,12 @@ use Rattle.loader_laws.proofs.Lazily.{links_kept, links_read}
 use Rattle.loader_laws.proofs.Options.{options_kept, options_links}
 use Rattle.loading_laws.specs.First.{LeavesReady}
 use Rattle.loading_laws.specs.Loadable.{rows_of}
-use Rattle.loading_laws.specs.Strategies.{AgreesWithRows, AnswerAndFillAlike, AreFilledAlike, AreInStep, AreReadByEach, IsLinkOf, IsReadByEach}
+use Rattle.loading_laws.specs.Strategies.{AnswerAndFillAlike, AreFilledAlike, AreInStep, AreReadByEach, IsLinkOf, IsReadByEach}
 use Rattle.loading_laws.specs.Whole.{AreBothRead, IsOwner, old_link}
 use Rattle.loading_laws.proofs.First.{leaves_ready, readable}
+use Rattle.loading_laws.proofs.FitLoads.{IsFirm, links_fit}
+use Rattle.loading_laws.proofs.FitOptions.{options_fit}
+use Rattle.loading_laws.proofs.Rows.{legal_of}
 use Rattle.loading_laws.proofs.Settled.{agrees_at}
 use Rattle.loading_laws.proofs.Whole.{IsAtHand, at_hand, found_of, holds_alike, holds_key, joined_related, loads_answer_alike}
 
@@ -150,6 +153,16 @@ module _ (mapped : Mapped) (query : ObjectQuery) (links : List (ObjId × RelNo))
   lazy_later : IsLater first lazy
   lazy_later = links_kept mapped first left.stage links lazy can_be_read each.lazily
 
+  -- the objects fit still
+  firm : IsFirm mapped first
+  firm = record { stage = left.stage; legal = subst (λ (s : Store). AreLegalRows mapped.schema (bare s.tables)) (sym left.store) (legal_of mapped query w each.query_is) }
+
+  lazy_fit : IsFit mapped lazy.own.graph
+  lazy_fit = links_fit mapped first lazy links firm can_be_read each.lazily
+
+  batch_fit : IsFit mapped batch.own.graph
+  batch_fit = options_fit mapped class each.query_is.class objects query.selectin first batch firm each.options left.answered begins_so.options
+
   joined_alike : AnswerAlike mapped class w.own.graph first.own.graph after.own.graph objects answered
   joined_alike = loads_answer_alike mapped query objects answered w first after both
 
@@ -201,17 +214,17 @@ module _ (mapped : Mapped) (query : ObjectQuery) (links : List (ObjId × RelNo))
         let holds = holds_key mapped query objects answered w first after place one owner both own step.settled single in
         key_same mapped relation first.own.graph u.own.graph one hand.ready.owner.made later.kept (hand.ready.held single) ∙ holds.holds hand.row hand.loaded.joined_owner.among refl
 
-    agrees_then : (u : World) → IsLater first u → AgreesWithRows mapped w u → AgreesWithMap mapped relation all u.own.graph one
-    agrees_then u later agrees = λ single.
+    agrees_then : (u : World) → IsLater first u → IsFit mapped u.own.graph → AreOfTheirRows mapped (bare w.store.tables) u.own.graph → AgreesWithMap mapped relation all u.own.graph one
+    agrees_then u later fit of_rows = λ single.
         let store : u.store ≡ w.store = later.store ∙ left.store in
         let stage : IsStage mapped u = record {
           has = left.stage.has;
           related = left.stage.related;
           graph = later.kept.graph;
-          fit = agrees.fit;
+          fit = fit;
           held = subst (λ (s : Store). AreRows mapped.schema (bare s.tables)) (sym later.store) left.stage.held;
         } in
-        agrees_at mapped query w each.query_is place hand.within single hand.plain hand.own_rows hand.row hand.loaded.joined_owner.among u one store stage (subst (λ (s : Store). AreOfTheirRows mapped (bare s.tables) u.own.graph) (sym store) agrees.own)
+        agrees_at mapped query w each.query_is place hand.within single hand.plain hand.own_rows hand.row hand.loaded.joined_owner.among u one store stage (subst (λ (s : Store). AreOfTheirRows mapped (bare s.tables) u.own.graph) (sym store) of_rows)
         (key_there u later single) single
 
     -- what a link holds, by the tables and the link before
@@ -226,7 +239,7 @@ module _ (mapped : Mapped) (query : ObjectQuery) (links : List (ObjId × RelNo))
     lazy_holds : Holds lazy.own.graph (link_at lazy.own.graph one place)
     lazy_holds =
         as_before lazy.own.graph (link_at lazy.own.graph one place)
-        (links_read mapped relation place one all first left.stage hand.ready hand.set.rows unloaded links lazy can_be_read asked.read (agrees_then lazy lazy_later step.lazily) each.lazily)
+        (links_read mapped relation place one all first left.stage hand.ready hand.set.rows unloaded links lazy can_be_read asked.read (agrees_then lazy lazy_later lazy_fit step.lazily) each.lazily)
 
     joined_holds_it : Holds after.own.graph (link_at after.own.graph owner place)
     joined_holds_it = as_before after.own.graph (link_at after.own.graph owner place) (joined_related mapped query objects answered w first after place one owner both own step.settled)
@@ -239,7 +252,7 @@ module _ (mapped : Mapped) (query : ObjectQuery) (links : List (ObjId × RelNo))
         let is : IsAnswered first.own.graph one = (hand.ready.owner.made, hand.ready.owner.persistent) in
         as_before batch.own.graph (link_at batch.own.graph one place)
         (options_links mapped class query.selectin place objects one all first batch left.stage each.query_is.class each.options asked.selectin left.answered hand.set.rows keys_held
-        (owner_among mapped class first.own.graph objects one link_of.among is link_of.of) unloaded (agrees_then batch batch_later step.selectin) begins_so.options)
+        (owner_among mapped class first.own.graph objects one link_of.among is link_of.of) unloaded (agrees_then batch batch_later batch_fit step.selectin) begins_so.options)
 
     -- the select-in load answers the object itself
     itself : one ≡ other

@@ -10,7 +10,7 @@ use Rattle.sql_semantics.specs.Eval.{Row}
 use Rattle.class_types.specs.declared.mapped.Relation.{Relation}
 use Rattle.class_mapping.specs.Mapped.{Mapped, relations_of}
 use Rattle.object_arena.specs.declared.object.Link.{Link}
-use Rattle.object_arena.specs.Fit.{IsFit, relation_of}
+use Rattle.object_arena.specs.Fit.{relation_of}
 use Rattle.object_arena.specs.Graph.{Graph, is_among}
 use Rattle.relations.specs.Mirror.{is_of}
 use Rattle.load_rows.specs.Reading.{identity_key}
@@ -49,16 +49,11 @@ pub record AreReadByEach (mapped : Mapped) (query : ObjectQuery) (links : List (
 
 -- ---- objects and rows
 
--- the objects fit the mapping, and each persistent one whose row is there is of the class that the row names
-pub record AgreesWithRows (mapped : Mapped) (w u : World) : Type 0 where
-  pub fit : IsFit mapped u.own.graph
-  pub own : AreOfTheirRows mapped (bare w.store.tables) u.own.graph
-
 -- nothing is left to flush before the loads, and objects agree with their rows behind them
 pub record AreInStep (mapped : Mapped) (w first lazy batch : World) : Type 0 where
   pub settled : AreSettled mapped w first
-  pub lazily : AgreesWithRows mapped w lazy
-  pub selectin : AgreesWithRows mapped w batch
+  pub lazily : AreOfTheirRows mapped (bare w.store.tables) lazy.own.graph
+  pub selectin : AreOfTheirRows mapped (bare w.store.tables) batch.own.graph
 
 -- ---- what they give
 
