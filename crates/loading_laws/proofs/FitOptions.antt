@@ -21,6 +21,12 @@ use Rattle.object_arena.specs.Graph.{Graph, IsObject, no_object, object_at, plac
 use Rattle.object_arena.specs.Identity.{IsGraph, find_identity}
 use Rattle.collection_selects.specs.Collections.{batch_select}
 use Rattle.load_selects.specs.Selects.{targets_select}
+use Rattle.load_columns.specs.Conditions.{has_one_of}
+use Rattle.load_columns.specs.Placing.{from_root, root_key}
+use Rattle.load_laws.proofs.ClassLemmas.{targets_are_plain}
+use Rattle.key_laws.proofs.KeyKinds.{keys_alike}
+use Rattle.mapping_laws.proofs.Ties.{class_tables}
+use Rattle.row_laws.proofs.RowKeys.{are_rows}
 use Rattle.pair_laws.specs.Members.{IsMemberRow}
 use Rattle.load_rows.specs.Loading.{Loading}
 use Rattle.load_links.specs.Links.{collection_filled, link_at}
@@ -34,7 +40,6 @@ use Rattle.load_batches.proofs.BatchSteps.{batch_plain, batch_rows}
 use Rattle.load_batches.proofs.MemberSteps.{under_all}
 use Rattle.load_batches.proofs.OwnerSteps.{batch_all, keyed_all, owner_keyed}
 use Rattle.load_ends.specs.Ends as ends
-use Rattle.load_ends.proofs.ReadSteps.{keys_plain, keys_rows}
 use Rattle.load_selectin.specs.Selectin.{IsOption, IsOwnerOf, if_owner, is_owner, load_option, load_options, load_together, owners_among}
 use Rattle.load_selectin.proofs.OwnerLemmas.{owner_tested, owners_of}
 use Rattle.strategies.specs.Filled.{Goes}
@@ -173,15 +178,16 @@ module _ (place : RelNo) (mapped : Mapped) (relation : Relation) (has : HasHiera
   AreKeys keys = All (ends.FitsClass mapped class) keys
 
   keys_firm : (keys : List (List Value)) (u v : World) → IsFirm mapped u → AreKeys keys → Goes (ends.load_keys mapped class keys) u tt v → LeavesFirm place mapped u v
-  unfolding ends.load_keys
+  unfolding ends.load_keys targets_select
   keys_firm [] u v firm fits g = firm_same place mapped u v (given tt tt u v (record { answer = g.answer; leaves = g.leaves })).1 firm
   keys_firm (first ∷ more) u v firm fits g =
       let keys : List (List Value) = first ∷ more in
       let select : Select = targets_select mapped class keys in
       let two = parted (read mapped.schema select) (λ (rows : List Row). on_own (ends.take_targets mapped class rows)) u tt v (record { answer = g.answer; leaves = g.leaves }) in
-      let plain = keys_plain mapped class keys (Ok select) has related.target (omega arith) fits refl in
+      let known = class_tables mapped class has related.target in
+      let plain = targets_are_plain mapped class keys has related.target (omega arith) (λ i d within. sym (keys_alike mapped class _ has known) ∙ fits i d within) in
       let sent = sent_rows place mapped select u two.value two.between firm plain two.first in
-      let of = keys_rows mapped class keys select (Ok two.value) has related.target refl sent.0.kinds sent.0.given in
+      let of = are_rows mapped class (has_one_of (root_key mapped class (from_root 0)) keys) two.value has related.target sent.0.kinds sent.0.given in
       let own = on_own_goes (ends.take_targets mapped class two.value) two.between tt v two.second in
       let three = parted (take_rows mapped class two.value) (λ (objects : List ObjId). give tt) two.between.own tt v.own own.goes in
       let taken = taken_fit place mapped class has related.target two.value two.between.own three.value three.between of sent.1.left.leaves.graph sent.1.left.fit three.first in

@@ -1,2 +1,2 @@
 pub mod One
-mod Legal
+pub mod Legal
