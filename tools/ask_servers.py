@@ -1,4 +1,4 @@
-"""Asks SQLite, PostgreSQL and MariaDB whether they take the texts of crates/text_tests/stdout, and what the selects among
+"""Asks SQLite, PostgreSQL and MariaDB whether they take the texts of crates/statement_tests/stdout, and what the selects among
 them answer over small tables.
 
     python3 tools/ask_servers.py sqlite
@@ -17,7 +17,7 @@ import subprocess
 import sys
 
 HERE = os.path.dirname(os.path.abspath(__file__))
-TABLE = os.path.join(HERE, '..', 'crates', 'text_tests', 'stdout')
+TABLE = os.path.join(HERE, '..', 'crates', 'statement_tests', 'stdout')
 ROWS = [
     ('users', [(1, 'ann', 3, True, None, 'x'), (2, 'bob', None, False, b'ab', None),
                (3, "it's", 9, None, None, 'aQ')]),

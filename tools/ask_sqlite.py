@@ -1,5 +1,5 @@
 #!/usr/bin/env python3
-"""Asks SQLite for the values and rows that the lines of crates/expr_tests want, and tells each that differs.
+"""Asks SQLite for the values and rows that the lines of the second part of crates/statement_tests want, and tells each that differs.
 
     python3 tools/ask_sqlite.py            # at the top of the repository; the module sqlite3 has the store
 
@@ -12,7 +12,7 @@ import re
 import sqlite3
 import sys
 
-FOLDER = pathlib.Path(__file__).resolve().parent.parent / "crates" / "expr_tests"
+FOLDER = pathlib.Path(__file__).resolve().parent.parent / "crates" / "statement_tests"
 COMPARE = {"=": "=", "!=": "<>", "<": "<", "<=": "<=", ">": ">", ">=": ">=", "+": "+", "-": "-", "*": "*", "||": "||", "and": "and", "or": "or"}
 CALLS = {"count": 1, "sum": 1, "min": 1, "max": 1, "lower": 1, "upper": 1, "length": 1, "coalesce": 2}
 
@@ -145,8 +145,9 @@ def select(tables, text):
 
 
 def main():
-    asked = (FOLDER / "stdin").read_text().splitlines()
-    answers = iter((FOLDER / "stdout").read_text().splitlines())
+    before, asked, _ = (part.splitlines() for part in (FOLDER / "stdin").read_text().split("\n====\n"))
+    # each line of the first part has one answer
+    answers = iter((FOLDER / "stdout").read_text().splitlines()[len(before):])
     row, tables, keyed = [], [], []
     counts = dict.fromkeys(("value", "select", "update"), 0)
     differ = 0

@@ -7,7 +7,8 @@
 //! Statements have a table first. `insert` has rows, each ended by `;`, `fill` numbers of rows and of different values in them,
 //! `update` a key and a value, `delete` a key. Of many rows are `put` with a row, `raise` with a sum and a bound, `assign` with a
 //! value and a bound, and `clear` with a bound, which take the rows whose `n` is greater, all where there is none; `named` takes
-//! out the rows that another table names. `select` asks for all rows. NULL is `_`.
+//! out the rows that another table names. `select` asks for all rows, or has clauses as `statement_notations` reads them. NULL is
+//! `_`.
 //!
 //! An answer is a letter: `.` for a call that is done, `y` or `n` for one that changed a table or did not, `!` for a fault, `-` for
 //! memory that ran out, `?` for a call that may not be made, a digit for how many rows or scopes there are, or the last digit of
@@ -16,10 +17,9 @@
 #![tactic(auto)]
 
 mod letters;
-mod many;
 mod playing;
 mod statements;
 
 pub use letters::{digit, done, refused, written};
 pub use playing::{said, two_tables};
-pub use statements::row_statement;
+pub use statements::statement_called;

@@ -5,26 +5,22 @@ ghost use Rattle.schema_core.specs.Catalog.{IsTable};
 ghost use Rattle.sql_semantics.specs.Plain.{IsPlainBulk, IsPlainSelect};
 
 use crate::letters::{answered, changed, counted, digit, done, scanned, written};
-use crate::many::bulk;
-use crate::statements::{all_rows, row_statement};
-use base_core::{Refusal, TableId};
-use expr_types::{Bulk, Select};
+use crate::statements::statement_called;
+use base_core::TableId;
+use expr_types::{Bulk, Select, Statement};
 use keeper_core::Keeper;
-use notations::{declared, number};
+use notations::{Page, number, parted};
 use plain_statements::{is_plain_bulk, is_plain_select, is_well_formed};
 use schema_core::{RowStmt, Schema};
 use std::alloc::Global;
 use std::mem::drop;
 
 /// Two tables, of which the second refers to the first.
-const TABLES: [&str; 2] = ["a id:ikn n:in !n", "b id:ikn n:i n>a"];
-
-/// The two tables.
-///
-/// # Errors
-/// `Memory` alone.
-pub fn two_tables(alloc: Global) -> Result<Schema, Refusal> {
-    declared(alloc, TABLES.as_slice())
+pub fn two_tables(page: &mut Page) -> Schema {
+    let mut schema = Schema::new(page.alloc());
+    page.declare(&mut schema, "a id:ikn n:in !n");
+    page.declare(&mut schema, "b id:ikn n:i n>a");
+    schema
 }
 
 // ---- calls of a whole table
@@ -158,23 +154,6 @@ fn send_row<K: Keeper>(alloc: Global, schema: &Schema, keeper: &mut K, statement
     written(keeper.write(alloc, schema, statement))
 }
 
-/// What a statement on rows answers; `?` where it may not be sent.
-fn write_call<K: Keeper>(
-    alloc: Global,
-    schema: &Schema,
-    keeper: &mut K,
-    kind: &str,
-    table: TableId,
-    words: &str,
-) -> char
-    requires { (K.moment keeper.old).attached ≡ true }
-{
-    match row_statement(alloc, kind, table, words) {
-        Ok(statement) => send_row(alloc, schema, keeper, &statement),
-        Err(_) => '-',
-    }
-}
-
 /// Whether a bulk statement may be sent, and there was memory to see it.
 fn is_sendable(alloc: Global, schema: &Schema, statement: &Bulk) -> bool
     ensures { IsTrue result → IsPlainBulk schema.now statement.now }
@@ -192,27 +171,6 @@ fn send_bulk<K: Keeper>(alloc: Global, schema: &Schema, keeper: &mut K, statemen
         return '?';
     }
     counted(keeper.bulk(alloc, schema, statement))
-}
-
-/// How many rows a bulk statement takes, or a letter for what refuses it; `?` where it may not be sent.
-fn bulk_call<K: Keeper>(
-    alloc: Global,
-    schema: &Schema,
-    keeper: &mut K,
-    kind: &str,
-    table: TableId,
-    words: &str,
-) -> char
-    requires { (K.moment keeper.old).attached ≡ true }
-{
-    match bulk(alloc, kind, table, words) {
-        Ok(statement) => {
-            let answer = send_bulk(alloc, schema, keeper, &statement);
-            drop(statement);
-            answer
-        }
-        Err(_) => '-',
-    }
 }
 
 /// Whether a select may be asked, and there was memory to see it.
@@ -235,33 +193,54 @@ fn ask<K: Keeper>(alloc: Global, schema: &Schema, keeper: &mut K, select: &Selec
     answered(keeper.query(alloc, schema, select))
 }
 
-/// What a select of all rows answers; `?` where it may not be asked.
-fn query_call<K: Keeper>(alloc: Global, schema: &Schema, keeper: &mut K, table: TableId) -> char
+/// What a statement answers; `?` where it may not be sent.
+fn send<K: Keeper>(alloc: Global, schema: &Schema, keeper: &mut K, statement: &Statement) -> char
     requires { (K.moment keeper.old).attached ≡ true }
 {
-    let select = all_rows(alloc, table);
-    let answer = ask(alloc, schema, keeper, &select);
-    drop(select);
+    match statement {
+        Statement::Row(statement) => send_row(alloc, schema, keeper, statement),
+        Statement::Bulk(statement) => send_bulk(alloc, schema, keeper, statement),
+        Statement::Select(select) => ask(alloc, schema, keeper, select),
+    }
+}
+
+/// What the statement of a call answers; `?` where it may not be sent.
+fn statement_call<K: Keeper>(
+    schema: &Schema,
+    keeper: &mut K,
+    word: &str,
+    table: TableId,
+    words: &str,
+    page: &mut Page,
+) -> char
+    requires { (K.moment keeper.old).attached ≡ true }
+{
+    let statement = statement_called(page, word, table, words);
+    let answer = send(page.alloc(), schema, keeper, &statement);
+    drop(statement);
     answer
 }
 
-/// What a call answers.
-pub fn said<K: Keeper>(alloc: Global, schema: &Schema, keeper: &mut K, line: &str) -> char
+/// What a call answers. The page is where memory is taken, and where it is noted that there was none.
+pub fn said<K: Keeper>(schema: &Schema, keeper: &mut K, line: &str, page: &mut Page) -> char
     requires { (K.moment keeper.old).attached ≡ true }
 {
-    let (word, rest) = line.split_once(' ').unwrap_or((line, ""));
-    let (table, words) = rest.split_once(' ').unwrap_or((rest, ""));
+    let (word, rest) = parted(line, ' ');
+    let (table, words) = parted(rest, ' ');
     let table = TableId(number(table));
     match word {
-        "create" | "drop" | "count" => table_call(alloc, schema, keeper, word, table),
-        "insert" | "fill" | "update" | "delete" => {
-            write_call(alloc, schema, keeper, word, table, words)
-        }
-        "put" | "raise" | "assign" | "clear" | "named" => {
-            bulk_call(alloc, schema, keeper, word, table, words)
-        }
-        "select" => query_call(alloc, schema, keeper, table),
+        "create" | "drop" | "count" => table_call(page.alloc(), schema, keeper, word, table),
+        "insert"
+        | "fill"
+        | "update"
+        | "delete"
+        | "put"
+        | "raise"
+        | "assign"
+        | "clear"
+        | "named"
+        | "select" => statement_call(schema, keeper, word, table, words, page),
         "depth" => digit(keeper.depth() as u64),
-        _ => scope_call(alloc, keeper, word, number(rest)),
+        _ => scope_call(page.alloc(), keeper, word, number(rest)),
     }
 }

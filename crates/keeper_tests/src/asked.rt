@@ -2,34 +2,36 @@
 
 ghost use Rattle.std.specs.Prelude.{◌≡◌, true};
 
-use crate::selects::{SELECTS, select_of};
+use crate::selects::{SELECTS, put_clauses};
 use base_core::{ListOf, Refusal, RowList, TableId};
-use expr_types::Select;
+use expr_types::{Select, Statement};
+use keeper_calls::statement_called;
 use keeper_core::{Keeper, QueryRefusal};
 use keeper_mem::MemKeeper;
+use notations::Page;
 use plain_statements::is_plain_select;
 use schema_core::Schema;
 use select_rows::rows_of;
 use std::alloc::Global;
+use std::mem::drop;
 
 type Tables = ListOf<(TableId, RowList)>;
 
 /// A table goes to the end with its rows, where it is created.
 fn add_table<K: Keeper>(
-    alloc: Global,
+    page: &mut Page,
     schema: &Schema,
     keeper: &mut K,
     table: u32,
     tables: &mut Tables,
-) -> Result<(), Refusal>
+)
     requires { (K.moment keeper.old).attached ≡ true }
 {
     if schema.count() <= table {
-        return Ok(());
+        return;
     }
-    match keeper.scan(alloc, schema, TableId(table)) {
-        Ok(Some(rows)) => tables.push((TableId(table), rows)),
-        _ => Ok(()),
+    if let Ok(Some(rows)) = keeper.scan(page.alloc(), schema, TableId(table)) {
+        page.add(tables, (TableId(table), rows));
     }
 }
 
@@ -64,53 +66,60 @@ fn answers_alike<K: Keeper>(
     Ok(is_same(&keeper.query(alloc, schema, select), &told))
 }
 
-/// Whether the select of a number does.
-fn number_alike<K: Keeper>(
-    alloc: Global,
-    schema: &Schema,
-    keeper: &mut K,
-    tables: &Tables,
-    number: u32,
-) -> Result<bool, Refusal>
-    requires { (K.moment keeper.old).attached ≡ true }
-{
-    let select = select_of(alloc, number)?;
-    answers_alike(alloc, schema, keeper, tables, &select)
-}
-
-/// The number of the first select that answers something else than over these tables.
-fn first_other(
-    alloc: Global,
+/// Whether a statement is a select that does.
+fn is_alike(
+    page: &mut Page,
     schema: &Schema,
     keeper: &mut MemKeeper,
     tables: &Tables,
-) -> Result<u32, Refusal> {
-    for number in 0..SELECTS {
-        if !keeper.is_attached() || !number_alike(alloc, schema, keeper, tables, number)? {
-            return Ok(number);
+    statement: &Statement,
+) -> bool {
+    let Statement::Select(select) = statement else {
+        return false;
+    };
+    if !keeper.is_attached() {
+        return false;
+    }
+    match answers_alike(page.alloc(), schema, keeper, tables, select) {
+        Ok(alike) => alike,
+        Err(_) => {
+            page.lack();
+            false
         }
     }
-    Ok(SELECTS)
 }
 
-/// The created tables, each with its rows.
-fn tables_of(alloc: Global, schema: &Schema, keeper: &mut MemKeeper) -> Result<Tables, Refusal> {
-    let mut tables = ListOf::new(alloc);
+/// The select of a number.
+fn statement_of(page: &mut Page, number: u32) -> Statement {
+    let mut clauses = Page::new(page.alloc());
+    put_clauses(&mut clauses, number);
+    let statement = statement_called(page, "select", TableId(1), clauses.text());
+    page.lack_of(&clauses);
+    statement
+}
+
+/// How many selects answer as over these tables before one answers something else.
+fn count_alike(page: &mut Page, schema: &Schema, keeper: &mut MemKeeper, tables: &Tables) -> u32 {
+    for number in 0..SELECTS {
+        let statement = statement_of(page, number);
+        let alike = is_alike(page, schema, keeper, tables, &statement);
+        drop(statement);
+        if !alike {
+            return number;
+        }
+    }
+    SELECTS
+}
+
+/// Asks each of the selects, and tells how many answer as over the rows of the created tables before one answers something else.
+pub(crate) fn put_asked(page: &mut Page, schema: &Schema, keeper: &mut MemKeeper) {
+    let mut tables = ListOf::new(page.alloc());
     for table in 0..2 {
         if keeper.is_attached() {
-            add_table(alloc, schema, keeper, table, &mut tables)?;
+            add_table(page, schema, keeper, table, &mut tables);
         }
     }
-    Ok(tables)
-}
-
-/// Asks each of the selects, and tells how many answer as over the rows of the tables before one answers something else.
-pub(crate) fn asked_alike(
-    alloc: Global,
-    schema: &Schema,
-    keeper: &mut MemKeeper,
-) -> Result<String, Refusal> {
-    let tables = tables_of(alloc, schema, keeper)?;
-    let count = first_other(alloc, schema, keeper, &tables)?;
-    Ok(format!(in alloc; "{count} alike")?)
+    let count = count_alike(page, schema, keeper, &tables);
+    page.put_number("", u64::from(count));
+    page.put(" alike");
 }

@@ -1,13 +1,13 @@
 //! The same calls on plain lists, whose scopes are copies.
 
-use base_core::{Copied, ListOf, Refusal, RowValues, TableId};
-use keeper_calls::{refused, row_statement, written};
+use base_core::{Copied, ListOf, RowValues, TableId};
+use expr_types::Statement;
+use keeper_calls::{refused, statement_called, written};
 use keeper_core::WriteRefusal;
-use notations::number;
+use notations::{Page, number, parted};
 use plain_statements::is_well_formed;
 use plain_tables::{PlainTables, apply};
-use schema_core::{Schema, Unwritten};
-use std::alloc::{AllocError, Global};
+use schema_core::{RowStmt, Schema, Unwritten};
 use std::mem::{self, drop};
 
 /// The tables now, and a copy of them at the start of each scope, the outermost first.
@@ -19,19 +19,26 @@ pub(crate) struct Model {
 
 impl Model {
     /// Two tables without rows.
-    pub(crate) fn new(alloc: Global) -> Result<Model, Refusal> {
+    pub(crate) fn new(page: &mut Page) -> Model {
+        let alloc = page.alloc();
         let mut tables = ListOf::new(alloc);
-        tables.push((TableId(0), ListOf::new(alloc)))?;
-        tables.push((TableId(1), ListOf::new(alloc)))?;
-        Ok(Model {
+        page.add(&mut tables, (TableId(0), ListOf::new(alloc)));
+        page.add(&mut tables, (TableId(1), ListOf::new(alloc)));
+        Model {
             tables,
             scopes: Vec::new(alloc),
-        })
+        }
     }
 
-    fn start(&mut self) -> Result<char, AllocError> {
-        self.scopes.push(self.tables.copied()?)?;
-        Ok('.')
+    fn start(&mut self, page: &mut Page) -> char {
+        match self.tables.copied() {
+            Ok(tables) => {
+                let done = self.scopes.push(tables);
+                page.note(done);
+            }
+            Err(_) => page.lack(),
+        }
+        '.'
     }
 
     /// Goes back to the tables of a scope, and ends it and those inside it.
@@ -56,61 +63,58 @@ impl Model {
     }
 
     /// What a call that starts or ends a scope answers.
-    fn scope_call(&mut self, word: &str, number: u32) -> Result<char, AllocError> {
+    fn scope_call(&mut self, word: &str, number: u32, page: &mut Page) -> char {
         let depth = self.scopes.len();
         match word {
-            "begin" if depth == 0 => self.start(),
-            "savepoint" if depth >= 1 => self.start(),
-            "release" if depth >= 2 => Ok(self.release()),
+            "begin" if depth == 0 => self.start(page),
+            "savepoint" if depth >= 1 => self.start(page),
+            "release" if depth >= 2 => self.release(),
             "rollback-to" if number >= 1 && (number as usize) < depth => {
-                Ok(self.go_back(number as usize))
+                self.go_back(number as usize)
             }
-            "rollback" if depth >= 1 => Ok(self.go_back(0)),
-            "commit" if depth >= 1 => Ok(self.keep()),
-            _ => Ok('?'),
+            "rollback" if depth >= 1 => self.go_back(0),
+            "commit" if depth >= 1 => self.keep(),
+            _ => '?',
         }
     }
 
     /// What a statement on rows answers.
-    fn write_call(
-        &mut self,
-        alloc: Global,
-        schema: &Schema,
-        kind: &str,
-        table: TableId,
-        words: &str,
-    ) -> Result<char, Refusal> {
-        let statement = row_statement(alloc, kind, table, words)?;
-        if self.scopes.len() == 0 || !is_well_formed(schema, &statement) {
-            return Ok('?');
+    fn write(&mut self, schema: &Schema, statement: &RowStmt, page: &mut Page) -> char {
+        if self.scopes.len() == 0 || !is_well_formed(schema, statement) {
+            return '?';
         }
         if schema.count() <= statement.table().0 {
-            return Ok('?');
+            return '?';
         }
-        match apply(alloc, schema, &self.tables, &statement) {
+        match apply(page.alloc(), schema, &self.tables, statement) {
             Ok((keys, tables)) => {
                 drop(mem::replace(&mut self.tables, tables));
-                Ok(written(Ok(keys)))
+                written(Ok(keys))
             }
-            Err(Unwritten::Violates(violation)) => Ok(refused(WriteRefusal::from(violation))),
-            Err(Unwritten::Memory) => Ok('-'),
+            Err(Unwritten::Violates(violation)) => refused(WriteRefusal::from(violation)),
+            Err(Unwritten::Memory) => '-',
+        }
+    }
+
+    fn send(&mut self, schema: &Schema, statement: &Statement, page: &mut Page) -> char {
+        match statement {
+            Statement::Row(statement) => self.write(schema, statement, page),
+            _ => '?',
         }
     }
 
     /// What a call answers.
-    pub(crate) fn said(
-        &mut self,
-        alloc: Global,
-        schema: &Schema,
-        line: &str,
-    ) -> Result<char, Refusal> {
-        let (word, rest) = line.split_once(' ').unwrap_or((line, ""));
-        let (table, words) = rest.split_once(' ').unwrap_or((rest, ""));
+    pub(crate) fn said(&mut self, schema: &Schema, line: &str, page: &mut Page) -> char {
+        let (word, rest) = parted(line, ' ');
+        let (table, words) = parted(rest, ' ');
         match word {
             "insert" | "update" | "delete" => {
-                self.write_call(alloc, schema, word, TableId(number(table)), words)
+                let statement = statement_called(page, word, TableId(number(table)), words);
+                let answer = self.send(schema, &statement, page);
+                drop(statement);
+                answer
             }
-            _ => Ok(self.scope_call(word, number(rest))?),
+            _ => self.scope_call(word, number(rest), page),
         }
     }
 

@@ -3,14 +3,13 @@
 ghost use Rattle.std.specs.Prelude.{◌≡◌, ◌<◌, None};
 ghost use Rattle.keeper_mem.specs.Kept.{moment_of};
 
+use crate::memory::call as answer_of;
 use crate::model::Model;
-use crate::play::call as answer_of;
-use base_core::{Refusal, TableId};
+use base_core::TableId;
 use keeper_core::{Keeper, Target};
 use keeper_mem::{MemKeeper, OverMemory, over_new};
-use notations::number;
+use notations::{Page, number, parted};
 use schema_core::Schema;
-use std::alloc::{AllocError, Global};
 
 /// Numbers that follow from a seed.
 #[derive(Clone, Copy)]
@@ -30,54 +29,59 @@ impl Draw {
 }
 
 /// A statement on one row.
-fn statement(alloc: Global, draw: &mut Draw, kind: u32) -> Result<String, AllocError> {
+fn put_statement(line: &mut Page, draw: &mut Draw, kind: u32) {
     let table = draw.below(2);
     let key = draw.below(9) + 1;
     let n = draw.below(9) + 1;
+    line.put(match kind {
+        0..5 => "insert ",
+        5..8 => "update ",
+        _ => "delete ",
+    });
+    line.put_number("", u64::from(table));
     match kind {
-        0..3 => format!(in alloc; "insert {table} _ {n};"),
-        3 => format!(in alloc; "insert {table} {key} {n};"),
-        4 => format!(in alloc; "insert {table} {key} _;"),
-        5..8 => format!(in alloc; "update {table} {key} {n}"),
-        _ => format!(in alloc; "delete {table} {key}"),
+        0..3 => line.put(" _"),
+        _ => line.put_number(" ", u64::from(key)),
+    }
+    match kind {
+        4 => line.put(" _"),
+        0..8 => line.put_number(" ", u64::from(n)),
+        _ => {}
+    }
+    if kind < 5 {
+        line.put(";");
     }
 }
 
 /// A call.
-fn call(alloc: Global, draw: &mut Draw) -> Result<String, AllocError> {
+fn put_call(line: &mut Page, draw: &mut Draw) {
     let kind = draw.below(18);
     match kind {
-        0..12 => statement(alloc, draw, kind),
-        12 => String::from_str(alloc, "begin"),
-        13 | 14 => String::from_str(alloc, "savepoint"),
-        15 => String::from_str(alloc, "release"),
+        0..12 => put_statement(line, draw, kind),
+        12 => line.put("begin"),
+        13 | 14 => line.put("savepoint"),
+        15 => line.put("release"),
         16 => {
             let scope = draw.below(3) + 1;
-            format!(in alloc; "rollback-to {scope}")
+            line.put_number("rollback-to ", u64::from(scope));
         }
-        _ => String::from_str(
-            alloc,
-            if draw.below(2) == 0 {
-                "commit"
-            } else {
-                "rollback"
-            },
-        ),
+        _ if draw.below(2) == 0 => line.put("commit"),
+        _ => line.put("rollback"),
     }
 }
 
 /// Whether a table has the same rows on both.
 fn has_same_rows(
-    alloc: Global,
     schema: &Schema,
     keeper: &mut MemKeeper,
     model: &Model,
     table: u32,
+    page: &Page,
 ) -> bool {
     if !keeper.is_attached() || schema.count() <= table {
         return false;
     }
-    match keeper.scan(alloc, schema, TableId(table)) {
+    match keeper.scan(page.alloc(), schema, TableId(table)) {
         Ok(Some(rows)) => model.has_rows(table as usize, rows.as_slice()),
         _ => false,
     }
@@ -85,95 +89,70 @@ fn has_same_rows(
 
 /// Whether a call answers the same on both, and leaves the same rows.
 fn is_alike(
-    alloc: Global,
     schema: &Schema,
     keeper: &mut MemKeeper,
     model: &mut Model,
     line: &str,
-) -> Result<bool, Refusal> {
-    let answer = model.said(alloc, schema, line)?;
-    if answer_of(alloc, schema, keeper, line) != answer {
-        return Ok(false);
+    page: &mut Page,
+) -> bool {
+    let answer = model.said(schema, line, page);
+    if answer_of(schema, keeper, line, page) != answer {
+        return false;
     }
-    Ok(
-        has_same_rows(alloc, schema, keeper, model, 0)
-            && has_same_rows(alloc, schema, keeper, model, 1),
-    )
+    has_same_rows(schema, keeper, model, 0, page) && has_same_rows(schema, keeper, model, 1, page)
 }
 
-/// The place of the first of so many calls after which they differ.
-fn first_other(
-    alloc: Global,
-    schema: &Schema,
-    keeper: &mut MemKeeper,
-    draw: Draw,
-    count: u32,
-) -> Result<Option<u32>, Refusal> {
-    let mut draw = draw;
-    let mut model = Model::new(alloc)?;
-    for place in 0..count {
-        let line = call(alloc, &mut draw)?;
-        if !is_alike(alloc, schema, keeper, &mut model, line.as_str())? {
-            return Ok(Some(place));
-        }
-    }
-    Ok(None)
-}
-
-/// How so many calls went on both.
-#[derive(Clone, Copy)]
-enum Played {
-    Refused,
-    Alike,
-    DiffersAt(u32),
-}
-
-/// So many calls that are drawn from a seed, and how they went.
+/// So many calls that are drawn from a seed, and the place of the first one after which both differ.
 #[derive(Drop)]
 struct Drawn<'x> {
-    alloc: Global,
     schema: &'x Schema,
     draw: Draw,
     count: u32,
-    played: Played,
+    page: Page,
+    differs_at: Option<u32>,
 }
 
-/// Plays so many calls on a new keeper and on plain lists.
-fn play(alloc: Global, schema: &Schema, keeper: &mut MemKeeper, draw: Draw, count: u32) -> Played
+/// Begins a new keeper with both tables.
+fn begin(schema: &Schema, keeper: &mut MemKeeper, page: &mut Page)
     requires { (moment_of keeper.old).target ≡ None }
 {
-    let _taken = keeper.attach(alloc, Target::Memory);
-    let _first = answer_of(alloc, schema, keeper, "create 0");
-    let _second = answer_of(alloc, schema, keeper, "create 1");
-    match first_other(alloc, schema, keeper, draw, count) {
-        Ok(Some(place)) => Played::DiffersAt(place),
-        Ok(None) => Played::Alike,
-        Err(_) => Played::Refused,
-    }
+    let _taken = keeper.attach(page.alloc(), Target::Memory);
+    let _first = answer_of(schema, keeper, "create 0", page);
+    let _second = answer_of(schema, keeper, "create 1", page);
 }
 
 impl OverMemory for Drawn<'_> {
     fn run(&mut self, keeper: &mut MemKeeper) {
-        self.played = play(self.alloc, self.schema, keeper, self.draw, self.count);
+        begin(self.schema, keeper, &mut self.page);
+        let mut model = Model::new(&mut self.page);
+        for place in 0..self.count {
+            let mut line = Page::new(self.page.alloc());
+            put_call(&mut line, &mut self.draw);
+            if !is_alike(self.schema, keeper, &mut model, line.text(), &mut self.page) {
+                self.differs_at = Some(place);
+                return;
+            }
+        }
     }
 }
 
-/// Plays so many calls from a seed, and tells whether both go on alike.
-pub(crate) fn played_alike(alloc: Global, schema: &Schema, words: &str) -> Result<String, Refusal> {
-    let (seed, count) = words.split_once(' ').unwrap_or((words, ""));
+/// Plays so many calls from a seed on a new keeper and on plain lists, and tells whether both go on alike.
+pub(crate) fn put_played(page: &mut Page, schema: &Schema, words: &str) {
+    let (seed, count) = parted(words, ' ');
     let mut drawn = Drawn {
-        alloc,
         schema,
         draw: Draw {
             state: number(seed),
         },
         count: number(count),
-        played: Played::Refused,
+        page: Page::new(page.alloc()),
+        differs_at: None,
     };
-    over_new(alloc, &[], &mut drawn)?;
-    match drawn.played {
-        Played::DiffersAt(place) => Ok(format!(in alloc; "differs at {place}")?),
-        Played::Alike => Ok(String::from_str(alloc, "alike")?),
-        Played::Refused => Err(Refusal::Memory),
+    let done = over_new(page.alloc(), &[], &mut drawn);
+    page.note(done);
+    page.lack_of(&drawn.page);
+    match drawn.differs_at {
+        Some(place) => page.put_number("differs at ", u64::from(place)),
+        None => page.put("alike"),
     }
 }

@@ -1,64 +1,39 @@
 //! What is shown of a keeper.
 
-use base_core::{RowValues, TableId};
+use base_core::TableId;
 use keeper_core::Keeper;
 use keeper_mem::{LogEntry, MemKeeper};
-use printing::RowText;
+use notations::Page;
 use schema_core::Schema;
-use std::alloc::{AllocError, Global};
-
-fn push_row(alloc: Global, shown: &mut String, row: &RowValues) -> Result<(), AllocError> {
-    let row = RowText(row);
-    shown.push_str(format!(in alloc; " {row}")?.as_str())
-}
-
-/// An entry of the log.
-fn push_entry(alloc: Global, shown: &mut String, entry: &LogEntry) -> Result<(), AllocError> {
-    let table = entry.table.0;
-    shown.push_str(format!(in alloc; " {table}")?.as_str())?;
-    push_row(alloc, shown, &entry.key)?;
-    match &entry.before {
-        Some(row) => push_row(alloc, shown, row)?,
-        None => shown.push_str(" none")?,
-    }
-    shown.push(';')
-}
 
 /// The log, and the places of the scopes in it.
-pub(crate) fn push_log(
-    alloc: Global,
-    shown: &mut String,
-    log: &[LogEntry],
-    places: &[u64],
-) -> Result<(), AllocError> {
-    shown.push_str("log")?;
+pub(crate) fn put_log(page: &mut Page, log: &[LogEntry], places: &[u64]) {
+    page.put("log");
     for entry in log {
-        push_entry(alloc, shown, entry)?;
+        page.put_number(" ", u64::from(entry.table.0));
+        page.put_row(" ", &entry.key);
+        match &entry.before {
+            Some(row) => page.put_row(" ", row),
+            None => page.put(" none"),
+        }
+        page.put(";");
     }
-    shown.push_str(" places")?;
+    page.put(" places");
     for place in places {
-        shown.push_str(format!(in alloc; " {place}")?.as_str())?;
+        page.put_number(" ", *place);
     }
-    Ok(())
 }
 
 /// The rows of a table.
-pub(crate) fn push_rows(
-    alloc: Global,
-    shown: &mut String,
-    schema: &Schema,
-    keeper: &mut MemKeeper,
-    table: TableId,
-) -> Result<(), AllocError> {
+pub(crate) fn put_rows(page: &mut Page, schema: &Schema, keeper: &mut MemKeeper, table: TableId) {
     if !keeper.is_attached() || schema.count() <= table.0 {
-        return shown.push('?');
+        return page.put("?");
     }
-    let Ok(Some(rows)) = keeper.scan(alloc, schema, table) else {
-        return shown.push('T');
+    let Ok(Some(rows)) = keeper.scan(page.alloc(), schema, table) else {
+        return page.put("T");
     };
-    shown.push_str("rows")?;
+    page.put("rows");
     for row in rows.as_slice() {
-        push_row(alloc, shown, row)?;
+        page.put_row(" ", row);
     }
-    Ok(())
 }

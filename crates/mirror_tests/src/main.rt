@@ -17,19 +17,23 @@ mod play;
 mod told;
 
 use base_core::Refusal;
+use class_mapping::Mapping;
+use mapping::declare_all;
+use notations::Page;
 use play::answer;
 use std::alloc::Global;
 use std::io;
 
 /// The answers to lines.
 fn answers(alloc: Global, text: &str) -> Result<String, Refusal> {
-    let mapping = mapping::made(alloc)?;
-    let mut said = String::new(alloc);
+    let mut page = Page::new(alloc);
+    let mut mapping = Mapping::new(alloc);
+    declare_all(&mut page, &mut mapping)?;
     for line in text.lines() {
-        answer(alloc, &*mapping, line, &mut said)?;
-        said.push('\n')?;
+        answer(&mapping, line, &mut page)?;
+        page.push('\n');
     }
-    Ok(said)
+    Ok(page.into_text()?)
 }
 
 fn main(rt: HostRuntime) -> io::Result<()> {

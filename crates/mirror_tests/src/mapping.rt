@@ -1,10 +1,9 @@
 //! The classes of the graphs, from lines.
 
-use base_core::{ListOf, Name, Refusal, Value, both};
+use base_core::{ListOf, Refusal, Value};
 use class_mapping::{Cascade, ClassSpec, Mapping, RelationSpec};
 use class_types::Hooks;
-use notations::{name, named, table};
-use std::alloc::{AllocError, Global};
+use notations::{Page, parted};
 
 /// The tables.
 const TABLES: [&str; 8] = [
@@ -31,11 +30,6 @@ const CLASSES: [&str; 7] = [
     "Log logs - - admin>Admin.logs",
 ];
 
-/// What stands before a mark and behind it.
-fn split<'x>(text: &'x str, mark: char) -> (&'x str, &'x str) {
-    text.split_once(mark).unwrap_or((text, ""))
-}
-
 /// The flags of a collection with orphans.
 fn cascade(orphans: bool) -> Option<Cascade> {
     if orphans {
@@ -52,106 +46,58 @@ fn cascade(orphans: bool) -> Option<Cascade> {
     }
 }
 
-/// The names of a relationship, of its target and of its partner.
-fn sides(
-    alloc: Global,
-    shown: &str,
-    target: &str,
-    partner: &str,
-) -> Result<(Name, (Name, Name)), AllocError> {
-    both(
-        name(alloc, shown),
-        both(name(alloc, target), name(alloc, partner)),
-    )
-}
-
-fn relation(alloc: Global, word: &str) -> Result<RelationSpec, AllocError> {
-    let (shown, rest) = split(word, '>');
-    let (target, rest) = split(rest, '.');
-    let (rest, secondary) = split(rest, '/');
-    let partner = rest.trim_end_matches('!');
-    let secondary = named(alloc, secondary)?;
-    let (name, (target, partner)) = sides(alloc, shown.trim_start_matches('*'), target, partner)?;
-    Ok(RelationSpec {
+fn relation(page: &mut Page, word: &str) -> RelationSpec {
+    let (shown, rest) = parted(word, '>');
+    let (target, rest) = parted(rest, '.');
+    let (rest, secondary) = parted(rest, '/');
+    RelationSpec {
         many: shown.starts_with('*'),
-        name,
-        target,
-        secondary,
-        partner,
+        name: page.name(shown.trim_start_matches('*')),
+        target: page.name(target),
+        secondary: page.named(secondary),
+        partner: page.name(rest.trim_end_matches('!')),
         backref: false,
-        using: ListOf::new(alloc),
+        using: ListOf::new(page.alloc()),
         cascade: cascade(rest.ends_with('!')),
         post_update: false,
-    })
-}
-
-fn push_relation(
-    alloc: Global,
-    relations: &mut ListOf<RelationSpec>,
-    word: &str,
-) -> Result<(), Refusal> {
-    relations.push(relation(alloc, word)?)
-}
-
-fn relations(alloc: Global, words: &str) -> Result<ListOf<RelationSpec>, Refusal> {
-    let mut relations = ListOf::new(alloc);
-    for word in words.split(' ') {
-        push_relation(alloc, &mut relations, word)?;
     }
-    Ok(relations)
 }
 
-/// A name, none for a dash.
-fn maybe(alloc: Global, word: &str) -> Result<Option<Name>, AllocError> {
-    named(alloc, word.trim_start_matches('-'))
+fn relations(page: &mut Page, words: &str) -> ListOf<RelationSpec> {
+    let mut relations = ListOf::new(page.alloc());
+    for word in words.split(' ') {
+        let relation = relation(page, word);
+        page.add(&mut relations, relation);
+    }
+    relations
 }
 
-/// What a class extends, and its discriminator.
-type Extends = (Option<Name>, Option<Name>);
-
-/// A class; with a base or a discriminator it has an identity.
-fn class(alloc: Global, line: &str, number: u32) -> Result<ClassSpec, Refusal> {
-    let (shown, rest) = split(line, ' ');
-    let (table, rest) = split(rest, ' ');
-    let (base, rest) = split(rest, ' ');
-    let (discriminator, rest) = split(rest, ' ');
-    let relations = relations(alloc, rest)?;
-    let (extends, (name, table)) = both(
-        both(maybe(alloc, base), maybe(alloc, discriminator)),
-        both(name(alloc, shown), maybe(alloc, table)),
-    )?;
-    Ok(of_parts(alloc, number, extends, (name, table), relations))
-}
-
-fn of_parts(
-    alloc: Global,
-    number: u32,
-    extends: Extends,
-    named: (Name, Option<Name>),
-    relations: ListOf<RelationSpec>,
-) -> ClassSpec {
-    let (base, discriminator) = extends;
-    let (name, table) = named;
-    let identity = if base.is_some() || discriminator.is_some() {
-        Some(Value::Int(i64::from(number)))
-    } else {
+/// A class; with a base or a discriminator it has an identity. A dash is no name.
+fn class(page: &mut Page, line: &str, number: u32) -> ClassSpec {
+    let (shown, rest) = parted(line, ' ');
+    let (table, rest) = parted(rest, ' ');
+    let (base, rest) = parted(rest, ' ');
+    let (discriminator, rest) = parted(rest, ' ');
+    let identity = if base == "-" && discriminator == "-" {
         None
+    } else {
+        Some(Value::Int(i64::from(number)))
     };
     ClassSpec {
-        name,
-        base,
-        table,
-        discriminator,
+        name: page.name(shown),
+        base: page.named(base.trim_start_matches('-')),
+        table: page.named(table.trim_start_matches('-')),
+        discriminator: page.named(discriminator.trim_start_matches('-')),
         identity,
-        owned: ListOf::new(alloc),
-        relations,
-        validators: ListOf::new(alloc),
+        owned: ListOf::new(page.alloc()),
+        relations: relations(page, rest),
+        validators: ListOf::new(page.alloc()),
     }
 }
 
 /// Declares the table of a line, where a number is left for it.
-fn declare_table(alloc: Global, mapping: &mut Mapping, line: &str) -> Result<(), Refusal> {
-    let spec = table(alloc, line)?;
+fn declare_table(page: &mut Page, mapping: &mut Mapping, line: &str) -> Result<(), Refusal> {
+    let spec = page.table(line);
     if mapping.schema().count() < u32::MAX {
         mapping.declare_table(spec)?;
     }
@@ -160,31 +106,26 @@ fn declare_table(alloc: Global, mapping: &mut Mapping, line: &str) -> Result<(),
 
 /// Declares the class of a line, where a number is left for it.
 fn declare_class(
-    alloc: Global,
+    page: &mut Page,
     mapping: &mut Mapping,
     hooks: &Hooks,
     line: &str,
 ) -> Result<(), Refusal> {
-    let spec = class(alloc, line, mapping.count())?;
+    let spec = class(page, line, mapping.count());
     if mapping.count() < u32::MAX {
         mapping.declare_class(spec, hooks)?;
     }
     Ok(())
 }
 
-fn declare_all(alloc: Global, mapping: &mut Mapping, hooks: &Hooks) -> Result<(), Refusal> {
+/// The mapping: users with addresses, parts and tags, administrators with logs, and nodes with a next one.
+pub(crate) fn declare_all(page: &mut Page, mapping: &mut Mapping) -> Result<(), Refusal> {
+    let hooks = Hooks::new(page.alloc());
     for line in TABLES.as_slice() {
-        declare_table(alloc, mapping, line)?;
+        declare_table(page, mapping, line)?;
     }
     for line in CLASSES.as_slice() {
-        declare_class(alloc, mapping, hooks, line)?;
+        declare_class(page, mapping, &hooks, line)?;
     }
     mapping.configure()
-}
-
-/// The mapping: users with addresses, parts and tags, administrators with logs, and nodes with a next one.
-pub(crate) fn made(alloc: Global) -> Result<Box<Mapping>, Refusal> {
-    let mut mapping = Box::new(alloc, Mapping::new(alloc))?;
-    declare_all(alloc, &mut *mapping, &Hooks::new(alloc))?;
-    Ok(mapping)
 }

@@ -11,6 +11,7 @@ use base_core::{AttrNo, ClassId, Key, ListOf, ObjId, ObjList, ObjSet, Refusal, R
 use cascades::{delete_closure, expire_closure, expunge_closure, save_closure};
 use class_mapping::Mapping;
 use graph_fits::{key_fits, link_fits};
+use notations::Page;
 use object_arena::{Arena, Cell, Link, State};
 use relations::{append, remove, set_one};
 use std::alloc::Global;
@@ -40,31 +41,31 @@ fn digit(byte: u8) -> u32
 }
 
 /// The digits from a place on, up to another byte.
-fn objects_from(alloc: Global, act: &[u8], place: usize) -> Result<ObjList, Refusal> {
-    let mut objects = ListOf::new(alloc);
+fn objects_from(page: &mut Page, act: &[u8], place: usize) -> ObjList {
+    let mut objects = ListOf::new(page.alloc());
     for byte in act.iter().skip(place) {
         if digit(*byte) == 0 {
-            return Ok(objects);
+            return objects;
         }
-        objects.push(ObjId(digit(*byte)))?;
+        page.add(&mut objects, ObjId(digit(*byte)));
     }
-    Ok(objects)
+    objects
 }
 
 /// The digits behind the slash.
-fn objects_behind(alloc: Global, act: &[u8]) -> Result<ObjList, Refusal> {
+fn objects_behind(page: &mut Page, act: &[u8]) -> ObjList {
     match act.iter().position(|byte| *byte == b'/') {
-        Some(place) => objects_from(alloc, act, place + 1),
-        None => Ok(ListOf::new(alloc)),
+        Some(place) => objects_from(page, act, place + 1),
+        None => ListOf::new(page.alloc()),
     }
 }
 
-fn key_from(alloc: Global, act: &[u8]) -> Result<Key, Refusal> {
-    let mut key = ListOf::new(alloc);
+fn key_from(page: &mut Page, act: &[u8]) -> Key {
+    let mut key = ListOf::new(page.alloc());
     for byte in act.iter().skip(2) {
-        key.push(Value::Int(i64::from(digit(*byte))))?;
+        page.add(&mut key, Value::Int(i64::from(digit(*byte))));
     }
-    Ok(key)
+    key
 }
 
 fn is_made(arena: &Arena, object: ObjId) -> bool
@@ -86,7 +87,12 @@ fn make(mapping: &Mapping, arena: &mut Arena, act: &[u8]) -> Result<(), Refusal>
     Ok(())
 }
 
-fn register(alloc: Global, mapping: &Mapping, arena: &mut Arena, act: &[u8]) -> Result<(), Refusal>
+fn register(
+    page: &mut Page,
+    mapping: &Mapping,
+    arena: &mut Arena,
+    act: &[u8],
+) -> Result<(), Refusal>
     requires configured { mapping.now.configured ≡ true }
     requires fit { IsFit mapping.now arena.old }
     ensures { IsFit mapping.now arena.new }
@@ -95,7 +101,7 @@ fn register(alloc: Global, mapping: &Mapping, arena: &mut Arena, act: &[u8]) -> 
     if !is_made(arena, object) {
         return Err(Refusal::NotBuilt);
     }
-    let key = key_from(alloc, act)?;
+    let key = key_from(page, act);
     if !key_fits(mapping, arena.object(object).class, &key) {
         return Err(Refusal::NotBuilt);
     }
@@ -167,27 +173,30 @@ fn end_at(act: &[u8], place: usize) -> Option<ObjId> {
 }
 
 /// The link that an act puts in.
-fn link_of(alloc: Global, act: &[u8]) -> Result<Link, Refusal> {
+fn link_of(page: &mut Page, act: &[u8]) -> Link {
     match byte_at(act, 0) {
-        b'e' => Ok(Link::One {
+        b'e' => Link::One {
             end: end_at(act, 3),
             changed: byte_at(act, 4) == b'*',
-        }),
-        b'm' => {
-            let members = objects_from(alloc, act, 4)?;
-            let base = objects_behind(alloc, act)?;
-            Ok(Link::Many { members, base })
-        }
-        _ => {
-            let added = objects_from(alloc, act, 4)?;
-            let removed = objects_behind(alloc, act)?;
-            Ok(Link::Unloaded { added, removed })
-        }
+        },
+        b'm' => Link::Many {
+            members: objects_from(page, act, 4),
+            base: objects_behind(page, act),
+        },
+        _ => Link::Unloaded {
+            added: objects_from(page, act, 4),
+            removed: objects_behind(page, act),
+        },
     }
 }
 
 /// Puts a link in, where it fits.
-fn put_link(alloc: Global, arena: &mut Arena, mapping: &Mapping, act: &[u8]) -> Result<(), Refusal>
+fn put_link(
+    page: &mut Page,
+    arena: &mut Arena,
+    mapping: &Mapping,
+    act: &[u8],
+) -> Result<(), Refusal>
     requires configured { mapping.now.configured ≡ true }
     requires fit { IsFit mapping.now arena.old }
     ensures { IsFit mapping.now arena.new }
@@ -201,7 +210,7 @@ fn put_link(alloc: Global, arena: &mut Arena, mapping: &Mapping, act: &[u8]) -> 
     if place.0 as usize >= relations.len() {
         return Err(Refusal::NotBuilt);
     }
-    let link = link_of(alloc, act)?;
+    let link = link_of(page, act);
     if !link_fits(arena, mapping, &relations[place.0 as usize], &link) {
         return Err(Refusal::NotBuilt);
     }
@@ -209,14 +218,14 @@ fn put_link(alloc: Global, arena: &mut Arena, mapping: &Mapping, act: &[u8]) -> 
 }
 
 /// An act that makes the graph.
-fn prepare(alloc: Global, arena: &mut Arena, mapping: &Mapping, act: &[u8]) -> Result<(), Refusal>
+fn prepare(page: &mut Page, arena: &mut Arena, mapping: &Mapping, act: &[u8]) -> Result<(), Refusal>
     requires configured { mapping.now.configured ≡ true }
     requires fit { IsFit mapping.now arena.old }
     ensures { IsFit mapping.now arena.new }
 {
     match byte_at(act, 0) {
         b'n' => make(mapping, arena, act),
-        b'k' => register(alloc, mapping, arena, act),
+        b'k' => register(page, mapping, arena, act),
         b't' => put_state(arena, mapping, act),
         b'o' => make_orphan(arena, mapping, act),
         b'c' => {
@@ -224,7 +233,7 @@ fn prepare(alloc: Global, arena: &mut Arena, mapping: &Mapping, act: &[u8]) -> R
             put_cell(arena, mapping, act, Some(value))
         }
         b'x' => put_cell(arena, mapping, act, None),
-        b'e' | b'm' | b'l' => put_link(alloc, arena, mapping, act),
+        b'e' | b'm' | b'l' => put_link(page, arena, mapping, act),
         _ => Err(Refusal::NotBuilt),
     }
 }
@@ -294,11 +303,10 @@ fn closure(
 
 /// Tells the closure of an object.
 fn tell_closure(
-    alloc: Global,
     arena: &Arena,
     mapping: &Mapping,
     act: &[u8],
-    said: &mut String,
+    page: &mut Page,
 ) -> Result<(), Refusal>
     requires configured { mapping.now.configured ≡ true }
     requires fit { IsFit mapping.now arena.now }
@@ -307,8 +315,9 @@ fn tell_closure(
     if !is_made(arena, object) {
         return Err(Refusal::NotBuilt);
     }
-    let objects = closure(alloc, arena, mapping, byte_at(act, 1), object)?;
-    Ok(reached(&objects, said)?)
+    let objects = closure(page.alloc(), arena, mapping, byte_at(act, 1), object)?;
+    reached(&objects, page);
+    Ok(())
 }
 
 /// Whether an act changes a link.
@@ -318,55 +327,39 @@ fn is_change(act: &[u8]) -> bool {
 }
 
 /// Changes the graph, and tells the answer and the graph then.
-fn tell_change(
-    alloc: Global,
-    arena: &mut Arena,
-    mapping: &Mapping,
-    act: &[u8],
-    said: &mut String,
-) -> Result<(), Refusal>
+fn tell_change(arena: &mut Arena, mapping: &Mapping, act: &[u8], page: &mut Page)
     requires configured { mapping.now.configured ≡ true }
     requires fit { IsFit mapping.now arena.old }
 {
-    let word = word(change(alloc, arena, mapping, act));
-    said.push_str(word)?;
-    Ok(told(arena, said)?)
+    let answer = change(page.alloc(), arena, mapping, act);
+    page.put(word(answer));
+    told(arena, page);
 }
 
 /// The graph after the acts of a line, and the answer to the last one, or the closure for which it asks.
-fn play(
-    alloc: Global,
-    arena: &mut Arena,
-    mapping: &Mapping,
-    line: &str,
-    said: &mut String,
-) -> Result<(), Refusal>
+fn play(arena: &mut Arena, mapping: &Mapping, line: &str, page: &mut Page) -> Result<(), Refusal>
     requires configured { mapping.now.configured ≡ true }
     requires fit { IsFit mapping.now arena.old }
 {
     for text in line.split(';') {
         let act = text.as_bytes();
         if is_change(act) {
-            return tell_change(alloc, arena, mapping, act, said);
+            tell_change(arena, mapping, act, page);
+            return Ok(());
         }
         if byte_at(act, 0) == b'g' {
-            return tell_closure(alloc, arena, mapping, act, said);
+            return tell_closure(arena, mapping, act, page);
         }
-        prepare(alloc, arena, mapping, act)?;
+        prepare(page, arena, mapping, act)?;
     }
     Ok(())
 }
 
 /// What is said of a line.
-pub(crate) fn answer(
-    alloc: Global,
-    mapping: &Mapping,
-    line: &str,
-    said: &mut String,
-) -> Result<(), Refusal> {
+pub(crate) fn answer(mapping: &Mapping, line: &str, page: &mut Page) -> Result<(), Refusal> {
     if !mapping.is_configured() {
         return Ok(());
     }
-    let mut arena = Arena::new(alloc);
-    play(alloc, &mut arena, mapping, line, said)
+    let mut arena = Arena::new(page.alloc());
+    play(&mut arena, mapping, line, page)
 }

@@ -1,71 +1,63 @@
 //! What is said of a graph, in a line of text.
 
 use base_core::{ObjId, ObjList, ObjSet, Refusal, RequestKind};
+use notations::Page;
 use object_arena::{Arena, Link, Object};
-use std::alloc::{AllocError, Global};
 
 /// A number of one digit.
-fn say_number(said: &mut String, number: u32) -> Result<(), AllocError> {
+fn say_number(page: &mut Page, number: u32) {
     let digit = if number < 10 {
         (b'0' + number as u8) as char
     } else {
         '?'
     };
-    said.push(digit)
+    page.push(digit)
 }
 
-fn say_objects(said: &mut String, objects: &ObjList) -> Result<(), AllocError> {
+fn say_objects(page: &mut Page, objects: &ObjList) {
     for object in objects.as_slice() {
-        say_number(said, object.0)?;
+        say_number(page, object.0);
     }
-    Ok(())
 }
 
 /// Two lists, with a slash between them.
-fn say_both(
-    said: &mut String,
-    letter: char,
-    one: &ObjList,
-    other: &ObjList,
-) -> Result<(), AllocError> {
-    said.push(letter)?;
-    say_objects(said, one)?;
-    said.push('/')?;
-    say_objects(said, other)
+fn say_both(page: &mut Page, letter: char, one: &ObjList, other: &ObjList) {
+    page.push(letter);
+    say_objects(page, one);
+    page.push('/');
+    say_objects(page, other)
 }
 
-fn say_end(said: &mut String, end: Option<ObjId>, changed: bool) -> Result<(), AllocError> {
-    said.push('e')?;
+fn say_end(page: &mut Page, end: Option<ObjId>, changed: bool) {
+    page.push('e');
     match end {
-        Some(end) => say_number(said, end.0)?,
-        None => said.push('0')?,
+        Some(end) => say_number(page, end.0),
+        None => page.push('0'),
     }
     if changed {
-        said.push('*')?;
+        page.push('*');
     }
-    Ok(())
 }
 
-fn say_link(said: &mut String, link: &Link) -> Result<(), AllocError> {
-    said.push(' ')?;
+fn say_link(page: &mut Page, link: &Link) {
+    page.push(' ');
     match link {
-        Link::Unset => said.push('.'),
-        Link::One { end, changed } => say_end(said, *end, *changed),
-        Link::Many { members, base } => say_both(said, 'm', members, base),
-        Link::Unloaded { added, removed } => say_both(said, 'l', added, removed),
+        Link::Unset => page.push('.'),
+        Link::One { end, changed } => say_end(page, *end, *changed),
+        Link::Many { members, base } => say_both(page, 'm', members, base),
+        Link::Unloaded { added, removed } => say_both(page, 'l', added, removed),
     }
 }
 
-fn say_object(said: &mut String, number: u32, object: &Object) -> Result<(), AllocError> {
-    said.push(' ')?;
-    say_number(said, number)?;
+fn say_object(page: &mut Page, number: u32, object: &Object) {
+    page.push(' ');
+    say_number(page, number);
     if object.orphan {
-        said.push('!')?;
+        page.push('!');
     }
     for link in object.links.as_slice() {
-        say_link(said, link)?;
+        say_link(page, link);
     }
-    Ok(())
 }
 
 /// The answer to a change.
@@ -94,18 +86,16 @@ fn word_of_kind(kind: &RequestKind) -> &'static str {
 }
 
 /// The objects with their links.
-pub(crate) fn told(arena: &Arena, said: &mut String) -> Result<(), AllocError> {
+pub(crate) fn told(arena: &Arena, page: &mut Page) {
     for number in 0..arena.count() {
-        say_object(said, number + 1, arena.object(ObjId(number + 1)))?;
+        say_object(page, number + 1, arena.object(ObjId(number + 1)));
     }
-    Ok(())
 }
 
 /// The objects of a closure, by their numbers.
-pub(crate) fn reached(objects: &ObjSet, said: &mut String) -> Result<(), AllocError> {
-    said.push_str("Reaches ")?;
+pub(crate) fn reached(objects: &ObjSet, page: &mut Page) {
+    page.put("Reaches ");
     for object in objects.as_slice() {
-        say_number(said, object.0)?;
+        say_number(page, object.0);
     }
-    Ok(())
 }

@@ -2,9 +2,11 @@
 #![tactic(auto)]
 
 mod lines;
+mod page;
 mod tables;
 mod words;
 
-pub use lines::{Reader, answers};
-pub use tables::{declare, declared, table, table_of};
-pub use words::{name, named, names, number, row, rows, value};
+pub use lines::{Plays, Reader, answers, play_all};
+pub use page::Page;
+pub use tables::table_of;
+pub use words::{name, named, number, parted, row, value};

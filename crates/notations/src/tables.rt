@@ -1,8 +1,9 @@
 //! Tables as lines.
 
-use crate::words::{name, names};
-use base_core::{ListOf, Refusal, TableId};
-use schema_core::{ColumnKind, ColumnSpec, ForeignSpec, Schema, TableSpec};
+use crate::page::Page;
+use crate::words::parted;
+use base_core::{ColumnNo, ListOf, TableId};
+use schema_core::{ColumnKind, ColumnSpec, ForeignSpec, RowCell, Schema, TableSpec};
 use std::alloc::{AllocError, Global};
 
 fn kind(letters: &str) -> ColumnKind {
@@ -20,86 +21,92 @@ fn kind(letters: &str) -> ColumnKind {
     }
 }
 
-fn column(alloc: Global, word: &str, letters: &str) -> Result<ColumnSpec, AllocError> {
-    Ok(ColumnSpec {
-        name: name(alloc, word)?,
-        kind: kind(letters),
-        key: letters.contains('k'),
-        not_null: letters.contains('n'),
-    })
-}
-
-fn foreign(alloc: Global, columns: &str, target: &str) -> Result<ForeignSpec, Refusal> {
-    let target = name(alloc, target)?;
-    Ok(ForeignSpec {
-        columns: names(alloc, columns)?,
-        target,
-    })
-}
-
-/// A column, a unique constraint or a foreign key goes into the table.
-fn take(alloc: Global, spec: &mut TableSpec, word: &str) -> Result<(), Refusal> {
-    if let Some((columns, target)) = word.split_once('>') {
-        return spec.foreigns.push(foreign(alloc, columns, target)?);
+impl Page {
+    /// A column, a unique constraint or a foreign key goes into the table.
+    fn add_part(&mut self, spec: &mut TableSpec, word: &str) {
+        if let Some((columns, target)) = word.split_once('>') {
+            let foreign = ForeignSpec {
+                columns: self.names(columns),
+                target: self.name(target),
+            };
+            return self.add(&mut spec.foreigns, foreign);
+        }
+        if let Some(columns) = word.strip_prefix('!') {
+            let unique = self.names(columns);
+            return self.add(&mut spec.uniques, unique);
+        }
+        if let Some((name, letters)) = word.split_once(':') {
+            let column = ColumnSpec {
+                name: self.name(name),
+                kind: kind(letters),
+                key: letters.contains('k'),
+                not_null: letters.contains('n'),
+            };
+            self.add(&mut spec.columns, column);
+        }
     }
-    if let Some(columns) = word.strip_prefix('!') {
-        return spec.uniques.push(names(alloc, columns)?);
-    }
-    match word.split_once(':') {
-        Some((name, letters)) => spec.columns.push(column(alloc, name, letters)?),
-        None => Ok(()),
-    }
-}
 
-/// The table of a line: its name, then its columns, unique constraints and foreign keys, with blanks between them. A column is
-/// its name, and behind a colon `i`, `b` or `y` for an integer, a truth value or bytes, `v` for a varchar, with its length behind
-/// it where it has one, and else it is a text; `k` for a column of the key and `n` for NOT NULL stand before a `v`. A unique
-/// constraint is `!` and columns with commas between them, and a foreign key such columns, and behind `>` the table that it
-/// refers to.
-///
-/// # Errors
-/// `Memory` alone.
-pub fn table(alloc: Global, line: &str) -> Result<TableSpec, Refusal> {
-    let (shown, words) = line.split_once(' ').unwrap_or((line, ""));
-    let mut spec = TableSpec {
-        name: name(alloc, shown)?,
-        columns: ListOf::new(alloc),
-        uniques: ListOf::new(alloc),
-        foreigns: ListOf::new(alloc),
-    };
-    for word in words.split(' ') {
-        take(alloc, &mut spec, word)?;
+    /// The table of a line: its name, then its columns, unique constraints and foreign keys, with blanks between them. A column is
+    /// its name, and behind a colon `i`, `b` or `y` for an integer, a truth value or bytes, `v` for a varchar, with its length behind
+    /// it where it has one, and else it is a text; `k` for a column of the key and `n` for NOT NULL stand before a `v`. A unique
+    /// constraint is `!` and columns with commas between them, and a foreign key such columns, and behind `>` the table that it
+    /// refers to.
+    pub fn table(&mut self, line: &str) -> TableSpec {
+        let (name, words) = parted(line, ' ');
+        let mut spec = TableSpec {
+            name: self.name(name),
+            columns: ListOf::new(self.alloc()),
+            uniques: ListOf::new(self.alloc()),
+            foreigns: ListOf::new(self.alloc()),
+        };
+        for word in words.split(' ') {
+            self.add_part(&mut spec, word);
+        }
+        spec
     }
-    Ok(spec)
-}
 
-/// Declares the table of a line, where fewer than 1000 are declared.
-///
-/// # Errors
-/// What refuses the declaration, and `Memory`.
-pub fn declare(alloc: Global, schema: &mut Schema, line: &str) -> Result<(), Refusal> {
-    let spec = table(alloc, line)?;
-    if schema.count() < 1000 {
-        schema.declare_table(spec)?;
+    /// Declares the table of a line, where fewer than 1000 are declared. What refuses it is written as `refused`.
+    pub fn declare(&mut self, schema: &mut Schema, line: &str) {
+        let spec = self.table(line);
+        if schema.count() < 1000 && schema.declare_table(spec).is_err() {
+            self.put("refused\n");
+        }
     }
-    Ok(())
-}
 
-fn declare_all(alloc: Global, schema: &mut Schema, lines: &[&str]) -> Result<(), Refusal> {
-    for line in lines {
-        declare(alloc, schema, line)?;
+    /// A table's name, `?` where there is no such table.
+    pub fn put_table(&mut self, schema: &Schema, table: TableId) {
+        if table.0 < schema.count() {
+            self.put(schema.spec(table).name.get());
+        } else {
+            self.put("?");
+        }
     }
-    Ok(())
-}
 
-/// The tables of lines, declared in their order.
-///
-/// # Errors
-/// What refuses a declaration, and `Memory`.
-pub fn declared(alloc: Global, lines: &[&str]) -> Result<Schema, Refusal> {
-    let mut schema = Schema::new(alloc);
-    declare_all(alloc, &mut schema, lines)?;
-    Ok(schema)
+    /// A cell of a row: its value, or `^PLACE.PART` for a part of the key of the new row of that place.
+    pub fn put_cell(&mut self, cell: &RowCell) {
+        match cell {
+            RowCell::Given(value) => self.put_value(value),
+            RowCell::KeyOf(place, part) => {
+                self.put_number("^", u64::from(*place));
+                self.put_number(".", u64::from(*part));
+            }
+        }
+    }
+
+    /// Cells, each behind its column's number.
+    pub fn put_cells(&mut self, cells: &[(ColumnNo, RowCell)]) {
+        for cell in cells {
+            self.put_number(" ", u64::from(cell.0.0));
+            self.put("=");
+            self.put_cell(&cell.1);
+        }
+    }
+
+    /// The table of a name; where there is none, a number that no table has.
+    pub fn table_of(&mut self, schema: &Schema, word: &str) -> TableId {
+        let name = self.name(word);
+        schema.find(&name).unwrap_or(TableId(u32::MAX))
+    }
 }
 
 /// The table of a name; where there is none, a number that no table has.
@@ -107,6 +114,7 @@ pub fn declared(alloc: Global, lines: &[&str]) -> Result<Schema, Refusal> {
 /// # Errors
 /// Memory ran out.
 pub fn table_of(alloc: Global, schema: &Schema, word: &str) -> Result<TableId, AllocError> {
-    let name = name(alloc, word)?;
-    Ok(schema.find(&name).unwrap_or(TableId(u32::MAX)))
+    let mut page = Page::new(alloc);
+    let table = page.table_of(schema, word);
+    page.given(table)
 }

@@ -1,5 +1,6 @@
 //! Numbers, names and values as words.
 
+use crate::page::Page;
 use base_core::{Blob, ListOf, Name, Refusal, RowList, RowValues, Text, Value};
 use std::alloc::{AllocError, Global};
 
@@ -8,43 +9,9 @@ pub fn number(word: &str) -> u32 {
     word.parse().unwrap_or(0)
 }
 
-/// The name that a word is, with a blank for each `~`.
-///
-/// # Errors
-/// Memory ran out.
-pub fn name(alloc: Global, word: &str) -> Result<Name, AllocError> {
-    let mut name = String::new(alloc);
-    for letter in word.chars() {
-        name.push(if letter == '~' { ' ' } else { letter })?;
-    }
-    Ok(Name::new(name))
-}
-
-/// The name that a word is, none where it is empty.
-///
-/// # Errors
-/// Memory ran out.
-pub fn named(alloc: Global, word: &str) -> Result<Option<Name>, AllocError> {
-    if word.is_empty() {
-        return Ok(None);
-    }
-    Ok(Some(name(alloc, word)?))
-}
-
-/// Names with commas between them.
-///
-/// # Errors
-/// `Memory` alone.
-pub fn names(alloc: Global, words: &str) -> Result<ListOf<Name>, Refusal> {
-    let mut names = ListOf::new(alloc);
-    for word in words.split(',') {
-        push_name(alloc, &mut names, word)?;
-    }
-    Ok(names)
-}
-
-fn push_name(alloc: Global, names: &mut ListOf<Name>, word: &str) -> Result<(), Refusal> {
-    names.push(name(alloc, word)?)
+/// What stands before the first of these marks, and behind it; all where there is none.
+pub fn parted(text: &str, mark: char) -> (&str, &str) {
+    text.split_once(mark).unwrap_or((text, ""))
 }
 
 /// An integer, or NULL.
@@ -55,24 +22,129 @@ fn integer(word: &str) -> Value {
     }
 }
 
-/// A value: a text behind `'`, and another `'` may end it; bytes behind `#`; `true`, `t`, `false` or `f`; an integer. Every
-/// other word is NULL.
+impl Page {
+    /// An item goes to the end of a list.
+    pub fn add<T: Drop>(&mut self, list: &mut ListOf<T>, item: T) {
+        let done = list.push(item);
+        self.note(done);
+    }
+
+    fn string(&mut self, text: &str) -> String {
+        let mut copy = String::new(self.alloc());
+        let done = copy.push_str(text);
+        self.note(done);
+        copy
+    }
+
+    fn bytes(&mut self, text: &str) -> Blob {
+        match Vec::from_slice(self.alloc(), text.as_bytes()) {
+            Ok(bytes) => Blob::new(bytes),
+            Err(_) => {
+                self.lack();
+                Blob::new(Vec::new(self.alloc()))
+            }
+        }
+    }
+
+    /// The name that a word is, with a blank for each `~`.
+    pub fn name(&mut self, word: &str) -> Name {
+        let mut name = String::new(self.alloc());
+        for letter in word.chars() {
+            let done = name.push(if letter == '~' { ' ' } else { letter });
+            self.note(done);
+        }
+        Name::new(name)
+    }
+
+    /// The name that a word is, none where it is empty.
+    pub fn named(&mut self, word: &str) -> Option<Name> {
+        if word.is_empty() {
+            None
+        } else {
+            Some(self.name(word))
+        }
+    }
+
+    /// Names with commas between them.
+    pub fn names(&mut self, words: &str) -> ListOf<Name> {
+        let mut names = ListOf::new(self.alloc());
+        for word in words.split(',') {
+            let name = self.name(word);
+            self.add(&mut names, name);
+        }
+        names
+    }
+
+    /// A value: a text behind `'`, and another `'` may end it; bytes behind `#`; `true`, `t`, `false` or `f`; an integer. Every
+    /// other word is NULL.
+    pub fn value(&mut self, word: &str) -> Value {
+        if let Some(text) = word.strip_prefix('\'') {
+            let text = text.strip_suffix('\'').unwrap_or(text);
+            return Value::Text(Text::new(self.string(text)));
+        }
+        if let Some(bytes) = word.strip_prefix('#') {
+            return Value::Bytes(self.bytes(bytes));
+        }
+        match word {
+            "true" | "t" => Value::Bool(true),
+            "false" | "f" => Value::Bool(false),
+            _ => integer(word),
+        }
+    }
+
+    /// Values with commas or blanks between them.
+    pub fn row(&mut self, text: &str) -> RowValues {
+        let mut values = ListOf::new(self.alloc());
+        for word in text.split([' ', ',']) {
+            if !word.is_empty() {
+                let value = self.value(word);
+                self.add(&mut values, value);
+            }
+        }
+        values
+    }
+
+    /// Rows, each ended by a mark.
+    pub fn rows(&mut self, text: &str, mark: char) -> RowList {
+        let mut all = ListOf::new(self.alloc());
+        for line in text.split(mark) {
+            if !line.is_empty() {
+                let row = self.row(line);
+                self.add(&mut all, row);
+            }
+        }
+        all
+    }
+}
+
+/// The name that a word is, as `Page` reads it.
+///
+/// # Errors
+/// Memory ran out.
+pub fn name(alloc: Global, word: &str) -> Result<Name, AllocError> {
+    let mut page = Page::new(alloc);
+    let name = page.name(word);
+    page.given(name)
+}
+
+/// The name that a word is, none where it is empty.
+///
+/// # Errors
+/// Memory ran out.
+pub fn named(alloc: Global, word: &str) -> Result<Option<Name>, AllocError> {
+    let mut page = Page::new(alloc);
+    let name = page.named(word);
+    page.given(name)
+}
+
+/// The value that a word is, as `Page` reads it.
 ///
 /// # Errors
 /// Memory ran out.
 pub fn value(alloc: Global, word: &str) -> Result<Value, AllocError> {
-    if let Some(text) = word.strip_prefix('\'') {
-        let text = text.strip_suffix('\'').unwrap_or(text);
-        return Ok(Value::Text(Text::new(String::from_str(alloc, text)?)));
-    }
-    if let Some(bytes) = word.strip_prefix('#') {
-        return Ok(Value::Bytes(Blob::new(Vec::from_slice(alloc, bytes.as_bytes())?)));
-    }
-    match word {
-        "true" | "t" => Ok(Value::Bool(true)),
-        "false" | "f" => Ok(Value::Bool(false)),
-        _ => Ok(integer(word)),
-    }
+    let mut page = Page::new(alloc);
+    let value = page.value(word);
+    page.given(value)
 }
 
 /// Values with commas or blanks between them.
@@ -80,33 +152,7 @@ pub fn value(alloc: Global, word: &str) -> Result<Value, AllocError> {
 /// # Errors
 /// `Memory` alone.
 pub fn row(alloc: Global, text: &str) -> Result<RowValues, Refusal> {
-    let mut values = ListOf::new(alloc);
-    for word in text.split([' ', ',']) {
-        if !word.is_empty() {
-            push_value(alloc, &mut values, word)?;
-        }
-    }
-    Ok(values)
-}
-
-fn push_value(alloc: Global, values: &mut RowValues, word: &str) -> Result<(), Refusal> {
-    values.push(value(alloc, word)?)
-}
-
-/// Rows, each ended by a semicolon.
-///
-/// # Errors
-/// `Memory` alone.
-pub fn rows(alloc: Global, text: &str) -> Result<RowList, Refusal> {
-    let mut all = ListOf::new(alloc);
-    for line in text.split(';') {
-        if !line.is_empty() {
-            push_row(alloc, &mut all, line)?;
-        }
-    }
-    Ok(all)
-}
-
-fn push_row(alloc: Global, all: &mut RowList, line: &str) -> Result<(), Refusal> {
-    all.push(row(alloc, line)?)
+    let mut page = Page::new(alloc);
+    let row = page.row(text);
+    Ok(page.given(row)?)
 }

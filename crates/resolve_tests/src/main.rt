@@ -9,14 +9,16 @@
 
 mod script;
 
-use notations::answers;
+use notations::{Page, play_all};
 use script::Script;
 use std::io;
 
 fn main(rt: HostRuntime) -> io::Result<()> {
     let alloc = rt.alloc();
     let text = io::read_to_string(alloc, rt.reader())?;
-    match answers(alloc, &mut Script::new(alloc), &text) {
+    let mut page = Page::new(alloc);
+    play_all(&mut Script::new(alloc), &text, &mut page);
+    match page.into_text() {
         Ok(said) => rt.print(said),
         Err(_) => rt.println("refused"),
     }

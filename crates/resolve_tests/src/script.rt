@@ -7,15 +7,15 @@ use base_core::{Refusal, TableId};
 use compiled_lines::{compile_line, compile_tables};
 use echo_lines::{put_later_foreigns, put_sent};
 use keeper_core::{Note, Notes, Sent};
-use notations::{Reader, declare};
+use notations::{Page, Plays};
 use sayable_lines::read_line;
 use schema_core::Schema;
 use script_types::{Command, Dialect, Inside};
 use sql_text::Quoting;
 use sqlite_items::Boxed;
 use statement_lines::quoting_of;
-use statement_notations::refusal_text;
-use std::alloc::{AllocError, Global};
+use statement_notations::put_refusal;
+use std::alloc::Global;
 use std::mem;
 
 /// The tables of a script so far.
@@ -82,11 +82,6 @@ impl Script {
         }
     }
 
-    /// Begins another script.
-    fn restart(&mut self, alloc: Global) {
-        drop(mem::replace(&mut self.schema, Schema::new(alloc)));
-    }
-
     fn compile(&self, alloc: Global, line: &str, said: &mut String) -> Result<(), Refusal> {
         let command = read(alloc, line)?;
         let text = compile_line(alloc, &self.schema, command.get())?;
@@ -108,28 +103,23 @@ impl Script {
         }
         self.compile(alloc, line, said)
     }
-
-    /// Says the answer to a line, or its refusal.
-    fn say_line(&mut self, alloc: Global, line: &str, said: &mut String) -> Result<(), AllocError> {
-        match self.say(alloc, line, said) {
-            Ok(()) => Ok(()),
-            Err(refusal) => {
-                let text = refusal_text(alloc, &refusal)?;
-                said.push_str(format!(in alloc; "error {text}\n")?.as_str())
-            }
-        }
-    }
 }
 
-impl Reader for Script {
-    fn answer(&mut self, alloc: Global, line: &str, said: &mut String) -> Result<(), Refusal> {
+impl Plays for Script {
+    fn play(&mut self, line: &str, page: &mut Page) {
         if let Some(table) = line.strip_prefix("table ") {
-            return declare(alloc, &mut self.schema, table);
+            return page.declare(&mut self.schema, table);
         }
         if line == "----" {
-            self.restart(alloc);
-            return Ok(());
+            return drop(mem::replace(&mut self.schema, Schema::new(page.alloc())));
         }
-        Ok(self.say_line(alloc, line, said)?)
+        let mut said = String::new(page.alloc());
+        let answer = self.say(page.alloc(), line, &mut said);
+        page.put(said.as_str());
+        if let Err(refusal) = &answer {
+            page.put("error ");
+            put_refusal(page, refusal);
+            page.push('\n');
+        }
     }
 }

@@ -1,193 +1,122 @@
 //! The clauses of selects, and of UPDATEs and DELETEs.
 
 use crate::operators::{expression, origin};
-use base_core::{ColumnNo, ListOf, Name, Refusal, TableId, both};
+use base_core::{ColumnNo, ListOf, TableId, both};
 use expr_types::{Bulk, Expr, Joined, Origin, Select};
-use notations::{named, number};
+use notations::{Page, number, parted};
 use sqlite_items::{Boxed, Items};
 use std::alloc::Global;
+use std::mem::{self, drop};
 
-/// The clauses as they are read; of several conditions the last one counts.
+/// The clauses as they are read, those of a select and the cells that are set; of several conditions the last one counts.
 #[derive(Drop)]
 pub(crate) struct Clauses {
     sets: ListOf<(ColumnNo, Option<Expr>)>,
-    distinct: bool,
-    items: ListOf<(Expr, Option<Name>)>,
-    joins: ListOf<Joined>,
-    filters: Items<Expr>,
-    groups: Items<Expr>,
-    havings: Items<Expr>,
-    order: ListOf<(Expr, bool)>,
-    limit: Option<u64>,
-    offset: Option<u64>,
+    select: Select,
 }
 
-fn no_clauses(alloc: Global) -> Clauses {
+fn no_clauses(alloc: Global, first: Origin) -> Clauses {
     Clauses {
         sets: ListOf::new(alloc),
-        distinct: false,
-        items: ListOf::new(alloc),
-        joins: ListOf::new(alloc),
-        filters: Items::new(alloc),
-        groups: Items::new(alloc),
-        havings: Items::new(alloc),
-        order: ListOf::new(alloc),
-        limit: None,
-        offset: None,
+        select: Select {
+            distinct: false,
+            items: ListOf::new(alloc),
+            first,
+            joins: ListOf::new(alloc),
+            filter: None,
+            groups: Items::new(alloc),
+            having: None,
+            order: ListOf::new(alloc),
+            limit: None,
+            offset: None,
+        },
     }
 }
 
-fn add_join(alloc: Global, clauses: &mut Clauses, left: bool, text: &str) -> Result<(), Refusal> {
-    let (source, on) = text.split_once(' ').unwrap_or((text, ""));
-    let (origin, on) = both(origin(alloc, source), expression(alloc, on))?;
-    let on = on.into_inner();
-    clauses.joins.push(Joined { left, origin, on })
-}
-
-fn add_item(alloc: Global, clauses: &mut Clauses, name: &str, text: &str) -> Result<(), Refusal> {
-    let (name, e) = both(named(alloc, name), expression(alloc, text))?;
-    clauses.items.push((e.into_inner(), name))
-}
-
-fn add_set(alloc: Global, clauses: &mut Clauses, column: &str, text: &str) -> Result<(), Refusal> {
-    let e = expression(alloc, text)?;
-    let column = ColumnNo(number(column));
-    clauses.sets.push((column, Some(e.into_inner())))
-}
-
-fn put(items: &mut Items<Expr>, e: Boxed<Expr>) -> Result<(), Refusal> {
-    Ok(items.push(e.into_inner())?)
-}
-
-fn put_order(clauses: &mut Clauses, e: Boxed<Expr>, down: bool) -> Result<(), Refusal> {
-    clauses.order.push((e.into_inner(), down))
-}
-
-fn add_expression(clauses: &mut Clauses, word: &str, e: Boxed<Expr>) -> Result<(), Refusal> {
-    match word {
-        "where" => put(&mut clauses.filters, e),
-        "group" => put(&mut clauses.groups, e),
-        "having" => put(&mut clauses.havings, e),
-        "up" => put_order(clauses, e, false),
-        _ => put_order(clauses, e, true),
-    }
-}
-
-/// A bound of the rows that are taken, or that each row is told once.
-fn set_bound(clauses: &mut Clauses, word: &str, text: &str) {
-    match word {
-        "limit" => clauses.limit = text.parse::<u64>().ok(),
-        "offset" => clauses.offset = text.parse::<u64>().ok(),
-        _ => clauses.distinct = true,
-    }
-}
-
-fn add_word(
-    alloc: Global,
-    clauses: &mut Clauses,
-    word: &str,
-    of: &str,
-    text: &str,
-) -> Result<(), Refusal> {
-    match word {
-        "item" => add_item(alloc, clauses, of, text),
-        "join" => add_join(alloc, clauses, false, text),
-        "left" => add_join(alloc, clauses, true, text),
-        "set" => add_set(alloc, clauses, of, text),
-        "null" => clauses.sets.push((ColumnNo(number(text)), None)),
-        _ => add_expression(clauses, word, expression(alloc, text)?),
-    }
-}
-
-fn add_clause(alloc: Global, clauses: &mut Clauses, clause: &str) -> Result<(), Refusal> {
-    let (head, text) = clause.split_once(' ').unwrap_or((clause, ""));
-    let (word, of) = head.split_once(':').unwrap_or((head, ""));
-    match word {
-        "" => Ok(()),
-        "distinct" | "limit" | "offset" => {
-            set_bound(clauses, word, text);
-            Ok(())
+fn add_join(page: &mut Page, select: &mut Select, left: bool, text: &str) {
+    let (source, on) = parted(text, ' ');
+    match both(origin(page.alloc(), source), expression(page.alloc(), on)) {
+        Ok((origin, on)) => {
+            let on = on.into_inner();
+            page.add(&mut select.joins, Joined { left, origin, on });
         }
-        _ => add_word(alloc, clauses, word, of, text),
+        Err(_) => page.lack(),
     }
 }
 
-fn add_clauses(alloc: Global, clauses: &mut Clauses, text: &str) -> Result<(), Refusal> {
+/// An expression takes the place of the one that is there.
+fn put(place: &mut Option<Expr>, e: Expr) {
+    drop(mem::replace(place, Some(e)));
+}
+
+/// What a word says of an expression goes into the clauses.
+fn add_expression(page: &mut Page, clauses: &mut Clauses, word: &str, of: &str, e: Boxed<Expr>) {
+    match word {
+        "item" => {
+            let name = page.named(of);
+            page.add(&mut clauses.select.items, (e.into_inner(), name));
+        }
+        "set" => page.add(
+            &mut clauses.sets,
+            (ColumnNo(number(of)), Some(e.into_inner())),
+        ),
+        "where" => put(&mut clauses.select.filter, e.into_inner()),
+        "group" => {
+            let done = clauses.select.groups.push(e.into_inner());
+            page.note(done);
+        }
+        "having" => put(&mut clauses.select.having, e.into_inner()),
+        _ => page.add(&mut clauses.select.order, (e.into_inner(), word == "down")),
+    }
+}
+
+fn add_word(page: &mut Page, clauses: &mut Clauses, word: &str, of: &str, text: &str) {
+    match word {
+        "" => {}
+        "distinct" => clauses.select.distinct = true,
+        "limit" => clauses.select.limit = text.parse::<u64>().ok(),
+        "offset" => clauses.select.offset = text.parse::<u64>().ok(),
+        "join" | "left" => add_join(page, &mut clauses.select, word == "left", text),
+        "null" => page.add(&mut clauses.sets, (ColumnNo(number(text)), None)),
+        _ => match expression(page.alloc(), text) {
+            Ok(e) => add_expression(page, clauses, word, of, e),
+            Err(_) => page.lack(),
+        },
+    }
+}
+
+/// The clauses of a text, each ended by a semicolon, behind a source.
+pub(crate) fn clauses_of(page: &mut Page, first: Origin, text: &str) -> Clauses {
+    let mut clauses = no_clauses(page.alloc(), first);
     for clause in text.split(';') {
-        add_clause(alloc, clauses, clause.trim())?;
+        let (head, text) = parted(clause.trim(), ' ');
+        let (word, of) = parted(head, ':');
+        add_word(page, &mut clauses, word, of, text);
     }
-    Ok(())
+    clauses
 }
 
-/// The clauses of a text, each ended by a semicolon.
-pub(crate) fn clauses_of(alloc: Global, text: &str) -> Result<Box<Clauses>, Refusal> {
-    let mut clauses = Box::new(alloc, no_clauses(alloc))?;
-    add_clauses(alloc, &mut *clauses, text)?;
-    Ok(clauses)
-}
-
-pub(crate) fn select_of(first: Origin, clauses: Clauses) -> Select {
-    let Clauses {
-        sets,
-        distinct,
-        items,
-        joins,
-        mut filters,
-        groups,
-        mut havings,
-        order,
-        limit,
-        offset,
-    } = clauses;
+pub(crate) fn select_of(clauses: Clauses) -> Select {
+    let Clauses { sets, select } = clauses;
     drop(sets);
-    Select {
-        distinct,
-        items,
-        first,
-        joins,
-        filter: filters.pop(),
-        groups,
-        having: havings.pop(),
-        order,
-        limit,
-        offset,
-    }
+    select
 }
 
 pub(crate) fn update_of(table: TableId, clauses: Clauses) -> Bulk {
-    let Clauses {
-        sets,
-        items,
-        joins,
-        mut filters,
-        groups,
-        havings,
-        order,
-        ..
-    } = clauses;
-    drop((items, joins, groups, havings, order));
+    let Clauses { sets, mut select } = clauses;
+    let filter = mem::replace(&mut select.filter, None);
+    drop(select);
     Bulk::Update {
         table,
         cells: sets,
-        filter: filters.pop(),
+        filter,
     }
 }
 
 /// A DELETE takes the last condition, and nothing else.
 pub(crate) fn delete_of(table: TableId, clauses: Clauses) -> Bulk {
-    let Clauses {
-        sets,
-        items,
-        joins,
-        mut filters,
-        groups,
-        havings,
-        order,
-        ..
-    } = clauses;
-    drop((sets, items, joins, groups, havings, order));
-    Bulk::Delete {
-        table,
-        filter: filters.pop(),
-    }
+    let Clauses { sets, mut select } = clauses;
+    let filter = mem::replace(&mut select.filter, None);
+    drop((sets, select));
+    Bulk::Delete { table, filter }
 }

@@ -8,5 +8,5 @@ mod refusals;
 mod statements;
 
 pub use operators::{AnswersExpressions, answer_expression, head_of};
-pub use refusals::{kind_word, refusal_text};
-pub use statements::{Answers, answer_statement};
+pub use refusals::{kind_word, put_refusal};
+pub use statements::statement_of;

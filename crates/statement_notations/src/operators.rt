@@ -1,8 +1,8 @@
 //! Expressions as words, of which an operator stands behind its operands.
 
-use base_core::{ArithOp, ColumnNo, Refusal, TableId, both};
+use base_core::{ArithOp, ColumnNo, TableId, both};
 use expr_types::{CompareOp, Expr, Func, Origin};
-use notations::{named, number, row, value};
+use notations::{Page, named, number, row, value};
 use sqlite_items::{Boxed, Items};
 use std::alloc::{AllocError, Global};
 use std::mem::drop;
@@ -15,20 +15,11 @@ type Pair = (Boxed<Expr>, Boxed<Expr>);
 
 /// What answers expressions.
 pub trait AnswersExpressions {
-    /// Puts what is written for an expression behind what was written so far; `asked` says what is asked of it.
-    ///
-    /// # Errors
-    /// What refuses it.
-    fn answer_expression(
-        &self,
-        alloc: Global,
-        asked: &str,
-        e: &Expr,
-        shown: &mut String,
-    ) -> Result<(), Refusal>;
+    /// Writes what an expression comes to; `asked` says what is asked of it.
+    fn answer_expression(&self, asked: &str, e: &Expr, page: &mut Page);
 }
 
-/// Has the expression of a text answered, as `answer_statement` a statement. Its words stand between blanks:
+/// Has the expression of a text answered. Who answers it does not own it, so its drop is proved here alone. Its words stand between blanks:
 ///
 /// - a value, as `notations` has them; a column as its source's place in scope and its own, `0.1`; `count-all`;
 /// - behind one operand `is-null`, `not`, `neg`, `in:` with values between commas, and `exists:` with a source;
@@ -38,18 +29,16 @@ pub trait AnswersExpressions {
 ///
 /// `not-` before `is-null`, `in`, `exists`, `like`, `ilike`, `distinct` and `between` makes the negated form. An operand that is
 /// missing is `count-all`.
-///
-/// # Errors
-/// What refuses the expression, and `Memory`.
 pub fn answer_expression<A: AnswersExpressions>(
-    alloc: Global,
     answers: &A,
     asked: &str,
     text: &str,
-    shown: &mut String,
-) -> Result<(), Refusal> {
-    let e = expression(alloc, text)?;
-    answers.answer_expression(alloc, asked, e.get(), shown)
+    page: &mut Page,
+) {
+    match expression(page.alloc(), text) {
+        Ok(e) => answers.answer_expression(asked, e.get(), page),
+        Err(_) => page.lack(),
+    }
 }
 
 /// What stands at the head of an expression, of the heads that normal forms are told by; the expression is dropped here.

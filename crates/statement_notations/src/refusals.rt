@@ -1,7 +1,7 @@
 //! What is written of a refusal, its tables and columns by their numbers.
 
-use base_core::{ArithOp, ColumnNo, Kind, Refusal, RequestKind, TableId};
-use std::alloc::{AllocError, Global};
+use base_core::{ArithOp, ColumnNo, Kind, Refusal, RequestKind, TableId, Value};
+use notations::Page;
 
 /// The name of a kind.
 pub fn kind_word(kind: Kind) -> &'static str {
@@ -13,52 +13,56 @@ pub fn kind_word(kind: Kind) -> &'static str {
     }
 }
 
-fn sign(op: ArithOp) -> char {
+fn sign(op: ArithOp) -> &'static str {
     match op {
-        ArithOp::Add => '+',
-        ArithOp::Sub => '-',
-        ArithOp::Mul => '*',
+        ArithOp::Add => " + ",
+        ArithOp::Sub => " - ",
+        ArithOp::Mul => " * ",
     }
 }
 
-fn request_text(alloc: Global, kind: &RequestKind) -> Result<String, AllocError> {
-    if let RequestKind::Unknown(name) = kind {
-        let name = name.get();
-        return format!(in alloc; "InvalidRequestError(Unknown {name})");
+fn put_request(page: &mut Page, kind: &RequestKind) {
+    page.put("InvalidRequestError(");
+    match kind {
+        RequestKind::Unknown(name) => {
+            page.put("Unknown ");
+            page.put(name.get());
+        }
+        RequestKind::WrongKind => page.put("WrongKind"),
+        RequestKind::NotGrouped => page.put("NotGrouped"),
+        RequestKind::DuplicateFrom => page.put("DuplicateFrom"),
+        _ => page.put("another kind"),
     }
-    let word = match kind {
-        RequestKind::WrongKind => "WrongKind",
-        RequestKind::NotGrouped => "NotGrouped",
-        RequestKind::DuplicateFrom => "DuplicateFrom",
-        _ => "another kind",
-    };
-    format!(in alloc; "InvalidRequestError({word})")
+    page.put(")");
 }
 
-fn mismatch_text(alloc: Global, wanted: Kind, found: Kind) -> Result<String, AllocError> {
-    let wanted = kind_word(wanted);
-    let found = kind_word(found);
-    format!(in alloc; "TypeMismatch({wanted}, {found})")
-}
-
-/// The text of a refusal of a statement; another refusal has `another refusal`.
-///
-/// # Errors
-/// Memory ran out.
-pub fn refusal_text(alloc: Global, refusal: &Refusal) -> Result<String, AllocError> {
+/// Writes the text of a refusal of a statement; another refusal has `another refusal`.
+pub fn put_refusal(page: &mut Page, refusal: &Refusal) {
     match refusal {
-        Refusal::InvalidRequestError(kind) => request_text(alloc, kind),
-        Refusal::TypeMismatch(wanted, found) => mismatch_text(alloc, *wanted, *found),
+        Refusal::InvalidRequestError(kind) => put_request(page, kind),
+        Refusal::TypeMismatch(wanted, found) => {
+            page.put("TypeMismatch(");
+            page.put(kind_word(*wanted));
+            page.put(", ");
+            page.put(kind_word(*found));
+            page.put(")");
+        }
         Refusal::CompileError(TableId(table), ColumnNo(column)) => {
-            format!(in alloc; "CompileError(table {table}, column {column})")
+            page.put_number("CompileError(table ", u64::from(*table));
+            page.put_number(", column ", u64::from(*column));
+            page.put(")");
         }
         Refusal::OperationalError(TableId(table)) => {
-            format!(in alloc; "OperationalError(table {table})")
+            page.put_number("OperationalError(table ", u64::from(*table));
+            page.put(")");
         }
         Refusal::DataError(op, a, b) => {
-            let op = sign(*op);
-            format!(in alloc; "DataError({a} {op} {b})")
+            page.put("DataError(");
+            page.put_value(&Value::Int(*a));
+            page.put(sign(*op));
+            page.put_value(&Value::Int(*b));
+            page.put(")");
         }
-        _ => String::from_str(alloc, "another refusal"),
+        _ => page.put("another refusal"),
     }
 }

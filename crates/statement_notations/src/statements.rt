@@ -1,148 +1,78 @@
 //! Statements from their lines.
 
 use crate::clauses::{clauses_of, delete_of, select_of, update_of};
-use crate::operators::origin;
-use base_core::{ColumnNo, ListOf, Refusal, TableId, Value};
-use expr_types::{Bulk, Statement};
-use notations::{number, row, rows, value};
+use base_core::{ColumnNo, ListOf, TableId, Value};
+use expr_types::{Bulk, Origin, Statement};
+use notations::{Page, number, parted};
 use schema_core::RowStmt;
-use sqlite_items::Boxed;
-use std::alloc::Global;
 
-/// What stands before the first semicolon, and behind it.
-fn parted(text: &str) -> (&str, &str) {
-    text.split_once(';').unwrap_or((text, ""))
-}
-
-fn boxed(alloc: Global, statement: Statement) -> Result<Boxed<Statement>, Refusal> {
-    Ok(Boxed::new(alloc, statement)?)
-}
-
-fn select(alloc: Global, source: &str, text: &str) -> Result<Boxed<Statement>, Refusal> {
-    let clauses = clauses_of(alloc, text)?;
-    let first = origin(alloc, source)?;
-    let select = select_of(first, Box::into_inner(clauses));
-    boxed(alloc, Statement::Select(select))
-}
-
-fn update(alloc: Global, table: TableId, text: &str) -> Result<Boxed<Statement>, Refusal> {
-    let clauses = clauses_of(alloc, text)?;
-    let update = update_of(table, Box::into_inner(clauses));
-    boxed(alloc, Statement::Bulk(update))
-}
-
-fn delete(alloc: Global, table: TableId, text: &str) -> Result<Boxed<Statement>, Refusal> {
-    let clauses = clauses_of(alloc, text)?;
-    let delete = delete_of(table, Box::into_inner(clauses));
-    boxed(alloc, Statement::Bulk(delete))
-}
-
-fn columns_of(alloc: Global, text: &str) -> Result<ListOf<ColumnNo>, Refusal> {
-    let mut columns = ListOf::new(alloc);
+fn columns_of(page: &mut Page, text: &str) -> ListOf<ColumnNo> {
+    let mut columns = ListOf::new(page.alloc());
     for word in text.split_whitespace() {
-        columns.push(ColumnNo(number(word)))?;
+        page.add(&mut columns, ColumnNo(number(word)));
     }
-    Ok(columns)
+    columns
 }
 
-fn insert(alloc: Global, table: TableId, text: &str) -> Result<Boxed<Statement>, Refusal> {
-    let (columns, values) = parted(text);
-    let columns = columns_of(alloc, columns)?;
-    let values = row(alloc, parted(values).0)?;
-    let insert = Bulk::Insert {
+fn insert(page: &mut Page, table: TableId, text: &str) -> Bulk {
+    let (columns, values) = parted(text, ';');
+    Bulk::Insert {
         table,
-        columns,
-        values,
-    };
-    boxed(alloc, Statement::Bulk(insert))
-}
-
-fn push_cell(
-    alloc: Global,
-    cells: &mut ListOf<(ColumnNo, Value)>,
-    text: &str,
-) -> Result<(), Refusal> {
-    if text.is_empty() {
-        return Ok(());
+        columns: columns_of(page, columns),
+        values: page.row(parted(values, ';').0),
     }
-    let (column, word) = text.split_once(' ').unwrap_or((text, ""));
-    let value = value(alloc, word)?;
-    cells.push((ColumnNo(number(column)), value))
 }
 
-fn cells_of(alloc: Global, text: &str) -> Result<ListOf<(ColumnNo, Value)>, Refusal> {
-    let mut cells = ListOf::new(alloc);
+fn cells_of(page: &mut Page, text: &str) -> ListOf<(ColumnNo, Value)> {
+    let mut cells = ListOf::new(page.alloc());
     for words in text.split(';') {
-        push_cell(alloc, &mut cells, words.trim())?;
+        let (column, word) = parted(words.trim(), ' ');
+        if !column.is_empty() {
+            let value = page.value(word);
+            page.add(&mut cells, (ColumnNo(number(column)), value));
+        }
     }
-    Ok(cells)
+    cells
 }
 
-fn update_row(alloc: Global, table: TableId, text: &str) -> Result<Boxed<Statement>, Refusal> {
-    let (key, cells) = parted(text);
-    let key = row(alloc, key)?;
-    let cells = cells_of(alloc, cells)?;
-    boxed(alloc, Statement::Row(RowStmt::Update { table, key, cells }))
+/// A statement on rows.
+fn row_statement(page: &mut Page, kind: &str, table: TableId, text: &str) -> RowStmt {
+    if kind == "insert_rows" {
+        let rows = page.rows(text, ';');
+        return RowStmt::Insert { table, rows };
+    }
+    let (key, cells) = parted(text, ';');
+    let key = page.row(key);
+    if kind == "update_row" {
+        let cells = cells_of(page, cells);
+        return RowStmt::Update { table, key, cells };
+    }
+    RowStmt::Delete { table, key }
 }
 
-fn delete_row(alloc: Global, table: TableId, text: &str) -> Result<Boxed<Statement>, Refusal> {
-    let key = row(alloc, parted(text).0)?;
-    boxed(alloc, Statement::Row(RowStmt::Delete { table, key }))
-}
-
-fn insert_rows(alloc: Global, table: TableId, text: &str) -> Result<Boxed<Statement>, Refusal> {
-    let rows = rows(alloc, text)?;
-    boxed(alloc, Statement::Row(RowStmt::Insert { table, rows }))
-}
-
-/// What answers statements.
-pub trait Answers {
-    /// Puts what is written for a statement behind what was written so far.
-    ///
-    /// # Errors
-    /// What refuses it.
-    fn answer_statement(
-        &self,
-        alloc: Global,
-        statement: &Statement,
-        shown: &mut String,
-    ) -> Result<(), Refusal>;
-}
-
-/// Has the statement of a line answered. Who answers it does not own it, so the drops of statements are proved here alone.
-///
-/// A line has a kind, a source (`select`) or the number of a table, and what follows, each part ended by a semicolon.
+/// The statement of a line. It has a kind, a source (`select`) or the number of a table, and what follows, each part ended by a semicolon.
 ///
 /// - `select`, `update` and `delete` have clauses: `item` and `item:NAME`, `join SOURCE` and `left SOURCE`, `where`, `group`,
 ///   `having`, `up` and `down` with an expression, `distinct`, and `limit` and `offset` with a number; `set:COLUMN` with an
 ///   expression, and `null` with a column.
 /// - `insert` has columns and values, `insert_rows` rows, `update_row` a key and cells, each a column and a value, and
 ///   `delete_row` a key.
-///
-/// # Errors
-/// What refuses the statement, and `Memory`.
-pub fn answer_statement<A: Answers>(
-    alloc: Global,
-    answers: &A,
-    line: &str,
-    shown: &mut String,
-) -> Result<(), Refusal> {
-    let statement = statement(alloc, line)?;
-    answers.answer_statement(alloc, statement.get(), shown)
-}
-
-/// The statement of a line.
-fn statement(alloc: Global, line: &str) -> Result<Boxed<Statement>, Refusal> {
-    let (head, text) = parted(line);
-    let (kind, source) = head.split_once(' ').unwrap_or((head, ""));
-    let table = TableId(number(source));
+pub fn statement_of(page: &mut Page, line: &str) -> Statement {
+    let (head, text) = parted(line, ';');
+    let (kind, source) = parted(head, ' ');
+    let (number_of, alias) = parted(source, ':');
+    let table = TableId(number(number_of));
+    if kind == "insert" {
+        return Statement::Bulk(insert(page, table, text));
+    }
+    if kind != "select" && kind != "update" && kind != "delete" {
+        return Statement::Row(row_statement(page, kind, table, text));
+    }
+    let alias = page.named(alias);
+    let clauses = clauses_of(page, Origin { table, alias }, text);
     match kind {
-        "select" => select(alloc, source, text),
-        "update" => update(alloc, table, text),
-        "delete" => delete(alloc, table, text),
-        "insert" => insert(alloc, table, text),
-        "insert_rows" => insert_rows(alloc, table, text),
-        "update_row" => update_row(alloc, table, text),
-        _ => delete_row(alloc, table, text),
+        "select" => Statement::Select(select_of(clauses)),
+        "update" => Statement::Bulk(update_of(table, clauses)),
+        _ => Statement::Bulk(delete_of(table, clauses)),
     }
 }
