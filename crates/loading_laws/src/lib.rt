@@ -27,8 +27,8 @@ pub fn links_agree()
 /// selects for its select-in options, are of the same identities, in the same order and each once. The link of each of them at the place
 /// of an option, read lazily behind the own select, filled by the joined load, or filled by the select-in load, holds in the end the
 /// persistent objects of the rows that are related to it, in the order of their keys and each once, and the kept changes. Nothing was left
-/// to flush, the link was unloaded, and behind the loads the objects fit the mapping, and each persistent one whose row is there is of the
-/// class that the row names and has of its hierarchy's tables a row in just those of its class.
+/// to flush, the link was unloaded, and behind the loads each persistent object whose row is there is of the class that the row names and
+/// has of its hierarchy's tables a row in just those of its class.
 pub fn strategies_agree()
     ensures { StrategiesAgree }
 {}
