@@ -11,6 +11,13 @@ The gate's own output, which tells no seconds, stands in LOG too, a line each as
 one for each process of the prover that ended: PART is `proof`, `tests` or `edits`, SECONDS are user and system. They are read once in
 a while from /proc, so a process is told up to a step short (STEP seconds). Only processes that the gate started are counted. What `rt ci`
 kept from an earlier run costs nothing: for the whole cost run it with nothing kept, or with `--anew`.
+
+A processor second does more on one machine than on another, and less where others use the machine. So each minute a line
+
+    clock SECONDS
+
+tells the processor seconds of a loop of ten million additions in python at that time, and the table ends with their mean: two tables
+are compared by it.
 """
 import collections
 import os
@@ -21,6 +28,8 @@ import threading
 import time
 
 STEP = 0.5
+CLOCK_STEP = 60
+CLOCK = "import time\nfor i in range(2000000): i + i\nprint(5 * time.process_time())"
 TICKS = os.sysconf("SC_CLK_TCK")
 PARTS = ("proof", "tests", "edits")
 
@@ -83,6 +92,14 @@ def watch(top, out):
         time.sleep(STEP)
 
 
+def tell_clock(is_over, out):
+    """Notes once a minute how fast the machine is, until the run is over."""
+    while not is_over.wait(CLOCK_STEP):
+        told = subprocess.run([sys.executable, "-S", "-c", CLOCK], stdout=subprocess.PIPE, text=True, check=False).stdout
+        if told:
+            out(f"clock {float(told):.2f}")
+
+
 def run(log, words):
     alone = threading.Lock()
     with open(log, "w", encoding="utf-8") as file:
@@ -94,21 +111,29 @@ def run(log, words):
         gate = subprocess.Popen(words, stdout=subprocess.PIPE, stderr=subprocess.STDOUT, text=True, errors="replace")
         watcher = threading.Thread(target=watch, args=(gate.pid, out))
         watcher.start()
+        is_over = threading.Event()
+        clock = threading.Thread(target=tell_clock, args=(is_over, out))
+        clock.start()
         for line in gate.stdout:
             print(line, end="", flush=True)
             out(line.rstrip("\n"))
         status = gate.wait()
         watcher.join()
+        is_over.set()
+        clock.join()
     return status
 
 
 def table(log):
-    seconds, edits = collections.defaultdict(collections.Counter), collections.Counter()
+    seconds, edits, clocks = collections.defaultdict(collections.Counter), collections.Counter(), []
     with open(log, encoding="utf-8", errors="replace") as it:
         for line in it:
             found = re.fullmatch(r"cost (\w+) (\w+) \d+ ([\d.]+)\n?", line)
             if found:
                 seconds[found[1]][found[2]] += float(found[3])
+            found = re.fullmatch(r"clock ([\d.]+)\n?", line)
+            if found:
+                clocks.append(float(found[1]))
             found = re.match(r"rt: must-fail (\w+)/\S+: refused", line)
             if found:
                 edits[found[1]] += 1
@@ -118,6 +143,8 @@ def table(log):
         print(f"{crate:<20}" + "".join(f"{of[part]:>9.0f}" for part in PARTS) + f"{sum(of.values()):>9.0f}{edits[crate]:>9}")
     whole = [sum(of[part] for _, of in rows) for part in PARTS]
     print(f"{'all':<20}" + "".join(f"{it:>9.0f}" for it in whole) + f"{sum(whole):>9.0f}{sum(edits.values()):>9}")
+    if clocks:
+        print(f"ten million additions in python: {sum(clocks) / len(clocks):.2f} s on average ({min(clocks):.2f} to {max(clocks):.2f})")
 
 
 def main(words):
