@@ -1,6 +1,6 @@
 -- Rows by table and key: one more, and what is found under the keys that a row names.
 use Rattle.std.proofs.Common.{◌≡◌, ℕ, zero, suc, ◌+◌, ◌<◌, ◌≤◌, Bool, true, false, cond, if◌then◌else◌, not, ◌&&◌, ◌||◌, List, [], ◌∷◌, ◌++◌, Option, None, Some, ◌⊎◌, inl, inr, refl, sym, ap, ◌∙◌, subst, append-nil, arith}
-use Rattle.std.proofs.lemmas.Bool.{cases_lt, eq-eqb, ltb-false, ltb-true, ne_eqb}
+use Rattle.std.proofs.lemmas.Bool.{cases_lt, eq-eqb, ltb-false, ne_eqb}
 use Rattle.std.proofs.lemmas.List.Elements.{All-append}
 use Rattle.std.proofs.lemmas.List.Folds.{list_any-append}
 use Rattle.std.specs.Prelude.{nat_eq, nat_lt}
@@ -22,8 +22,9 @@ use Rattle.schema_core.specs.declared.changes.RowCell.{RowCell}
 use Rattle.schema_core.specs.declared.changes.RowCell.TheVariants.{Given, KeyOf}
 use Rattle.schema_core.specs.Catalog.{Catalog, spec_of, target_of}
 use Rattle.schema_core.specs.Tables.{cells_of, has_null, same_values, table_cmp}
+use Rattle.row_order.specs.Places.{is_among}
+use Rattle.row_order.proofs.Told.{below_if, none_below}
 use Rattle.flush_order.specs.Index.{Index, IsIndexOf, rows_named, rows_of_key, rows_referred, rows_taken, rows_under}
-use Rattle.flush_order.specs.Places.{is_among}
 use Rattle.flush_order.specs.Refers.{comes_from, is_table, names}
 use Rattle.flush_order.specs.Sorted.{Place, place_cmp, same_place}
 
@@ -136,9 +137,6 @@ referred places size schema index row table (foreign ∷ foreigns) other is less
     ∙ ap (λ b. b || is_among (rows_referred schema index row table foreigns) other) (named places size schema index row table foreign other is less)
     ∙ ap (λ b. names schema row table (places other).0 (places other).1 foreign || b) (referred places size schema index row table foreigns other is less)
 
-pub none_below : (size : ℕ) → All (λ row. row < size) []
-none_below size k d h = absurd (omega (arith, h))
-
 under_below : (places : ℕ → Place) (size : ℕ) (index : Index) (key : List Value) (target : Option TableId) → IsIndexOf places size index → All (λ row. row < size) (rows_of_key index key target)
 under_below places size index key None is = none_below size
 under_below places size index key (Some table) is = by (has_null key)
@@ -156,15 +154,6 @@ referred_below places size schema index row table (foreign ∷ foreigns) is =
     (referred_below places size schema index row table foreigns is)
 
 -- ---- the rows whose keys cells take
-
--- one more row, if it is below a number
-pub below_if : (size place : ℕ) (rows : List ℕ) (b : Bool) → nat_lt place size ≡ b → All (λ row. row < size) rows → All (λ row. row < size) (cond b (place ∷ rows) rows)
-below_if size place rows true e all = one_more
-  where
-    one_more : All (λ row. row < size) (place ∷ rows)
-    one_more zero d h = ltb-true place size e
-    one_more (suc k) d h = all k d (omega (arith, h))
-below_if size place rows false e all = all
 
 taken_by : (size place other : ℕ) (rows : List ℕ) (b : Bool) → other < size → nat_lt place size ≡ b → is_among (cond b (place ∷ rows) rows) other ≡ (nat_eq place other || is_among rows other)
 taken_by size place other rows true less e = ap (λ b. b || is_among rows other) (nat_eq_equiv.symm other place)

@@ -1,13 +1,6 @@
-pub mod Alike
 pub mod CellLemmas
-pub mod Cycles
 pub mod GoneLemmas
 pub mod IndexSteps
-pub mod ListSteps
 pub mod Listing
-pub mod Ranges
 pub mod ReadyLemmas
-pub mod SearchLemmas
-pub mod SearchSteps
 pub mod Sorting
-pub mod WaitingSteps

@@ -1,9 +1,9 @@
 -- New rows that are made ready.
-use Rattle.std.proofs.Common.{◌≡◌, ℕ, suc, ◌+◌, ◌-◌, ◌<◌, ◌≤◌, Bool, List, [], ◌∷◌, ◌++◌, length, get_or, Some, refl, sym, ap, ◌∙◌, arith}
+use Rattle.std.proofs.Common.{◌≡◌, ℕ, suc, ◌+◌, ◌-◌, ◌<◌, ◌≤◌, Bool, List, [], ◌∷◌, length, get_or, Some, refl, sym, ap, ◌∙◌, arith}
 use Rattle.std.proofs.lemmas.Option.{get_or_from_slice_get}
 use Rattle.std.specs.Prelude.{slice_index_or}
 use Rattle.std.specs.List.{slice_get}
-use Rattle.base_core.proofs.Lists.{get_before, get_beyond, get_last}
+use Rattle.base_core.proofs.Lists.{get_beyond}
 use Rattle.base_core.specs.declared.value.Value.TheVariants.{Null}
 use Rattle.schema_core.specs.declared.changes.NewRow.{NewRow}
 use Rattle.schema_core.specs.declared.changes.RowCell.{RowCell}
@@ -37,14 +37,6 @@ known_end schema changes n i place part h =
     ap (λ k. known_value schema changes k (KeyOf place part)) e
 
 pub ruleset known_steps = (known_none, known_step, known_end)
-
-pub get_pushed : {A : Type 0} (xs : List A) (x : A) (n : ℕ) → length xs ≡ n → slice_get (xs ++ x ∷ []) n ≡ Some x
-get_pushed xs x n e = ap (slice_get (xs ++ x ∷ [])) (sym e) ∙ get_last xs x
-
-pub get_kept : {A : Type 0} (xs : List A) (x : A) (i : ℕ) → i < length xs → slice_get (xs ++ x ∷ []) i ≡ slice_get xs i
-get_kept xs x i h = get_before xs (x ∷ []) i h
-
-pub ruleset push_steps = (get_pushed, get_kept)
 
 pub cleared_none : {A : Type 0} (test : ColumnSpec → Bool) (none : A) (cs : List ColumnSpec) → cells_cleared test none cs [] ≡ []
 cleared_none test none [] = refl

@@ -1,5 +1,5 @@
 -- Rows by table and key, and those to which a row refers, as they are found by their keys.
-use Rattle.std.specs.Prelude.{◌≡◌, ◌<◌, ℕ, cond, List, [], ◌∷◌, ◌++◌, length, slice_get, nat_lt, Option, None, Some}
+use Rattle.std.specs.Prelude.{◌≡◌, ◌<◌, ℕ, cond, List, [], ◌∷◌, ◌++◌, length, nat_lt, Option, None, Some}
 use Rattle.std.specs.List.{All}
 use Rattle.std.specs.Option.{unwrap_or}
 use Rattle.std.specs.BTreeMap.{BTreeMap, get}
@@ -11,9 +11,9 @@ use Rattle.schema_core.specs.declared.changes.RowChanges.{RowChanges}
 use Rattle.schema_core.specs.declared.table.ForeignSpec.{ForeignSpec}
 use Rattle.schema_core.specs.Catalog.{Catalog, spec_of, target_of}
 use Rattle.schema_core.specs.Tables.{cells_of, has_null}
+use Rattle.row_order.specs.Places.{is_among}
 use Rattle.flush_order.specs.Cells.{first_cells, known_row, table_at}
 use Rattle.flush_order.specs.Orders.{gone_at, gone_rows}
-use Rattle.flush_order.specs.Places.{is_among}
 use Rattle.flush_order.specs.Ready.{ready_gone, ready_row}
 use Rattle.flush_order.specs.Refers.{last_base}
 use Rattle.flush_order.specs.Sorted.{Place, place_cmp, same_place}
@@ -64,8 +64,3 @@ new_blockers schema changes index row = rows_taken (length changes.fresh) (first
 -- the deleted rows to which a deleted row refers
 abbrev pub gone_targets : Catalog → RowChanges → Index → ℕ → List ℕ
 gone_targets schema changes index row = rows_referred schema index (last_base schema changes (gone_at (gone_rows schema changes) row)) (gone_at (gone_rows schema changes) row).name.table (spec_of schema (gone_at (gone_rows schema changes) row).name.table).foreigns
-
--- so many lists, each as told for its row
-pub record AreTold (told : ℕ → List ℕ) (size : ℕ) (lists : List (List ℕ)) : Type 0 where
-  pub whole : length lists ≡ size
-  pub each : (row : ℕ) → row < length lists → slice_get lists row ≡ Some (told row)

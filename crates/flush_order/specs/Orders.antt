@@ -3,7 +3,7 @@ use Rattle.std.specs.Prelude.{ℕ, List, [], map, length, slice_index_or, Result
 use Rattle.schema_core.specs.declared.changes.GoneRow.{GoneRow}
 use Rattle.schema_core.specs.declared.changes.RowChanges.{RowChanges}
 use Rattle.schema_core.specs.Catalog.{Catalog}
-use Rattle.flush_order.specs.Places.{order_or_cycle}
+use Rattle.row_order.specs.Places.{order_or_cycle}
 use Rattle.flush_order.specs.Refers.{gone_key, gone_refers, new_refers}
 use Rattle.flush_order.specs.Sorted.{Place, sorted_numbers}
 

@@ -2,16 +2,16 @@
 
 ghost use Rattle.std.specs.Prelude.{◌≡◌, ◌<◌, ◌≤◌, ◌++◌, length, IfOk, IfErr, OnOk};
 ghost use Rattle.base_core.specs.declared.refusal.Refusal.TheVariants.{Memory};
-ghost use Rattle.flush_order.specs.Index.{AreTold, IsIndexOf, gone_place, gone_targets, new_blockers, new_place, rows_taken};
-ghost use Rattle.flush_order.specs.Lists.{AreListsOf};
+ghost use Rattle.row_order.specs.Lists.{AreListsOf, AreTold};
+ghost use Rattle.flush_order.specs.Index.{IsIndexOf, gone_place, gone_targets, new_blockers, new_place, rows_taken};
 ghost use Rattle.flush_order.specs.Orders.{gone_at, gone_rows};
 ghost use Rattle.flush_order.specs.Ready.{AreReady, AreReadyGone};
 ghost use Rattle.flush_order.specs.Refers.{gone_refers, new_refers};
 
 use crate::index::{Index, enter, push_referred};
 use crate::refers::{GoneRows, NewRows};
-use crate::waiting::waiting_of;
 use base_core::{Copied, ListOf, Refusal};
+use row_order::waiting_of;
 use schema_core::RowCell;
 use std::alloc::{AllocError, Global};
 use std::collections::BTreeMap;
@@ -75,7 +75,7 @@ fn new_index(alloc: Global, new: &NewRows) -> Result<Index, Refusal>
     Ok(index)
 }
 
-#[tactic(auto, using(crate::proofs::ReadyLemmas::push_steps))]
+#[tactic(auto, using(row_order::proofs::Pushing::push_steps))]
 /// For each new row those for which it waits, by the index of all.
 fn new_told(alloc: Global, new: &NewRows, index: &Index) -> Result<Vec<ListOf<u32>>, AllocError>
     requires ready { AreReady new.now.schema.now new.now.changes.now new.now.rows.now }
@@ -153,7 +153,7 @@ fn gone_index(alloc: Global, gone: &GoneRows) -> Result<Index, Refusal>
     Ok(index)
 }
 
-#[tactic(auto, using(crate::proofs::ReadyLemmas::push_steps))]
+#[tactic(auto, using(row_order::proofs::Pushing::push_steps))]
 /// For each deleted row those to which it refers, by the index of all.
 fn gone_told(alloc: Global, gone: &GoneRows, index: &Index) -> Result<Vec<ListOf<u32>>, AllocError>
     requires ready { AreReadyGone gone.now.schema.now gone.now.changes.now gone.now.rows.now }

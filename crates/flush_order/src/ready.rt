@@ -42,7 +42,7 @@ fn first_cells(
     Ok(ListOf::from_vec(cells))
 }
 
-#[tactic(auto, using(crate::proofs::ReadyLemmas::push_steps))]
+#[tactic(auto, using(row_order::proofs::Pushing::push_steps))]
 /// The cells that each INSERT writes.
 fn all_first(
     alloc: Global,
@@ -189,7 +189,7 @@ fn ready_row(
     })
 }
 
-#[tactic(auto, using(crate::proofs::ReadyLemmas::push_steps))]
+#[tactic(auto, using(row_order::proofs::Pushing::push_steps))]
 /// All new rows made ready.
 pub fn ready_rows(
     alloc: Global,

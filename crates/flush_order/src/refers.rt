@@ -9,8 +9,8 @@ ghost use Rattle.flush_order.specs.Ready.{AreReady, AreReadyGone, ready_gone, re
 
 use crate::blockers::{gone_lists, new_lists};
 use crate::cells::{are_cells, has_null_in, some_comes_from};
-use crate::places::Waits;
 use base_core::{Key, ListOf, Refusal, RowName, RowValues, TableId, Value};
+use row_order::Waits;
 use schema_core::{ForeignSpec, RowCell, RowChanges, Schema, TableSpec};
 use std::alloc::Global;
 

@@ -9,11 +9,11 @@ use Rattle.base_core.specs.declared.refusal.RowName.{RowName}
 use Rattle.schema_core.specs.declared.changes.Planned.{Planned}
 use Rattle.schema_core.specs.declared.changes.RowChanges.{RowChanges}
 use Rattle.schema_core.specs.Catalog.{Catalog}
-use Rattle.flush_order.specs.declared.places.Ordered.{Ordered}
+use Rattle.row_order.specs.declared.places.Ordered.{Ordered}
 use Rattle.flush_order.specs.declared.refers.ReadyGone.{ReadyGone}
 use Rattle.flush_order.specs.Orders.{delete_order, gone_at, gone_rows}
 use Rattle.flush_order.specs.Ready.{AreReadyGone}
-use Rattle.flush_order.specs.Told.{rows_of, order_result}
+use Rattle.row_order.specs.Told.{rows_of, order_result}
 use Rattle.flush_order.proofs.GoneLemmas.{gone_size}
 use Rattle.flush_plan.specs.Planning.{statements, unless_gone_cycle}
 

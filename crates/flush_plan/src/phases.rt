@@ -13,7 +13,8 @@ use crate::gone::{gone_rows, removes};
 use crate::runs::inserts;
 use crate::updates::{late_updates, updates};
 use base_core::{Copied, ListOf, Refusal, RowName};
-use flush_order::{GoneRows, NewRows, Ordered, order_or_cycle, ready_rows};
+use flush_order::{GoneRows, NewRows, ready_rows};
+use row_order::{Ordered, order_or_cycle};
 use schema_core::{Plan, Planned, RowChanges, Schema};
 use std::alloc::Global;
 

@@ -9,7 +9,8 @@ ghost use Rattle.flush_order.specs.Ready.{AreReady};
 ghost use Rattle.flush_plan.specs.Runs.{runs_from, nonempty_run, goes_with, is_nothing, joins, leaves_key, runs, width};
 
 use base_core::{ListOf, Refusal, TableId, Value};
-use flush_order::{NewRows, Waits};
+use flush_order::NewRows;
+use row_order::Waits;
 use schema_core::{ColumnSpec, Planned, RowCell, RowChanges};
 use std::alloc::Global;
 

@@ -38,7 +38,7 @@ use Rattle.object_rows.specs.Cells.{first_cell, is_by, linked_cell, or_first, pu
 use Rattle.object_rows.specs.Rows.{cell_change, cell_for, change_in, changed_cell, changed_row, changed_rows, columns_at, gone_rows, has_cells, in_column, is_at, new_names, new_row, new_rows, own_change, rows_changed, rows_of}
 use Rattle.object_rows.specs.Seen.{changed_end, is_in_session, is_new, keeps_rows, link_of, new_objects, object_ids, with_queued}
 use Rattle.object_rows.specs.Late.{late_keys}
-use Rattle.flush_order.specs.Places.{first_places, least_left, order, order_or_cycle}
+use Rattle.row_order.specs.Places.{first_places, least_left, order, order_or_cycle}
 use Rattle.flush_order.specs.Sorted.{sorted_numbers}
 use Rattle.flush_plan.specs.Planning.{late_in, plan}
 use Rattle.pair_rows.specs.Pairs.{Pair, as_set, has_key, is_made, is_parted, lost_by, lost_from, lost_of, lost_pairs, lost_row, lost_rows, made_by, made_from, made_of, made_pairs, made_row, made_rows, members_added, members_before, members_removed, pair_of, relations_at, without}

@@ -35,7 +35,7 @@ use Rattle.object_arena.specs.declared.object.Cell.{Cell}
 use Rattle.object_arena.specs.declared.object.Object.{Object}
 use Rattle.flush_order.specs.Cells.{cells_cleared, is_late, new_at, no_row, table_at}
 use Rattle.flush_order.specs.Orders.{gone_at, no_gone, place_of_gone}
-use Rattle.flush_order.specs.Places.{is_among}
+use Rattle.row_order.specs.Places.{is_among}
 use Rattle.flush_order.specs.Refers.{gone_key}
 use Rattle.flush_order.specs.Sorted.{Place}
 use Rattle.flush_plan.specs.Flushing.{Keys, Sofar, key_of_new, value_of_cell}

@@ -4,7 +4,7 @@
 #[cfg(test)]
 mod tests {
     use base_core::{ListOf, Refusal};
-    use flush_order::{Ordered, Rows, order_or_cycle, plain_order_or_cycle};
+    use row_order::{Ordered, Rows, order_or_cycle, plain_order_or_cycle};
     use std::alloc::Global;
     use std::process::Abort;
     use std::test::Fail;

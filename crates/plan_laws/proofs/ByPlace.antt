@@ -17,7 +17,7 @@ use Rattle.plan_laws.proofs.Newness.{place_same, same_is}
 use Rattle.plan_laws.proofs.Numbers.{less_equal, entered_sorted, latest_have, place_is, values_all}
 use Rattle.plan_laws.proofs.Facts.{none_some, true_false, or_cases}
 use Rattle.base_core.proofs.Tests.{or_then}
-use Rattle.flush_order.specs.Places.{is_among}
+use Rattle.row_order.specs.Places.{is_among}
 use Rattle.flush_order.specs.Sorted.{Place, entries_with_places, place_cmp, same_place, sorted_numbers}
 
 abbrev no_place : Place

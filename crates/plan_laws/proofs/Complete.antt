@@ -19,7 +19,7 @@ use Rattle.base_core.proofs.Lists.{every_append}
 use Rattle.table_laws.proofs.RowFits.{and_true}
 use Rattle.flush_order.specs.Cells.{cells_cleared, first_cells, is_late, late_name, new_at, no_row, table_at}
 use Rattle.flush_order.specs.Orders.{insert_order, place_of_gone}
-use Rattle.flush_order.specs.Places.{is_among}
+use Rattle.row_order.specs.Places.{is_among}
 use Rattle.flush_order.specs.Refers.{new_refers}
 use Rattle.flush_order.specs.Sorted.{Place}
 use Rattle.flush_plan.specs.Flushing.{Keys, Sofar, value_of_cell}

@@ -18,7 +18,7 @@ use Rattle.base_core.proofs.Tests.{or_then}
 use Rattle.table_laws.proofs.Entries.{all_both, any_none}
 use Rattle.flush_order.specs.Cells.{cells_cleared, is_late, late_name}
 use Rattle.flush_order.specs.Orders.{delete_order, gone_at, gone_rows, no_gone, place_of_gone}
-use Rattle.flush_order.specs.Places.{IsOrder, is_among, next_place}
+use Rattle.row_order.specs.Places.{IsOrder, is_among, next_place}
 use Rattle.flush_order.specs.Refers.{gone_key, gone_refers, last_base, names}
 use Rattle.flush_order.specs.Sorted.{Place, same_place, sorted_numbers}
 use Rattle.flush_plan.specs.Flushing.{Sofar}

@@ -14,7 +14,7 @@ use Rattle.schema_core.specs.Catalog.{Catalog, IsTable}
 use Rattle.schema_core.specs.Tables.{Legal, Rows, Tables, is_created, row_under, rows_in}
 use Rattle.flush_order.specs.Cells.{is_late, no_row}
 use Rattle.flush_order.specs.Orders.{delete_order, gone_rows, insert_order, no_gone, place_of_gone}
-use Rattle.flush_order.specs.Places.{IsOrder, is_among}
+use Rattle.row_order.specs.Places.{IsOrder, is_among}
 use Rattle.flush_order.specs.Refers.{new_refers}
 use Rattle.flush_order.specs.Sorted.{Place, same_place}
 use Rattle.flush_plan.specs.Flushing.{Sofar, is_stale}

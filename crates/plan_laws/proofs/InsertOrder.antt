@@ -19,7 +19,7 @@ use Rattle.base_core.proofs.Tests.{or_then}
 use Rattle.table_laws.proofs.Entries.{all_map, any_none, none_any}
 use Rattle.flush_order.proofs.ReadyLemmas.{cleared_none, parts_none}
 use Rattle.flush_order.specs.Cells.{cells_cleared, first_cells, is_late, key_parts, known_row, late_name, new_at, no_row, table_at}
-use Rattle.flush_order.specs.Places.{IsOrder, is_among, next_place}
+use Rattle.row_order.specs.Places.{IsOrder, is_among, next_place}
 use Rattle.flush_order.specs.Refers.{comes_from, names, new_refers, refers_to}
 use Rattle.flush_order.specs.Sorted.{Place}
 use Rattle.flush_plan.specs.Flushing.{Keys, Sofar, key_of_new, value_of_cell}

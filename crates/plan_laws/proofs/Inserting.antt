@@ -15,7 +15,7 @@ use Rattle.schema_core.specs.Catalog.{Catalog, spec_of, target_of}
 use Rattle.schema_core.specs.Tables.{Legal, Rows, Tables, cells_of, dangles, has_null, is_created, is_legal_row, key_of, row_under, rows_in}
 use Rattle.table_laws.proofs.Entries.{all_both, all_map}
 use Rattle.flush_order.specs.Cells.{first_cells, late_name, table_at}
-use Rattle.flush_order.specs.Places.{is_among}
+use Rattle.row_order.specs.Places.{is_among}
 use Rattle.flush_order.specs.Sorted.{Place}
 use Rattle.flush_plan.specs.Flushing.{Keys, Sofar, after_outcome, is_stale, key_of_new, value_of_cell, send}
 use Rattle.flush_plan.specs.Stating.{with_edit, is_present, place_of_new, row_at}

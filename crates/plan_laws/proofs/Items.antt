@@ -5,7 +5,7 @@ use Rattle.std.specs.List.{AllByRecursion, filter, flat_map, range_with_len}
 use Rattle.base_core.proofs.Lists.{every_append}
 use Rattle.base_core.proofs.Tests.{or_then}
 use Rattle.plan_laws.proofs.Facts.{or_cases, true_false}
-use Rattle.flush_order.specs.Places.{is_among}
+use Rattle.row_order.specs.Places.{is_among}
 
 -- ---- every item is so
 

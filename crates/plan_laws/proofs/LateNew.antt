@@ -12,7 +12,7 @@ use Rattle.schema_core.specs.Apply.{with_cells}
 use Rattle.schema_core.specs.Catalog.{Catalog, spec_of}
 use Rattle.schema_core.specs.Tables.{Tables}
 use Rattle.flush_order.specs.Cells.{is_late, late_name, new_at, table_at}
-use Rattle.flush_order.specs.Places.{is_among}
+use Rattle.row_order.specs.Places.{is_among}
 use Rattle.flush_order.specs.Sorted.{Place}
 use Rattle.flush_plan.specs.Flushing.{Keys, Sofar, value_of_cell}
 use Rattle.flush_plan.specs.Runs.{is_nothing}

@@ -18,7 +18,7 @@ use Rattle.plan_laws.proofs.Newness.{place_same}
 use Rattle.plan_laws.proofs.Facts.{none_some, or_cases, or_false, true_false, apart_false}
 use Rattle.base_core.proofs.Tests.{or_then}
 use Rattle.flush_order.proofs.IndexSteps.{place_total}
-use Rattle.flush_order.specs.Places.{is_among}
+use Rattle.row_order.specs.Places.{is_among}
 use Rattle.flush_order.specs.Sorted.{Place, entries_with_places, place_cmp, same_place, sorted_numbers}
 
 pub place_is : (p q : Place) → place_cmp p q ≡ Equal → p ≡ q

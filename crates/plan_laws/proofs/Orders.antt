@@ -13,7 +13,7 @@ use Rattle.std.specs.Option.{option_to_list, unwrap_or}
 use Rattle.table_laws.proofs.RowFits.{and_true}
 use Rattle.plan_laws.proofs.Facts.{none_some, not_true, some_or_none, true_false, or_cases}
 use Rattle.table_laws.proofs.OrderLemmas.{cond_none}
-use Rattle.flush_order.specs.Places.{IsCycle, IsOrder, IsRing, cycle_from, first_places, from_row, holds_up, is_among, is_ready, least_left, next_blocker, next_place, order, order_or_cycle, trail, unless_left}
+use Rattle.row_order.specs.Places.{IsCycle, IsOrder, IsRing, cycle_from, first_places, from_row, holds_up, is_among, is_ready, least_left, next_blocker, next_place, order, order_or_cycle, trail, unless_left}
 
 -- ---- what a search finds
 

@@ -11,7 +11,7 @@ use Rattle.schema_core.specs.Catalog.{Catalog, spec_of}
 use Rattle.schema_core.specs.Tables.{Rows, key_of, rows_in, with_row, with_rows}
 use Rattle.table_laws.proofs.Entries.{none_any}
 use Rattle.flush_order.specs.Cells.{first_cells, table_at}
-use Rattle.flush_order.specs.Places.{is_among}
+use Rattle.row_order.specs.Places.{is_among}
 use Rattle.flush_order.specs.Sorted.{Place}
 use Rattle.flush_plan.specs.Flushing.{Keys, Sofar, key_of_new, value_of_cell}
 use Rattle.flush_plan.specs.Stating.{with_edit, place_new, place_of_new, place_on, placed_in, placed_under, row_at}

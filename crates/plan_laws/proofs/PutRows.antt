@@ -11,7 +11,7 @@ use Rattle.schema_core.specs.Catalog.{Catalog, spec_of}
 use Rattle.schema_core.specs.Declaration.{some_two}
 use Rattle.schema_core.specs.Tables.{is_created, key_of}
 use Rattle.flush_order.specs.Cells.{table_at}
-use Rattle.flush_order.specs.Places.{is_among}
+use Rattle.row_order.specs.Places.{is_among}
 use Rattle.flush_order.specs.Sorted.{Place}
 use Rattle.flush_plan.specs.Flushing.{Sofar, is_stale, key_of_new}
 use Rattle.flush_plan.specs.Stating.{place_of_new, place_on, row_at}

@@ -13,7 +13,7 @@ use Rattle.base_core.proofs.Lists.{every_append}
 use Rattle.table_laws.proofs.Entries.{all_map, all_swap, any_none}
 use Rattle.table_laws.proofs.RowFits.{and_true}
 use Rattle.flush_order.specs.Orders.{place_of_gone}
-use Rattle.flush_order.specs.Places.{is_among}
+use Rattle.row_order.specs.Places.{is_among}
 use Rattle.flush_order.specs.Sorted.{Place, same_place}
 use Rattle.flush_plan.specs.Flushing.{Sofar}
 use Rattle.flush_plan.specs.Planning.{late_gone, place_of_changed, writes_some}

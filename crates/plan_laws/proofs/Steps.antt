@@ -18,7 +18,7 @@ use Rattle.table_laws.proofs.Entries.{all_map}
 use Rattle.table_laws.proofs.RowFits.{and_true}
 use Rattle.flush_order.specs.Cells.{late_name, table_at}
 use Rattle.flush_order.specs.Orders.{no_gone, place_of_gone}
-use Rattle.flush_order.specs.Places.{is_among}
+use Rattle.row_order.specs.Places.{is_among}
 use Rattle.flush_order.specs.Sorted.{Place, sorted_numbers}
 use Rattle.flush_plan.specs.Flushing.{Keys, Sofar}
 use Rattle.flush_plan.specs.Planning.{Writing, cells_when, changed_rows, is_of, late_gone, late_in, late_new, late_old, late_updates, late_writings, is_written_when, no_changed, no_writing, place_of_changed, updates, writes_some, writing_some}

@@ -8,7 +8,7 @@ use Rattle.schema_core.specs.declared.changes.RowChanges.{RowChanges}
 use Rattle.schema_core.specs.Catalog.{Catalog}
 use Rattle.schema_core.specs.Tables.{Tables, is_created}
 use Rattle.flush_order.specs.Cells.{late_name}
-use Rattle.flush_order.specs.Places.{is_among}
+use Rattle.row_order.specs.Places.{is_among}
 use Rattle.flush_order.specs.Sorted.{Place}
 use Rattle.flush_plan.specs.Flushing.{Sofar}
 use Rattle.flush_plan.specs.Stating.{is_present, place_of_new, row_at}

@@ -8,7 +8,7 @@ use Rattle.schema_core.specs.Catalog.{Catalog, spec_of}
 use Rattle.std.specs.Cmp.Lexicographic.{pointwise}
 use Rattle.flush_order.specs.Cells.{first_cells, table_at}
 use Rattle.flush_order.specs.Orders.{insert_order}
-use Rattle.flush_order.specs.Places.{IsOrder, is_among, next_place}
+use Rattle.row_order.specs.Places.{IsOrder, is_among, next_place}
 use Rattle.flush_order.specs.Refers.{comes_from, new_refers}
 use Rattle.flush_plan.specs.Runs.{goes_with, joins, leaves_key, nonempty_run, runs, runs_from, width}
 use Rattle.plan_laws.proofs.Facts.{bool_cases, not_true, or_false, true_false}

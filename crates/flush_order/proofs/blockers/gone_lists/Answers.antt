@@ -1,7 +1,7 @@
 use Rattle.std.proofs.Common.{length, sym, subst}
 use Rattle.std.proofs.lemmas.Result.{IfOk-weaker}
-use Rattle.flush_order.specs.Index.{AreTold, gone_targets}
-use Rattle.flush_order.specs.Lists.{AreRows}
+use Rattle.row_order.specs.Lists.{AreRows, AreTold}
+use Rattle.flush_order.specs.Index.{gone_targets}
 use Rattle.flush_order.proofs.Listing.{gone_are_listed, targets_are_rows}
 use Rattle.flush_order.proofs.blockers.gone_lists.Goals as goal
 

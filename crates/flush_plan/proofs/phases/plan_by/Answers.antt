@@ -1,5 +1,5 @@
 use Rattle.std.proofs.Common.{ap}
-use Rattle.flush_order.specs.Told.{rows_of, order_result}
+use Rattle.row_order.specs.Told.{rows_of, order_result}
 use Rattle.flush_plan.proofs.PhaseSteps.{cycled, planned, rows_within}
 use Rattle.flush_plan.proofs.phases.plan_by.Goals as goal
 

@@ -1,7 +1,7 @@
 use Rattle.std.proofs.Common.{refl}
 use Rattle.schema_core.specs.Apply.{apply, delete_row, insert_rows, update_row}
 use Rattle.schema_core.specs.Judged.{change_all, remove_all, write_all}
-use Rattle.flush_order.specs.Places.{cycle_from, first_places, least_left, next_blocker, next_place, order, order_or_cycle}
+use Rattle.row_order.specs.Places.{cycle_from, first_places, least_left, next_blocker, next_place, order, order_or_cycle}
 use Rattle.flush_order.specs.Sorted.{sorted_numbers}
 use Rattle.flush_plan.specs.Flushing.{send}
 use Rattle.flush_plan.specs.Planning.{plan}

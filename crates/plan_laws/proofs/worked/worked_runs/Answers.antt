@@ -1,5 +1,5 @@
 use Rattle.std.proofs.Common.{refl}
-use Rattle.flush_order.specs.Places.{cycle_from, first_places, least_left, next_blocker, next_place, order, order_or_cycle}
+use Rattle.row_order.specs.Places.{cycle_from, first_places, least_left, next_blocker, next_place, order, order_or_cycle}
 use Rattle.flush_order.specs.Sorted.{sorted_numbers}
 use Rattle.flush_plan.specs.Planning.{plan}
 use Rattle.plan_laws.proofs.worked.worked_runs.Goals as goal

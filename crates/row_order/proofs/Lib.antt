@@ -1,0 +1,9 @@
+pub mod Alike
+pub mod Cycles
+pub mod ListSteps
+pub mod Pushing
+pub mod Ranges
+pub mod SearchLemmas
+pub mod SearchSteps
+pub mod Told
+pub mod WaitingSteps
