@@ -8,7 +8,7 @@ use base_core::{AttrNo, ClassId, ListOf, ObjId, ObjList, Refusal, RelNo};
 use class_mapping::Mapping;
 use graph_fits::{cell_fits, key_fits, link_fits};
 use load_filling::load_object;
-use notations::{number, row, value};
+use notations::{Page, number};
 use object_arena::{Arena, Cell, Link};
 use std::alloc::Global;
 
@@ -25,14 +25,14 @@ pub fn is_made(arena: &Arena, object: ObjId) -> bool
 }
 
 /// A persistent object of a class under a key that no other has: its cells are expired, and its links unloaded.
-fn hold(alloc: Global, mapping: &Mapping, arena: &mut Arena, words: &str) -> Result<(), Refusal>
+fn hold(page: &mut Page, mapping: &Mapping, arena: &mut Arena, words: &str) -> Result<(), Refusal>
     requires configured { mapping.now.configured ≡ true }
     requires fit { IsFit mapping.now arena.old }
     ensures { IsFit mapping.now arena.new }
 {
     let (class, key) = first_word(words);
     let class = ClassId(number(class));
-    let key = row(alloc, key)?;
+    let key = page.row(key);
     if class.0 >= mapping.count() || !key_fits(mapping, class, &key) {
         return Err(Refusal::NotBuilt);
     }
@@ -44,24 +44,20 @@ fn hold(alloc: Global, mapping: &Mapping, arena: &mut Arena, words: &str) -> Res
 }
 
 /// A cell that holds a value, as it was written or not.
-fn cell_of(alloc: Global, words: &str, is_written: bool) -> Result<Cell, Refusal> {
-    let held = value(alloc, words)?;
-    if !is_written {
-        return Ok(Cell {
-            value: Some(held),
-            base: None,
-        });
+fn cell_of(page: &mut Page, words: &str, is_written: bool) -> Cell {
+    Cell {
+        value: Some(page.value(words)),
+        base: if is_written {
+            Some(page.value(words))
+        } else {
+            None
+        },
     }
-    let base = value(alloc, words)?;
-    Ok(Cell {
-        value: Some(held),
-        base: Some(base),
-    })
 }
 
 /// A cell of an object holds a value.
 fn set(
-    alloc: Global,
+    page: &mut Page,
     mapping: &Mapping,
     arena: &mut Arena,
     words: &str,
@@ -75,7 +71,7 @@ fn set(
     let (attr, words) = first_word(words);
     let object = ObjId(number(object));
     let attr = AttrNo(number(attr));
-    let cell = cell_of(alloc, words, is_written)?;
+    let cell = cell_of(page, words, is_written);
     if !is_made(arena, object) {
         return Err(Refusal::NotBuilt);
     }
@@ -130,7 +126,7 @@ fn keep(alloc: Global, mapping: &Mapping, arena: &mut Arena, words: &str) -> Res
 
 /// Puts objects as an act says.
 pub fn put(
-    alloc: Global,
+    page: &mut Page,
     mapping: &Mapping,
     arena: &mut Arena,
     letter: &str,
@@ -141,8 +137,8 @@ pub fn put(
     ensures { IsFit mapping.now arena.new }
 {
     match letter {
-        "h" => hold(alloc, mapping, arena, words),
-        "k" => keep(alloc, mapping, arena, words),
-        _ => set(alloc, mapping, arena, words, letter == "s"),
+        "h" => hold(page, mapping, arena, words),
+        "k" => keep(page.alloc(), mapping, arena, words),
+        _ => set(page, mapping, arena, words, letter == "s"),
     }
 }

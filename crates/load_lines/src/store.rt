@@ -9,7 +9,7 @@ ghost use Rattle.load_lines.specs.Opened.{IsOpen};
 use base_core::{ListOf, Refusal, TableId};
 use fitting_statements::fits_schema;
 use keeper_core::{Keeper, Target, calls};
-use notations::{row, table_of};
+use notations::{Page, parted};
 use schema_core::{RowStmt, Schema};
 use std::alloc::Global;
 
@@ -59,13 +59,14 @@ fn begin<K: Keeper>(alloc: Global, keeper: &mut K, schema: &Schema) -> Result<()
 }
 
 /// The statement that puts in the row that words say, where it fits its table.
-fn insert_of(alloc: Global, schema: &Schema, words: &str) -> Result<RowStmt, Refusal>
+fn insert_of(page: &mut Page, schema: &Schema, words: &str) -> Result<RowStmt, Refusal>
     ensures { IfOk result (IsWellFormed schema.now) }
 {
-    let (table, cells) = words.split_once(' ').unwrap_or((words, ""));
-    let mut rows = ListOf::new(alloc);
-    rows.push(row(alloc, cells)?)?;
-    let table = table_of(alloc, schema, table)?;
+    let (table, cells) = parted(words, ' ');
+    let mut rows = ListOf::new(page.alloc());
+    let row = page.row(cells);
+    page.add(&mut rows, row);
+    let table = page.table_of(schema, table);
     let statement = RowStmt::Insert { table, rows };
     if !fits_schema(schema, &statement) {
         return Err(Refusal::NotBuilt);
@@ -74,7 +75,7 @@ fn insert_of(alloc: Global, schema: &Schema, words: &str) -> Result<RowStmt, Ref
 }
 
 fn insert<K: Keeper>(
-    alloc: Global,
+    page: &mut Page,
     keeper: &mut K,
     schema: &Schema,
     words: &str,
@@ -82,15 +83,15 @@ fn insert<K: Keeper>(
     requires { IsOpen schema.now 1 (K.moment keeper.old) }
     ensures { OnOk result (IsOpen schema.now 1 (K.moment keeper.new)) }
 {
-    let statement = insert_of(alloc, schema, words)?;
-    match calls::write(alloc, keeper, schema, &statement) {
+    let statement = insert_of(page, schema, words)?;
+    match calls::write(page.alloc(), keeper, schema, &statement) {
         Ok(_keys) => Ok(()),
         Err(refusal) => Err(refusal),
     }
 }
 
 fn insert_all<K: Keeper>(
-    alloc: Global,
+    page: &mut Page,
     keeper: &mut K,
     schema: &Schema,
     rows: &str,
@@ -100,7 +101,7 @@ fn insert_all<K: Keeper>(
 {
     for words in rows.split(';') {
         if !words.is_empty() {
-            insert(alloc, keeper, schema, words)?;
+            insert(page, keeper, schema, words)?;
         }
     }
     Ok(())
@@ -108,7 +109,7 @@ fn insert_all<K: Keeper>(
 
 /// The keeper takes memory as its target, makes all tables, and has the rows of a line in a transaction.
 pub fn fill<K: Keeper>(
-    alloc: Global,
+    page: &mut Page,
     keeper: &mut K,
     schema: &Schema,
     rows: &str,
@@ -116,8 +117,9 @@ pub fn fill<K: Keeper>(
     requires { (K.moment keeper.old).target ≡ None }
     ensures { OnOk result (IsReady schema.now (K.moment keeper.new)) }
 {
+    let alloc = page.alloc();
     attach(alloc, keeper, schema)?;
     create_all(alloc, keeper, schema)?;
     begin(alloc, keeper, schema)?;
-    insert_all(alloc, keeper, schema, rows)
+    insert_all(page, keeper, schema, rows)
 }

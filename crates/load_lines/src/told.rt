@@ -5,10 +5,10 @@ use class_mapping::Mapping;
 use dialect_sqlite::compile;
 use expr_types::{CopiedIn, Select, Statement};
 use keeper_core::{Note, Notes, Sent};
+use notations::Page;
 use object_arena::{Arena, Cell, Link, Object};
-use printing::{RowText, ValueText};
 use sql_statements::has_cuts;
-use std::alloc::{AllocError, Global};
+use std::alloc::Global;
 use std::mem::drop;
 
 fn word_of(refusal: &Refusal) -> &'static str {
@@ -21,168 +21,132 @@ fn word_of(refusal: &Refusal) -> &'static str {
 }
 
 /// The objects that a load answered, or why it was refused.
-fn say_answer(
-    alloc: Global,
-    answer: &Result<ObjList, Refusal>,
-    said: &mut String,
-) -> Result<(), AllocError> {
-    said.push_str(": ")?;
+fn say_answer(answer: &Result<ObjList, Refusal>, page: &mut Page) {
+    page.put(": ");
     match answer {
         Ok(objects) => {
-            said.push_str("ok")?;
-            say_objects(alloc, objects, said)?;
+            page.put("ok");
+            say_objects(objects, page);
         }
-        Err(refusal) => said.push_str(word_of(refusal))?,
+        Err(refusal) => page.put(word_of(refusal)),
     }
-    said.push('\n')
+    page.push('\n');
 }
 
 /// A select's text in SQLite, with its values.
-fn say_select(
+fn say_text(
     alloc: Global,
     mapping: &Mapping,
     select: &Select,
-    said: &mut String,
+    page: &mut Page,
 ) -> Result<(), Refusal> {
     let statement = Statement::Select(select.copied_in(alloc)?);
     if !has_cuts(&statement) {
         return Ok(());
     }
     let compiled = compile(alloc, mapping.schema(), &statement)?;
-    let text = compiled.text.get();
-    let values = RowText(&compiled.values);
-    said.push_str(format!(in alloc; "  {text} {values}\n")?.as_str())?;
+    page.put("  ");
+    page.put(compiled.text.get());
+    page.put_row(" ", &compiled.values);
+    page.push('\n');
     Ok(())
 }
 
-fn say_note(
-    alloc: Global,
-    mapping: &Mapping,
-    note: &Note,
-    said: &mut String,
-) -> Result<(), Refusal> {
+fn say_note(mapping: &Mapping, note: &Note, page: &mut Page) {
     match note {
-        Note::Sent(Sent::Query(select)) => say_select(alloc, mapping, select, said),
-        Note::Filled(object) => {
-            let number = object.0;
-            said.push_str(format!(in alloc; "  filled {number}\n")?.as_str())?;
-            Ok(())
+        Note::Sent(Sent::Query(select)) => {
+            let done = say_text(page.alloc(), mapping, select, page);
+            page.note(done);
         }
-        _ => Ok(()),
+        Note::Filled(object) => {
+            page.put_number("  filled ", u64::from(object.0));
+            page.push('\n');
+        }
+        _ => {}
     }
-}
-
-fn say_load(
-    alloc: Global,
-    mapping: &Mapping,
-    act: &str,
-    answer: &Result<ObjList, Refusal>,
-    notes: &Notes,
-    said: &mut String,
-) -> Result<(), Refusal> {
-    said.push_str(act)?;
-    say_answer(alloc, answer, said)?;
-    for note in notes.as_slice() {
-        say_note(alloc, mapping, note, said)?;
-    }
-    Ok(())
 }
 
 /// What a load answered and noted. Both are let go.
 pub fn tell_load(
-    alloc: Global,
     mapping: &Mapping,
     act: &str,
     answer: Result<ObjList, Refusal>,
     notes: Notes,
-    said: &mut String,
-) -> Result<(), Refusal> {
-    let told = say_load(alloc, mapping, act, &answer, &notes, said);
+    page: &mut Page,
+) {
+    page.put(act);
+    say_answer(&answer, page);
+    for note in notes.as_slice() {
+        say_note(mapping, note, page);
+    }
     drop(answer);
     drop(notes);
-    told
 }
 
-fn say_objects(alloc: Global, objects: &ObjList, said: &mut String) -> Result<(), AllocError> {
+fn say_objects(objects: &ObjList, page: &mut Page) {
     for object in objects.as_slice() {
-        let number = object.0;
-        said.push_str(format!(in alloc; ",{number}")?.as_str())?;
+        page.put_number(",", u64::from(object.0));
     }
-    Ok(())
 }
 
 /// A letter, and two lists with a slash between them.
-fn say_lists(
-    alloc: Global,
-    letter: char,
-    one: &ObjList,
-    other: &ObjList,
-    said: &mut String,
-) -> Result<(), AllocError> {
-    said.push(letter)?;
-    say_objects(alloc, one, said)?;
-    said.push('/')?;
-    say_objects(alloc, other, said)
+fn say_lists(letter: char, one: &ObjList, other: &ObjList, page: &mut Page) {
+    page.push(letter);
+    say_objects(one, page);
+    page.push('/');
+    say_objects(other, page);
 }
 
-fn say_end(alloc: Global, end: Option<ObjId>, said: &mut String) -> Result<(), AllocError> {
+fn say_end(end: Option<ObjId>, page: &mut Page) {
     let number = match end {
         Some(end) => end.0,
         None => 0,
     };
-    said.push_str(format!(in alloc; "e{number}")?.as_str())
+    page.put_number("e", u64::from(number));
 }
 
-fn say_link(alloc: Global, link: &Link, said: &mut String) -> Result<(), AllocError> {
-    said.push(' ')?;
+fn say_link(link: &Link, page: &mut Page) {
+    page.push(' ');
     match link {
-        Link::Unset => said.push('.'),
-        Link::One { end, .. } => say_end(alloc, *end, said),
-        Link::Many { members, base } => say_lists(alloc, 'm', members, base, said),
-        Link::Unloaded { added, removed } => say_lists(alloc, 'u', added, removed, said),
+        Link::Unset => page.push('.'),
+        Link::One { end, .. } => say_end(*end, page),
+        Link::Many { members, base } => say_lists('m', members, base, page),
+        Link::Unloaded { added, removed } => say_lists('u', added, removed, page),
     }
 }
 
-fn say_cell(alloc: Global, cell: &Cell, said: &mut String) -> Result<(), AllocError> {
+fn say_cell(cell: &Cell, page: &mut Page) {
+    page.push(' ');
     match &cell.value {
         Some(value) => {
-            let value = ValueText(value);
-            said.push_str(format!(in alloc; " {value}")?.as_str())?;
+            page.put_value(value);
             if cell.base.is_none() {
-                said.push('*')?;
+                page.push('*');
             }
-            Ok(())
         }
-        None => said.push_str(" ?"),
+        None => page.push('?'),
     }
 }
 
-fn say_object(
-    alloc: Global,
-    number: u32,
-    object: &Object,
-    said: &mut String,
-) -> Result<(), AllocError> {
-    let class = object.class.0;
-    said.push_str(format!(in alloc; "{number} of {class}")?.as_str())?;
+fn say_object(number: u32, object: &Object, page: &mut Page) {
+    page.put_number("", u64::from(number));
+    page.put_number(" of ", u64::from(object.class.0));
     if let Some(key) = &object.identity {
-        let key = RowText(key);
-        said.push_str(format!(in alloc; " {key}")?.as_str())?;
+        page.put_row(" ", key);
     }
     for cell in object.cells.as_slice() {
-        say_cell(alloc, cell, said)?;
+        say_cell(cell, page);
     }
     for link in object.links.as_slice() {
-        say_link(alloc, link, said)?;
+        say_link(link, page);
     }
-    said.push('\n')
+    page.push('\n');
 }
 
 /// All objects.
-pub fn tell_objects(alloc: Global, arena: &Arena, said: &mut String) -> Result<(), AllocError> {
+pub fn tell_objects(arena: &Arena, page: &mut Page) {
     for number in 0..arena.count() {
         let object = arena.object(ObjId(number + 1));
-        say_object(alloc, number + 1, object, said)?;
+        say_object(number + 1, object, page);
     }
-    Ok(())
 }

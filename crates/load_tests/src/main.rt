@@ -27,14 +27,16 @@ mod owners;
 mod player;
 mod queries;
 
-use notations::answers;
+use notations::{Page, play_all};
 use player::Player;
 use std::alloc::{AllocError, Global};
 use std::io;
 
 fn played(alloc: Global, text: &str) -> Result<String, AllocError> {
     let mut player = Player::new(alloc)?;
-    answers(alloc, &mut player, text)
+    let mut page = Page::new(alloc);
+    play_all(&mut player, text, &mut page);
+    page.into_text()
 }
 
 fn main(rt: HostRuntime) -> io::Result<()> {

@@ -20,7 +20,7 @@ use load_lines::{
 };
 use load_selectin::load_selectin;
 use load_targets::load_lazy;
-use notations::{Reader, number};
+use notations::{Page, Plays, number, parted};
 use object_arena::Arena;
 use std::alloc::{AllocError, Global};
 use std::mem::{self, drop};
@@ -153,12 +153,11 @@ fn is_ended(answer: &Result<ObjList, Refusal>) -> bool
 
 /// Does an act that loads, and tells of it.
 fn tell<K: Keeper>(
-    alloc: Global,
     arena: &mut Arena,
     mapping: &Mapping,
     keeper: &mut K,
     act: &str,
-    shown: &mut String,
+    page: &mut Page,
 ) -> Result<(), Refusal>
     requires configured { mapping.now.configured ≡ true }
     requires fit { IsFit mapping.now arena.old }
@@ -166,10 +165,11 @@ fn tell<K: Keeper>(
     ensures stays { OnOk result (IsReady mapping.now.schema (K.moment keeper.new)) }
     ensures fits { IsFit mapping.now arena.new }
 {
+    let alloc = page.alloc();
     let mut notes = ListOf::new(alloc);
     let answer = load(alloc, arena, mapping, keeper, act, &mut notes);
     let has_ended = is_ended(&answer);
-    tell_load(alloc, mapping, act, answer, notes, shown)?;
+    tell_load(mapping, act, answer, notes, page);
     if has_ended {
         return Err(Refusal::Memory);
     }
@@ -178,12 +178,11 @@ fn tell<K: Keeper>(
 
 /// Does an act.
 fn step<K: Keeper>(
-    alloc: Global,
     arena: &mut Arena,
     mapping: &Mapping,
     keeper: &mut K,
     act: &str,
-    shown: &mut String,
+    page: &mut Page,
 ) -> Result<(), Refusal>
     requires configured { mapping.now.configured ≡ true }
     requires fit { IsFit mapping.now arena.old }
@@ -193,84 +192,80 @@ fn step<K: Keeper>(
 {
     let (letter, words) = first_word(act);
     match letter {
-        "h" | "k" | "s" | "c" => put(alloc, mapping, arena, letter, words),
-        _ => tell(alloc, arena, mapping, keeper, act, shown),
+        "h" | "k" | "s" | "c" => put(page, mapping, arena, letter, words),
+        _ => tell(arena, mapping, keeper, act, page),
     }
 }
 
 /// Does the acts of a line one after the other, and tells the objects then.
 fn play<K: Keeper>(
-    alloc: Global,
     mapping: &Mapping,
     arena: &mut Arena,
     keeper: &mut K,
     acts: &str,
-    shown: &mut String,
+    page: &mut Page,
 ) -> Result<(), Refusal>
     requires configured { mapping.now.configured ≡ true }
     requires fit { IsFit mapping.now arena.old }
     requires ready { IsReady mapping.now.schema (K.moment keeper.old) }
 {
     for act in acts.split(';') {
-        step(alloc, arena, mapping, keeper, act, shown)?;
+        step(arena, mapping, keeper, act, page)?;
     }
-    tell_objects(alloc, arena, shown)?;
+    tell_objects(arena, page);
     Ok(())
 }
 
 /// Plays the acts of a line over a keeper that has its rows.
 fn play_over<K: Keeper>(
-    alloc: Global,
     mapping: &Mapping,
     keeper: &mut K,
     line: &str,
-    shown: &mut String,
+    page: &mut Page,
 ) -> Result<(), Refusal>
     requires configured { mapping.now.configured ≡ true }
     requires fresh { (K.moment keeper.old).target ≡ None }
 {
-    let (rows, acts) = line.split_once('#').unwrap_or((line, ""));
-    fill(alloc, keeper, mapping.schema(), rows)?;
-    let mut arena = Arena::new(alloc);
-    play(alloc, mapping, &mut arena, keeper, acts, shown)
+    let (rows, acts) = parted(line, '#');
+    fill(page, keeper, mapping.schema(), rows)?;
+    let mut arena = Arena::new(page.alloc());
+    play(mapping, &mut arena, keeper, acts, page)
 }
 
 /// A line over a mapping, what it has told when it was played, and whether it was refused.
 #[derive(Drop)]
 struct Line<'x> {
-    alloc: Global,
     mapping: &'x Mapping,
     line: &'x str,
-    shown: String,
+    page: Page,
     refused: bool,
 }
 
 impl OverKeepers for Line<'_> {
     fn run<K: Keeper>(&mut self, keeper: &mut K) {
         self.refused = !self.mapping.is_configured()
-            || play_over(self.alloc, self.mapping, keeper, self.line, &mut self.shown).is_err();
+            || play_over(self.mapping, keeper, self.line, &mut self.page).is_err();
     }
 }
 
 /// Plays a line over a keeper in memory.
-fn play_line(
-    alloc: Global,
-    mapping: &Mapping,
-    line: &str,
-    shown: &mut String,
-) -> Result<(), Refusal> {
+fn play_line(mapping: &Mapping, line: &str, page: &mut Page) {
+    let alloc = page.alloc();
     let mut played = Line {
-        alloc,
         mapping,
         line,
-        shown: String::new(alloc),
+        page: Page::new(alloc),
         refused: false,
     };
-    over_memory(alloc, &[], &mut played)?;
+    let done = over_memory(alloc, &[], &mut played);
+    page.note(done);
+    page.lack_of(&played.page);
     if played.refused {
-        return Err(Refusal::NotBuilt);
+        page.put("refused");
+    } else {
+        page.put(played.page.text());
     }
-    Ok(shown.push_str(played.shown.as_str())?)
+    page.push('\n');
 }
 
 impl Player {
@@ -280,18 +275,25 @@ impl Player {
             mapping: Box::new(alloc, Mapping::new(alloc))?,
         })
     }
+
+    /// Declares what lines say, in the place of what was declared.
+    fn declare(&mut self, alloc: Global, lines: &str) -> Result<(), Refusal> {
+        let mapping = Box::new(alloc, Mapping::new(alloc))?;
+        drop(mem::replace(&mut self.mapping, mapping));
+        let hooks = Hooks::new(alloc);
+        declare_all(alloc, &hooks, &mut *self.mapping, lines)
+    }
 }
 
-impl Reader for Player {
-    fn answer(&mut self, alloc: Global, line: &str, shown: &mut String) -> Result<(), Refusal> {
-        if let Some(lines) = line.strip_prefix('=') {
-            let mapping = Box::new(alloc, Mapping::new(alloc))?;
-            drop(mem::replace(&mut self.mapping, mapping));
-            let hooks = Hooks::new(alloc);
-            return declare_all(alloc, &hooks, &mut *self.mapping, lines);
+impl Plays for Player {
+    fn play(&mut self, line: &str, page: &mut Page) {
+        match line.strip_prefix('=') {
+            Some(lines) => {
+                if self.declare(page.alloc(), lines).is_err() {
+                    page.put("refused\n");
+                }
+            }
+            None => play_line(&*self.mapping, line, page),
         }
-        play_line(alloc, &*self.mapping, line, shown)?;
-        shown.push('\n')?;
-        Ok(())
     }
 }

@@ -6,7 +6,6 @@ mod page;
 mod tables;
 mod words;
 
-pub use lines::{Plays, Reader, answers, play_all};
+pub use lines::{Plays, play_all};
 pub use page::Page;
-pub use tables::table_of;
 pub use words::{name, named, number, parted, row, value};

@@ -4,7 +4,6 @@ use crate::page::Page;
 use crate::words::parted;
 use base_core::{ColumnNo, ListOf, TableId};
 use schema_core::{ColumnKind, ColumnSpec, ForeignSpec, RowCell, Schema, TableSpec};
-use std::alloc::{AllocError, Global};
 
 fn kind(letters: &str) -> ColumnKind {
     if let Some((_, length)) = letters.split_once('v') {
@@ -107,14 +106,4 @@ impl Page {
         let name = self.name(word);
         schema.find(&name).unwrap_or(TableId(u32::MAX))
     }
-}
-
-/// The table of a name; where there is none, a number that no table has.
-///
-/// # Errors
-/// Memory ran out.
-pub fn table_of(alloc: Global, schema: &Schema, word: &str) -> Result<TableId, AllocError> {
-    let mut page = Page::new(alloc);
-    let table = page.table_of(schema, word);
-    page.given(table)
 }

@@ -11,7 +11,7 @@ use base_core::Refusal;
 use class_types::Hooks;
 use command_resolve::{Answer, resolve};
 use keeper_core::{Keeper, calls};
-use notations::name;
+use notations::{Page, name};
 use session_perform::perform;
 use session_scopes::Session;
 use shell_lines::{Desk, Said};
@@ -69,33 +69,28 @@ fn answer_to<K: Keeper>(
 }
 
 /// A reply goes behind what is shown.
-fn show(reply: &Reply, shown: &mut String) -> Result<(), Refusal> {
-    let text = std::str::from_utf8(reply.bytes()).unwrap_or("no text\n");
-    Ok(shown.push_str(text)?)
+fn show(reply: &Reply, page: &mut Page) {
+    page.put(std::str::from_utf8(reply.bytes()).unwrap_or("no text\n"));
 }
 
 /// Tells of an answer.
 #[tactic(auto, using(crate::proofs::Naming::telling))]
-fn tell(
-    alloc: Global,
-    session: &Session,
-    answer: &Answer,
-    shown: &mut String,
-) -> Result<(), Refusal>
+fn tell(session: &Session, answer: &Answer, page: &mut Page)
     requires { IsAnswerAt (Configured session.now) answer.now }
 {
-    let reply = reply_of(alloc, session.mapping(), answer)?;
-    show(&reply, shown)
+    match reply_of(page.alloc(), session.mapping(), answer) {
+        Ok(reply) => show(&reply, page),
+        Err(_) => page.lack(),
+    }
 }
 
 /// Tells of an answer, or binds what it says is to be bound.
 #[tactic(auto, using(crate::proofs::Naming::naming))]
 fn take(
-    alloc: Global,
     session: &Session,
     names: &mut Names,
     answer: Answer,
-    shown: &mut String,
+    page: &mut Page,
 ) -> Result<(), Refusal>
     requires there { IsAnswerAt (Configured session.now) answer }
     requires named { AreNamed session.now names.old }
@@ -107,9 +102,9 @@ fn take(
             Ok(())
         }
         told => {
-            let done = tell(alloc, session, &told, shown);
+            tell(session, &told, page);
             drop(told);
-            done
+            Ok(())
         }
     }
 }
@@ -173,7 +168,7 @@ fn step<K: Keeper>(
     session: &mut Session,
     keeper: &mut K,
     line: &str,
-    shown: &mut String,
+    page: &mut Page,
 ) -> Result<(), Refusal>
     requires in_step { IsInStep session.old (K.moment keeper.old) }
     requires named { AreNamed session.old names.old }
@@ -184,24 +179,19 @@ fn step<K: Keeper>(
         return relate(alloc, hooks, desk, names, session, keeper, word, link);
     }
     let answer = answer_to(alloc, hooks, desk, names, session, keeper, line)?;
-    take(alloc, session, names, answer, shown)
+    take(session, names, answer, page)
 }
 
 /// Tells why the line of this number is refused.
-fn tell_refusal(
-    alloc: Global,
-    session: &Session,
-    number: u32,
-    refusal: &Refusal,
-    shown: &mut String,
-) -> Result<(), Refusal> {
-    let mut reply = Reply::new(alloc);
+fn tell_refusal(session: &Session, number: u32, refusal: &Refusal, page: &mut Page) {
+    let mut reply = Reply::new(page.alloc());
     let names = SessionNames {
         mapping: session.mapping(),
         arena: session.arena(),
     };
-    reply.put_error(number, refusal, &names)?;
-    show(&reply, shown)
+    let done = reply.put_error(number, refusal, &names);
+    page.note(done);
+    show(&reply, page);
 }
 
 /// Does a line, and tells what it answers, or why it is refused.
@@ -213,22 +203,22 @@ fn tell_line<K: Keeper>(
     session: &mut Session,
     keeper: &mut K,
     line: &str,
-    shown: &mut String,
+    page: &mut Page,
 ) -> Result<(), Refusal>
     requires in_step { IsInStep session.old (K.moment keeper.old) }
     requires named { AreNamed session.old names.old }
     ensures stays { OnOk result (IsInStep session.new (K.moment keeper.new)) }
     ensures named { AreNamed session.new names.new }
 {
-    match step(alloc, hooks, desk, names, session, keeper, line, shown) {
+    match step(alloc, hooks, desk, names, session, keeper, line, page) {
         Ok(()) => Ok(()),
         Err(refusal) => {
             if calls::ends_early(&refusal) {
                 return Err(refusal);
             }
-            let done = tell_refusal(alloc, session, desk.line(), &refusal, shown);
+            tell_refusal(session, desk.line(), &refusal, page);
             drop(refusal);
-            done
+            Ok(())
         }
     }
 }
@@ -242,13 +232,13 @@ pub(crate) fn play<K: Keeper>(
     session: &mut Session,
     keeper: &mut K,
     lines: &str,
-    shown: &mut String,
+    page: &mut Page,
 ) -> Result<(), Refusal>
     requires in_step { IsInStep session.old (K.moment keeper.old) }
     requires named { AreNamed session.old names.old }
 {
     for line in lines.lines() {
-        tell_line(alloc, hooks, desk, names, session, keeper, line, shown)?;
+        tell_line(alloc, hooks, desk, names, session, keeper, line, page)?;
     }
     Ok(())
 }

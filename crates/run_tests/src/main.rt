@@ -17,24 +17,18 @@ mod player;
 mod runs;
 mod scripts;
 
-use base_core::Refusal;
-use notations::answers;
+use notations::{Page, play_all};
 use player::Player;
-use scripts::play_all;
 use std::alloc::{AllocError, Global};
 use std::io;
 
-/// What is written for the runs.
-fn play_runs(alloc: Global, text: &str) -> Result<String, AllocError> {
-    answers(alloc, &mut Player::new(alloc), text)
-}
-
 /// What is written for the runs and then for the sessions.
-fn told(alloc: Global, text: &str) -> Result<String, Refusal> {
+fn told(alloc: Global, text: &str) -> Result<String, AllocError> {
     let (runs, sessions) = text.split_once("==== sessions\n").unwrap_or((text, ""));
-    let mut shown = play_runs(alloc, runs)?;
-    play_all(alloc, sessions, &mut shown)?;
-    Ok(shown)
+    let mut page = Page::new(alloc);
+    play_all(&mut Player::new(alloc), runs, &mut page);
+    scripts::play_all(sessions, &mut page);
+    page.into_text()
 }
 
 fn main(rt: HostRuntime) -> io::Result<()> {

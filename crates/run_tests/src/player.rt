@@ -2,8 +2,8 @@
 
 use crate::runs::{Differs, Failing, Outcome, failed_at, nothing, run_once};
 use base_core::Refusal;
-use notations::Reader;
-use std::alloc::{AllocError, Global};
+use notations::{Page, Plays, parted};
+use std::alloc::Global;
 use std::mem;
 
 /// The script so far, its words, and what is to fail.
@@ -15,61 +15,68 @@ pub(crate) struct Player {
 }
 
 /// Numbers with blanks between them.
-fn numbers(alloc: Global, text: &str) -> Result<Vec<u64>, AllocError> {
-    let mut numbers = Vec::new(alloc);
+fn numbers(text: &str, page: &mut Page) -> Vec<u64> {
+    let mut numbers = Vec::new(page.alloc());
     for word in text.split_whitespace() {
-        numbers.push(word.parse::<u64>().unwrap_or(0))?;
+        let done = numbers.push(word.parse::<u64>().unwrap_or(0));
+        page.note(done);
     }
-    Ok(numbers)
+    numbers
 }
 
-fn words_of(alloc: Global, text: &str) -> Result<Vec<String>, AllocError> {
-    let mut words = Vec::new(alloc);
+fn words_of(text: &str, page: &mut Page) -> Vec<String> {
+    let mut words = Vec::new(page.alloc());
     for word in text.split_whitespace() {
-        words.push(String::from_str(alloc, word)?)?;
+        let mut copy = String::new(page.alloc());
+        let done = copy.push_str(word);
+        page.note(done);
+        let done = words.push(copy);
+        page.note(done);
     }
-    Ok(words)
+    words
 }
 
 /// What a run wrote, and its status.
-fn say_outcome(alloc: Global, outcome: &Outcome, shown: &mut String) -> Result<(), AllocError> {
-    let text = std::str::from_utf8(outcome.written.as_slice()).unwrap_or("no text\n");
-    let status = outcome.status.code();
-    shown.push_str(format!(in alloc; "{text}status {status}\n")?.as_str())
+fn say_outcome(outcome: &Outcome, page: &mut Page) {
+    page.put(std::str::from_utf8(outcome.written.as_slice()).unwrap_or("no text\n"));
+    page.put_number("status ", u64::from(outcome.status.code()));
+    page.push('\n');
 }
 
 /// The status of all runs before the one that is whole, or the first run that differs from the one before it.
 fn each(
-    alloc: Global,
     words: &Vec<String>,
     script: &str,
     whole: &Outcome,
     kind: &str,
-    shown: &mut String,
+    page: &mut Page,
 ) -> Result<(), Refusal> {
+    let alloc = page.alloc();
     let first = failed_at(alloc, words, script, whole, kind, 1)?;
     for number in 2..1000 {
         let differs = failed_at(alloc, words, script, whole, kind, number)?;
         if differs != first {
-            return Ok(say_each(alloc, kind, first, differs, number, shown)?);
+            say_each(kind, first, differs, number, page);
+            return Ok(());
         }
     }
-    Ok(shown.push_str("no run is whole\n")?)
+    page.put("no run is whole\n");
+    Ok(())
 }
 
-fn say_each(
-    alloc: Global,
-    kind: &str,
-    first: Differs,
-    last: Differs,
-    number: u64,
-    shown: &mut String,
-) -> Result<(), AllocError> {
+fn say_each(kind: &str, first: Differs, last: Differs, number: u64, page: &mut Page) {
     match (first, last) {
         (Differs::Ended(status), Differs::No) => {
-            shown.push_str(format!(in alloc; "each {kind}: status {status}\n")?.as_str())
+            page.put("each ");
+            page.put(kind);
+            page.put_number(": status ", u64::from(status));
+            page.push('\n');
         }
-        _ => shown.push_str(format!(in alloc; "{kind} {number} is answered otherwise\n")?.as_str()),
+        _ => {
+            page.put(kind);
+            page.put_number(" ", number);
+            page.put(" is answered otherwise\n");
+        }
     }
 }
 
@@ -84,53 +91,60 @@ impl Player {
     }
 
     /// Begins another script.
-    fn restart(&mut self, alloc: Global, line: &str, shown: &mut String) -> Result<(), AllocError> {
-        drop(mem::replace(self, Player::new(alloc)));
-        shown.push_str(line)?;
-        shown.push('\n')
+    fn restart(&mut self, line: &str, page: &mut Page) {
+        drop(mem::replace(self, Player::new(page.alloc())));
+        page.put(line);
+        page.push('\n');
     }
 
-    fn run(&self, alloc: Global, shown: &mut String) -> Result<(), Refusal> {
-        let outcome = run_once(alloc, &self.words, self.script.as_str(), &self.failing)?;
-        Ok(say_outcome(alloc, &outcome, shown)?)
-    }
-
-    fn run_each(&self, alloc: Global, kind: &str, shown: &mut String) -> Result<(), Refusal> {
-        let whole = run_once(alloc, &self.words, self.script.as_str(), &nothing(alloc))?;
-        each(
-            alloc,
+    fn run(&self, page: &mut Page) -> Result<(), Refusal> {
+        let outcome = run_once(
+            page.alloc(),
             &self.words,
             self.script.as_str(),
-            &whole,
-            kind,
-            shown,
-        )
+            &self.failing,
+        )?;
+        say_outcome(&outcome, page);
+        Ok(())
+    }
+
+    fn run_each(&self, kind: &str, page: &mut Page) -> Result<(), Refusal> {
+        let alloc = page.alloc();
+        let whole = run_once(alloc, &self.words, self.script.as_str(), &nothing(alloc))?;
+        each(&self.words, self.script.as_str(), &whole, kind, page)
     }
 
     /// Takes a line that tells what is to be run.
-    fn tell(&mut self, alloc: Global, word: &str, text: &str) -> Result<(), AllocError> {
+    fn tell(&mut self, word: &str, text: &str, page: &mut Page) {
         match word {
             ">" => {
-                self.script.push_str(text)?;
-                return self.script.push('\n');
+                let done = self.script.push_str(text);
+                page.note(done);
+                let done = self.script.push('\n');
+                page.note(done);
             }
-            "words" => drop(mem::replace(&mut self.words, words_of(alloc, text)?)),
-            "reads" => drop(mem::replace(&mut self.failing.reads, numbers(alloc, text)?)),
-            "writes" => drop(mem::replace(&mut self.failing.writes, numbers(alloc, text)?)),
-            _ => drop(mem::replace(&mut self.failing.calls, numbers(alloc, text)?)),
+            "words" => drop(mem::replace(&mut self.words, words_of(text, page))),
+            "reads" => drop(mem::replace(&mut self.failing.reads, numbers(text, page))),
+            "writes" => drop(mem::replace(&mut self.failing.writes, numbers(text, page))),
+            _ => drop(mem::replace(&mut self.failing.calls, numbers(text, page))),
         }
-        Ok(())
     }
 }
 
-impl Reader for Player {
-    fn answer(&mut self, alloc: Global, line: &str, shown: &mut String) -> Result<(), Refusal> {
-        let (word, text) = line.split_once(' ').unwrap_or((line, ""));
+impl Plays for Player {
+    fn play(&mut self, line: &str, page: &mut Page) {
+        let (word, text) = parted(line, ' ');
         match word {
-            "#" => Ok(self.restart(alloc, line, shown)?),
-            "run" => self.run(alloc, shown),
-            "each" => self.run_each(alloc, text, shown),
-            _ => Ok(self.tell(alloc, word, text)?),
+            "#" => self.restart(line, page),
+            "run" => {
+                let done = self.run(page);
+                page.note(done);
+            }
+            "each" => {
+                let done = self.run_each(text, page);
+                page.note(done);
+            }
+            _ => self.tell(word, text, page),
         }
     }
 }

@@ -9,6 +9,7 @@ use class_mapping::Mapping;
 use class_types::Hooks;
 use keeper_core::{Keeper, Target};
 use keeper_mem::{OverKeepers, over_memory};
+use notations::Page;
 use session_scopes::Session;
 use shell_lines::{Desk, Said};
 use shell_parts::Names;
@@ -56,7 +57,7 @@ fn play_session<K: Keeper>(
     keeper: &mut K,
     mapping: Mapping,
     lines: &str,
-    shown: &mut String,
+    page: &mut Page,
 ) -> Result<(), Refusal>
     requires configured { mapping.configured ≡ true }
     requires outside { HasDepth 0 (K.moment keeper.old) }
@@ -71,7 +72,7 @@ fn play_session<K: Keeper>(
         &mut session,
         keeper,
         lines,
-        shown,
+        page,
     )
 }
 
@@ -81,7 +82,7 @@ fn play_over<K: Keeper>(
     hooks: &Hooks,
     keeper: &mut K,
     script: &str,
-    shown: &mut String,
+    page: &mut Page,
 ) -> Result<(), Refusal>
     requires { HasDepth 0 (K.moment keeper.old) }
 {
@@ -92,7 +93,7 @@ fn play_over<K: Keeper>(
     if !mapping.is_configured() {
         return Err(Refusal::NotBuilt);
     }
-    play_session(alloc, hooks, &mut desk, keeper, mapping, lines, shown)
+    play_session(alloc, hooks, &mut desk, keeper, mapping, lines, page)
 }
 
 /// The keeper takes memory as its target.
@@ -112,53 +113,51 @@ fn play_fresh<K: Keeper>(
     hooks: &Hooks,
     keeper: &mut K,
     script: &str,
-    shown: &mut String,
+    page: &mut Page,
 ) -> Result<(), Refusal>
     requires { (K.moment keeper.old).target ≡ None }
 {
     attach(alloc, keeper)?;
-    play_over(alloc, hooks, keeper, script, shown)
+    play_over(alloc, hooks, keeper, script, page)
 }
 
 /// A script, and what it has told when it was played, and whether it was refused.
 #[derive(Drop)]
 struct Script<'x> {
-    alloc: Global,
     script: &'x str,
-    shown: String,
+    page: Page,
     refused: bool,
 }
 
 impl OverKeepers for Script<'_> {
     fn run<K: Keeper>(&mut self, keeper: &mut K) {
-        let hooks = Hooks::new(self.alloc);
-        self.refused = match play_fresh(self.alloc, &hooks, keeper, self.script, &mut self.shown) {
-            Ok(()) => false,
-            Err(_) => true,
-        };
+        let alloc = self.page.alloc();
+        let hooks = Hooks::new(alloc);
+        self.refused = play_fresh(alloc, &hooks, keeper, self.script, &mut self.page).is_err();
     }
 }
 
 /// Plays a script over a keeper in memory.
-fn play_script(alloc: Global, script: &str, shown: &mut String) -> Result<(), Refusal> {
+fn play_script(script: &str, page: &mut Page) {
+    let alloc = page.alloc();
     let mut played = Script {
-        alloc,
         script,
-        shown: String::new(alloc),
+        page: Page::new(alloc),
         refused: false,
     };
-    over_memory(alloc, &[], &mut played)?;
+    let done = over_memory(alloc, &[], &mut played);
+    page.note(done);
+    page.lack_of(&played.page);
+    page.put(played.page.text());
     if played.refused {
-        return Err(Refusal::NotBuilt);
+        page.put("refused\n");
     }
-    Ok(shown.push_str(played.shown.as_str())?)
 }
 
 /// Plays scripts, and writes `----` behind the answers of each.
-pub(crate) fn play_all(alloc: Global, text: &str, shown: &mut String) -> Result<(), Refusal> {
+pub(crate) fn play_all(text: &str, page: &mut Page) {
     for script in text.split("----\n") {
-        play_script(alloc, script, shown)?;
-        shown.push_str("----\n")?;
+        play_script(script, page);
+        page.put("----\n");
     }
-    Ok(())
 }
