@@ -10,7 +10,7 @@ use Rattle.script_resolve.specs.Sayable.{is_sayable_bulk, is_sayable_select}
 use Rattle.script_resolve.specs.Selects.{resolved_select, select_faults}
 use Rattle.script_resolve.proofs.PlainSelect.{typed_select}
 use Rattle.script_resolve.proofs.Whole.{answered, bulk_fits, resolved_plain}
-use Rattle.script_names.specs.SelectNames.{named_select}
+use Rattle.statement_names.specs.SelectNames.{named_select}
 use Rattle.select_laws.proofs.SameAnswers.{answers_same}
 use Rattle.expr_types.specs.NormalSelect.{normal_select}
 use Rattle.sql_semantics.specs.Eval.{Tables}

@@ -13,7 +13,7 @@ use Rattle.script_types.specs.declared.command.Command.TheVariants as c
 use Rattle.script_types.specs.declared.command.Inside.{Inside}
 use Rattle.script_types.specs.declared.select.SynBulk.{SynBulk}
 use Rattle.script_types.specs.declared.select.SynSelect.{SynSelect}
-use Rattle.script_names.specs.SelectNames.{named_select}
+use Rattle.statement_names.specs.SelectNames.{named_select}
 use Rattle.script_read.specs.Line.{line}
 use Rattle.script_resolve.specs.Bulks.{resolved_bulk}
 use Rattle.script_resolve.specs.Sayable.{is_sayable_bulk, is_sayable_select}

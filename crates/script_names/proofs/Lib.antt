@@ -3,4 +3,3 @@ pub mod Places
 pub mod Folds
 pub mod Operands
 pub mod Equations
-pub mod Joins

@@ -7,7 +7,7 @@ use base_core::Refusal;
 
 /// Both parts, or the first refusal of the two. One exit in place of two, at which no tree is held that its caller would have
 /// to drop.
-pub(crate) fn pair<A: Drop, B: Drop>(
+pub fn pair<A: Drop, B: Drop>(
     a: Result<A, Refusal>,
     b: Result<B, Refusal>,
 ) -> Result<(A, B), Refusal>

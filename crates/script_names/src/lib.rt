@@ -1,12 +1,11 @@
-//! Names of selects and bulk statements: numbers of tables, sources and columns in their place, or the first name that
-//! stands for nothing.
+//! Names of expressions: the sources in scope, and numbers of tables, sources and columns in the place of their names, or the
+//! first name that stands for nothing.
 #![tactic(auto)]
 
-mod bulk;
 mod faults;
 mod naming;
 mod scope;
-mod select;
 
-pub use bulk::name_bulk;
-pub use select::name_select;
+pub use faults::pair;
+pub use naming::{expression_named, expressions_named, named_if_given, origin_named, pairs_named};
+pub use scope::{Scope, enter, find_column, table_named, unknown};

@@ -20,7 +20,10 @@ use sqlite_items::{Boxed, Items};
 use std::alloc::Global;
 
 /// A source whose table is declared.
-pub(crate) fn origin_named(schema: &Schema, source: &SynSource) -> Result<Origin, Refusal>
+///
+/// # Errors
+/// `Unknown` of a table that is not declared, or `Memory`.
+pub fn origin_named(schema: &Schema, source: &SynSource) -> Result<Origin, Refusal>
     ensures value { IfOk result (λ said. said ≡ spec.named_origin schema.now source.now) }
     ensures told { TellsFirst (spec.source_faults schema.now source.now) result }
 {
@@ -42,9 +45,13 @@ fn takes(function: Func, count: usize) -> bool
 }
 
 /// An expression with numbers for its names.
+///
+/// # Errors
+/// The first in reading order: `Unknown` of a name that stands for nothing, and behind its operands `WrongKind` of a function
+/// that takes another number; or `Memory`.
 #[tactic(auto, unfolding(crate::specs::Naming::name_faults, crate::specs::Naming::named_expression), using(crate::proofs::Firsts::firsts, crate::proofs::Equations::of_lists))]
 #[cycle(names)]
-pub(crate) fn expression_named(
+pub fn expression_named(
     alloc: Global,
     schema: &Schema,
     scope: &[(u32, SynSource)],
@@ -220,9 +227,9 @@ fn exists(
     Ok(Expr::Exists(false, origin, condition))
 }
 
-/// An expression that may be left out.
+/// An expression that may be left out. Its refusals are those of `expression_named`.
 #[tactic(auto, using(crate::proofs::Firsts::firsts))]
-pub(crate) fn named_if_given(
+pub fn named_if_given(
     alloc: Global,
     schema: &Schema,
     scope: &[(u32, SynSource)],
@@ -239,8 +246,8 @@ pub(crate) fn named_if_given(
     }
 }
 
-/// Expressions, from left to right.
-pub(crate) fn expressions_named(
+/// Expressions, from left to right. The refusals are those of `expression_named`, of which the first is told.
+pub fn expressions_named(
     alloc: Global,
     schema: &Schema,
     scope: &[(u32, SynSource)],
@@ -254,9 +261,10 @@ pub(crate) fn expressions_named(
     all(alloc, schema, scope, es)
 }
 
-/// Expressions that have something beside them, from left to right.
+/// Expressions that have something beside them, from left to right. The refusals are those of `expression_named`, of which
+/// the first is told.
 #[tactic(auto, using(crate::proofs::Firsts::firsts))]
-pub(crate) fn pairs_named<B: Copied + Drop>(
+pub fn pairs_named<B: Copied + Drop>(
     alloc: Global,
     schema: &Schema,
     scope: &[(u32, SynSource)],

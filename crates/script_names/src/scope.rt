@@ -17,10 +17,10 @@ use script_types::SynSource;
 use std::alloc::{AllocError, Global};
 
 /// Sources, each behind its place, in the order in which a name is looked for.
-pub(crate) type Scope = Vec<(u32, SynSource)>;
+pub type Scope = Vec<(u32, SynSource)>;
 
 /// One more source, behind the others. The only refusal is `Memory`; a place past 32 bits is none.
-pub(crate) fn enter(scope: &mut Scope, source: &SynSource) -> Result<(), Refusal>
+pub fn enter(scope: &mut Scope, source: &SynSource) -> Result<(), Refusal>
     ensures scope { OnOk result (scope.new.items
         ≡ scope.old.items ++ (length scope.old.items, source.now) ∷ []) }
     ensures cause { IfErr result (λ e. e ≡ Memory) }
@@ -30,19 +30,6 @@ pub(crate) fn enter(scope: &mut Scope, source: &SynSource) -> Result<(), Refusal
     };
     scope.push((place, source.copied()?))?;
     Ok(())
-}
-
-/// The scope of a statement over these sources. The only refusal is `Memory`.
-#[tactic(auto, using(crate::proofs::Places::outer_scope_push))]
-pub(crate) fn outer_scope(alloc: Global, sources: &[SynSource]) -> Result<Scope, Refusal>
-    ensures scope { IfOk result (λ scope. scope.items ≡ spec.outer_scope sources.now) }
-    ensures cause { IfErr result (λ e. e ≡ Memory) }
-{
-    let mut scope = Vec::new(alloc);
-    for source in sources {
-        enter(&mut scope, source)?;
-    }
-    Ok(scope)
 }
 
 /// The scope inside an `exists` over this source. The only refusal is `Memory`.
@@ -90,7 +77,7 @@ fn place_of(columns: &[ColumnSpec], name: &Name) -> Option<usize>
 }
 
 /// The column of a name. The only refusal is `Memory`; a place past 32 bits is none.
-pub(crate) fn find_column(table: &TableSpec, name: &Name) -> Result<Option<ColumnNo>, Refusal>
+pub fn find_column(table: &TableSpec, name: &Name) -> Result<Option<ColumnNo>, Refusal>
     ensures found { IfOk result (λ found. found ≡ spec.find_column table.now name.now) }
     ensures cause { IfErr result (λ e. e ≡ Memory) }
 {
@@ -103,16 +90,19 @@ pub(crate) fn find_column(table: &TableSpec, name: &Name) -> Result<Option<Colum
     }
 }
 
-/// `Unknown` of a name.
-pub(crate) fn unknown(name: &Name) -> Result<Refusal, AllocError>
+/// `Unknown` of a name. It fails where memory runs out.
+pub fn unknown(name: &Name) -> Result<Refusal, AllocError>
     ensures { IfOk result (λ e. e ≡ InvalidRequestError (Unknown name.now)) }
 {
     Ok(Refusal::InvalidRequestError(RequestKind::Unknown(name.copied()?)))
 }
 
 /// The table of a name, which is to be declared.
+///
+/// # Errors
+/// `Unknown` of a name that no table has, or `Memory`.
 #[tactic(auto, using(crate::proofs::Places::found_is_table))]
-pub(crate) fn table_named(schema: &Schema, name: &Name) -> Result<TableId, Refusal>
+pub fn table_named(schema: &Schema, name: &Name) -> Result<TableId, Refusal>
     ensures value { IfOk result (λ said. said ≡ naming.table_number schema.now name.now) }
     ensures told { TellsFirst (naming.table_faults schema.now name.now) result }
     ensures declared { IfOk result (IsTable schema.now) }

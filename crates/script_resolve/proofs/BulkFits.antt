@@ -29,7 +29,7 @@ use Rattle.select_laws.proofs.KeptKinds.{kind_kept}
 use Rattle.select_laws.proofs.KeptLists.{lists_kept}
 use Rattle.select_laws.proofs.KeptPlain.{fits_kept}
 use Rattle.script_types.specs.declared.expression.Syn.{Syn}
-use Rattle.script_names.specs.BulkNames.{cell_faults, cells_faults, column_faults, column_number, columns_faults, named_cell, scope_alone}
+use Rattle.statement_names.specs.BulkNames.{cell_faults, cells_faults, column_faults, column_number, columns_faults, named_cell, scope_alone}
 use Rattle.script_names.specs.Faults.{fault_if, faults_if_given}
 use Rattle.script_names.specs.Naming.{name_faults, named_expression, table_number, unknown_name}
 use Rattle.script_names.specs.Scopes.{Scope, find_column}

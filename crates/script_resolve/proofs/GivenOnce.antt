@@ -11,7 +11,7 @@ use Rattle.sql_semantics.specs.Plain.{are_apart, has_column}
 use Rattle.expr_types.specs.declared.expr.Expr.{Expr}
 use Rattle.expr_types.specs.NormalSelect.{normal_where}
 use Rattle.script_types.specs.declared.expression.Syn.{Syn}
-use Rattle.script_names.specs.BulkNames.{cell_faults, cells_faults, column_faults, column_number, columns_faults, named_cell}
+use Rattle.statement_names.specs.BulkNames.{cell_faults, cells_faults, column_faults, column_number, columns_faults, named_cell}
 use Rattle.script_names.specs.Faults.{faults_if_given}
 use Rattle.script_names.specs.Naming.{name_faults}
 use Rattle.script_names.specs.Scopes.{Scope, find_column}

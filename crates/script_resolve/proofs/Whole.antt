@@ -32,12 +32,12 @@ use Rattle.script_types.specs.declared.select.SynJoin.{SynJoin}
 use Rattle.script_types.specs.declared.select.SynSelect.{SynSelect}
 use Rattle.script_types.specs.declared.select.SynBulk.{SynBulk}
 use Rattle.script_types.specs.declared.select.SynBulk.TheVariants as written
-use Rattle.script_names.specs.BulkNames.{bulk_name_faults, cell_faults, cells_faults, column_faults, columns_faults, delete_faults, insert_faults, named_bulk, named_cell, scope_alone, spec_named, update_faults}
+use Rattle.statement_names.specs.BulkNames.{bulk_name_faults, cell_faults, cells_faults, column_faults, columns_faults, delete_faults, insert_faults, named_bulk, named_cell, scope_alone, spec_named, update_faults}
 use Rattle.script_names.specs.Faults.{IsFirst, fault_if, faults_if_given, unless}
 use Rattle.script_names.proofs.Firsts.{gives_told}
 use Rattle.script_names.specs.Naming.{faults_in, name_faults, named_expression, source_faults, table_faults, table_number, unknown_name}
 use Rattle.script_names.specs.Scopes.{Scope, find_column, outer_scope}
-use Rattle.script_names.specs.SelectNames.{faults_under, join_faults, joins_faults, named_select, scope_written, select_name_faults}
+use Rattle.statement_names.specs.SelectNames.{faults_under, join_faults, joins_faults, named_select, scope_written, select_name_faults}
 use Rattle.plain_statements.specs.Tested.{names_alone}
 use Rattle.statement_judging.specs.Bulks.{bulk_mismatches, bulk_place_faults, cell_mismatch, expressions_in, judged_bulk, value_faults, values_faults}
 use Rattle.statement_judging.specs.Judging.{has_names_apart, has_parts_in_place, join_mismatches, judged_select, mismatch, mismatch_for, mismatches, mismatches_under, place_faults}

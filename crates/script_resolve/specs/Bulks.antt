@@ -6,7 +6,7 @@ use Rattle.expr_types.specs.declared.select.Bulk.{Bulk}
 use Rattle.expr_types.specs.declared.select.Bulk.TheVariants.{Insert, Update, Delete}
 use Rattle.sql_semantics.specs.Plain.{are_apart}
 use Rattle.script_types.specs.declared.select.SynBulk.{SynBulk}
-use Rattle.script_names.specs.BulkNames.{bulk_name_faults, named_bulk}
+use Rattle.statement_names.specs.BulkNames.{bulk_name_faults, named_bulk}
 use Rattle.script_names.specs.Faults.{unless}
 use Rattle.statement_judging.specs.Bulks.{judged_bulk}
 use Rattle.statement_judging.specs.NormalBulk.{normal_bulk}

@@ -3,7 +3,7 @@
 ghost use Rattle.std.specs.Prelude.{◌≡◌, IfErr, IfOk, IsTrue};
 ghost use Rattle.base_core.specs.Answers.{Gives};
 ghost use Rattle.sql_semantics.specs.PlainStatement.{IsFittingBulk};
-ghost use Rattle.script_names.specs.BulkNames as names;
+ghost use Rattle.statement_names.specs.BulkNames as names;
 ghost use Rattle.script_names.specs.Faults.{TellsFirst};
 ghost use Rattle.statement_judging.specs.NormalBulk as normal;
 ghost use Rattle.script_resolve.specs.Bulks as spec;
@@ -13,10 +13,10 @@ ghost use Rattle.script_resolve.specs.Sayable.{is_sayable_bulk};
 use base_core::Refusal;
 use expr_types::Bulk;
 use schema_core::Schema;
-use script_names::name_bulk;
 use script_types::SynBulk;
 use sqlite_items::Boxed;
 use statement_judging::judge_bulk;
+use statement_names::name_bulk;
 use std::alloc::Global;
 
 fn named(alloc: Global, schema: &Schema, b: &SynBulk) -> Result<Boxed<Bulk>, Refusal>

@@ -5,7 +5,7 @@ ghost use Rattle.base_core.specs.Answers.{Gives};
 ghost use Rattle.expr_types.specs.NormalSelect as normal;
 ghost use Rattle.sql_semantics.specs.Plain.{IsPlainSelect};
 ghost use Rattle.script_names.specs.Faults.{TellsFirst};
-ghost use Rattle.script_names.specs.SelectNames as names;
+ghost use Rattle.statement_names.specs.SelectNames as names;
 ghost use Rattle.script_resolve.specs.Refusals.{CanRefuse};
 ghost use Rattle.script_resolve.specs.Sayable.{is_sayable_select};
 ghost use Rattle.script_resolve.specs.Selects as spec;
@@ -13,10 +13,10 @@ ghost use Rattle.script_resolve.specs.Selects as spec;
 use base_core::Refusal;
 use expr_types::Select;
 use schema_core::Schema;
-use script_names::name_select;
 use script_types::SynSelect;
 use sqlite_items::Boxed;
 use statement_judging::judge_select;
+use statement_names::name_select;
 use std::alloc::Global;
 
 fn named(alloc: Global, schema: &Schema, s: &SynSelect) -> Result<Boxed<Select>, Refusal>

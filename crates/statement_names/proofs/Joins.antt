@@ -1,6 +1,6 @@
 -- Joins in order, each under the sources up to its own; and the parts of a select.
 use Rattle.std.proofs.Common.{◌≡◌, ℕ, ◌+◌, ◌<◌, List, [], ◌∷◌, ◌++◌, length, get_or, drop, take, map, Bool, Option, Result, refl, sym, ap, subst, ◌∙◌}
-use Rattle.std.proofs.lemmas.List.{append_assoc, drop_more, take_more}
+use Rattle.std.proofs.lemmas.List.{append_assoc, drop_more, map-append, take_more}
 use Rattle.std.specs.List.{flat_map}
 use Rattle.std.specs.Option.{option_map}
 use Rattle.base_core.specs.declared.refusal.Refusal.{Refusal}
@@ -15,7 +15,7 @@ use Rattle.script_types.specs.declared.select.SynSelect.{SynSelect}
 use Rattle.script_names.specs.Faults.{IsFirst, TellsFirst, faults_if_given, pair_or_refusal}
 use Rattle.script_names.specs.Naming.{faults_in, name_faults, named_expression, named_origin, said_in, source_faults}
 use Rattle.script_names.specs.Scopes.{Scope, outer_scope}
-use Rattle.script_names.specs.SelectNames.{faults_under, join_faults, joins_faults, named_join, named_joins, named_under}
+use Rattle.statement_names.specs.SelectNames.{faults_under, join_faults, joins_faults, named_join, named_joins, named_under}
 use Rattle.script_names.proofs.Firsts.{first_left, told_pair}
 use Rattle.script_names.proofs.Places.{outer_scope_push}
 
@@ -23,10 +23,12 @@ use Rattle.script_names.proofs.Places.{outer_scope_push}
 entered : (scope new : Scope) (source : SynSource) (before : List SynSource) → scope ≡ outer_scope before → new ≡ scope ++ (length scope, source) ∷ [] → new ≡ outer_scope (before ++ source ∷ [])
 entered scope new source before at h = h ∙ (ap (λ s. s ++ (length s, source) ∷ []) at ∙ sym (outer_scope_push before source))
 
-pub scope_more : (sources : List SynSource) (i : ℕ) (source : SynSource) (scope new : Scope) → i < length sources → source ≡ get_or sources i source → scope ≡ outer_scope (take i sources)
-    → new ≡ scope ++ (length scope, source) ∷ [] → new ≡ outer_scope (take (i + 1) sources)
-scope_more sources i source scope new inside is at h =
-    entered scope new source (take i sources) at h ∙ ap outer_scope (ap (λ x. take i sources ++ x ∷ []) is ∙ sym (take_more sources i source inside))
+pub written_more : (first : SynSource) (joins : List SynJoin) (i : ℕ) (join : SynJoin) (scope new : Scope) → i < length joins → join ≡ get_or joins i join → scope ≡ outer_scope (first ∷ map (λ j. j.source) (take i joins))
+    → new ≡ scope ++ (length scope, join.source) ∷ [] → new ≡ outer_scope (first ∷ map (λ j. j.source) (take (i + 1) joins))
+written_more first joins i join scope new inside is at h =
+    let source = λ (j : SynJoin). j.source in
+    let more : take (i + 1) joins ≡ take i joins ++ join ∷ [] = take_more joins i join inside ∙ ap (λ j. take i joins ++ j ∷ []) (sym is) in
+    entered scope new join.source (first ∷ map source (take i joins)) at h ∙ ap (λ sources. outer_scope (first ∷ sources)) (sym (ap (map source) more ∙ map-append source (take i joins) (join ∷ [])))
 
 module _ (schema : Catalog) (first : SynSource) (joins : List SynJoin) where
   -- so many joins are named, and have no fault

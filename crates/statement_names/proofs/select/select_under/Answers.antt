@@ -4,10 +4,10 @@ use Rattle.std.proofs.lemmas.Result.{IfOk-at_ok}
 use Rattle.std.specs.List.{flat_map}
 use Rattle.script_names.specs.Faults.{TellsFirst, pair_or_refusal}
 use Rattle.script_names.specs.Naming.{faults_in, name_faults, named_expression, said_in}
-use Rattle.script_names.specs.SelectNames.{faults_under, joins_faults, named_joins}
+use Rattle.statement_names.specs.SelectNames.{faults_under, joins_faults, named_joins}
 use Rattle.script_names.proofs.Firsts.{passed_on}
-use Rattle.script_names.proofs.Joins.{select_is, select_told}
-use Rattle.script_names.proofs.select.select_under.Goals as goal
+use Rattle.statement_names.proofs.Joins.{select_is, select_told}
+use Rattle.statement_names.proofs.select.select_under.Goals as goal
 
 -- pairs of pairs
 nest : {A B C D E F G : Type 0} (a : Result A Refusal) (b : Result B Refusal) (c : Result C Refusal) (d : Result D Refusal) (e : Result E Refusal) (f : Result F Refusal) (g : Result G Refusal)

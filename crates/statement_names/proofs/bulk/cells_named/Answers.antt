@@ -4,11 +4,11 @@ use Rattle.base_core.specs.declared.refusal.Refusal.{Refusal}
 use Rattle.schema_core.specs.Catalog.{Catalog}
 use Rattle.schema_core.specs.declared.table.TableSpec.{TableSpec}
 use Rattle.script_types.specs.declared.expression.Syn.{Syn}
-use Rattle.script_names.specs.BulkNames.{cell_faults, cells_faults}
+use Rattle.statement_names.specs.BulkNames.{cell_faults, cells_faults}
 use Rattle.script_names.specs.Faults.{IsFirst}
 use Rattle.script_names.specs.Scopes.{Scope}
 use Rattle.script_names.proofs.Firsts.{first_left, passed_on}
-use Rattle.script_names.proofs.bulk.cells_named.Goals as goal
+use Rattle.statement_names.proofs.bulk.cells_named.Goals as goal
 
 stopped : (schema : Catalog) (spec : TableSpec) (scope : Scope) (before given : List (List ℕ)) (cells : List (List ℕ × Option Syn)) (i : ℕ) (cell : List ℕ × Option Syn) (e : Refusal)
     → i < length cells → cell ≡ get_or cells i cell → cells_faults schema spec scope before (drop i cells) ≡ cells_faults schema spec scope [] cells → given ≡ before

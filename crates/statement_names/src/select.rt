@@ -3,34 +3,33 @@
 ghost use Rattle.std.specs.Prelude.{◌≡◌, ◌∷◌, ◌++◌, [], IfErr, IfOk};
 ghost use Rattle.base_core.specs.declared.refusal.Refusal.TheVariants.{Memory};
 ghost use Rattle.script_names.specs.Faults.{TellsFirst};
-ghost use Rattle.script_names.specs.SelectNames as spec;
+ghost use Rattle.statement_names.specs.SelectNames as spec;
 
-use crate::faults::pair;
-use crate::naming::{
-    expression_named, expressions_named, named_if_given, origin_named, pairs_named,
-};
-use crate::scope::{enter, outer_scope};
-use base_core::{Copied, ListOf, Refusal};
+use base_core::{ListOf, Refusal};
 use expr_types::{Joined, Select};
 use schema_core::Schema;
+use script_names::{
+    Scope, enter, expression_named, expressions_named, named_if_given, origin_named, pair,
+    pairs_named,
+};
 use script_types::{SynJoin, SynSelect, SynSource};
 use std::alloc::Global;
 
-/// The sources in order. The only refusal is `Memory`.
-fn sources_written(alloc: Global, s: &SynSelect) -> Result<Vec<SynSource>, Refusal>
-    ensures sources { IfOk result (λ sources. sources.items ≡ spec.sources_written s.now) }
+/// The sources in order, each behind its place. The only refusal is `Memory`.
+fn scope_written(alloc: Global, s: &SynSelect) -> Result<Scope, Refusal>
+    ensures scope { IfOk result (λ scope. scope.items ≡ spec.scope_written s.now) }
     ensures cause { IfErr result (λ e. e ≡ Memory) }
 {
-    let mut sources = Vec::new(alloc);
-    sources.push(s.first.copied()?)?;
+    let mut scope = Vec::new(alloc);
+    enter(&mut scope, &s.first)?;
     for join in s.joins.as_slice() {
-        sources.push(join.source.copied()?)?;
+        enter(&mut scope, &join.source)?;
     }
-    Ok(sources)
+    Ok(scope)
 }
 
 /// A further source, and its condition under the sources up to it.
-#[tactic(auto, using(crate::proofs::Firsts::firsts))]
+#[tactic(auto, using(script_names::proofs::Firsts::firsts))]
 fn join_named(
     alloc: Global,
     schema: &Schema,
@@ -52,7 +51,7 @@ fn join_named(
 }
 
 /// Each further source, and its condition under the sources up to its own; `first` stands before them.
-#[tactic(auto, using(crate::proofs::Firsts::firsts))]
+#[tactic(auto, using(script_names::proofs::Firsts::firsts))]
 fn joins_named(
     alloc: Global,
     schema: &Schema,
@@ -85,12 +84,11 @@ pub fn name_select(alloc: Global, schema: &Schema, s: &SynSelect) -> Result<Sele
     ensures value { IfOk result (λ said. said ≡ spec.named_select schema.now s.now) }
     ensures told { TellsFirst (spec.select_name_faults schema.now s.now) result }
 {
-    let sources = sources_written(alloc, s)?;
-    let scope = outer_scope(alloc, sources.as_slice())?;
+    let scope = scope_written(alloc, s)?;
     select_under(alloc, schema, scope.as_slice(), s)
 }
 
-#[tactic(auto, using(crate::proofs::Firsts::firsts))]
+#[tactic(auto, using(script_names::proofs::Firsts::firsts))]
 fn select_under(
     alloc: Global,
     schema: &Schema,

@@ -3,15 +3,13 @@
 ghost use Rattle.std.specs.Prelude.{◌≡◌, [], map, IfErr, IfOk};
 ghost use Rattle.base_core.specs.declared.refusal.Refusal.TheVariants.{Memory};
 ghost use Rattle.schema_core.specs.Catalog.{has_name};
-ghost use Rattle.script_names.specs.BulkNames as spec;
+ghost use Rattle.statement_names.specs.BulkNames as spec;
 ghost use Rattle.script_names.specs.Faults.{TellsFirst};
 
-use crate::faults::pair;
-use crate::naming::named_if_given;
-use crate::scope::{Scope, enter, find_column, table_named, unknown};
 use base_core::{ColumnNo, Copied, ListOf, Name, Refusal, RequestKind, RowValues};
 use expr_types::{Bulk, Expr};
 use schema_core::{Schema, TableSpec};
+use script_names::{Scope, find_column, named_if_given, pair, table_named, unknown};
 use script_types::{Syn, SynBulk, SynSource};
 use std::alloc::Global;
 
@@ -20,12 +18,12 @@ fn scope_alone(alloc: Global, table: &Name) -> Result<Scope, Refusal>
     ensures scope { IfOk result (λ scope. scope.items ≡ spec.scope_alone table.now) }
     ensures cause { IfErr result (λ e. e ≡ Memory) }
 {
-    let mut scope = Vec::new(alloc);
     let source = SynSource {
         table: table.copied()?,
         alias: None,
     };
-    enter(&mut scope, &source)?;
+    let mut scope = Vec::new(alloc);
+    scope.push((0, source))?;
     Ok(scope)
 }
 
@@ -51,7 +49,7 @@ fn column_named(table: &TableSpec, before: &[Name], name: &Name) -> Result<Colum
 }
 
 /// Columns in the order of the text, none of them twice.
-#[tactic(auto, using(crate::proofs::Firsts::firsts))]
+#[tactic(auto, using(script_names::proofs::Firsts::firsts))]
 fn columns_named(
     alloc: Global,
     table: &TableSpec,
@@ -70,7 +68,7 @@ fn columns_named(
 }
 
 /// A column that is not among those before it, and what is written into it.
-#[tactic(auto, using(crate::proofs::Firsts::firsts))]
+#[tactic(auto, using(script_names::proofs::Firsts::firsts))]
 fn cell_named(
     alloc: Global,
     schema: &Schema,
@@ -91,7 +89,7 @@ fn cell_named(
 }
 
 /// Cells in the order of the text, no column of them twice.
-#[tactic(auto, using(crate::proofs::Firsts::firsts))]
+#[tactic(auto, using(script_names::proofs::Firsts::firsts))]
 fn cells_named(
     alloc: Global,
     schema: &Schema,
@@ -113,7 +111,7 @@ fn cells_named(
     Ok(named)
 }
 
-#[tactic(auto, using(crate::proofs::Firsts::firsts))]
+#[tactic(auto, using(script_names::proofs::Firsts::firsts))]
 fn insert_named(
     alloc: Global,
     schema: &Schema,
@@ -138,7 +136,7 @@ fn insert_named(
     })
 }
 
-#[tactic(auto, using(crate::proofs::Firsts::firsts))]
+#[tactic(auto, using(script_names::proofs::Firsts::firsts))]
 fn update_named(
     alloc: Global,
     schema: &Schema,
@@ -165,7 +163,7 @@ fn update_named(
     })
 }
 
-#[tactic(auto, using(crate::proofs::Firsts::firsts))]
+#[tactic(auto, using(script_names::proofs::Firsts::firsts))]
 fn delete_named(
     alloc: Global,
     schema: &Schema,

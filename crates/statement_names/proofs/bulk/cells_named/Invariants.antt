@@ -1,6 +1,6 @@
 use Rattle.std.proofs.Common.{◌≡◌, [], ◌++◌, map, drop}
-use Rattle.script_names.specs.BulkNames.{cells_faults, named_cell}
-use Rattle.script_names.proofs.bulk.cells_named.Given as goal
+use Rattle.statement_names.specs.BulkNames.{cells_faults, named_cell}
+use Rattle.statement_names.proofs.bulk.cells_named.Given as goal
 
 abbrev pub invariant-loop-cell : goal.invariant-loop-cell
 invariant-loop-cell l = record {

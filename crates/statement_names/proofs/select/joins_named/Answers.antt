@@ -1,9 +1,9 @@
 use Rattle.std.proofs.Common.{◌≡◌, ◌∷◌, [], ◌++◌, length, ap, subst, ◌∙◌}
 use Rattle.script_names.specs.Faults.{IsFirst}
-use Rattle.script_names.specs.SelectNames.{join_faults, joins_faults, named_join}
+use Rattle.statement_names.specs.SelectNames.{join_faults, joins_faults, named_join}
 use Rattle.script_names.proofs.Firsts.{passed_on}
-use Rattle.script_names.proofs.Joins.{goes_on, starts, stopped}
-use Rattle.script_names.proofs.select.joins_named.Goals as goal
+use Rattle.statement_names.proofs.Joins.{goes_on, starts, stopped}
+use Rattle.statement_names.proofs.select.joins_named.Goals as goal
 
 pub loop-join-init : goal.loop-join-init
 loop-join-init c =

@@ -1,11 +1,11 @@
 use Rattle.std.proofs.Common.{◌≡◌, List, [], ◌++◌, Result, Err, sym, ap, subst, ◌∙◌}
 use Rattle.base_core.specs.declared.refusal.Refusal.{Refusal}
 use Rattle.schema_core.specs.Catalog.{spec_of}
-use Rattle.script_names.specs.BulkNames.{cells_faults, scope_alone, spec_named, update_faults}
+use Rattle.statement_names.specs.BulkNames.{cells_faults, scope_alone, spec_named, update_faults}
 use Rattle.script_names.specs.Faults.{IsFirst, TellsFirst, faults_if_given, pair_or_refusal}
 use Rattle.script_names.specs.Naming.{name_faults, table_faults}
 use Rattle.script_names.proofs.Firsts.{passed_on, told_pair}
-use Rattle.script_names.proofs.bulk.update_named.Goals as goal
+use Rattle.statement_names.proofs.bulk.update_named.Goals as goal
 
 stopped : {A B : Type 0} (r : Result A Refusal) (s : Result B Refusal) (e : Refusal) (first xs ys : List Refusal) → first ≡ [] → TellsFirst xs r → TellsFirst ys s → Err e ≡ pair_or_refusal r s → IsFirst e (first ++ xs ++ ys)
 stopped r s e first xs ys none h g told = subst (IsFirst e) (ap (λ zs. zs ++ xs ++ ys) (sym none)) (subst (TellsFirst (xs ++ ys)) (sym told) (told_pair r s xs ys h g))

@@ -1,6 +1,6 @@
 use Rattle.std.proofs.Common.{◌≡◌, [], ◌++◌, map, drop}
-use Rattle.script_names.specs.BulkNames.{column_number, columns_faults}
-use Rattle.script_names.proofs.bulk.columns_named.Given as goal
+use Rattle.statement_names.specs.BulkNames.{column_number, columns_faults}
+use Rattle.statement_names.proofs.bulk.columns_named.Given as goal
 
 abbrev pub invariant-loop-name : goal.invariant-loop-name
 invariant-loop-name l = record {

@@ -1,0 +1,2 @@
+pub mod SelectNames
+pub mod BulkNames
