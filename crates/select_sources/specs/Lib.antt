@@ -1,4 +1,3 @@
 pub mod Before
 pub mod Chosen
-pub mod Found
 pub mod Frames

@@ -1,17 +1,17 @@
-//! The rows of a select's sources: the tables that its text names, its joins, and its condition on rows.
+//! What a select's rows are made of: the tables that its text names, its sources in scope, the rows of the first one, and the
+//! rows that meet a condition.
 #![tactic(auto)]
 
 mod before;
 mod filter;
 mod first;
-mod found;
 mod frame;
-mod source;
 mod survey;
 mod table;
 
-pub use filter::keep_if;
+pub use before::rows_to_join;
+pub use filter::{keep_if, passed};
+pub use first::rows_met;
 pub use frame::{Frame, scope_at};
-pub use source::chosen;
 pub use survey::named;
 pub use table::{all_created, created};
