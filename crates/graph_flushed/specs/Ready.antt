@@ -7,7 +7,7 @@ use Rattle.identity_maps.specs.Entries.{Keyed, entry_of}
 use Rattle.object_arena.specs.declared.object.Object.{Object}
 use Rattle.object_arena.specs.Graph.{Graph, no_object}
 use Rattle.object_records.specs.Records.{record_at}
-use Rattle.object_rows.specs.Ready.{IsReady}
+use Rattle.object_writes.specs.Ready.{IsReady}
 use Rattle.graph_flushed.specs.declared.flushing.Flushing.{Flushing}
 use Rattle.graph_flushed.specs.declared.keys.RowKeys.{RowKeys}
 use Rattle.graph_flushed.specs.Flushed.{Written}

@@ -17,7 +17,8 @@ use class_layouts::number_of;
 use class_mapping::{Attribute, Mapping, Relation};
 use identity_maps::IdentityMap;
 use object_arena::Cell;
-use object_rows::{Projection, end_put, is_in_session, part_of_key};
+use object_rows::{end_put, is_in_session, part_of_key};
+use object_writes::Projection;
 use schema_core::RowCell;
 
 /// A prepared graph whose changes were written, with the keys of its new objects, each at its object's place, and these

@@ -112,8 +112,8 @@ fn kept_list(alloc: Global, arena: &Arena, prepared: &Prepared) -> Result<Vec<Ob
     Ok(kept)
 }
 
-/// These objects, which have been made. The only refusal is `Memory`.
-pub(crate) fn kept_objects(
+/// The objects that keep their rows, which have been made. The only refusal is `Memory`.
+pub fn kept_objects(
     alloc: Global,
     arena: &Arena,
     prepared: &Prepared,

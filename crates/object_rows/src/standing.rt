@@ -92,7 +92,7 @@ pub fn is_in_session(arena: &Arena, prepared: &Prepared, object: ObjId) -> bool
 }
 
 /// Whether an end is none, or in the session.
-pub(crate) fn is_kept_end(arena: &Arena, prepared: &Prepared, end: Option<ObjId>) -> bool
+pub fn is_kept_end(arena: &Arena, prepared: &Prepared, end: Option<ObjId>) -> bool
     ensures { result ≡ spec.is_kept_end arena.now prepared.now end }
 {
     match end {
@@ -159,8 +159,8 @@ pub fn part_of_key(key: &Key, part: u32) -> Result<Value, Refusal>
     }
 }
 
-/// A part of the key of an identity, or NULL.
-pub(crate) fn key_value(identity: &Option<Key>, part: u32) -> Result<Value, Refusal>
+/// A part of the key of an identity, or NULL. The only refusal is `Memory`.
+pub fn key_value(identity: &Option<Key>, part: u32) -> Result<Value, Refusal>
     ensures value { IfOk result (λ value. value ≡ key_value identity.now part) }
     ensures cause { IfErr result (λ e. e ≡ Memory) }
 {
@@ -170,8 +170,8 @@ pub(crate) fn key_value(identity: &Option<Key>, part: u32) -> Result<Value, Refu
     }
 }
 
-/// A part of the key that an object has, or NULL.
-pub(crate) fn identity_value(arena: &Arena, object: ObjId, part: u32) -> Result<Value, Refusal>
+/// A part of the key that an object has, or NULL. The only refusal is `Memory`.
+pub fn identity_value(arena: &Arena, object: ObjId, part: u32) -> Result<Value, Refusal>
     ensures value { IfOk result
         (λ value. value ≡ key_value (object_at arena.now object).identity part) }
     ensures cause { IfErr result (λ e. e ≡ Memory) }

@@ -4,14 +4,15 @@ ghost use Rattle.std.specs.Prelude.{◌≡◌, ◌++◌, ◌∷◌, [], true, ma
 ghost use Rattle.base_core.specs.declared.refusal.Refusal.TheVariants.{Memory};
 ghost use Rattle.schema_core.specs.Tables.{given_value};
 ghost use Rattle.object_arena.specs.Fit.{IsFit};
-ghost use Rattle.object_rows.specs.Ready.{IsReady};
+ghost use Rattle.object_writes.specs.Ready.{IsReady};
 ghost use Rattle.pair_rows.specs.Pairs as spec;
 
 use crate::pairs::{Pair, lost_pairs, made_pairs};
 use base_core::{ListOf, Name, Refusal, RowName, Value};
 use class_mapping::Mapping;
 use object_arena::Arena;
-use object_rows::{Prepared, Projection, RowNames, columns_at};
+use object_rows::{Prepared, RowNames};
+use object_writes::{Projection, columns_at};
 use schema_core::{ColumnSpec, GoneRow, NewRow, RowCell};
 use std::alloc::Global;
 

@@ -12,7 +12,8 @@ ghost use Rattle.row_project.specs.Switch as spec;
 use crate::cells::Switch;
 use base_core::{ColumnNo, Copied, ListOf, ObjId, Refusal, TableId};
 use object_arena::{Cell, Object};
-use object_rows::{cell_for, linked_change};
+use object_rows::linked_change;
+use object_writes::cell_for;
 use schema_core::{ChangedRow, GoneRow, NewRow, RowCell, RowChanges};
 use std::alloc::Global;
 

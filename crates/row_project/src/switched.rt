@@ -14,7 +14,8 @@ use crate::cells::Switch;
 use crate::staying::Cells;
 use base_core::{ColumnNo, Copied, ListOf, Refusal, TableId, Value};
 use class_layouts::number_of;
-use object_rows::{cell_for, columns_at, linked_change, part_of_key};
+use object_rows::{linked_change, part_of_key};
+use object_writes::{cell_for, columns_at};
 use schema_core::{ChangedRow, ColumnSpec, GoneRow, NewRow, RowCell};
 use std::alloc::Global;
 

@@ -1,7 +1,7 @@
 use Rattle.std.proofs.Common.{◌≡◌, ◌++◌, map, drop}
 use Rattle.std.specs.List.{enumerate_from}
 use Rattle.object_rows.specs.Rows.{new_cell}
-use Rattle.object_rows.proofs.cells.Projection.new_row.Given as goal
+use Rattle.object_writes.proofs.cells.Projection.new_row.Given as goal
 
 abbrev pub invariant-loop-number : goal.invariant-loop-number
 invariant-loop-number l =

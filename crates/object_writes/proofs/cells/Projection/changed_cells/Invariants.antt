@@ -1,7 +1,7 @@
 use Rattle.std.proofs.Common.{◌≡◌, ◌++◌, drop}
 use Rattle.std.specs.List.{enumerate_from, filter_map}
 use Rattle.object_rows.specs.Rows.{changed_cell}
-use Rattle.object_rows.proofs.cells.Projection.changed_cells.Given as goal
+use Rattle.object_writes.proofs.cells.Projection.changed_cells.Given as goal
 
 abbrev pub invariant-loop-number : goal.invariant-loop-number
 invariant-loop-number l =

@@ -1,7 +1,7 @@
 use Rattle.std.proofs.Common.{◌≡◌, ◌++◌, drop}
 use Rattle.std.specs.List.{flat_map}
 use Rattle.object_rows.specs.Rows.{rows_changed}
-use Rattle.object_rows.proofs.cells.Projection.changed_rows.Given as goal
+use Rattle.object_writes.proofs.cells.Projection.changed_rows.Given as goal
 
 abbrev pub invariant-loop-object : goal.invariant-loop-object
 invariant-loop-object l =

@@ -4,7 +4,7 @@ use Rattle.std.specs.Prelude.{Option}
 use Rattle.schema_core.specs.Catalog.{Catalog, find_table, target_of}
 use Rattle.schema_core.specs.declared.changes.RowCell.{RowCell}
 use Rattle.object_rows.specs.Cells.{end_cell}
-use Rattle.object_rows.proofs.cells.Projection.column_cell.Goals as goal
+use Rattle.object_writes.proofs.cells.Projection.column_cell.Goals as goal
 
 pub returns-clause-cell : goal.returns-clause-cell
 returns-clause-cell c =

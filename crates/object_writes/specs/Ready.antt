@@ -1,7 +1,7 @@
 -- When the rows of a prepared graph can be told.
 use Rattle.std.specs.Prelude.{◌≡◌, true}
 use Rattle.object_arena.specs.Fit.{IsFit}
-use Rattle.object_rows.specs.declared.cells.Projection.{Projection}
+use Rattle.object_writes.specs.declared.cells.Projection.{Projection}
 use Rattle.object_rows.specs.Rows.{new_names}
 
 -- the mapping is configured, the objects fit it, and the names are those of the new rows

@@ -5,64 +5,20 @@ ghost use Rattle.std.specs.List.{All, filter_map};
 ghost use Rattle.base_core.specs.declared.refusal.Refusal.TheVariants.{Memory};
 ghost use Rattle.object_arena.specs.Graph.{IsObject};
 ghost use Rattle.object_rows.specs.Cells.{linked_cell};
-ghost use Rattle.object_rows.specs.Ready.{IsReady};
 ghost use Rattle.object_rows.specs.Rows as spec;
+ghost use Rattle.object_writes.specs.Ready.{IsReady};
 
 use crate::cells::Projection;
 use crate::columns::{cell_for, columns_at};
-use crate::names::kept_objects;
-use base_core::{ColumnNo, Copied, Key, ListOf, ObjId, Refusal, RowName, TableId, Value};
+use base_core::{ColumnNo, Copied, Key, ListOf, ObjId, Refusal, RowName, TableId};
 use class_layouts::number_of;
 use object_arena::Cell;
+use object_rows::{kept_objects, linked_change, own_change};
 use schema_core::{ChangedRow, ColumnSpec, RowCell};
 use std::alloc::Global;
 
 /// Cells, each with its column.
 type Cells = ListOf<(ColumnNo, RowCell)>;
-
-/// Whether a value is the one that was last read or written.
-fn is_base(base: &Option<Value>, value: &Value) -> bool
-    ensures { result ≡ spec.is_base base.now value.now }
-{
-    match base {
-        Some(base) => value.cmp(base).is_eq(),
-        None => false,
-    }
-}
-
-/// What a value changes, unless it is what the row has.
-fn change_to(base: &Option<Value>, value: &Value) -> Result<Option<RowCell>, Refusal>
-    ensures change { IfOk result (λ change. change ≡ spec.change_to base.now value.now) }
-    ensures cause { IfErr result (λ e. e ≡ Memory) }
-{
-    if is_base(base, value) {
-        return Ok(None);
-    }
-    Ok(Some(RowCell::Given(value.copied()?)))
-}
-
-/// What a cell changes, unless it is the value that the row is known to hold. The only refusal is `Memory`.
-pub fn linked_change(base: &Option<Value>, cell: &RowCell) -> Result<Option<RowCell>, Refusal>
-    ensures change { IfOk result (λ change. change ≡ spec.linked_change base.now cell.now) }
-    ensures cause { IfErr result (λ e. e ≡ Memory) }
-{
-    match cell {
-        RowCell::KeyOf(place, part) => Ok(Some(RowCell::KeyOf(*place, *part))),
-        RowCell::Given(value) => change_to(base, value),
-    }
-}
-
-/// What an object's own cell changes.
-fn own_change(cell: &Cell) -> Result<Option<RowCell>, Refusal>
-    ensures change { IfOk result
-        (λ change. change ≡ spec.own_change cell.now.base cell.now.value) }
-    ensures cause { IfErr result (λ e. e ≡ Memory) }
-{
-    match &cell.value {
-        Some(value) => change_to(&cell.base, value),
-        None => Ok(None),
-    }
-}
 
 /// The key of an identity, or an empty one.
 fn key_or_none(alloc: Global, identity: &Option<Key>) -> Result<Key, Refusal>
@@ -209,7 +165,7 @@ impl<'a> Projection<'a> {
         Ok(())
     }
 
-    #[tactic(auto, using(class_layouts::proofs::Steps::steps), unfolding(crate::specs::Rows::changed_rows))]
+    #[tactic(auto, using(class_layouts::proofs::Steps::steps), unfolding(object_rows::specs::Rows::changed_rows))]
     /// The rows with changed cells of each object that keeps its rows.
     pub fn changed_rows(&self, alloc: Global) -> Result<ListOf<ChangedRow>, Refusal>
         requires ready { IsReady self.now }

@@ -10,12 +10,11 @@ ghost use Rattle.object_rows.specs.Rows as spec;
 ghost use Rattle.object_rows.specs.Seen.{AreMade};
 
 use crate::columns::{columns_at, is_joined, key_part, value_before};
-use crate::prepared::Prepared;
-use crate::standing::key_value;
 use base_core::{ListOf, ObjId, Refusal, RowName, TableId, Value};
 use class_layouts::number_of;
 use class_mapping::Mapping;
 use object_arena::{Arena, Object};
+use object_rows::{Prepared, key_value};
 use schema_core::{ColumnSpec, GoneRow};
 use std::alloc::Global;
 
@@ -92,7 +91,7 @@ fn push_rows_gone(
     Ok(())
 }
 
-#[tactic(auto, using(class_layouts::proofs::Steps::steps), unfolding(crate::specs::Rows::gone_rows))]
+#[tactic(auto, using(class_layouts::proofs::Steps::steps), unfolding(object_rows::specs::Rows::gone_rows))]
 /// A row for each table of each object that is to be deleted.
 pub fn gone_rows(
     alloc: Global,

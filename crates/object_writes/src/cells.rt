@@ -9,15 +9,13 @@ ghost use Rattle.class_layouts.specs.Faults.{foreigns_in};
 ghost use Rattle.object_arena.specs.Fit.{IsFit};
 ghost use Rattle.object_arena.specs.Graph.{IsObject, object_at};
 ghost use Rattle.object_rows.specs.Cells as spec;
-ghost use Rattle.object_rows.specs.Ready.{IsReady};
+ghost use Rattle.object_writes.specs.Ready.{IsReady};
 
-use crate::places::RowNames;
-use crate::prepared::Prepared;
-use crate::standing::{end_put, identity_value, is_kept_end};
 use base_core::{Name, ObjId, Refusal, RelNo, TableId, Value};
 use class_layouts::{foreigns_of, number_of};
 use class_mapping::{Mapping, Relation};
 use object_arena::Arena;
+use object_rows::{Prepared, RowNames, end_put, identity_value, is_kept_end};
 use schema_core::{ForeignSpec, RowCell, Schema};
 
 /// A prepared graph, with the names of its new rows in their order.

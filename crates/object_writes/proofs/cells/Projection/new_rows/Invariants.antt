@@ -1,7 +1,7 @@
 use Rattle.std.proofs.Common.{◌≡◌, ◌++◌, map, drop}
 use Rattle.std.specs.List.{enumerate_from}
 use Rattle.object_rows.specs.Rows.{new_row}
-use Rattle.object_rows.proofs.cells.Projection.new_rows.Given as goal
+use Rattle.object_writes.proofs.cells.Projection.new_rows.Given as goal
 
 abbrev pub invariant-loop-place : goal.invariant-loop-place
 invariant-loop-place l =

@@ -1,7 +1,7 @@
 use Rattle.std.proofs.Common.{◌≡◌, ◌++◌, map, take}
 use Rattle.std.specs.List.{filter}
 use Rattle.object_rows.specs.Rows.{changed_row, has_cells}
-use Rattle.object_rows.proofs.cells.Projection.push_rows_changed.Given as goal
+use Rattle.object_writes.proofs.cells.Projection.push_rows_changed.Given as goal
 
 abbrev pub invariant-loop-table : goal.invariant-loop-table
 invariant-loop-table l =

@@ -4,8 +4,8 @@ ghost use Rattle.std.specs.Prelude.{◌≡◌, ◌<◌, true, length, map, slice
 ghost use Rattle.std.specs.List.{All, enumerate_from};
 ghost use Rattle.base_core.specs.declared.refusal.Refusal.TheVariants.{Memory};
 ghost use Rattle.object_arena.specs.Graph.{IsObject};
-ghost use Rattle.object_rows.specs.Ready.{IsReady};
 ghost use Rattle.object_rows.specs.Rows as spec;
+ghost use Rattle.object_writes.specs.Ready.{IsReady};
 
 use crate::cells::Projection;
 use crate::columns::{
@@ -82,7 +82,7 @@ impl<'a> Projection<'a> {
         Ok(NewRow { name: row, cells })
     }
 
-    #[tactic(auto, using(class_layouts::proofs::Steps::steps), unfolding(crate::specs::Rows::new_rows))]
+    #[tactic(auto, using(class_layouts::proofs::Steps::steps), unfolding(object_rows::specs::Rows::new_rows))]
     /// A row for each table of each new object.
     pub fn new_rows(&self, alloc: Global) -> Result<ListOf<NewRow>, Refusal>
         requires ready { IsReady self.now }

@@ -2,7 +2,7 @@ use Rattle.std.proofs.Common.{◌≡◌, ◌++◌, map, drop}
 use Rattle.std.specs.List.{enumerate_from}
 use Rattle.object_arena.specs.Graph.{object_at}
 use Rattle.object_rows.specs.Rows.{gone_cell}
-use Rattle.object_rows.proofs.gone.gone_row.Given as goal
+use Rattle.object_writes.proofs.gone.gone_row.Given as goal
 
 abbrev pub invariant-loop-number : goal.invariant-loop-number
 invariant-loop-number l =

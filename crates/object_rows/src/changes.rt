@@ -1,0 +1,53 @@
+//! What values and cells change, beside what a row is known to hold.
+
+ghost use Rattle.std.specs.Prelude.{◌≡◌, IfOk, IfErr};
+ghost use Rattle.base_core.specs.declared.refusal.Refusal.TheVariants.{Memory};
+ghost use Rattle.object_rows.specs.Rows as spec;
+
+use base_core::{Copied, Refusal, Value};
+use object_arena::Cell;
+use schema_core::RowCell;
+
+/// Whether a value is the one that was last read or written.
+fn is_base(base: &Option<Value>, value: &Value) -> bool
+    ensures { result ≡ spec.is_base base.now value.now }
+{
+    match base {
+        Some(base) => value.cmp(base).is_eq(),
+        None => false,
+    }
+}
+
+/// What a value changes, unless it is what the row has.
+fn change_to(base: &Option<Value>, value: &Value) -> Result<Option<RowCell>, Refusal>
+    ensures change { IfOk result (λ change. change ≡ spec.change_to base.now value.now) }
+    ensures cause { IfErr result (λ e. e ≡ Memory) }
+{
+    if is_base(base, value) {
+        return Ok(None);
+    }
+    Ok(Some(RowCell::Given(value.copied()?)))
+}
+
+/// What a cell changes, unless it is the value that the row is known to hold. The only refusal is `Memory`.
+pub fn linked_change(base: &Option<Value>, cell: &RowCell) -> Result<Option<RowCell>, Refusal>
+    ensures change { IfOk result (λ change. change ≡ spec.linked_change base.now cell.now) }
+    ensures cause { IfErr result (λ e. e ≡ Memory) }
+{
+    match cell {
+        RowCell::KeyOf(place, part) => Ok(Some(RowCell::KeyOf(*place, *part))),
+        RowCell::Given(value) => change_to(base, value),
+    }
+}
+
+/// What an object's own cell changes. The only refusal is `Memory`.
+pub fn own_change(cell: &Cell) -> Result<Option<RowCell>, Refusal>
+    ensures change { IfOk result
+        (λ change. change ≡ spec.own_change cell.now.base cell.now.value) }
+    ensures cause { IfErr result (λ e. e ≡ Memory) }
+{
+    match &cell.value {
+        Some(value) => change_to(&cell.base, value),
+        None => Ok(None),
+    }
+}
