@@ -16,17 +16,18 @@ use Rattle.expr_types.specs.declared.select.Bulk.TheVariants as bulk
 use Rattle.sql_semantics.specs.Kinds.{column_in, expression_kind}
 use Rattle.sql_semantics.specs.Plain.{IfSet, IsFilter, IsPlainBulk, IsWritten, StandsIn, alone, are_apart, are_for, has_column, is_free_column, is_key_column, is_kind_where, lacks_aggregate}
 use Rattle.sql_semantics.specs.PlainStatement.{IsFittingBulk}
+use Rattle.expr_scopes.specs.Scopes as scopes
 use Rattle.plain_statements.specs.Tested as test
 use Rattle.plain_statements.proofs.Conditions.{Tells, each, if_there, row_condition, standing_as, known}
-use Rattle.plain_statements.proofs.Neither.{not_either}
+use Rattle.expr_scopes.proofs.Neither.{not_either}
 
 -- ---- columns and values
 
-for_each : (schema : Catalog) (table : TableId) (columns : List ColumnNo) (values : List Value) → pointwise (test.is_for schema table) columns values ≡ are_for schema table columns values
+for_each : (schema : Catalog) (table : TableId) (columns : List ColumnNo) (values : List Value) → pointwise (scopes.is_for schema table) columns values ≡ are_for schema table columns values
 for_each schema table [] [] = refl
 for_each schema table [] (v ∷ values) = refl
 for_each schema table (c ∷ columns) [] = refl
-for_each schema table (c ∷ columns) (v ∷ values) = ap (λ b. test.is_for schema table c v && b) (for_each schema table columns values)
+for_each schema table (c ∷ columns) (v ∷ values) = ap (λ b. scopes.is_for schema table c v && b) (for_each schema table columns values)
 
 apart : (columns : List ColumnNo) → not (some_two (λ other column. other.0 == column.0) columns) ≡ are_apart columns
 apart [] = refl
@@ -97,9 +98,9 @@ cells_told schema table cells = each (test.is_cell schema table (test.names_alon
 fitting : (schema : Catalog) (b : Bulk) → Tells (test.fitting_bulk schema b) (IsFittingBulk schema b)
 fitting schema (bulk.Insert table columns values) = record {
   told = λ h.
-      let both = and_parts (test.is_known schema table) (pointwise (test.is_for schema table) columns values) h in
+      let both = and_parts (scopes.is_known schema table) (pointwise (scopes.is_for schema table) columns values) h in
       ((known schema table).told both.0, sym (for_each schema table columns values) ∙ both.1);
-  holds = λ f. and_from (test.is_known schema table) (pointwise (test.is_for schema table) columns values) ((known schema table).holds f.0) (for_each schema table columns values ∙ f.1);
+  holds = λ f. and_from (scopes.is_known schema table) (pointwise (scopes.is_for schema table) columns values) ((known schema table).holds f.0) (for_each schema table columns values ∙ f.1);
 }
 fitting schema (bulk.Update table cells filter) =
     let there : Bool = list_all (λ (cell : ColumnNo × Option Expr). is_some (column_in schema (table ∷ []) 0 cell.0)) cells in
@@ -107,17 +108,17 @@ fitting schema (bulk.Update table cells filter) =
     let where_ : Bool = test.is_bulk_filter schema table filter in
     record {
       told = λ h.
-          let a = and_parts (test.is_known schema table) (there && write && where_) h in
+          let a = and_parts (scopes.is_known schema table) (there && write && where_) h in
           let b = and_parts (there && write) where_ a.1 in
           let c = and_parts there write b.0 in
           ((known schema table).told a.0, c.0, (cells_told schema table cells).told c.1, (filtered schema table filter).told b.1);
       holds = λ f.
-          and_from (test.is_known schema table) (there && write && where_) ((known schema table).holds f.0)
+          and_from (scopes.is_known schema table) (there && write && where_) ((known schema table).holds f.0)
           (and_from (there && write) where_ (and_from there write f.1 ((cells_told schema table cells).holds f.2)) ((filtered schema table filter).holds f.3));
     }
 fitting schema (bulk.Delete table filter) = record {
-  told = λ h. let both = and_parts (test.is_known schema table) (test.is_bulk_filter schema table filter) h in ((known schema table).told both.0, (filtered schema table filter).told both.1);
-  holds = λ f. and_from (test.is_known schema table) (test.is_bulk_filter schema table filter) ((known schema table).holds f.0) ((filtered schema table filter).holds f.1);
+  told = λ h. let both = and_parts (scopes.is_known schema table) (test.is_bulk_filter schema table filter) h in ((known schema table).told both.0, (filtered schema table filter).told both.1);
+  holds = λ f. and_from (scopes.is_known schema table) (test.is_bulk_filter schema table filter) ((known schema table).holds f.0) ((filtered schema table filter).holds f.1);
 }
 
 abbrev kept : Catalog → Bulk → Bool

@@ -13,8 +13,9 @@ use Rattle.expr_types.specs.Same.{same}
 use Rattle.sql_semantics.specs.Kinds.{Judged, Scope, expression_kind}
 use Rattle.sql_semantics.specs.Plain.{IfSet, IsCondition, IsFilter, StandsIn, fits, has_full_lists, lacks_aggregate, names_apart}
 use Rattle.sql_semantics.proofs.Typed.{kind_itself, same_kind_is}
+use Rattle.expr_scopes.specs.Scopes as scopes
 use Rattle.plain_statements.specs.Tested as test
-use Rattle.plain_statements.proofs.Equality.{same_from, same_is}
+use Rattle.expr_scopes.proofs.Equality.{same_from, same_is}
 
 -- a test that tells whether something is so
 pub record Tells (b : Bool) (P : Type 0) : Type 0 where
@@ -36,7 +37,7 @@ if_there p P tells None = record { told = λ h. tt; holds = λ h. refl }
 
 -- ---- tables
 
-pub known : (schema : Catalog) (table : TableId) → Tells (test.is_known schema table) (table.0 < length schema.tables)
+pub known : (schema : Catalog) (table : TableId) → Tells (scopes.is_known schema table) (table.0 < length schema.tables)
 known schema table = record { told = ltb-true table.0 (length schema.tables); holds = lt-ltb table.0 (length schema.tables) }
 
 -- ---- kinds

@@ -1,9 +1,4 @@
 pub mod Bulks
 pub mod Conditions
-pub mod Equality
-pub mod Groups
-pub mod Levels
-pub mod Neither
 pub mod Rows
 pub mod Selects
-pub mod Trees

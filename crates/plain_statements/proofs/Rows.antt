@@ -14,6 +14,7 @@ use Rattle.schema_core.specs.Apply.{wants_key}
 use Rattle.schema_core.specs.Catalog.{Catalog, key_columns, spec_of}
 use Rattle.schema_core.specs.Tables.{fits, has_null, is_null, key_cells}
 use Rattle.schema_core.specs.WellFormed.{AreNewRows, IsWellFormed, are_cells, is_key, is_row}
+use Rattle.expr_scopes.specs.Scopes as scopes
 use Rattle.plain_statements.specs.Tested as test
 use Rattle.plain_statements.proofs.Conditions.{known, Tells}
 
@@ -165,14 +166,14 @@ new_rows spec rows =
 
 formed : (schema : Catalog) (s : RowStmt) → Tells (test.well_formed schema s) (IsWellFormed schema s)
 formed schema (row.Insert table rows) =
-    let first : Bool = test.is_known schema table in
+    let first : Bool = scopes.is_known schema table in
     let second : Bool = test.new_rows (spec_of schema table) rows in
     record {
       told = λ h. let both = and_parts first second h in ((known schema table).told both.0, (new_rows (spec_of schema table) rows).told both.1);
       holds = λ w. and_from first second ((known schema table).holds w.0) ((new_rows (spec_of schema table) rows).holds w.1);
     }
 formed schema (row.Update table key cells) =
-    let first : Bool = test.is_known schema table in
+    let first : Bool = scopes.is_known schema table in
     let keyed : Bool = test.key_fits (spec_of schema table) key in
     let some : Bool = nat_lt 0 (length cells) in
     let last : Bool = are_cells 0 (spec_of schema table).columns cells in
@@ -187,7 +188,7 @@ formed schema (row.Update table key cells) =
           (and_from (keyed && some) last (and_from keyed some (key_is (spec_of schema table) key ∙ w.1) (lt-ltb 0 (length cells) w.2)) w.3);
     }
 formed schema (row.Delete table key) =
-    let first : Bool = test.is_known schema table in
+    let first : Bool = scopes.is_known schema table in
     let keyed : Bool = test.key_fits (spec_of schema table) key in
     record {
       told = λ h. let both = and_parts first keyed h in ((known schema table).told both.0, sym (key_is (spec_of schema table) key) ∙ both.1);

@@ -12,6 +12,7 @@ use Rattle.expr_types.specs.declared.select.Select.{Select}
 use Rattle.expr_types.specs.Level.{has_aggregate}
 use Rattle.sql_semantics.specs.Kinds.{Scope}
 use Rattle.sql_semantics.specs.Plain.{AreJoined, IfSet, IsCondition, IsFilter, IsPlainSelect, StandsIn, and_having, are_distinct, is_declared, is_grouped, is_limit, lacks_aggregate, name_of, outputs, is_well_grouped, sources_of}
+use Rattle.expr_scopes.specs.Scopes as scopes
 use Rattle.plain_statements.specs.Tested as test
 use Rattle.plain_statements.proofs.Conditions.{Tells, condition, each, if_there, row_condition, standing}
 
@@ -137,8 +138,8 @@ alike p = each p (λ x. p x ≡ true) (λ x. record { told = λ h. h; holds = λ
 
 -- ---- the whole
 
-known : (schema : Catalog) (sources : List Origin) → list_all (test.is_known schema) (test.tables_of sources) ≡ list_all (is_declared schema) sources
-known schema sources = list_all-map (test.is_known schema) (λ (o : Origin). o.table) sources
+known : (schema : Catalog) (sources : List Origin) → list_all (scopes.is_known schema) (test.tables_of sources) ≡ list_all (is_declared schema) sources
+known schema sources = list_all-map (scopes.is_known schema) (λ (o : Origin). o.table) sources
 
 module _ (schema : Catalog) (s : Select) where
   abbrev ts : Scope
@@ -200,7 +201,7 @@ module _ (schema : Catalog) (s : Select) where
       let c = and_parts (is_limit s.limit) (is_limit s.offset) b.0 in
       let d = and_parts (sourced && gathered) (test.are_placed schema ts ns s) b.1 in
       let e = and_parts sourced gathered d.0 in
-      let f = and_parts (list_all (test.is_known schema) ts) (are_distinct ns) e.0 in
+      let f = and_parts (list_all (scopes.is_known schema) ts) (are_distinct ns) e.0 in
       let g = and_parts (filtered && having && items && groups) keys d.1 in
       let i = and_parts (filtered && having && items) groups g.0 in
       let j = and_parts (filtered && having) items i.0 in
@@ -223,7 +224,7 @@ module _ (schema : Catalog) (s : Select) where
 
   holds : IsPlainSelect schema s → test.plain_select schema s ≡ true
   holds p =
-      let sources : sourced ≡ true = and_from (list_all (test.is_known schema) ts) (are_distinct ns) (known schema (sources_of s) ∙ p.declared_tables) p.distinct_names in
+      let sources : sourced ≡ true = and_from (list_all (scopes.is_known schema) ts) (are_distinct ns) (known schema (sources_of s) ∙ p.declared_tables) p.distinct_names in
       let grouping : groups ≡ true =
       groups_tell.holds (both_all (StandsIn schema (sources_of s)) (λ e. lacks_aggregate e ≡ true) s.groups p.groups_stand ((alike lacks_aggregate s.groups).told p.groups_plain)) in
       let parts : test.are_placed schema ts ns s ≡ true =

@@ -16,8 +16,8 @@ use Rattle.schema_core.specs.Catalog.{Catalog, key_columns, kind_of, same_kind, 
 use Rattle.schema_core.specs.Tables.{fits as fits_column, is_null}
 use Rattle.schema_core.specs.WellFormed.{are_cells, is_row, may_hold}
 use Rattle.schema_core.specs.Declaration.{some_two}
-use Rattle.expr_types.specs.declared.expr.Expr.{Expr, out-Expr}
-use Rattle.expr_types.specs.declared.expr.Expr.TheFolds.{map-Expr}
+use Rattle.expr_scopes.specs.Scopes.{is_for, is_known}
+use Rattle.expr_types.specs.declared.expr.Expr.{Expr}
 use Rattle.expr_types.specs.declared.expr.Origin.{Origin}
 use Rattle.expr_types.specs.declared.select.Joined.{Joined}
 use Rattle.expr_types.specs.declared.select.Select.{Select}
@@ -27,7 +27,7 @@ use Rattle.expr_types.specs.Level.{has_aggregate}
 use Rattle.expr_types.specs.Normal.{normal}
 use Rattle.expr_types.specs.Same.{same}
 use Rattle.sql_semantics.specs.Kinds.{Judged, Scope, column_in, expression_kind}
-use Rattle.sql_semantics.specs.Plain.{Found, are_distinct, fits, has_full_lists, has_kind, is_free_column, is_limit, lacks_aggregate, name_of, names_apart, is_well_grouped, is_well_grouped_level, sources_of}
+use Rattle.sql_semantics.specs.Plain.{are_distinct, fits, has_full_lists, is_free_column, is_limit, lacks_aggregate, name_of, names_apart, is_well_grouped, sources_of}
 
 -- ---- expressions
 
@@ -71,22 +71,7 @@ abbrev pub if_set : (Expr → Bool) → Option Expr → Bool
 if_set test (Some e) = test e
 if_set test None = true
 
--- ---- aggregates and groups
-
-abbrev pub occurs_in : List Expr → Expr → Bool
-occurs_in groups e = list_any (λ g. same g e) groups
-
-abbrev pub found_in : Bool → List Expr → ℕ → Expr → Found
-found_in grouped groups own e = (e, is_well_grouped grouped groups own e)
-
--- what is asked of an expression that is no group expression
-abbrev pub settled_inside : Bool → List Expr → ℕ → Expr → Bool
-settled_inside grouped groups own e = is_well_grouped_level grouped own (map-Expr Expr Found (found_in grouped groups own) (out-Expr e))
-
 -- ---- selects
-
-abbrev pub is_known : Catalog → TableId → Bool
-is_known schema table = nat_lt table.0 (length schema.tables)
 
 abbrev pub are_joined : Catalog → Scope → List (List ℕ) → List Joined → Bool
 are_joined schema scope names [] = true
@@ -137,9 +122,6 @@ plain_select schema s =
 -- the names around an expression of a bulk statement
 abbrev pub names_alone : Catalog → TableId → List (List ℕ)
 names_alone schema table = name_of schema (record { table = table; alias = None }) ∷ []
-
-abbrev pub is_for : Catalog → TableId → ColumnNo → Value → Bool
-is_for schema table column v = has_kind (column_in schema (table ∷ []) 0 column) v
 
 abbrev pub stands_at : Catalog → Scope → List (List ℕ) → Option ColumnSpec → Expr → Bool
 stands_at schema scope names (Some column) e = stands_as schema scope names (kind_of column.kind) e

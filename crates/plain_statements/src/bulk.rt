@@ -9,13 +9,13 @@ ghost use Rattle.sql_semantics.specs.Kinds as kinds;
 ghost use Rattle.sql_semantics.specs.Plain as plain;
 ghost use Rattle.sql_semantics.specs.Plain.{IsPlainBulk};
 ghost use Rattle.sql_semantics.specs.PlainStatement.{IsFittingBulk};
+ghost use Rattle.expr_scopes.specs.Scopes as scopes;
 ghost use Rattle.plain_statements.specs.Tested as spec;
 
-use crate::column::{column_in, is_for, is_free_column, is_known};
-use crate::naming::table_name;
 use crate::select::is_filtered;
 use crate::standing::{Sources, stands_as};
 use base_core::{ColumnNo, Refusal, TableId, Value};
+use expr_scopes::{column_in, is_for, is_free_column, is_known, table_name};
 use expr_types::{Bulk, Expr};
 use expr_typing::has_aggregate;
 use schema_core::{Schema, kind_of};
@@ -35,7 +35,7 @@ fn alone(alloc: Global, schema: &Schema, table: TableId) -> Result<Sources, Allo
 /// Whether each value is for the column at its place.
 #[tactic(auto, using(schema_core::proofs::Steps::pair_steps))]
 fn are_for(schema: &Schema, table: TableId, columns: &[ColumnNo], values: &[Value]) -> bool
-    ensures { result ≡ pointwise (spec.is_for schema.now table) columns.now values.now }
+    ensures { result ≡ pointwise (scopes.is_for schema.now table) columns.now values.now }
 {
     for (place, column) in columns.iter().enumerate() {
         if place >= values.len() || !is_for(schema, table, *column, &values[place]) {

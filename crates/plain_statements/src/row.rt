@@ -9,8 +9,8 @@ ghost use Rattle.schema_core.specs.WellFormed as formed;
 ghost use Rattle.schema_core.specs.WellFormed.{IsWellFormed};
 ghost use Rattle.plain_statements.specs.Tested as spec;
 
-use crate::column::is_known;
 use base_core::{ColumnNo, RowValues, Value};
+use expr_scopes::is_known;
 use schema_core::{
     ColumnSpec, RowStmt, Schema, TableSpec, has_generated_key, is_required, kind_of, kind_of_value,
     same_kind,

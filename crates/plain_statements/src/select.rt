@@ -6,13 +6,12 @@ ghost use Rattle.base_core.specs.declared.refusal.Refusal.TheVariants.{Memory};
 ghost use Rattle.expr_types.specs.Level as level;
 ghost use Rattle.sql_semantics.specs.Plain as plain;
 ghost use Rattle.sql_semantics.specs.Plain.{IsPlainSelect};
+ghost use Rattle.expr_scopes.specs.Scopes as scopes;
 ghost use Rattle.plain_statements.specs.Tested as spec;
 
-use crate::column::is_known;
-use crate::naming::are_distinct;
-use crate::settled::{Grouping, settled};
 use crate::standing::{Sources, is_filter, stands, stands_as};
 use base_core::{Kind, Name, Refusal, TableId};
+use expr_scopes::{Grouping, are_distinct, is_known, settled};
 use expr_types::{Expr, Select};
 use expr_typing::has_aggregate;
 use schema_core::Schema;
@@ -226,7 +225,7 @@ pub fn is_settled_select(select: &Select) -> bool
 }
 
 fn all_known(schema: &Schema, tables: &[TableId]) -> bool
-    ensures { result ≡ list_all (spec.is_known schema.now) tables.now }
+    ensures { result ≡ list_all (scopes.is_known schema.now) tables.now }
 {
     tables.iter().all(|table| is_known(schema, *table))
 }

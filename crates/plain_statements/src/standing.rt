@@ -5,12 +5,9 @@ ghost use Rattle.sql_semantics.specs.Kinds.{expression_kind};
 ghost use Rattle.sql_semantics.specs.Plain as plain;
 ghost use Rattle.plain_statements.specs.Tested as spec;
 
-use crate::fitting::fits;
-use crate::naming::{name_of, names_apart};
-use crate::same::same;
-use crate::settled::has_full_lists;
 use base_core::{Kind, Name, Refusal, TableId};
 use expr_normal::normal;
+use expr_scopes::{fits, has_full_lists, name_of, names_apart, same};
 use expr_types::{CopiedIn, Expr, Origin};
 use expr_typing::{has_aggregate, type_of};
 use schema_core::{Schema, same_kind};

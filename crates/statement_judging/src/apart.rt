@@ -10,8 +10,8 @@ ghost use Rattle.statement_judging.specs.Bulks as bulks;
 ghost use Rattle.statement_judging.specs.Judging as spec;
 
 use base_core::{ColumnNo, Name, TableId};
+use expr_scopes::{are_distinct, name_of, names_apart, table_name};
 use expr_types::{Bulk, Expr, Joined, Origin, Select};
-use plain_statements::{are_distinct, name_of, names_apart, table_name};
 use schema_core::Schema;
 use std::alloc::{AllocError, Global};
 

@@ -1,6 +1,6 @@
 use Rattle.std.proofs.Common.{◌≡◌, ◌≤◌, drop, length}
 use Rattle.std.specs.Cmp.Lexicographic.{pointwise}
-use Rattle.plain_statements.specs.Tested.{is_for}
+use Rattle.expr_scopes.specs.Scopes.{is_for}
 use Rattle.plain_statements.proofs.bulk.are_for.Given as goal
 
 abbrev pub invariant-loop-place : goal.invariant-loop-place

@@ -10,8 +10,8 @@ use Rattle.expr_types.specs.declared.expr.Func.{Func}
 use Rattle.expr_types.specs.Level.{has_aggregate, is_aggregate_function}
 use Rattle.expr_types.specs.Same.{same}
 use Rattle.sql_semantics.specs.Plain.{Found, lacks_aggregate, is_well_grouped, is_well_grouped_level, whole}
-use Rattle.plain_statements.specs.Tested.{found_in, occurs_in, settled_inside}
-use Rattle.plain_statements.proofs.Neither.{not_either}
+use Rattle.expr_scopes.specs.Scopes.{found_in, occurs_in, settled_inside}
+use Rattle.expr_scopes.proofs.Neither.{not_either}
 
 module _ (grouped : Bool) (groups : List Expr) (own : ℕ) where
   abbrev found : Expr → Found

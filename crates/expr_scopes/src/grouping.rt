@@ -3,16 +3,16 @@
 ghost use Rattle.std.specs.Prelude.{◌≡◌, ◌<◌, ◌&&◌, map, not};
 ghost use Rattle.std.specs.List.{list_all};
 ghost use Rattle.sql_semantics.specs.Plain as spec;
-ghost use Rattle.plain_statements.specs.Tested as tested;
+ghost use Rattle.expr_scopes.specs.Scopes as scopes;
 
-use crate::same::same;
+use crate::sameness::same;
 use expr_types::Expr;
 use expr_typing::{has_aggregate, some_aggregate};
 
 /// Whether every `and` and `or` has at least two parts.
 #[tactic(auto, unfolding(sql_semantics::specs::Plain::has_full_lists), using(crate::proofs::Levels::full_lists))]
 #[cycle(full)]
-pub(crate) fn has_full_lists(e: &Expr) -> bool
+pub fn has_full_lists(e: &Expr) -> bool
     ensures { result ≡ spec.has_full_lists e.now }
 {
     match e {
@@ -50,14 +50,14 @@ fn all_full(es: &[Expr]) -> bool
 
 /// Whether the expression is one of the group expressions.
 fn occurs_in(groups: &[Expr], e: &Expr) -> bool
-    ensures { result ≡ tested.occurs_in groups.now e.now }
+    ensures { result ≡ scopes.occurs_in groups.now e.now }
 {
     groups.iter().any(|group| same(group, e))
 }
 
 /// How a query makes groups: whether it does, its group expressions, and the number of its own sources.
 #[derive(Clone, Copy)]
-pub(crate) struct Grouping<'a> {
+pub struct Grouping<'a> {
     pub grouped: bool,
     pub groups: &'a [Expr],
     pub own: usize,
@@ -67,7 +67,7 @@ pub(crate) struct Grouping<'a> {
 /// aggregates and group expressions alone.
 #[tactic(auto, using(crate::proofs::Groups::settled_at))]
 #[cycle(settling)]
-pub(crate) fn settled(query: &Grouping<'_>, e: &Expr) -> bool
+pub fn settled(query: &Grouping<'_>, e: &Expr) -> bool
     ensures { result ≡ spec.is_well_grouped query.now.grouped query.now.groups.now query.now.own e.now }
 {
     if query.grouped && occurs_in(query.groups, e) {
@@ -80,7 +80,7 @@ pub(crate) fn settled(query: &Grouping<'_>, e: &Expr) -> bool
 #[cycle(settling)]
 fn settled_inside(query: &Grouping<'_>, e: &Expr) -> bool
     ensures { result
-        ≡ tested.settled_inside query.now.grouped query.now.groups.now query.now.own e.now }
+        ≡ scopes.settled_inside query.now.grouped query.now.groups.now query.now.own e.now }
 {
     match e {
         Expr::Column(source, _) => !(query.grouped && (*source as usize) < query.own),

@@ -2,7 +2,7 @@ use Rattle.std.proofs.Common.{◌≡◌, ◌+◌, ◌*◌, max, map, drop}
 use Rattle.std.specs.List.{list_all}
 use Rattle.expr_types.specs.declared.expr.Expr.{size-Expr}
 use Rattle.sql_semantics.specs.Plain.{fits}
-use Rattle.plain_statements.proofs.fitting.+fitting.Given as goal
+use Rattle.expr_scopes.proofs.fitting.+fitting.Given as goal
 
 abbrev pub invariant-all_fit-loop-e : goal.invariant-all_fit-loop-e
 invariant-all_fit-loop-e l = list_all (λ holds. holds l.scope) (map (fits l.schema) (drop l.e-index l.es)) ≡ list_all (λ holds. holds l.scope) (map (fits l.schema) l.es)

@@ -6,14 +6,14 @@ ghost use Rattle.std.specs.Option.{option_copied};
 ghost use Rattle.schema_core.specs.Catalog.{spec_of};
 ghost use Rattle.sql_semantics.specs.Kinds as kinds;
 ghost use Rattle.sql_semantics.specs.Plain as spec;
-ghost use Rattle.plain_statements.specs.Tested as tested;
+ghost use Rattle.expr_scopes.specs.Scopes as scopes;
 
 use base_core::{ColumnNo, Kind, TableId, Value};
 use schema_core::{ColumnSpec, Schema, kind_of, kind_of_value, same_kind};
 
 /// Whether a table of this number is declared.
-pub(crate) fn is_known(schema: &Schema, table: TableId) -> bool
-    ensures { result ≡ tested.is_known schema.now table }
+pub fn is_known(schema: &Schema, table: TableId) -> bool
+    ensures { result ≡ scopes.is_known schema.now table }
 {
     table.0 < schema.count()
 }
@@ -29,7 +29,7 @@ fn columns_of(schema: &Schema, table: TableId) -> &[ColumnSpec]
 }
 
 /// The declaration of a source's column, if there is one.
-pub(crate) fn column_in<'x>(
+pub fn column_in<'x>(
     schema: &'x Schema,
     scope: &[TableId],
     source: u32,
@@ -68,8 +68,8 @@ fn is_of_kind(kind: Kind, value: &Value) -> bool
 }
 
 /// Whether the column is there and takes values of this kind; every column takes NULL.
-pub(crate) fn is_for(schema: &Schema, table: TableId, column: ColumnNo, value: &Value) -> bool
-    ensures { result ≡ tested.is_for schema.now table column value.now }
+pub fn is_for(schema: &Schema, table: TableId, column: ColumnNo, value: &Value) -> bool
+    ensures { result ≡ scopes.is_for schema.now table column value.now }
 {
     match column_in(schema, &[table], 0, column) {
         Some(column) => is_of_kind(kind_of(column.kind), value),
@@ -78,7 +78,7 @@ pub(crate) fn is_for(schema: &Schema, table: TableId, column: ColumnNo, value: &
 }
 
 /// Whether the column is there and no part of the primary key.
-pub(crate) fn is_free_column(schema: &Schema, table: TableId, column: ColumnNo) -> bool
+pub fn is_free_column(schema: &Schema, table: TableId, column: ColumnNo) -> bool
     ensures { result ≡ spec.is_free_column schema.now table column }
 {
     match column_in(schema, &[table], 0, column) {

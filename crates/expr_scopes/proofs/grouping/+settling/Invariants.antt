@@ -1,7 +1,7 @@
 use Rattle.std.proofs.Common.{◌≡◌, ◌+◌, ◌*◌, drop}
 use Rattle.std.specs.List.{list_all}
 use Rattle.sql_semantics.specs.Plain.{is_well_grouped}
-use Rattle.plain_statements.proofs.settled.+settling.Given as goal
+use Rattle.expr_scopes.proofs.grouping.+settling.Given as goal
 
 abbrev pub invariant-all_settled-loop-e : goal.invariant-all_settled-loop-e
 invariant-all_settled-loop-e l = list_all (is_well_grouped l.query.grouped l.query.groups.now l.query.own) (drop l.e-index l.es) ≡ list_all (is_well_grouped l.query.grouped l.query.groups.now l.query.own) l.es

@@ -31,15 +31,10 @@ fn entered(alloc: Global, scope: &[TableId], table: TableId) -> Result<Vec<Table
 }
 
 /// Whether every level stands in its scope: its column is there, its function has its operands, its source is
-/// declared, and no literal is NULL.
+/// declared, and no literal is NULL. The only error is that memory ran out.
 #[tactic(auto, unfolding(sql_semantics::specs::Plain::fits), using(crate::proofs::Levels::fitting_lists))]
 #[cycle(fitting)]
-pub(crate) fn fits(
-    alloc: Global,
-    schema: &Schema,
-    scope: &[TableId],
-    e: &Expr,
-) -> Result<bool, AllocError>
+pub fn fits(alloc: Global, schema: &Schema, scope: &[TableId], e: &Expr) -> Result<bool, AllocError>
     ensures { IfOk result (λ fitting. fitting ≡ spec.fits schema.now e.now scope.now) }
 {
     match e {

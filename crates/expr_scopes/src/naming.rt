@@ -12,7 +12,7 @@ use schema_core::Schema;
 use sqlite_items::Boxed;
 use std::alloc::{AllocError, Global};
 
-/// The name of a source: its own, or else its table's.
+/// The name of a source: its own, or else its table's. The only error is that memory ran out.
 pub fn name_of(alloc: Global, schema: &Schema, origin: &Origin) -> Result<Name, AllocError>
     ensures { IfOk result (λ name. name ≡ spec.name_of schema.now origin.now) }
 {
@@ -22,7 +22,7 @@ pub fn name_of(alloc: Global, schema: &Schema, origin: &Origin) -> Result<Name, 
     }
 }
 
-/// The name of a table; one that is not declared has none.
+/// The name of a table; one that is not declared has none. The only error is that memory ran out.
 pub fn table_name(alloc: Global, schema: &Schema, table: TableId) -> Result<Name, AllocError>
     ensures { IfOk result (λ name. name
         ≡ spec.name_of schema.now (record { table = table; alias = None })) }
@@ -74,7 +74,7 @@ fn entered(alloc: Global, names: &[Name], name: Name) -> Result<Vec<Name>, Alloc
     Ok(inner)
 }
 
-/// Whether no source of an `exists` has the name of a source around it.
+/// Whether no source of an `exists` has the name of a source around it. The only error is that memory ran out.
 #[tactic(auto, unfolding(sql_semantics::specs::Plain::names_apart), using(crate::proofs::Levels::apart_lists))]
 #[cycle(apart)]
 pub fn names_apart(

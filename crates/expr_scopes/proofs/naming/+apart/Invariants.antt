@@ -2,7 +2,7 @@ use Rattle.std.proofs.Common.{◌≡◌, ◌+◌, ◌*◌, max, map, drop}
 use Rattle.std.specs.List.{list_all}
 use Rattle.expr_types.specs.declared.expr.Expr.{size-Expr}
 use Rattle.sql_semantics.specs.Plain.{names_apart}
-use Rattle.plain_statements.proofs.naming.+apart.Given as goal
+use Rattle.expr_scopes.proofs.naming.+apart.Given as goal
 
 abbrev pub invariant-all_apart-loop-e : goal.invariant-all_apart-loop-e
 invariant-all_apart-loop-e l =

@@ -106,7 +106,7 @@ fn is_call(function: Func, es: &[Expr], other: &Expr) -> bool
 /// Whether two expressions are one tree.
 #[tactic(auto, unfolding(expr_types::specs::Same::same), using(crate::proofs::Trees::of_lists))]
 #[cycle(trees)]
-pub(crate) fn same(e: &Expr, other: &Expr) -> bool
+pub fn same(e: &Expr, other: &Expr) -> bool
     ensures { result ≡ spec.same e.now other.now }
 {
     match e {

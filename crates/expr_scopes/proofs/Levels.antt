@@ -13,7 +13,7 @@ use Rattle.expr_types.proofs.Folds.{fold-And, fold-Or, fold-Call}
 use Rattle.sql_semantics.specs.Kinds.{Scope}
 use Rattle.sql_semantics.specs.Plain.{adds_name, are_distinct, fits, full_level, has_full_lists, name_of, names_apart, takes}
 use Rattle.sql_semantics.proofs.Equations.{fits-And, fits-Or, fits-Call}
-use Rattle.plain_statements.proofs.Neither.{not_either}
+use Rattle.expr_scopes.proofs.Neither.{not_either}
 
 pub fits_and : (schema : Catalog) (scope : Scope) (es : List Expr) → fits schema (expr.And es) scope ≡ list_all (λ holds. holds scope) (map (fits schema) es)
 fits_and schema scope es = fits-And schema scope es

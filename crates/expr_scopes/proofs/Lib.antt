@@ -1,0 +1,5 @@
+pub mod Equality
+pub mod Groups
+pub mod Levels
+pub mod Neither
+pub mod Trees
