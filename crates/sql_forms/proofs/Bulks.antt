@@ -18,6 +18,7 @@ use Rattle.sql_text.specs.declared.names.Quoting.{Quoting}
 use Rattle.sql_text.specs.declared.names.Quoting.TheVariants.{Sqlite, Postgresql, Mysql}
 use Rattle.sql_text.specs.Columns.{column_name}
 use Rattle.sql_text.specs.Written.{Piece, words, nothing_written, with_separators}
+use Rattle.sql_rows.specs.Rows as rows
 use Rattle.sql_statements.specs.Bulks as b
 use Rattle.sql_statements.specs.Bulks.{bulk_pieces}
 use Rattle.sql_statements.specs.Texts.{text_of, statement_pieces}
@@ -37,7 +38,7 @@ no_values no_items = refl
 no_values (one_item (name is)) = refl
 no_values (more_items (name is) others) = no_values others
 
-pub default_is : (q : Quoting) → b.default_word q ≡ default_word q
+pub default_is : (q : Quoting) → rows.default_word q ≡ default_word q
 default_is Sqlite = refl
 default_is Postgresql = refl
 default_is Mysql = refl
@@ -54,7 +55,7 @@ module _ (q : Quoting) (schema : Catalog) where
   -- ---- cells
 
   cells_read : (G : OfText) (table : TableId) (c : ColumnNo) (columns : List ColumnNo) (x : Value) (vs : List Value) → IsTrue (are_for schema table columns vs) → (t : List ℕ) (v : List Value)
-      → Writes q (b.cell_piece schema table c x ∷ b.cells_pieces schema table (codes ", ") columns vs) t v → ((m : List ℕ) → AreMarks q m (x ∷ vs) → G m (x ∷ vs)) → G t v
+      → Writes q (rows.cell_piece schema table c x ∷ b.cells_pieces schema table (codes ", ") columns vs) t v → ((m : List ℕ) → AreMarks q m (x ∷ vs) → G m (x ∷ vs)) → G t v
   cells_read G table c [] x [] h t v w go =
       after_value G w (λ m r u is rest. at_end (λ p y. G (m ++ p) (x ∷ y)) rest (subst (λ p. G p (x ∷ [])) (sym (append-nil m)) (go m (one_mark is))))
   cells_read G table c [] x (y ∷ ys) h t v w go = absurd (cc)
@@ -64,7 +65,7 @@ module _ (q : Quoting) (schema : Catalog) where
       after_value G w (λ m r u is rest. after_words (λ p z. G (m ++ p) (x ∷ z)) rest
       (λ p others. cells_read (λ s z. G (m ++ (codes ", " ++ s)) (x ∷ z)) table d ds y ys parts.1 p u others (λ n are. go (m ++ (codes ", " ++ n)) (more_marks is are))))
 
-  all_names : (table : TableId) (columns : List ColumnNo) → AllRead q (λ c. b.column_piece schema table c ∷ []) (Name q) (column_name schema table) columns
+  all_names : (table : TableId) (columns : List ColumnNo) → AllRead q (λ c. rows.column_piece schema table c ∷ []) (Name q) (column_name schema table) columns
   all_names table [] = tt
   all_names table (c ∷ cs) =
       (λ t v w. after_name (λ p u. Name q p u (column_name schema table c)) w (λ a r is rest. at_end (λ p u. Name q (a ++ p) u (column_name schema table c)) rest (subst (λ p. Name q p [] (column_name schema table c)) (sym (append-nil a)) (name is))), all_names table cs)
@@ -72,7 +73,7 @@ module _ (q : Quoting) (schema : Catalog) where
   names_read : (G : OfText) (table : TableId) (columns : List ColumnNo) (t : List ℕ) (v : List Value) → Writes q (b.columns_pieces schema table columns) t v
       → ((Items (Name q) (codes ", ") t [] (map (column_name schema table) columns)) → G t []) → G t v
   names_read G table columns t v w go =
-      let items = items_read q (λ c. b.column_piece schema table c ∷ []) (Name q) (column_name schema table) (codes ", ") columns (all_names table columns) t v w in
+      let items = items_read q (λ c. rows.column_piece schema table c ∷ []) (Name q) (column_name schema table) (codes ", ") columns (all_names table columns) t v w in
       subst (λ u. G t u) (sym (no_values items)) (go (subst (λ u. Items (Name q) (codes ", ") t u (map (column_name schema table) columns)) (no_values items) items))
 
   insert_read : (table : TableId) (columns : List ColumnNo) (vs : List Value) → IsTrue (are_for schema table columns vs) → (t : List ℕ) (v : List Value)
@@ -81,8 +82,8 @@ module _ (q : Quoting) (schema : Catalog) where
       let form : List Value → BulkForm = λ us. insert (spec_of schema table).name [] us in
       after_words (λ p u. ReadsBulk q p u (form vs)) w (λ p rest. after_name (λ p u. ReadsBulk q (codes "INSERT INTO " ++ p) u (form vs)) rest
       (λ a r is past. after_words (λ r u. ReadsBulk q (codes "INSERT INTO " ++ (a ++ r)) u (form vs)) past
-      (λ r last. at_end (λ r u. ReadsBulk q (codes "INSERT INTO " ++ (a ++ (b.default_word q ++ r))) u (form vs)) last
-      (subst (λ word. ReadsBulk q (codes "INSERT INTO " ++ (a ++ word)) [] (form vs)) (sym (append-nil (b.default_word q) ∙ default_is q))
+      (λ r last. at_end (λ r u. ReadsBulk q (codes "INSERT INTO " ++ (a ++ (rows.default_word q ++ r))) u (form vs)) last
+      (subst (λ word. ReadsBulk q (codes "INSERT INTO " ++ (a ++ word)) [] (form vs)) (sym (append-nil (rows.default_word q) ∙ default_is q))
       (subst (λ us. ReadsBulk q (codes "INSERT INTO " ++ (a ++ default_word q)) [] (form us)) (sym (no_cells schema table vs h)) (insert_nothing is))))))
   insert_read table (c ∷ cs) [] h t v w = absurd (cc)
   insert_read table (c ∷ cs) (x ∷ vs) h t v w =

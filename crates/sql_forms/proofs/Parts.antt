@@ -13,6 +13,7 @@ use Rattle.sql_text.specs.declared.names.Quoting.TheVariants.{Sqlite, Postgresql
 use Rattle.sql_text.specs.Words.{join_word}
 use Rattle.sql_text.specs.Written.{Piece, words, name, with_leading_separators, with_separators}
 use Rattle.sql_expressions.specs.Laid.{laid, part, param, source_pieces}
+use Rattle.sql_rows.specs.Cuts as cuts
 use Rattle.sql_statements.specs.Selects as s
 use Rattle.sql_statements.specs.Selects.{whole}
 use Rattle.sql_grammar.specs.Reads.{Reads, Either, IsMark}
@@ -142,16 +143,16 @@ module _ (q : Quoting) (schema : Catalog) where
 
 -- ---- cuts
 
-one_number : (q : Quoting) (G : OfText) (word : List ℕ) (n : ℕ) (ps : List Piece) (t : List ℕ) (v : List Value) → Writes q (words word ∷ s.number_piece n ∷ ps) t v
+one_number : (q : Quoting) (G : OfText) (word : List ℕ) (n : ℕ) (ps : List Piece) (t : List ℕ) (v : List Value) → Writes q (words word ∷ cuts.number_piece n ∷ ps) t v
     → ((m r : List ℕ) (u : List Value) → IsMark q m → Writes q ps r u → G (word ++ (m ++ r)) (number n ∷ u)) → G t v
 one_number q G word n ps t v w go = after_words G w (λ p rest. after_value (λ p u. G (word ++ p) u) rest (λ m r u is last. go m r u is last))
 
-last_number : (q : Quoting) (G : OfText) (word : List ℕ) (n : ℕ) (t : List ℕ) (v : List Value) → Writes q (words word ∷ s.number_piece n ∷ []) t v
+last_number : (q : Quoting) (G : OfText) (word : List ℕ) (n : ℕ) (t : List ℕ) (v : List Value) → Writes q (words word ∷ cuts.number_piece n ∷ []) t v
     → ((m : List ℕ) → IsMark q m → G (word ++ m) (number n ∷ [])) → G t v
 last_number q G word n t v w go =
     one_number q G word n [] t v w (λ m r u is last. at_end (λ r u. G (word ++ (m ++ r)) (number n ∷ u)) last (subst (λ p. G (word ++ p) (number n ∷ [])) (sym (append-nil m)) (go m is)))
 
-pub cut_read : (q : Quoting) (limit offset : Option ℕ) (t : List ℕ) (v : List Value) → Writes q (s.cut_pieces q limit offset) t v → Cut q t v (option_map number limit, option_map number offset)
+pub cut_read : (q : Quoting) (limit offset : Option ℕ) (t : List ℕ) (v : List Value) → Writes q (cuts.cut_pieces q limit offset) t v → Cut q t v (option_map number limit, option_map number offset)
 cut_read q None None t v w = at_end (λ p u. Cut q p u (None, None)) w no_cut
 cut_read q (Some l) None t v w = last_number q (λ p u. Cut q p u (Some (number l), None)) (codes " LIMIT ") l t v w (λ m is. limit_alone (number l) is)
 cut_read Sqlite None (Some o) t v w = last_number Sqlite (λ p u. Cut Sqlite p u (None, Some (number o))) (codes " LIMIT -1 OFFSET ") o t v w (λ m is. sqlite_offset (number o) is)
@@ -161,14 +162,14 @@ cut_read Mysql None (Some o) t v w =
     (λ m r u is rest. after_words (λ r u. Cut Mysql (codes " LIMIT " ++ (m ++ r)) (number o ∷ u) (None, Some (number o))) rest
     (λ r last. at_end (λ r u. Cut Mysql (codes " LIMIT " ++ (m ++ (codes ", 18446744073709551615" ++ r))) (number o ∷ u) (None, Some (number o))) last (mysql_offset (number o) is)))
 cut_read Sqlite (Some l) (Some o) t v w =
-    one_number Sqlite (λ p u. Cut Sqlite p u (Some (number l), Some (number o))) (codes " LIMIT ") l (s.row_count_pieces (codes " OFFSET ") o) t v w
+    one_number Sqlite (λ p u. Cut Sqlite p u (Some (number l), Some (number o))) (codes " LIMIT ") l (cuts.row_count_pieces (codes " OFFSET ") o) t v w
     (λ m r u is rest. last_number Sqlite (λ r u. Cut Sqlite (codes " LIMIT " ++ (m ++ r)) (number l ∷ u) (Some (number l), Some (number o))) (codes " OFFSET ") o r u rest
     (λ n at. sqlite_both (number l) (number o) is at))
 cut_read Postgresql (Some l) (Some o) t v w =
-    one_number Postgresql (λ p u. Cut Postgresql p u (Some (number l), Some (number o))) (codes " LIMIT ") l (s.row_count_pieces (codes " OFFSET ") o) t v w
+    one_number Postgresql (λ p u. Cut Postgresql p u (Some (number l), Some (number o))) (codes " LIMIT ") l (cuts.row_count_pieces (codes " OFFSET ") o) t v w
     (λ m r u is rest. last_number Postgresql (λ r u. Cut Postgresql (codes " LIMIT " ++ (m ++ r)) (number l ∷ u) (Some (number l), Some (number o))) (codes " OFFSET ") o r u rest
     (λ n at. postgresql_both (number l) (number o) is at))
 cut_read Mysql (Some l) (Some o) t v w =
-    one_number Mysql (λ p u. Cut Mysql p u (Some (number l), Some (number o))) (codes " LIMIT ") o (s.row_count_pieces (codes ", ") l) t v w
+    one_number Mysql (λ p u. Cut Mysql p u (Some (number l), Some (number o))) (codes " LIMIT ") o (cuts.row_count_pieces (codes ", ") l) t v w
     (λ m r u is rest. last_number Mysql (λ r u. Cut Mysql (codes " LIMIT " ++ (m ++ r)) (number o ∷ u) (Some (number l), Some (number o))) (codes ", ") l r u rest
     (λ n at. mysql_both (number l) (number o) is at))

@@ -17,9 +17,8 @@ use Rattle.sql_text.specs.declared.names.Quoting.{Quoting}
 use Rattle.sql_text.specs.declared.names.Quoting.TheVariants.{Sqlite, Postgresql, Mysql}
 use Rattle.sql_text.specs.Columns.{column_name}
 use Rattle.sql_text.specs.Written.{Piece, words, name as name_piece, value, nothing_written, with_leading_separators, with_separators}
-use Rattle.sql_statements.specs.Bulks as b
-use Rattle.sql_statements.specs.Rows as r
-use Rattle.sql_statements.specs.Rows.{row_pieces, is_left_out, leaves_key}
+use Rattle.sql_rows.specs.Rows as r
+use Rattle.sql_rows.specs.Rows.{row_pieces, is_left_out, leaves_key}
 use Rattle.sql_statements.specs.Texts.{text_of, statement_pieces}
 use Rattle.sql_grammar.specs.Reads.{AreMarks, one_mark, more_marks}
 use Rattle.sql_trees.proofs.Pieces.{OfText, Writes, after_words, after_name, after_value, at_end, split, before_words, all_written}
@@ -221,7 +220,7 @@ told_read Mysql drawn spec t v w = at_end (Tells Mysql []) w (refl, none_returne
 -- ---- statements
 
 module _ (q : Quoting) where
-  fill_read : (spec : TableSpec) (drawn : Bool) (t : List ℕ) (v : List Value) → Writes q (words (codes "INSERT INTO ") ∷ name_piece spec.name ∷ words (b.default_word q) ∷ r.returning_pieces q drawn spec) t v
+  fill_read : (spec : TableSpec) (drawn : Bool) (t : List ℕ) (v : List Value) → Writes q (words (codes "INSERT INTO ") ∷ name_piece spec.name ∷ words (r.default_word q) ∷ r.returning_pieces q drawn spec) t v
       → ReadsRow q t v (fill spec.name (returned_columns q drawn spec))
   fill_read spec drawn t v w =
       let form : RowForm = fill spec.name (returned_columns q drawn spec) in
@@ -257,7 +256,7 @@ module _ (q : Quoting) where
       (add_rows is names (items_read q (r.row_list drawn spec.columns) (Row q) (given_values drawn spec.columns) (codes ", ") rows (all_rows q spec drawn h rows wide) c z itemsw) tells.1)))))))))))
 
   insert_by : (spec : TableSpec) (drawn : Bool) (rows : List (List Value)) → list_all (is_row spec) rows ≡ true → (k : Bool) → list_all (λ c. drawn && c.key) spec.columns ≡ k → (t : List ℕ) (v : List Value)
-      → Writes q (words (codes "INSERT INTO ") ∷ name_piece spec.name ∷ (cond k (words (b.default_word q) ∷ []) (r.lists_pieces drawn spec.columns rows) ++ r.returning_pieces q drawn spec)) t v
+      → Writes q (words (codes "INSERT INTO ") ∷ name_piece spec.name ∷ (cond k (words (r.default_word q) ∷ []) (r.lists_pieces drawn spec.columns rows) ++ r.returning_pieces q drawn spec)) t v
       → ReadsRow q t v (cond k (fill spec.name (returned_columns q drawn spec)) (add spec.name (columns_with_values drawn spec.columns) (map (given_values drawn spec.columns) rows) (returned_columns q drawn spec)))
   insert_by spec drawn rows wide true is t v w = fill_read spec drawn t v w
   insert_by spec drawn rows wide false is t v w = add_read spec drawn rows is wide t v w

@@ -12,6 +12,7 @@ use Rattle.sql_text.specs.declared.names.Quoting.{Quoting}
 use Rattle.sql_text.specs.Words.{select_word}
 use Rattle.sql_text.specs.Written.{Piece, words, nothing_written}
 use Rattle.sql_expressions.specs.Laid.{source_pieces}
+use Rattle.sql_rows.specs.Cuts as cuts
 use Rattle.sql_statements.specs.Selects as s
 use Rattle.sql_statements.specs.Selects.{select_pieces}
 use Rattle.sql_statements.specs.Texts.{text_of, statement_pieces}
@@ -61,7 +62,7 @@ module _ (q : Quoting) (schema : Catalog) where
       let groups : List Piece = s.groups_pieces q schema scope it.groups in
       let having : List Piece = s.clause_pieces q schema scope (codes " HAVING ") it.having in
       let order : List Piece = s.order_pieces q schema scope it.order in
-      let cut : List Piece = s.cut_pieces q it.limit it.offset in
+      let cut : List Piece = cuts.cut_pieces q it.limit it.offset in
       split (λ p u. ReadsTail scope it p u) (filter ++ groups ++ having ++ order) cut w
       (λ p5 c u5 cv w5 cutw. split (λ p u. ReadsTail scope it (p ++ c) (u ++ cv)) (filter ++ groups ++ having) order w5
       (λ p4 o u4 ov w4 orderw. split (λ p u. ReadsTail scope it ((p ++ o) ++ c) ((u ++ ov) ++ cv)) (filter ++ groups) having w4

@@ -4,36 +4,20 @@ use Rattle.base_core.specs.declared.ids.ColumnNo.{ColumnNo}
 use Rattle.base_core.specs.declared.ids.TableId.{TableId}
 use Rattle.base_core.specs.declared.value.Value.{Value}
 use Rattle.base_core.specs.declared.value.Value.TheVariants as cell
-use Rattle.schema_core.specs.Catalog.{Catalog, spec_of}
+use Rattle.schema_core.specs.Catalog.{Catalog}
 use Rattle.expr_types.specs.declared.expr.Expr.{Expr}
 use Rattle.expr_types.specs.declared.select.Bulk.{Bulk}
 use Rattle.expr_types.specs.declared.select.Bulk.TheVariants as bulk
 use Rattle.sql_semantics.specs.Plain.{alone}
 use Rattle.sql_text.specs.declared.names.Quoting.{Quoting}
-use Rattle.sql_text.specs.declared.names.Quoting.TheVariants.{Sqlite, Postgresql, Mysql}
 use Rattle.sql_expressions.specs.Laid.{laid}
 use Rattle.sql_text.specs.Columns.{column_name}
+use Rattle.sql_rows.specs.Rows.{cell_piece, column_piece, default_word, table_piece}
 use Rattle.sql_statements.specs.Selects.{clause_pieces}
-use Rattle.sql_text.specs.Written.{Piece, words, name, value, with_separators}
-
-abbrev pub table_piece : Catalog → TableId → Piece
-table_piece schema table = name (spec_of schema table).name
-
-abbrev pub column_piece : Catalog → TableId → ColumnNo → Piece
-column_piece schema table column = name (column_name schema table column)
-
--- a row without columns
-abbrev pub default_word : Quoting → List ℕ
-default_word Sqlite = codes " DEFAULT VALUES"
-default_word Postgresql = codes " DEFAULT VALUES"
-default_word Mysql = codes " () VALUES ()"
+use Rattle.sql_text.specs.Written.{Piece, words, with_separators}
 
 abbrev pub columns_pieces : Catalog → TableId → List ColumnNo → List Piece
 columns_pieces schema table columns = with_separators (codes ", ") (λ column. column_piece schema table column ∷ []) columns
-
--- a value for a column, under the column's name
-abbrev pub cell_piece : Catalog → TableId → ColumnNo → Value → Piece
-cell_piece schema table column v = value (column_name schema table column) v
 
 -- values for columns, each with the word before it, and a comma before all but the first
 abbrev pub cells_pieces : Catalog → TableId → List ℕ → List ColumnNo → List Value → List Piece

@@ -6,8 +6,9 @@ use Rattle.expr_types.specs.declared.select.Statement.TheVariants.{Select, Bulk,
 use Rattle.sql_text.specs.declared.names.Quoting.{Quoting}
 use Rattle.sql_text.specs.declared.writer.Compiled.{Compiled}
 use Rattle.sql_statements.specs.Bulks.{bulk_pieces}
-use Rattle.sql_statements.specs.Rows.{row_pieces}
-use Rattle.sql_statements.specs.Selects.{select_pieces, IsCut}
+use Rattle.sql_rows.specs.Rows.{row_pieces}
+use Rattle.sql_rows.specs.Cuts.{IsCut}
+use Rattle.sql_statements.specs.Selects.{select_pieces}
 use Rattle.sql_text.specs.Written.{Piece, compiled_statement, nothing_written, put_all}
 
 -- the pieces of a statement's text

@@ -2,6 +2,7 @@
 
 ghost use Rattle.std.specs.Prelude.{◌≡◌, ◌∷◌, [], IfOk, codes};
 ghost use Rattle.sql_semantics.specs.Plain.{alone};
+ghost use Rattle.sql_rows.specs.Rows.{column_piece};
 ghost use Rattle.sql_statements.specs.Bulks as spec;
 ghost use Rattle.sql_text.specs.Written.{Wrote, with_leading_separators, with_separators};
 
@@ -10,7 +11,8 @@ use base_core::{ColumnNo, Refusal, TableId, Value};
 use expr_types::{Bulk, Expr, Origin};
 use schema_core::Schema;
 use sql_expressions::expression;
-use sql_text::{Quoting, Writer, column_name, table_name};
+use sql_rows::default_word;
+use sql_text::{Writer, column_name, table_name};
 use std::alloc::{AllocError, Global};
 
 /// The declared table alone is in scope.
@@ -22,16 +24,6 @@ fn alone(alloc: Global, table: TableId) -> Result<Vec<Origin>, AllocError>
     Ok(scope)
 }
 
-/// Stands for the values of a row without columns.
-pub(crate) fn default_word(quoting: Quoting) -> &'static str
-    ensures { result.now ≡ spec.default_word quoting }
-{
-    match quoting {
-        Quoting::Sqlite | Quoting::Postgresql => " DEFAULT VALUES",
-        Quoting::Mysql => " () VALUES ()",
-    }
-}
-
 #[tactic(auto, unfolding(sql_text::specs::Written::put_all), using(sql_text::proofs::Steps::steps))]
 fn more_columns(
     writer: &mut Writer,
@@ -39,7 +31,7 @@ fn more_columns(
     table: TableId,
     columns: &[ColumnNo],
 ) -> Result<(), Refusal>
-    ensures { Wrote (with_leading_separators (codes ", ") (λ column. spec.column_piece schema.now table column ∷ [])
+    ensures { Wrote (with_leading_separators (codes ", ") (λ column. column_piece schema.now table column ∷ [])
         columns.now) result writer.old writer.new }
 {
     for column in columns {

@@ -2,7 +2,6 @@
 #![tactic(auto)]
 
 mod bulks;
-mod rows;
 mod selects;
 mod texts;
 

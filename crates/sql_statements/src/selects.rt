@@ -1,16 +1,18 @@
 //! The texts of selects.
 
-ghost use Rattle.std.specs.Prelude.{◌≡◌, ◌<◌, ◌^◌, ◌∷◌, [], ◌++◌, IfOk, OnOk, IsTrue, ◌↔◌, codes};
+ghost use Rattle.std.specs.Prelude.{◌≡◌, ◌∷◌, [], ◌++◌, IfOk, OnOk, IsTrue, ◌↔◌, codes};
 ghost use Rattle.sql_semantics.specs.Plain.{sources_of};
+ghost use Rattle.sql_rows.specs.Cuts.{IsCut};
 ghost use Rattle.sql_statements.specs.Selects as spec;
 ghost use Rattle.sql_text.specs.Words.{select_word, join_word};
 ghost use Rattle.sql_text.specs.Written.{Wrote, with_leading_separators, with_separators};
 
-use base_core::{Copied, Name, Refusal, Value};
+use base_core::{Copied, Name, Refusal};
 use expr_types::{Expr, Joined, Origin, Select};
 use schema_core::Schema;
 use sql_expressions::{expression, param, parts, source};
-use sql_text::{Quoting, Writer};
+use sql_rows::{cut, is_cut};
+use sql_text::Writer;
 use std::alloc::{AllocError, Global};
 
 /// An item with its name.
@@ -304,96 +306,9 @@ fn order(
     }
 }
 
-/// The number of a cut.
-fn number(writer: &mut Writer, n: u64) -> Result<(), Refusal>
-    requires { n < 2 ^ 63 }
-    ensures { Wrote (spec.number_piece n ∷ []) result writer.old writer.new }
-{
-    writer.put_mark(param(), &Value::Int(n as i64))
-}
-
-/// A word and a number.
-#[tactic(auto, using(sql_text::proofs::Steps::steps))]
-fn counted(writer: &mut Writer, word: &str, n: u64) -> Result<(), Refusal>
-    requires { n < 2 ^ 63 }
-    ensures { Wrote (spec.row_count_pieces word.now n) result writer.old writer.new }
-{
-    writer.put_words(word)?;
-    number(writer, n)
-}
-
-/// The cut by an offset alone.
-#[tactic(auto, using(sql_text::proofs::Steps::steps))]
-fn offset_alone(writer: &mut Writer, offset: u64) -> Result<(), Refusal>
-    requires { offset < 2 ^ 63 }
-    ensures { Wrote (spec.offset_pieces writer.old.quoting offset) result writer.old writer.new }
-{
-    match writer.quoting() {
-        Quoting::Sqlite => counted(writer, " LIMIT -1 OFFSET ", offset),
-        Quoting::Postgresql => counted(writer, " LIMIT ALL OFFSET ", offset),
-        Quoting::Mysql => {
-            counted(writer, " LIMIT ", offset)?;
-            writer.put_words(", 18446744073709551615")
-        }
-    }
-}
-
-/// MySQL's cut by both.
-#[tactic(auto, using(sql_text::proofs::Steps::steps))]
-fn offset_first(writer: &mut Writer, offset: u64, limit: u64) -> Result<(), Refusal>
-    requires offset { offset < 2 ^ 63 }
-    requires limit { limit < 2 ^ 63 }
-    ensures { Wrote (spec.row_count_pieces (codes " LIMIT ") offset ++ spec.row_count_pieces (codes ", ") limit)
-        result writer.old writer.new }
-{
-    counted(writer, " LIMIT ", offset)?;
-    counted(writer, ", ", limit)
-}
-
-/// The cut by a limit and an offset, which MySQL writes first.
-#[tactic(auto, using(sql_text::proofs::Steps::steps))]
-fn both_cuts(writer: &mut Writer, limit: u64, offset: u64) -> Result<(), Refusal>
-    requires limit { limit < 2 ^ 63 }
-    requires offset { offset < 2 ^ 63 }
-    ensures { Wrote (spec.both_pieces writer.old.quoting limit offset)
-        result writer.old writer.new }
-{
-    match writer.quoting() {
-        Quoting::Sqlite | Quoting::Postgresql => {
-            counted(writer, " LIMIT ", limit)?;
-            counted(writer, " OFFSET ", offset)
-        }
-        Quoting::Mysql => offset_first(writer, offset, limit),
-    }
-}
-
-#[tactic(auto, using(sql_text::proofs::Steps::steps))]
-fn cut(writer: &mut Writer, limit: Option<u64>, offset: Option<u64>) -> Result<(), Refusal>
-    requires limit { spec.IsCut limit }
-    requires offset { spec.IsCut offset }
-    ensures { Wrote (spec.cut_pieces writer.old.quoting limit offset) result writer.old writer.new }
-{
-    match (limit, offset) {
-        (None, None) => Ok(()),
-        (Some(limit), None) => counted(writer, " LIMIT ", limit),
-        (None, Some(offset)) => offset_alone(writer, offset),
-        (Some(limit), Some(offset)) => both_cuts(writer, limit, offset),
-    }
-}
-
-/// Whether the number of a cut is below 2 ^ 63.
-fn is_cut(number: Option<u64>) -> bool
-    ensures { IsTrue result ↔ spec.IsCut number }
-{
-    match number {
-        Some(number) => number < 9223372036854775808,
-        None => true,
-    }
-}
-
 /// Whether the numbers of the cut are below 2 ^ 63.
 pub(crate) fn has_cuts(select: &Select) -> bool
-    ensures { IsTrue result ↔ (spec.IsCut select.now.limit × spec.IsCut select.now.offset) }
+    ensures { IsTrue result ↔ (IsCut select.now.limit × IsCut select.now.offset) }
 {
     is_cut(select.limit) && is_cut(select.offset)
 }
@@ -406,8 +321,8 @@ fn tail(
     scope: &[Origin],
     select: &Select,
 ) -> Result<(), Refusal>
-    requires limit { spec.IsCut select.now.limit }
-    requires offset { spec.IsCut select.now.offset }
+    requires limit { IsCut select.now.limit }
+    requires offset { IsCut select.now.offset }
     ensures { Wrote (spec.tail_pieces writer.old.quoting schema.now scope.now select.now)
         result writer.old writer.new }
 {
@@ -421,8 +336,8 @@ fn tail(
 /// A select.
 #[tactic(auto, unfolding(crate::specs::Selects::select_pieces), using(sql_text::proofs::Steps::steps))]
 pub(crate) fn select(writer: &mut Writer, schema: &Schema, select: &Select) -> Result<(), Refusal>
-    requires limit { spec.IsCut select.now.limit }
-    requires offset { spec.IsCut select.now.offset }
+    requires limit { IsCut select.now.limit }
+    requires offset { IsCut select.now.offset }
     ensures { Wrote (spec.select_pieces writer.old.quoting schema.now select.now)
         result writer.old writer.new }
 {

@@ -6,11 +6,11 @@ ghost use Rattle.sql_statements.specs.Texts as spec;
 ghost use Rattle.sql_text.specs.Written.{Wrote};
 
 use crate::bulks::bulk;
-use crate::rows::row;
 use crate::selects::{self, select};
 use base_core::Refusal;
 use expr_types::Statement;
 use schema_core::Schema;
+use sql_rows::row;
 use sql_text::{Compiled, Quoting, Writer};
 use std::alloc::Global;
 

@@ -16,7 +16,7 @@ use Rattle.expr_types.specs.declared.select.Statement.TheVariants.{Select as of_
 use Rattle.sql_semantics.specs.Kinds.{column_in}
 use Rattle.sql_semantics.specs.Plain.{is_free_column, is_key_column, is_limit}
 use Rattle.sql_semantics.specs.PlainStatement.{IsPlain}
-use Rattle.sql_statements.specs.Selects.{IsCut}
+use Rattle.sql_rows.specs.Cuts.{IsCut}
 use Rattle.sql_statements.specs.Texts.{HasCuts, text_of}
 use Rattle.sql_forms.specs.Read.{ReadsStatement}
 use Rattle.sql_forms.proofs.Statements.{statements_are_read}

@@ -16,9 +16,8 @@ use Rattle.expr_types.specs.declared.select.Statement.{Statement}
 use Rattle.expr_types.specs.declared.select.Statement.TheVariants as statement
 use Rattle.sql_text.specs.declared.names.Quoting.{Quoting}
 use Rattle.sql_text.specs.Written.{Piece, words, name, value, with_separators}
-use Rattle.sql_statements.specs.Bulks as b
-use Rattle.sql_statements.specs.Rows as r
-use Rattle.sql_statements.specs.Rows.{row_pieces, is_left_out, leaves_key}
+use Rattle.sql_rows.specs.Rows as r
+use Rattle.sql_rows.specs.Rows.{row_pieces, is_left_out, leaves_key}
 use Rattle.sql_statements.specs.Texts.{text_of, statement_pieces}
 use Rattle.text_laws.specs.Values.{without_row, without_cells, without_values, no_values, ValuesAreInNoText}
 use Rattle.text_laws.proofs.Pieces.{Alike, both, behind, bare, one_text, all_alike, joined_alike}
@@ -97,7 +96,7 @@ list_alike spec drawn columns cells = by (wants_key spec cells)
 rows_alike : (q : Quoting) (spec : TableSpec) (drawn : Bool) (columns : List ColumnSpec) (rows : List (List Value)) → Alike (r.rows_pieces q drawn columns rows) (r.rows_pieces q drawn columns (map (without_row spec) rows))
 rows_alike q spec drawn columns rows =
     let lists = λ (xs : List (List Value)). with_separators (codes ", ") (r.row_list drawn columns) xs in
-    either_way (list_all (is_left_out drawn) columns) (words (b.default_word q) ∷ []) (words (b.default_word q) ∷ []) (r.lists_pieces drawn columns rows) (r.lists_pieces drawn columns (map (without_row spec) rows)) refl
+    either_way (list_all (is_left_out drawn) columns) (words (r.default_word q) ∷ []) (words (r.default_word q) ∷ []) (r.lists_pieces drawn columns rows) (r.lists_pieces drawn columns (map (without_row spec) rows)) refl
     (both (r.names_pieces drawn (codes " (") columns) (r.names_pieces drawn (codes " (") columns) (words (codes ") VALUES ") ∷ lists rows) (words (codes ") VALUES ") ∷ lists (map (without_row spec) rows)) refl
     (behind (words (codes ") VALUES ")) (lists rows) (lists (map (without_row spec) rows))
     (joined_alike (r.row_list drawn columns) (without_row spec) (codes ", ") rows (all_alike (r.row_list drawn columns) (without_row spec) (list_alike spec drawn columns) rows))))
@@ -125,14 +124,14 @@ row_alike q schema (row.Insert table rows) =
     ∙ ap (λ (drawn : Bool). map bare (r.insert_rows q (spec_of schema table) drawn (map (without_row (spec_of schema table)) rows))) (sym (leaves_same (spec_of schema table) rows))
 row_alike q schema (row.Update table key cells) =
     let change : ColumnNo × Value → ColumnNo × Value = λ c. (c.0, cell.Null) in
-    let start : List Piece = words (codes "UPDATE ") ∷ b.table_piece schema table ∷ words (codes " SET ") ∷ [] in
+    let start : List Piece = words (codes "UPDATE ") ∷ r.table_piece schema table ∷ words (codes " SET ") ∷ [] in
     both (start ++ with_separators (codes ", ") (r.cell_pieces schema table) cells) (start ++ with_separators (codes ", ") (r.cell_pieces schema table) (map change cells)) (r.by_key (spec_of schema table) key)
     (r.by_key (spec_of schema table) (no_values key))
     (both start start (with_separators (codes ", ") (r.cell_pieces schema table) cells) (with_separators (codes ", ") (r.cell_pieces schema table) (map change cells)) refl
     (joined_alike (r.cell_pieces schema table) change (codes ", ") cells (all_alike (r.cell_pieces schema table) change (λ c. refl) cells)))
     (keys_alike (spec_of schema table).name (codes " WHERE ") (spec_of schema table).columns key)
 row_alike q schema (row.Delete table key) =
-    both (words (codes "DELETE FROM ") ∷ b.table_piece schema table ∷ []) (words (codes "DELETE FROM ") ∷ b.table_piece schema table ∷ []) (r.by_key (spec_of schema table) key) (r.by_key (spec_of schema table) (no_values key)) refl
+    both (words (codes "DELETE FROM ") ∷ r.table_piece schema table ∷ []) (words (codes "DELETE FROM ") ∷ r.table_piece schema table ∷ []) (r.by_key (spec_of schema table) key) (r.by_key (spec_of schema table) (no_values key)) refl
     (keys_alike (spec_of schema table).name (codes " WHERE ") (spec_of schema table).columns key)
 
 -- ---- statements

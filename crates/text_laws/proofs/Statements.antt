@@ -22,8 +22,10 @@ use Rattle.sql_text.specs.Columns.{column_name}
 use Rattle.sql_text.specs.Words.{select_word, join_word}
 use Rattle.sql_text.specs.Written.{Piece, words, value, with_leading_separators, with_separators}
 use Rattle.sql_expressions.specs.Laid.{Laid, laid, laid_level, under, part, parts, param, source_pieces}
+use Rattle.sql_rows.specs.Rows as rows
 use Rattle.sql_statements.specs.Bulks as b
 use Rattle.sql_statements.specs.Bulks.{bulk_pieces}
+use Rattle.sql_rows.specs.Cuts as cuts
 use Rattle.sql_statements.specs.Selects as s
 use Rattle.sql_statements.specs.Selects.{select_pieces, whole}
 use Rattle.text_laws.specs.Values.{without, without_join, without_select, without_set, without_bulk, no_values}
@@ -86,17 +88,17 @@ origins_are : (joins : List Joined) → map (λ j. j.origin) (map without_join j
 origins_are [] = refl
 origins_are (j ∷ joins) = ap (λ (os : List Origin). j.origin ∷ os) (origins_are joins)
 
-both_cut : (q : Quoting) (limit offset : ℕ) → Alike (s.both_pieces q limit offset) (s.both_pieces q 0 0)
+both_cut : (q : Quoting) (limit offset : ℕ) → Alike (cuts.both_pieces q limit offset) (cuts.both_pieces q 0 0)
 both_cut Sqlite limit offset = refl
 both_cut Postgresql limit offset = refl
 both_cut Mysql limit offset = refl
 
-offset_cut : (q : Quoting) (offset : ℕ) → Alike (s.offset_pieces q offset) (s.offset_pieces q 0)
+offset_cut : (q : Quoting) (offset : ℕ) → Alike (cuts.offset_pieces q offset) (cuts.offset_pieces q 0)
 offset_cut Sqlite offset = refl
 offset_cut Postgresql offset = refl
 offset_cut Mysql offset = refl
 
-cut_alike : (q : Quoting) (limit offset : Option ℕ) → Alike (s.cut_pieces q limit offset) (s.cut_pieces q (option_map (λ n. 0) limit) (option_map (λ n. 0) offset))
+cut_alike : (q : Quoting) (limit offset : Option ℕ) → Alike (cuts.cut_pieces q limit offset) (cuts.cut_pieces q (option_map (λ n. 0) limit) (option_map (λ n. 0) offset))
 cut_alike q None None = refl
 cut_alike q (Some limit) None = refl
 cut_alike q None (Some offset) = offset_cut q offset
@@ -122,7 +124,7 @@ module _ (q : Quoting) (schema : Catalog) where
       let groups = λ (x : Select). s.groups_pieces q schema scope x.groups in
       let having = λ (x : Select). s.clause_pieces q schema scope (codes " HAVING ") x.having in
       let order = λ (x : Select). s.order_pieces q schema scope x.order in
-      let cut = λ (x : Select). s.cut_pieces q x.limit x.offset in
+      let cut = λ (x : Select). cuts.cut_pieces q x.limit x.offset in
       both (filter it ++ groups it ++ having it ++ order it) (filter other ++ groups other ++ having other ++ order other) (cut it) (cut other)
       (both (filter it ++ groups it ++ having it) (filter other ++ groups other ++ having other) (order it) (order other)
       (both (filter it ++ groups it) (filter other ++ groups other) (having it) (having other)
@@ -170,22 +172,22 @@ module _ (q : Quoting) (schema : Catalog) where
 
   set_alike : (table : TableId) (set : ColumnNo × Option Expr) → Alike (b.set_pieces q schema table set) (b.set_pieces q schema table (set.0, without_set set.1))
   set_alike table set =
-      behind (b.column_piece schema table set.0) (words (codes "=") ∷ b.written_pieces q schema table set.0 set.1) (words (codes "=") ∷ b.written_pieces q schema table set.0 (without_set set.1))
+      behind (rows.column_piece schema table set.0) (words (codes "=") ∷ b.written_pieces q schema table set.0 set.1) (words (codes "=") ∷ b.written_pieces q schema table set.0 (without_set set.1))
       (behind (words (codes "=")) (b.written_pieces q schema table set.0 set.1) (b.written_pieces q schema table set.0 (without_set set.1)) (written_alike table set.0 set.1))
 
   pub bulk_alike : (it : Bulk) → Alike (bulk_pieces q schema it) (bulk_pieces q schema (without_bulk it))
   unfolding bulk_pieces
   bulk_alike (bulk.Insert table columns vs) =
-      behind (words (codes "INSERT INTO ")) (b.table_piece schema table ∷ b.values_pieces q schema table columns vs) (b.table_piece schema table ∷ b.values_pieces q schema table columns (no_values vs))
-      (behind (b.table_piece schema table) (b.values_pieces q schema table columns vs) (b.values_pieces q schema table columns (no_values vs)) (values_alike table columns vs))
+      behind (words (codes "INSERT INTO ")) (rows.table_piece schema table ∷ b.values_pieces q schema table columns vs) (rows.table_piece schema table ∷ b.values_pieces q schema table columns (no_values vs))
+      (behind (rows.table_piece schema table) (b.values_pieces q schema table columns vs) (b.values_pieces q schema table columns (no_values vs)) (values_alike table columns vs))
   bulk_alike (bulk.Update table cells filter) =
       let change : ColumnNo × Option Expr → ColumnNo × Option Expr = λ c. (c.0, without_set c.1) in
-      let start : List Piece = words (codes "UPDATE ") ∷ b.table_piece schema table ∷ words (codes " SET ") ∷ [] in
+      let start : List Piece = words (codes "UPDATE ") ∷ rows.table_piece schema table ∷ words (codes " SET ") ∷ [] in
       both (start ++ with_separators (codes ", ") (b.set_pieces q schema table) cells) (start ++ with_separators (codes ", ") (b.set_pieces q schema table) (map change cells))
       (b.filter_pieces q schema table filter) (b.filter_pieces q schema table (option_map without filter))
       (both start start (with_separators (codes ", ") (b.set_pieces q schema table) cells) (with_separators (codes ", ") (b.set_pieces q schema table) (map change cells)) refl
       (joined_alike (b.set_pieces q schema table) change (codes ", ") cells (all_alike (b.set_pieces q schema table) change (set_alike table) cells)))
       (clause_alike q schema (alone table) (codes " WHERE ") filter)
   bulk_alike (bulk.Delete table filter) =
-      both (words (codes "DELETE FROM ") ∷ b.table_piece schema table ∷ []) (words (codes "DELETE FROM ") ∷ b.table_piece schema table ∷ []) (b.filter_pieces q schema table filter)
+      both (words (codes "DELETE FROM ") ∷ rows.table_piece schema table ∷ []) (words (codes "DELETE FROM ") ∷ rows.table_piece schema table ∷ []) (b.filter_pieces q schema table filter)
       (b.filter_pieces q schema table (option_map without filter)) refl (clause_alike q schema (alone table) (codes " WHERE ") filter)

@@ -1,7 +1,8 @@
 use Rattle.std.proofs.Common.{ℕ, List, [], ◌∷◌, codes, ap, ◌∙◌}
 use Rattle.sql_text.specs.declared.names.Quoting.{Quoting}
 use Rattle.sql_text.specs.Written.{words, name, put_all}
-use Rattle.sql_statements.specs.Bulks.{filter_pieces, table_piece}
+use Rattle.sql_rows.specs.Rows.{table_piece}
+use Rattle.sql_statements.specs.Bulks.{filter_pieces}
 use Rattle.sql_statements.proofs.Dialect.{wrote_in}
 use Rattle.sql_statements.proofs.bulks.delete.Goals as goal
 

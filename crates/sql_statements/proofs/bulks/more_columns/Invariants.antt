@@ -1,5 +1,5 @@
 use Rattle.std.proofs.Common.{◌≡◌, ◌∷◌, [], drop, codes}
-use Rattle.sql_statements.specs.Bulks.{column_piece}
+use Rattle.sql_rows.specs.Rows.{column_piece}
 use Rattle.sql_text.specs.Written.{put_all, with_leading_separators}
 use Rattle.sql_statements.proofs.bulks.more_columns.Given as goal
 
