@@ -1,8 +1,6 @@
-mod CellSteps
 pub mod FitSteps
-mod FollowSteps
+pub mod FollowSteps
 mod HolderSteps
 mod KeySteps
 pub mod ObjectSteps
 pub mod SettledSteps
-mod SettleSteps

@@ -1,4 +1,4 @@
--- When it can be told what success of a flush makes of the objects.
+-- The rows of a flush by their names, objects by their keys, and records that have numbers.
 use Rattle.std.specs.Prelude.{◌≡◌, ℕ, ◌<◌, ◌≤◌, List, length, map, slice_index_or, Option, Some, if◌then◌else◌}
 use Rattle.base_core.specs.declared.ids.ClassId.{ClassId}
 use Rattle.base_core.specs.declared.ids.ObjId.{ObjId}
@@ -7,10 +7,7 @@ use Rattle.identity_maps.specs.Entries.{Keyed, entry_of}
 use Rattle.object_arena.specs.declared.object.Object.{Object}
 use Rattle.object_arena.specs.Graph.{Graph, no_object}
 use Rattle.object_records.specs.Records.{record_at}
-use Rattle.object_writes.specs.Ready.{IsReady}
-use Rattle.graph_flushed.specs.declared.flushing.Flushing.{Flushing}
 use Rattle.graph_flushed.specs.declared.keys.RowKeys.{RowKeys}
-use Rattle.graph_flushed.specs.Flushed.{Written}
 use Rattle.graph_flushed.specs.Keys.{Keys, is_given, new_holder}
 
 -- the names are those of the new and of the changed rows
@@ -26,21 +23,6 @@ AreHolders maps keys roots = (root : ClassId) (key : List Value) → entry_of ma
 abbrev pub IsEntered : List Keyed → List Keyed → Option (List Value) → ClassId → ObjId → Type 0
 IsEntered old new own root object =
     (wanted : ClassId) (key : List Value) → entry_of new wanted key ≡ (if is_given wanted key (own, root) then Some object else entry_of old wanted key)
-
--- what was written, as it is told by the parts of a flush
-abbrev pub written_of : Flushing → Written
-written_of flushing = record {
-  mapping = flushing.projection.now.mapping.now;
-  graph = flushing.projection.now.arena.now;
-  prepared = flushing.projection.now.prepared.now;
-  names = flushing.projection.now.names.now;
-  keys = flushing.keys.now;
-}
-
-pub record IsFlushing (flushing : Flushing) : Type 0 where
-  pub ready : IsReady flushing.projection.now
-  pub long : length flushing.keys.now ≡ length flushing.projection.now.arena.now.objects
-  pub holders : AreHolders flushing.holders.now.maps.items flushing.keys.now flushing.projection.now.arena.now.roots
 
 -- the cells and links of an object have numbers
 abbrev pub IsNarrow : Object → Type 0

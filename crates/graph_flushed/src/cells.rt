@@ -1,22 +1,15 @@
-//! The cells of objects after success.
+//! Cells that hold what their rows hold, and expired ones.
 
-ghost use Rattle.std.specs.Prelude.{◌≡◌, ◌==◌, ◌<◌, true, length, map, Some, IfOk, IfErr, IsTrue};
-ghost use Rattle.std.specs.List.{enumerate_from, list_any, position};
+ghost use Rattle.std.specs.Prelude.{◌≡◌, map, Some, IfOk, IfErr, IsTrue};
 ghost use Rattle.base_core.specs.declared.refusal.Refusal.TheVariants.{Memory};
-ghost use Rattle.class_mapping.specs.Mapped.{IsClass, attribute_of, attributes_of, is_key_attribute, key_attributes};
-ghost use Rattle.object_arena.specs.Graph.{IsObject};
 ghost use Rattle.graph_flushed.specs.Flushed as spec;
-ghost use Rattle.graph_flushed.specs.Ready.{IsFlushing, written_of};
 
-use crate::flushing::Flushing;
-use base_core::{AttrNo, ClassId, Copied, Key, ListOf, ObjId, Refusal, Value, compare};
-use class_layouts::number_of;
+use base_core::{Copied, ListOf, Refusal, Value, compare};
 use object_arena::Cell;
-use object_rows::part_of_key;
 use std::alloc::Global;
 
-/// A cell that holds what its row holds.
-fn held_cell(value: Value) -> Result<Cell, Refusal>
+/// A cell that holds what its row holds. The only refusal is `Memory`.
+pub fn held_cell(value: Value) -> Result<Cell, Refusal>
     ensures cell { IfOk result (λ cell. cell ≡ spec.held_cell value) }
     ensures cause { IfErr result (λ e. e ≡ Memory) }
 {
@@ -40,7 +33,7 @@ fn is_value(value: &Value, known: &Option<Value>) -> bool
 
 /// Whether a cell is expired, or its row has its value.
 #[tactic(auto, using(crate::proofs::SettledSteps::values))]
-fn is_kept(cell: &Cell) -> bool
+pub fn is_kept(cell: &Cell) -> bool
     ensures { IsTrue result → spec.kept_cell cell.now ≡ cell.now }
 {
     match &cell.value {
@@ -49,8 +42,8 @@ fn is_kept(cell: &Cell) -> bool
     }
 }
 
-/// A cell whose row has its value.
-fn kept_cell(cell: &Cell) -> Result<Cell, Refusal>
+/// A cell whose row has its value. The only refusal is `Memory`.
+pub fn kept_cell(cell: &Cell) -> Result<Cell, Refusal>
     ensures cell { IfOk result (λ kept. kept ≡ spec.kept_cell cell.now) }
     ensures cause { IfErr result (λ e. e ≡ Memory) }
 {
@@ -60,9 +53,9 @@ fn kept_cell(cell: &Cell) -> Result<Cell, Refusal>
     }
 }
 
-/// The cells of an object whose rows are deleted.
+/// The cells of an object whose rows are deleted. The only refusal is `Memory`.
 #[tactic(auto, using(class_layouts::proofs::Steps::steps))]
-pub(crate) fn kept_cells(alloc: Global, cells: &[Cell]) -> Result<ListOf<Cell>, Refusal>
+pub fn kept_cells(alloc: Global, cells: &[Cell]) -> Result<ListOf<Cell>, Refusal>
     ensures cells { IfOk result (λ kept. kept ≡ map spec.kept_cell cells.now) }
     ensures cause { IfErr result (λ e. e ≡ Memory) }
 {
@@ -71,175 +64,4 @@ pub(crate) fn kept_cells(alloc: Global, cells: &[Cell]) -> Result<ListOf<Cell>, 
         kept.push(kept_cell(cell)?)?;
     }
     Ok(kept)
-}
-
-/// The place of an attribute among those of the key.
-fn place_among(keys: &[AttrNo], place: usize) -> Option<usize>
-    ensures { result ≡ position (λ attr. attr.0 == place) keys.now }
-{
-    keys.iter().position(|attr| attr.0 as usize == place)
-}
-
-/// Whether an attribute is one of the key.
-fn is_among(keys: &[AttrNo], place: usize) -> bool
-    ensures { result ≡ list_any (λ key. key.0 == place) keys.now }
-{
-    keys.iter().any(|key| key.0 as usize == place)
-}
-
-impl<'a> Flushing<'a> {
-    /// What a new row holds for the attribute at a place.
-    fn new_value(
-        &self,
-        object: ObjId,
-        class: ClassId,
-        key: &Key,
-        place: usize,
-        cell: &Cell,
-    ) -> Result<Value, Refusal>
-        requires flushing { IsFlushing self.now }
-        requires object { IsObject self.now.projection.now.arena.now object }
-        requires class { IsClass self.now.projection.now.mapping.now class }
-        requires place { place < length (attributes_of self.now.projection.now.mapping.now class) }
-        ensures value { IfOk result (λ value. value
-            ≡ spec.new_value (written_of self.now) object class key.now (place, cell.now)) }
-        ensures cause { IfErr result (λ e. e ≡ Memory) }
-    {
-        let mapping = self.projection.mapping;
-        match place_among(mapping.key_attributes(class), place) {
-            Some(part) => part_of_key(key, number_of(part)?),
-            None => self.own_value(object, class, &mapping.attributes(class)[place], cell),
-        }
-    }
-
-    /// The cells of a new object.
-    #[tactic(auto, using(class_layouts::proofs::Steps::steps))]
-    pub(crate) fn new_cells(
-        &self,
-        alloc: Global,
-        object: ObjId,
-        class: ClassId,
-        key: &Key,
-        cells: &[Cell],
-    ) -> Result<ListOf<Cell>, Refusal>
-        requires flushing { IsFlushing self.now }
-        requires object { IsObject self.now.projection.now.arena.now object }
-        requires class { IsClass self.now.projection.now.mapping.now class }
-        requires long { length cells.now
-            ≡ length (attributes_of self.now.projection.now.mapping.now class) }
-        ensures cells { IfOk result (λ new. new ≡ map
-            (spec.new_cell (written_of self.now) object class key.now)
-            (enumerate_from 0 cells.now)) }
-        ensures cause { IfErr result (λ e. e ≡ Memory) }
-    {
-        let mut new = ListOf::new(alloc);
-        for (place, cell) in cells.iter().enumerate() {
-            let value = self.new_value(object, class, key, place, cell)?;
-            new.push(held_cell(value)?)?;
-        }
-        Ok(new)
-    }
-
-    /// A cell of an object that keeps its rows.
-    fn staying_cell(
-        &self,
-        object: ObjId,
-        class: ClassId,
-        place: usize,
-        cell: &Cell,
-    ) -> Result<Cell, Refusal>
-        requires flushing { IsFlushing self.now }
-        requires object { IsObject self.now.projection.now.arena.now object }
-        requires class { IsClass self.now.projection.now.mapping.now class }
-        requires place { place < length (attributes_of self.now.projection.now.mapping.now class) }
-        ensures cell { IfOk result (λ staying. staying
-            ≡ spec.staying_cell (written_of self.now) object class (place, cell.now)) }
-        ensures cause { IfErr result (λ e. e ≡ Memory) }
-    {
-        let mapping = self.projection.mapping;
-        if is_among(mapping.key_attributes(class), place) {
-            return kept_cell(cell);
-        }
-        match self.value_come(object, &mapping.attributes(class)[place])? {
-            Some(value) => held_cell(value),
-            None => kept_cell(cell),
-        }
-    }
-
-    /// Whether a cell of an object that keeps its rows stays as it is.
-    fn keeps_cell(
-        &self,
-        object: ObjId,
-        class: ClassId,
-        place: usize,
-        cell: &Cell,
-    ) -> Result<bool, Refusal>
-        requires flushing { IsFlushing self.now }
-        requires object { IsObject self.now.projection.now.arena.now object }
-        requires class { IsClass self.now.projection.now.mapping.now class }
-        requires place { place < length (attributes_of self.now.projection.now.mapping.now class) }
-        ensures kept { IfOk result (λ kept. IsTrue kept
-            → spec.staying_cell (written_of self.now) object class (place, cell.now) ≡ cell.now) }
-        ensures cause { IfErr result (λ e. e ≡ Memory) }
-    {
-        if !is_kept(cell) {
-            return Ok(false);
-        }
-        let mapping = self.projection.mapping;
-        if is_among(mapping.key_attributes(class), place) {
-            return Ok(true);
-        }
-        let come = self.value_come(object, &mapping.attributes(class)[place])?;
-        Ok(come.is_none())
-    }
-
-    /// Whether the cells of an object that keeps its rows stay as they are. Takes no memory, where nothing comes through a link.
-    pub(crate) fn keeps_cells(
-        &self,
-        object: ObjId,
-        class: ClassId,
-        cells: &[Cell],
-    ) -> Result<bool, Refusal>
-        requires flushing { IsFlushing self.now }
-        requires object { IsObject self.now.projection.now.arena.now object }
-        requires class { IsClass self.now.projection.now.mapping.now class }
-        requires long { length cells.now
-            ≡ length (attributes_of self.now.projection.now.mapping.now class) }
-        ensures kept { IfOk result (λ kept. IsTrue kept → map
-            (spec.staying_cell (written_of self.now) object class) (enumerate_from 0 cells.now)
-            ≡ cells.now) }
-        ensures cause { IfErr result (λ e. e ≡ Memory) }
-    {
-        for (place, cell) in cells.iter().enumerate() {
-            if !self.keeps_cell(object, class, place, cell)? {
-                return Ok(false);
-            }
-        }
-        Ok(true)
-    }
-
-    /// The cells of an object that keeps its rows.
-    #[tactic(auto, using(class_layouts::proofs::Steps::steps))]
-    pub(crate) fn staying_cells(
-        &self,
-        alloc: Global,
-        object: ObjId,
-        class: ClassId,
-        cells: &[Cell],
-    ) -> Result<ListOf<Cell>, Refusal>
-        requires flushing { IsFlushing self.now }
-        requires object { IsObject self.now.projection.now.arena.now object }
-        requires class { IsClass self.now.projection.now.mapping.now class }
-        requires long { length cells.now
-            ≡ length (attributes_of self.now.projection.now.mapping.now class) }
-        ensures cells { IfOk result (λ staying. staying ≡ map
-            (spec.staying_cell (written_of self.now) object class) (enumerate_from 0 cells.now)) }
-        ensures cause { IfErr result (λ e. e ≡ Memory) }
-    {
-        let mut staying = ListOf::new(alloc);
-        for (place, cell) in cells.iter().enumerate() {
-            staying.push(self.staying_cell(object, class, place, cell)?)?;
-        }
-        Ok(staying)
-    }
 }

@@ -10,8 +10,8 @@ use identity_maps::IdentityMap;
 use object_arena::Arena;
 use std::alloc::Global;
 
-/// The new objects by their roots and keys. Each is put in after those behind it, so that of several the first stays.
-pub(crate) fn key_holders(
+/// The new objects by their roots and keys. Each is put in after those behind it, so that of several the first stays. The only refusal is `Memory`.
+pub fn key_holders(
     alloc: Global,
     arena: &Arena,
     keys: &[Option<Key>],

@@ -224,8 +224,8 @@ fn changed_key(alloc: Global, rows: &[ChangedRow], place: usize) -> Result<Key, 
 }
 
 #[tactic(auto, using(crate::proofs::KeySteps::keys_counted))]
-/// The keys of the new objects, each at its object's place, where the new rows have these keys in their order.
-pub(crate) fn new_keys(
+/// The keys of the new objects, each at its object's place, where the new rows have these keys in their order. The only refusal is `Memory`.
+pub fn new_keys(
     alloc: Global,
     arena: &Arena,
     mapping: &Mapping,

@@ -2,11 +2,13 @@
 #![tactic(auto)]
 
 mod cells;
-mod flushing;
 mod holders;
 mod keys;
 mod links;
-mod objects;
-mod settling;
+mod values;
 
-pub use settling::settle;
+pub use cells::{held_cell, is_kept, kept_cell, kept_cells};
+pub use holders::key_holders;
+pub use keys::new_keys;
+pub use links::{keeps_links, kept_links, prepared_links};
+pub use values::{is_telling, known_value, part_or_null};

@@ -36,9 +36,9 @@ fn prepared_link(is_cleared: bool, link: &Link) -> Result<Link, Refusal>
     Ok(link.copied()?)
 }
 
-/// The links of an object in a prepared graph.
+/// The links of an object in a prepared graph. The only refusal is `Memory`.
 #[tactic(auto, using(class_layouts::proofs::Steps::steps))]
-pub(crate) fn prepared_links(
+pub fn prepared_links(
     alloc: Global,
     prepared: &Prepared,
     object: ObjId,
@@ -76,11 +76,7 @@ fn keeps_link(is_cleared: bool, link: &Link) -> bool
 }
 
 /// Whether the links of an object that was written stay as they are. The only refusal is `Memory`, and it takes none.
-pub(crate) fn keeps_links(
-    prepared: &Prepared,
-    object: ObjId,
-    links: &[Link],
-) -> Result<bool, Refusal>
+pub fn keeps_links(prepared: &Prepared, object: ObjId, links: &[Link]) -> Result<bool, Refusal>
     ensures kept { IfOk result (λ kept. IsTrue kept
         → spec.kept_links prepared.now object links.now ≡ links.now) }
     ensures cause { IfErr result (λ e. e ≡ Memory) }
@@ -128,8 +124,8 @@ fn without_flags(alloc: Global, links: &[Link]) -> Result<ListOf<Link>, Refusal>
     Ok(all)
 }
 
-/// The links of an object that was written.
-pub(crate) fn kept_links(
+/// The links of an object that was written. The only refusal is `Memory`.
+pub fn kept_links(
     alloc: Global,
     prepared: &Prepared,
     object: ObjId,

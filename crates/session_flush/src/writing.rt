@@ -12,7 +12,7 @@ use crate::preparing::{planned_changes, prepared_changes, prepared_objects};
 use base_core::{Key, ListOf, Refusal};
 use class_mapping::Mapping;
 use fitting_flushes::flushes_fit;
-use graph_flushed::settle;
+use flush_settling::settle;
 use keeper_core::Keeper;
 use mapping_laws::has_hierarchies;
 use object_arena::Arena;

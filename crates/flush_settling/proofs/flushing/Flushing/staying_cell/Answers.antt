@@ -1,7 +1,7 @@
 use Rattle.class_mapping.specs.Mapped.{attributes_of}
-use Rattle.graph_flushed.specs.Ready.{written_of}
-use Rattle.graph_flushed.proofs.CellSteps.{attribute_is, staying_by_come}
-use Rattle.graph_flushed.proofs.flushing.Flushing.staying_cell.Goals as goal
+use Rattle.flush_settling.specs.Ready.{written_of}
+use Rattle.flush_settling.proofs.CellSteps.{attribute_is, staying_by_come}
+use Rattle.flush_settling.proofs.flushing.Flushing.staying_cell.Goals as goal
 
 pub returns-in-Some-clause-cell : goal.returns-in-Some-clause-cell
 returns-in-Some-clause-cell c =

@@ -1,8 +1,8 @@
 use Rattle.std.proofs.Common.{◌∙◌, length, ap}
 use Rattle.graph_flushed.specs.Flushed.{Written}
 use Rattle.graph_flushed.specs.Keys.{Keys}
-use Rattle.graph_flushed.proofs.SettleSteps.{records_follow}
-use Rattle.graph_flushed.proofs.settling.records_flushed.Goals as goal
+use Rattle.flush_settling.proofs.SettleSteps.{records_follow}
+use Rattle.flush_settling.proofs.settling.records_flushed.Goals as goal
 
 pub returns-clause-follow : goal.returns-clause-follow
 returns-clause-follow c =

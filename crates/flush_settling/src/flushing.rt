@@ -4,20 +4,19 @@ ghost use Rattle.std.specs.Prelude.{◌≡◌, slice_get, slice_index_or, IfOk, 
 ghost use Rattle.base_core.specs.declared.refusal.Refusal.TheVariants.{Memory};
 ghost use Rattle.class_mapping.specs.Mapped.{IsClass};
 ghost use Rattle.object_arena.specs.Graph.{IsObject};
-ghost use Rattle.class_layouts.specs.Faults.{foreigns_in, is_named};
+ghost use Rattle.class_layouts.specs.Faults.{foreigns_in};
 ghost use Rattle.object_rows.specs.Cells.{key_value, linked_cell, put_cell, relation_cell};
-ghost use Rattle.object_rows.specs.Rows.{is_discriminator};
 ghost use Rattle.object_rows.specs.Seen.{is_kept_end};
-ghost use Rattle.schema_core.specs.Tables.{value_or_null};
 ghost use Rattle.graph_flushed.specs.Flushed as spec;
-ghost use Rattle.graph_flushed.specs.Ready.{IsFlushing, written_of};
+ghost use Rattle.flush_settling.specs.Ready.{IsFlushing, written_of};
 
 use base_core::{ClassId, Copied, Key, Name, ObjId, Refusal, RelNo, TableId, Value};
 use class_layouts::number_of;
-use class_mapping::{Attribute, Mapping, Relation};
+use class_mapping::{Attribute, Relation};
+use graph_flushed::{is_telling, known_value, part_or_null};
 use identity_maps::IdentityMap;
 use object_arena::Cell;
-use object_rows::{end_put, is_in_session, part_of_key};
+use object_rows::{end_put, is_in_session};
 use object_writes::Projection;
 use schema_core::RowCell;
 
@@ -28,48 +27,6 @@ pub(crate) struct Flushing<'a> {
     pub(crate) projection: &'a Projection<'a>,
     pub(crate) keys: &'a [Option<Key>],
     pub(crate) holders: &'a IdentityMap,
-}
-
-/// A value that is known, or NULL.
-fn known_value(known: &Option<Value>) -> Result<Value, Refusal>
-    ensures value { IfOk result (λ value. value ≡ value_or_null known.now) }
-    ensures cause { IfErr result (λ e. e ≡ Memory) }
-{
-    match known {
-        Some(value) => Ok(value.copied()?),
-        None => Ok(Value::Null),
-    }
-}
-
-/// A part of a key that may not be there, or NULL.
-fn part_or_null(key: &Option<Key>, part: u32) -> Result<Value, Refusal>
-    ensures value { IfOk result (λ value. value ≡ key_value key.now part) }
-    ensures cause { IfErr result (λ e. e ≡ Memory) }
-{
-    match key {
-        Some(key) => part_of_key(key, part),
-        None => Ok(Value::Null),
-    }
-}
-
-fn is_named(own: &Option<Name>, name: &Name) -> bool
-    ensures { result ≡ is_named own.now name.now }
-{
-    match own {
-        Some(own) => *own == *name,
-        None => false,
-    }
-}
-
-/// Whether the column of a name tells the class of a row.
-fn is_telling(mapping: &Mapping, class: ClassId, table: TableId, name: &Name) -> bool
-    requires { IsClass mapping.now class }
-    ensures { result ≡ is_discriminator mapping.now class table name.now }
-{
-    if mapping.root_table(class).0 != table.0 {
-        return false;
-    }
-    is_named(&mapping.spec_of(mapping.root_of(class)).discriminator, name)
 }
 
 impl<'a> Flushing<'a> {

@@ -1,7 +1,7 @@
 use Rattle.graph_flushed.specs.Flushed.{Written, written_with}
 use Rattle.graph_flushed.proofs.FitSteps.{flushed_fits}
-use Rattle.graph_flushed.proofs.SettleSteps.{settled_ok, settled_touched}
-use Rattle.graph_flushed.proofs.settling.settle.Goals as goal
+use Rattle.flush_settling.proofs.SettleSteps.{settled_ok, settled_touched}
+use Rattle.flush_settling.proofs.settling.settle.Goals as goal
 
 pub returns-clause-ok : goal.returns-clause-ok
 returns-clause-ok c =

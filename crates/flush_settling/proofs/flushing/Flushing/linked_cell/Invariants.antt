@@ -1,7 +1,7 @@
 use Rattle.std.proofs.Common.{◌≡◌, map, drop}
 use Rattle.std.specs.List.{enumerate_from}
 use Rattle.object_rows.specs.Cells.{first_cell, relation_cell}
-use Rattle.graph_flushed.proofs.flushing.Flushing.linked_cell.Given as goal
+use Rattle.flush_settling.proofs.flushing.Flushing.linked_cell.Given as goal
 
 abbrev pub invariant-loop-number : goal.invariant-loop-number
 invariant-loop-number l =

@@ -1,7 +1,7 @@
 use Rattle.class_mapping.specs.Mapped.{attributes_of}
-use Rattle.graph_flushed.specs.Ready.{written_of}
-use Rattle.graph_flushed.proofs.CellSteps.{attribute_is, new_by_own, new_by_part}
-use Rattle.graph_flushed.proofs.flushing.Flushing.new_value.Goals as goal
+use Rattle.flush_settling.specs.Ready.{written_of}
+use Rattle.flush_settling.proofs.CellSteps.{attribute_is, new_by_own, new_by_part}
+use Rattle.flush_settling.proofs.flushing.Flushing.new_value.Goals as goal
 
 pub returns-in_ok-number_of-in-Some-clause-value : goal.returns-in_ok-number_of-in-Some-clause-value
 returns-in_ok-number_of-in-Some-clause-value c =

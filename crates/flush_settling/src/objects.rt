@@ -7,12 +7,12 @@ ghost use Rattle.object_arena.specs.Graph.{IsObject, object_at};
 ghost use Rattle.object_arena.specs.Identity.{is_other};
 ghost use Rattle.graph_flushed.specs.Flushed as spec;
 ghost use Rattle.object_records.specs.Records.{with_records};
-ghost use Rattle.graph_flushed.specs.Ready.{AreNarrowThen, IsFlushing, IsNarrow, written_of};
+ghost use Rattle.graph_flushed.specs.Ready.{AreNarrowThen, IsNarrow};
+ghost use Rattle.flush_settling.specs.Ready.{IsFlushing, written_of};
 
-use crate::cells::kept_cells;
 use crate::flushing::Flushing;
-use crate::links::{keeps_links, kept_links, prepared_links};
 use base_core::{Copied, Key, ListOf, ObjId, Refusal};
+use graph_flushed::{keeps_links, kept_cells, kept_links, prepared_links};
 use object_arena::{Object, State};
 use object_rows::is_among;
 use std::alloc::Global;

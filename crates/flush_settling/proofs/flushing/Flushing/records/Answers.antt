@@ -5,9 +5,10 @@ use Rattle.object_arena.specs.declared.object.Object.{Object}
 use Rattle.object_arena.specs.Graph.{Graph, no_object}
 use Rattle.object_arena.specs.Identity.{id_of_place}
 use Rattle.graph_flushed.specs.Flushed.{Written, object_flushed}
-use Rattle.graph_flushed.specs.Ready.{IsNarrow, written_of}
+use Rattle.graph_flushed.specs.Ready.{IsNarrow}
+use Rattle.flush_settling.specs.Ready.{written_of}
 use Rattle.graph_flushed.proofs.ObjectSteps.{object_here, pushed_more, records_whole}
-use Rattle.graph_flushed.proofs.flushing.Flushing.records.Goals as goal
+use Rattle.flush_settling.proofs.flushing.Flushing.records.Goals as goal
 
 pub loop-number-preserved : goal.loop-number-preserved
 loop-number-preserved c =

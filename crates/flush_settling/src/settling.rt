@@ -10,10 +10,9 @@ ghost use Rattle.graph_flushed.specs.Fitting.{IsFitting};
 ghost use Rattle.graph_flushed.specs.Flushed as spec;
 
 use crate::flushing::Flushing;
-use crate::holders::key_holders;
-use crate::keys::new_keys;
 use base_core::{Key, ListOf, Refusal};
 use class_mapping::Mapping;
+use graph_flushed::{key_holders, new_keys};
 use object_arena::{Arena, Object};
 use object_records::put_records;
 use object_rows::{Prepared, new_names};
@@ -60,7 +59,7 @@ fn records_flushed(
     flushing.records(alloc)
 }
 
-#[tactic(auto, using(crate::proofs::FitSteps::fits))]
+#[tactic(auto, using(graph_flushed::proofs::FitSteps::fits))]
 /// The objects become what success of a flush makes of them, where its new rows have these keys, in the order of its changes.
 /// Before that each object whose record comes to differ is touched in the innermost scope, and no other.
 ///

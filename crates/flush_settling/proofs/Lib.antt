@@ -1,0 +1,3 @@
+mod CellSteps
+mod SettledSteps
+mod SettleSteps
