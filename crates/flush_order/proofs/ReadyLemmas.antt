@@ -61,5 +61,3 @@ pub ruleset part_steps = (part_past, part_here)
 
 pub first_at : (schema : Catalog) (changes : RowChanges) (firsts : List (List RowCell)) (place : ℕ) (d : List RowCell) → AreFirst schema changes firsts → place < length changes.fresh → get_or firsts place d ≡ first_cells schema changes place
 first_at schema changes firsts place d first h = get_or_from_slice_get firsts place (first_cells schema changes place) d (first.each place (omega (arith, first.size)))
-
-pub ruleset row_steps = (new_is, first_at)

@@ -157,7 +157,6 @@ pub fn push_key(
     Ok(())
 }
 
-#[tactic(auto, using(crate::proofs::ReadyLemmas::row_steps))]
 /// A new row made ready.
 fn ready_row(
     alloc: Global,

@@ -6,12 +6,10 @@ use Rattle.std.specs.Prelude.{nat_eq}
 use Rattle.std.specs.List.{All, find, range_with_len}
 use Rattle.std.specs.Option.{unwrap_or}
 use Rattle.row_order.specs.Places.{cycle_from, from_row, holds_up, is_among, next_blocker, order, trail}
+use Rattle.row_order.proofs.Told.{none_below}
 
 abbrev Below : ℕ → List ℕ → Type 0
 Below size = All (λ row. row < size)
-
-none_below : (size : ℕ) → Below size []
-none_below size k d h = absurd (omega (arith, h))
 
 one_below : (size row : ℕ) → row < size → Below size (row ∷ [])
 one_below size row less zero d h = less

@@ -46,8 +46,6 @@ pub ruleset find_steps = (find_found, find_passed, find_none)
 
 pub ruleset any_steps = (any_found, any_passed, any_end)
 
-pub ruleset order_steps = (first_none, first_more)
-
 -- ---- the list from a row on
 
 from_at : (row : ℕ) (path : List ℕ) (i d : ℕ) → i < length path → from_row row (drop i path) ≡ cond (nat_eq row (get_or path i d)) (drop i path) (from_row row (drop (i + 1) path))

@@ -31,7 +31,6 @@ impl<'a> Waits for Rows<'a> {
         is_among(self.lists[row as usize].as_slice(), other)
     }
 
-    #[tactic(auto, using(crate::proofs::Told::within_are_listed))]
     fn lists(&self, alloc: Global) -> Result<Vec<ListOf<u32>>, Refusal> {
         Ok(lists_within(alloc, self.lists)?)
     }

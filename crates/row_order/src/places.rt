@@ -108,7 +108,6 @@ fn place_next<W: Waits>(rows: &W, placed: &mut Vec<u32>) -> Result<(), Refusal>
     }
 }
 
-#[tactic(auto, using(crate::proofs::Ranges::order_steps), unfolding(crate::specs::Places::order))]
 /// The order, as far as it goes.
 fn order<W: Waits>(alloc: Global, rows: &W) -> Result<Vec<u32>, Refusal>
     requires holds { W.holds rows.now }

@@ -178,7 +178,6 @@ fn start(alloc: Global, lists: &[ListOf<u32>]) -> Result<Search, Refusal>
     })
 }
 
-#[tactic(auto, using(crate::proofs::Ranges::order_steps), unfolding(crate::specs::Places::order))]
 /// As many rows as can be are placed, each time the least one that is ready.
 pub(crate) fn search_order(alloc: Global, rows: &Rows) -> Result<Search, Refusal>
     requires size { length rows.now.lists.now ≤ 4294967295 }

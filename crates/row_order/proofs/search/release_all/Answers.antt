@@ -1,8 +1,9 @@
 use Rattle.std.proofs.Common.{◌+◌, ◌-◌, ◌<◌, ◌&&◌, ◌||◌, get_or, length, take, refl, sym, ap, ◌∙◌, arith}
-use Rattle.std.proofs.lemmas.List.{length-set}
+use Rattle.std.proofs.lemmas.List.{length-set, take_all}
 use Rattle.std.specs.Prelude.{nat_eq, nat_lt}
 use Rattle.std.specs.BTreeSet.{contains}
 use Rattle.std.specs.Ordering.{nat_cmp}
+use Rattle.base_core.proofs.Tests.{or_false}
 use Rattle.row_order.specs.Lists.{times}
 use Rattle.row_order.proofs.SearchSteps.{counts_more, ready_more, times_room}
 use Rattle.row_order.proofs.search.release_all.Goals as goal
@@ -28,3 +29,18 @@ loop-row-preserved c =
           ready_more c.loop-row.counts.items rows i d q c.args.ready.now c.loop-row.ready c.release.new.ready c.loop-row-test.true refl less some (c.in_ok-release.ensures.ready q) (c.loop-row.invariant.ready q)
           ∙ ap (λ cs. contains nat_cmp c.args.ready.now q || (nat_lt 0 (times q (take (i + 1) rows)) && nat_eq (get_or cs q 0) 0)) (sym c.in_ok-release.ensures.counts);
     }
+
+pub loop-row-init : goal.loop-row-init
+loop-row-init c = record { size = refl; counts = λ q. omega arith; ready = λ q. sym (or_false (contains nat_cmp c.args.ready.now q)) }
+
+pub returns-clause-size : goal.returns-clause-size
+returns-clause-size c = c.loop-row.invariant.size
+
+pub returns-clause-counts : goal.returns-clause-counts
+returns-clause-counts c = λ q.
+    ap (λ rows. get_or c.loop-row.counts.items q 0 + times q rows) (sym (take_all c.loop-row.row-index c.args.rows.now c.loop-row-test.false)) ∙ c.loop-row.invariant.counts q
+
+pub returns-clause-ready : goal.returns-clause-ready
+returns-clause-ready c = λ q.
+    c.loop-row.invariant.ready q
+    ∙ ap (λ rows. contains nat_cmp c.args.ready.now q || (nat_lt 0 (times q rows) && nat_eq (get_or c.loop-row.counts.items q 0) 0)) (take_all c.loop-row.row-index c.args.rows.now c.loop-row-test.false)
