@@ -10,7 +10,7 @@ ghost use Rattle.expr_scopes.specs.Scopes as scopes;
 ghost use Rattle.plain_statements.specs.Tested as spec;
 
 use crate::standing::{Sources, is_filter, stands, stands_as};
-use base_core::{Kind, Name, Refusal, TableId};
+use base_core::{Kind, Refusal, TableId};
 use expr_scopes::{Grouping, are_distinct, is_known, settled};
 use expr_types::{Expr, Select};
 use expr_typing::has_aggregate;
@@ -49,34 +49,18 @@ fn are_joined(alloc: Global, schema: &Schema, select: &Select) -> Result<bool, A
     Ok(true)
 }
 
-fn are_items(
+/// Whether each expression stands, whatever is beside it.
+fn pairs_stand<B>(
     alloc: Global,
     schema: &Schema,
     around: &Sources,
-    items: &[(Expr, Option<Name>)],
+    pairs: &[(Expr, B)],
 ) -> Result<bool, AllocError>
-    ensures { IfOk result (λ placed. placed
-        ≡ spec.are_items schema.now around.now.tables.items around.now.names.items items.now) }
+    ensures { IfOk result (λ placed. placed ≡ list_all (λ pair. spec.stands schema.now
+        around.now.tables.items around.now.names.items pair.0) pairs.now) }
 {
-    for item in items {
-        if !stands(alloc, schema, around, &item.0)? {
-            return Ok(false);
-        }
-    }
-    Ok(true)
-}
-
-fn are_keys(
-    alloc: Global,
-    schema: &Schema,
-    around: &Sources,
-    keys: &[(Expr, bool)],
-) -> Result<bool, AllocError>
-    ensures { IfOk result (λ placed. placed
-        ≡ spec.are_keys schema.now around.now.tables.items around.now.names.items keys.now) }
-{
-    for key in keys {
-        if !stands(alloc, schema, around, &key.0)? {
+    for pair in pairs {
+        if !stands(alloc, schema, around, &pair.0)? {
             return Ok(false);
         }
     }
@@ -143,24 +127,19 @@ fn are_placed(
 {
     if !is_filtered(alloc, schema, around, &select.filter)?
         || !is_having(alloc, schema, around, &select.having)?
-        || !are_items(alloc, schema, around, select.items.as_slice())?
+        || !pairs_stand(alloc, schema, around, select.items.as_slice())?
         || !are_groups(alloc, schema, around, select.groups.as_slice())?
     {
         return Ok(false);
     }
-    are_keys(alloc, schema, around, select.order.as_slice())
+    pairs_stand(alloc, schema, around, select.order.as_slice())
 }
 
-fn some_item_gathers(items: &[(Expr, Option<Name>)]) -> bool
-    ensures { result ≡ list_any (λ item. level.has_aggregate item.0) items.now }
+/// Whether an aggregate stands in one of the expressions, whatever is beside them.
+fn some_gathers<B>(pairs: &[(Expr, B)]) -> bool
+    ensures { result ≡ list_any (λ pair. level.has_aggregate pair.0) pairs.now }
 {
-    items.iter().any(|item| has_aggregate(&item.0))
-}
-
-fn some_key_gathers(keys: &[(Expr, bool)]) -> bool
-    ensures { result ≡ list_any (λ key. level.has_aggregate key.0) keys.now }
-{
-    keys.iter().any(|key| has_aggregate(&key.0))
+    pairs.iter().any(|pair| has_aggregate(&pair.0))
 }
 
 /// Whether the query has one row for each group.
@@ -169,8 +148,8 @@ fn groups_rows(select: &Select) -> bool
 {
     select.groups.len() > 0
         || select.having.is_some()
-        || some_item_gathers(select.items.as_slice())
-        || some_key_gathers(select.order.as_slice())
+        || some_gathers(select.items.as_slice())
+        || some_gathers(select.order.as_slice())
 }
 
 fn is_settled(query: &Grouping<'_>, e: &Option<Expr>) -> bool
@@ -183,18 +162,12 @@ fn is_settled(query: &Grouping<'_>, e: &Option<Expr>) -> bool
     }
 }
 
-fn items_settled(query: &Grouping<'_>, items: &[(Expr, Option<Name>)]) -> bool
-    ensures { result ≡ list_all (λ item. plain.is_well_grouped query.now.grouped query.now.groups.now
-        query.now.own item.0) items.now }
+/// Whether each expression is settled, whatever is beside it.
+fn pairs_settled<B>(query: &Grouping<'_>, pairs: &[(Expr, B)]) -> bool
+    ensures { result ≡ list_all (λ pair. plain.is_well_grouped query.now.grouped query.now.groups.now
+        query.now.own pair.0) pairs.now }
 {
-    items.iter().all(|item| settled(query, &item.0))
-}
-
-fn keys_settled(query: &Grouping<'_>, keys: &[(Expr, bool)]) -> bool
-    ensures { result ≡ list_all (λ key. plain.is_well_grouped query.now.grouped query.now.groups.now
-        query.now.own key.0) keys.now }
-{
-    keys.iter().all(|key| settled(query, &key.0))
+    pairs.iter().all(|pair| settled(query, &pair.0))
 }
 
 /// Whether what is evaluated for each row or group is settled.
@@ -203,8 +176,8 @@ fn are_settled(query: &Grouping<'_>, select: &Select) -> bool
         ≡ spec.are_settled query.now.grouped query.now.groups.now query.now.own select.now }
 {
     is_settled(query, &select.having)
-        && items_settled(query, select.items.as_slice())
-        && keys_settled(query, select.order.as_slice())
+        && pairs_settled(query, select.items.as_slice())
+        && pairs_settled(query, select.order.as_slice())
 }
 
 /// Whether the columns and aggregates of what is evaluated for each row or group stand where groups let them: aggregates in
