@@ -11,9 +11,10 @@ use Rattle.schema_core.specs.declared.changes.Planned.{Planned}
 use Rattle.schema_core.specs.declared.changes.RowChanges.{RowChanges}
 use Rattle.schema_core.specs.Catalog.{Catalog}
 use Rattle.schema_core.specs.DependencyOrder.{table_ids}
-use Rattle.flush_plan.specs.Planning.{Writing, cells_when, late_gone, late_in, late_writings, no_writing, writing_some}
+use Rattle.flush_plan.specs.Planning.{late_in, late_writings, no_writing}
+use Rattle.flush_writes.specs.Writes.{Writing, cells_when, late_gone, writing_some}
 use Rattle.flush_order.specs.Ready.{AreInRange}
-use Rattle.flush_plan.proofs.UpdateSteps.{mapped_more, take_one}
+use Rattle.flush_writes.proofs.UpdateSteps.{mapped_more, take_one}
 
 -- ---- what is written late
 

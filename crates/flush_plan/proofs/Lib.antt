@@ -1,5 +1,3 @@
+pub mod GoneSteps
 pub mod LateSteps
 pub mod PhaseSteps
-pub mod RunSteps
-pub mod UpdateSteps
-pub mod WritingSteps

@@ -20,7 +20,7 @@ use Rattle.schema_core.specs.Catalog.{Catalog}
 use Rattle.schema_core.specs.Tables.{Tables}
 use Rattle.flush_order.specs.Cells.{first_cells}
 use Rattle.flush_order.specs.Orders.{place_of_gone}
-use Rattle.flush_plan.specs.Planning.{place_of_changed, writes_some}
+use Rattle.flush_writes.specs.Writes.{place_of_changed, writes_some}
 use Rattle.flush_order.specs.Sorted.{same_place}
 
 -- the keys of new rows that are known, each with the row's place

@@ -1,4 +1,3 @@
-pub mod Runs
 pub mod Planning
 pub mod Flushing
 pub mod Stating

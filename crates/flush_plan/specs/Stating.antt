@@ -18,7 +18,7 @@ use Rattle.schema_core.specs.Tables.{Rows, Tables, has_null, is_created, key_of,
 use Rattle.flush_order.specs.Cells.{first_cells, is_late, known_row, new_at, table_at}
 use Rattle.flush_plan.specs.Flushing.{Keys, Sofar, key_of_new, value_of_cell}
 use Rattle.flush_order.specs.Orders.{place_of_gone}
-use Rattle.flush_plan.specs.Planning.{late_gone, writes_some}
+use Rattle.flush_writes.specs.Writes.{late_gone, writes_some}
 use Rattle.flush_order.specs.Refers.{names}
 use Rattle.flush_order.specs.Sorted.{Place, same_place}
 

@@ -3,17 +3,15 @@
 ghost use Rattle.std.specs.Prelude.{◌≡◌, ◌<◌, ◌++◌, [], ◌∷◌, map, length, IfOk, IfErr, OnOk};
 ghost use Rattle.std.specs.List.{All};
 ghost use Rattle.base_core.specs.declared.refusal.Refusal.TheVariants.{Memory};
-ghost use Rattle.base_core.specs.declared.value.Value.TheVariants.{Null};
 ghost use Rattle.schema_core.specs.Catalog.{IsTable};
-ghost use Rattle.flush_order.specs.Orders.{gone_at, gone_rows, place_of_gone};
-ghost use Rattle.flush_plan.specs.Planning.{remove_of, removes};
+ghost use Rattle.flush_order.specs.Orders.{gone_at, place_of_gone};
 ghost use Rattle.flush_order.specs.Ready.{AreInRange, AreReadyGone, ready_gone};
 ghost use Rattle.flush_order.specs.Refers.{last_base};
 
-use crate::writings::{Place, gone_key, place_of_gone};
 use base_core::{Copied, ListOf, Refusal, RowValues, Value};
-use flush_order::{GoneRows, ReadyGone, push_cleared, sorted_numbers};
-use schema_core::{GoneRow, Planned, RowChanges, Schema};
+use flush_order::{ReadyGone, push_cleared, sorted_numbers};
+use flush_writes::{Place, gone_key, place_of_gone};
+use schema_core::{GoneRow, RowChanges, Schema};
 use std::alloc::Global;
 
 /// A deleted row's base without what is cleared before it is deleted.
@@ -90,7 +88,7 @@ fn push_ready(
     Ok(())
 }
 
-#[tactic(auto, using(crate::proofs::UpdateSteps::gone_in))]
+#[tactic(auto, using(crate::proofs::GoneSteps::gone_in))]
 /// The deleted rows of these numbers, made ready.
 fn ready_in_order(
     alloc: Global,
@@ -112,7 +110,7 @@ fn ready_in_order(
     Ok(rows)
 }
 
-#[tactic(auto, using(crate::proofs::UpdateSteps::are_ready, crate::proofs::UpdateSteps::gone_sized))]
+#[tactic(auto, using(crate::proofs::GoneSteps::are_ready, crate::proofs::GoneSteps::gone_sized))]
 /// The deleted rows by table and key, made ready. The only refusal is `Memory`.
 pub fn gone_rows(
     alloc: Global,
@@ -126,34 +124,4 @@ pub fn gone_rows(
     let places = gone_places(alloc, schema, changes)?;
     let numbers = sorted_numbers(alloc, places.as_slice())?;
     ready_in_order(alloc, schema, changes, numbers.as_slice())
-}
-
-/// The DELETE of a row.
-fn remove_of(gone: &GoneRows, place: u32) -> Result<Planned, Refusal>
-    requires ready { AreReadyGone gone.now.schema.now gone.now.changes.now gone.now.rows.now }
-    requires within { place < length gone.now.rows.now }
-    ensures remove { IfOk result (λ planned. planned ≡ remove_of gone.now.schema.now
-        (gone_at (gone_rows gone.now.schema.now gone.now.changes.now) place)) }
-    ensures cause { IfErr result (λ e. e ≡ Memory) }
-{
-    let row = gone.at(place);
-    Ok(Planned::Remove {
-        table: row.name.table,
-        key: row.key.copied()?,
-    })
-}
-
-/// The DELETEs of rows in this order. The only refusal is `Memory`.
-pub fn removes(gone: &GoneRows, alloc: Global, order: &[u32]) -> Result<Vec<Planned>, Refusal>
-    requires ready { AreReadyGone gone.now.schema.now gone.now.changes.now gone.now.rows.now }
-    requires within { All (λ place. place < length gone.now.rows.now) order.now }
-    ensures removes { IfOk result (λ statements. statements.items
-        ≡ removes gone.now.schema.now gone.now.changes.now order.now) }
-    ensures cause { IfErr result (λ e. e ≡ Memory) }
-{
-    let mut statements = Vec::new(alloc);
-    for place in order {
-        statements.push(remove_of(gone, *place)?)?;
-    }
-    Ok(statements)
 }

@@ -2,10 +2,7 @@
 #![tactic(auto)]
 
 mod gone;
+mod late;
 mod phases;
-mod runs;
-mod updates;
-mod writings;
 
 pub use phases::plan;
-pub use writings::{Cells, Place, Writing};

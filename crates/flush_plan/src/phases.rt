@@ -1,63 +1,21 @@
 //! The plan of a flush.
 
-ghost use Rattle.std.specs.Prelude.{◌≡◌, ◌<◌, ◌++◌, [], ◌∷◌, length, map, IfOk, IfErr, OnOk};
+ghost use Rattle.std.specs.Prelude.{◌≡◌, ◌<◌, ◌++◌, length, IfOk, IfErr, OnOk};
 ghost use Rattle.std.specs.List.{All};
 ghost use Rattle.base_core.specs.Answers.{Gives};
 ghost use Rattle.base_core.specs.declared.refusal.Refusal.TheVariants.{Memory};
-ghost use Rattle.flush_order.specs.Cells.{new_at};
-ghost use Rattle.flush_order.specs.Orders.{delete_order, gone_at, gone_rows};
+ghost use Rattle.flush_order.specs.Orders.{delete_order, gone_rows};
 ghost use Rattle.flush_plan.specs.Planning.{plan, statements, unless_gone_cycle};
 ghost use Rattle.flush_order.specs.Ready.{AreInRange, AreReady, AreReadyGone};
 
-use crate::gone::{gone_rows, removes};
-use crate::runs::inserts;
-use crate::updates::{late_updates, updates};
-use base_core::{Copied, ListOf, Refusal, RowName};
+use crate::gone::gone_rows;
+use crate::late::late_updates;
+use base_core::{ListOf, Refusal};
 use flush_order::{GoneRows, NewRows, ready_rows};
+use flush_writes::{gone_names, inserts, new_names, removes, updates};
 use row_order::{Ordered, order_or_cycle};
 use schema_core::{Plan, Planned, RowChanges, Schema};
 use std::alloc::Global;
-
-/// Puts the object and table of a row behind others.
-fn push_name(out: &mut ListOf<RowName>, name: &RowName) -> Result<(), Refusal>
-    ensures name { OnOk result (out.new ≡ out.old ++ name.now ∷ []) }
-    ensures cause { IfErr result (λ e. e ≡ Memory) }
-{
-    out.push(name.copied()?)?;
-    Ok(())
-}
-
-/// The objects and tables of new rows.
-fn new_names(new: &NewRows, alloc: Global, rows: &[u32]) -> Result<ListOf<RowName>, Refusal>
-    requires ready { AreReady new.now.schema.now new.now.changes.now new.now.rows.now }
-    requires within { All (λ row. row < length new.now.changes.now.fresh) rows.now }
-    ensures names { IfOk result
-        (λ names. names ≡ map (λ row. (new_at new.now.changes.now row).name) rows.now) }
-    ensures cause { IfErr result (λ e. e ≡ Memory) }
-{
-    let mut names = ListOf::new(alloc);
-    for row in rows {
-        let fresh = new.changes.fresh.at(*row as usize);
-        push_name(&mut names, &fresh.name)?;
-    }
-    Ok(names)
-}
-
-/// The objects and tables of deleted rows.
-fn gone_names(gone: &GoneRows, alloc: Global, rows: &[u32]) -> Result<ListOf<RowName>, Refusal>
-    requires ready { AreReadyGone gone.now.schema.now gone.now.changes.now gone.now.rows.now }
-    requires within { All (λ row. row < length gone.now.rows.now) rows.now }
-    ensures names { IfOk result (λ names. names ≡ map
-        (λ row. (gone_at (gone_rows gone.now.schema.now gone.now.changes.now) row).name)
-        rows.now) }
-    ensures cause { IfErr result (λ e. e ≡ Memory) }
-{
-    let mut names = ListOf::new(alloc);
-    for row in rows {
-        names.push(gone.at(*row).name.copied()?)?;
-    }
-    Ok(names)
-}
 
 /// Puts statements behind others.
 fn push_all(out: &mut Vec<Planned>, more: Vec<Planned>) -> Result<(), Refusal>

@@ -16,8 +16,9 @@ use Rattle.class_mapping.proofs.Having.{Has, all_from, from_filter, none_of}
 use Rattle.flush_order.specs.Orders.{insert_order, place_of_gone}
 use Rattle.flush_order.specs.Sorted.{Place, same_place}
 use Rattle.flush_plan.specs.Flushing.{Keys, Sofar, send_all, value_of_cell}
-use Rattle.flush_plan.specs.Planning.{insert_run, no_changed, place_of_changed, plan, unless_new_cycle, writes_some}
-use Rattle.flush_plan.specs.Runs.{runs}
+use Rattle.flush_plan.specs.Planning.{plan, unless_new_cycle}
+use Rattle.flush_writes.specs.Writes.{insert_run, no_changed, place_of_changed, writes_some}
+use Rattle.flush_writes.specs.Runs.{runs}
 use Rattle.flush_plan.specs.Stating.{all_placed, edit_changed, edit_gone, edit_new, is_present, place_of_new, put_cells, row_at, written_rows}
 use Rattle.plan_laws.specs.Laws.{before}
 use Rattle.plan_laws.specs.Premises.{IsSorted}

@@ -22,7 +22,7 @@ use Rattle.flush_plan.specs.Flushing.{Keys, value_of_cell}
 use Rattle.object_rows.specs.Rows.{change_to, in_column, is_base}
 use Rattle.plan_laws.proofs.Facts.{true_false}
 use Rattle.object_arena.specs.Fit.{is_empty}
-use Rattle.flush_plan.specs.Planning.{writes_some}
+use Rattle.flush_writes.specs.Writes.{writes_some}
 use Rattle.class_mapping.proofs.Having.{Has}
 
 pub not_same : (a b : ℕ) → (a ≡ b → ⊥) → (a == b) ≡ false

@@ -50,7 +50,7 @@ use Rattle.object_arena.proofs.FitLemmas.{fit_cells, fit_class}
 use Rattle.flush_order.specs.Cells.{new_at, no_row, table_at}
 use Rattle.flush_order.specs.Orders.{gone_at}
 use Rattle.flush_plan.specs.Flushing.{Sofar, key_of_new}
-use Rattle.flush_plan.specs.Planning.{no_changed}
+use Rattle.flush_writes.specs.Writes.{no_changed}
 use Rattle.flush_plan.specs.Stating.{row_at}
 use Rattle.graph_flushed.specs.Flushed.{Written, key_of, written_with}
 use Rattle.graph_flushed.specs.Keys.{key_at, key_if_fit, key_if_new, new_key, new_keys}

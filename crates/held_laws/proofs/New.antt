@@ -37,7 +37,7 @@ use Rattle.object_arena.specs.Identity.{id_of_place}
 use Rattle.object_arena.proofs.FitLemmas.{fit_cells, fit_class}
 use Rattle.flush_order.specs.Cells.{new_at, table_at}
 use Rattle.flush_plan.specs.Flushing.{Sofar}
-use Rattle.flush_plan.specs.Planning.{no_column}
+use Rattle.flush_writes.specs.Writes.{no_column}
 use Rattle.flush_plan.specs.Stating.{row_at}
 use Rattle.graph_flushed.specs.Flushed as flushed
 use Rattle.graph_flushed.specs.Flushed.{Written, held_cell, key_of, new_cell, new_object, new_value, own_value, part_or, value_come, value_put}

@@ -39,7 +39,7 @@ use Rattle.row_order.specs.Places.{is_among}
 use Rattle.flush_order.specs.Refers.{gone_key}
 use Rattle.flush_order.specs.Sorted.{Place}
 use Rattle.flush_plan.specs.Flushing.{Keys, Sofar, key_of_new, value_of_cell}
-use Rattle.flush_plan.specs.Planning.{no_column, place_of_changed, writes_some}
+use Rattle.flush_writes.specs.Writes.{no_column, place_of_changed, writes_some}
 use Rattle.flush_plan.specs.Stating.{blend, is_present, row_at, written_rows}
 use Rattle.object_rows.specs.declared.prepared.Prepared.{Prepared}
 use Rattle.object_rows.specs.Cells.{key_value}

@@ -37,7 +37,7 @@ use Rattle.object_arena.proofs.FitLemmas.{fit_cells}
 use Rattle.flush_order.specs.Orders.{gone_at, no_gone, place_of_gone}
 use Rattle.flush_order.specs.Sorted.{Place, same_place}
 use Rattle.flush_plan.specs.Flushing.{Sofar, value_of_cell}
-use Rattle.flush_plan.specs.Planning.{no_column, place_of_changed, writes_some}
+use Rattle.flush_writes.specs.Writes.{no_column, place_of_changed, writes_some}
 use Rattle.flush_plan.specs.Stating.{is_present, put_cells, row_at, written_rows}
 use Rattle.graph_flushed.specs.Flushed.{Written, held_or, kept_cell, staying_cell, staying_object, value_come, value_put}
 use Rattle.object_rows.specs.declared.prepared.Prepared.{Prepared}

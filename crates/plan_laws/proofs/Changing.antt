@@ -17,7 +17,7 @@ use Rattle.table_laws.proofs.RowFits.{and_true}
 use Rattle.flush_order.specs.Cells.{late_name}
 use Rattle.flush_order.specs.Sorted.{Place}
 use Rattle.flush_plan.specs.Flushing.{Keys, Sofar, value_of_cell}
-use Rattle.flush_plan.specs.Planning.{Writing, cells_when, is_written_when, no_changed, no_column, place_of_changed, writes_some}
+use Rattle.flush_writes.specs.Writes.{Writing, cells_when, is_written_when, no_changed, no_column, place_of_changed, writes_some}
 use Rattle.flush_plan.specs.Stating.{edit_changed, edit_gone, edit_new, edits, is_present, old_row, put_cells, row_at, written_rows}
 use Rattle.plan_laws.specs.Laws.{are_at}
 use Rattle.plan_laws.proofs.Between.{Comes}

@@ -15,7 +15,7 @@ use Rattle.flush_order.specs.Cells.{is_late, late_name}
 use Rattle.flush_order.specs.Orders.{no_gone, place_of_gone}
 use Rattle.flush_order.specs.Sorted.{Place}
 use Rattle.flush_plan.specs.Flushing.{Keys, Sofar, value_of_cell}
-use Rattle.flush_plan.specs.Planning.{Writing, late_cells, late_gone, writes_some}
+use Rattle.flush_writes.specs.Writes.{Writing, late_cells, late_gone, writes_some}
 use Rattle.flush_plan.specs.Stating.{blend, edit_changed, edit_gone, edit_new, is_present, put_cells, row_at, written_rows}
 use Rattle.plan_laws.specs.Laws.{AreAsRead}
 use Rattle.plan_laws.proofs.Blend.{Long, blend_self, nulls, nulls_are_long, test}

@@ -23,7 +23,7 @@ use Rattle.row_order.specs.Places.{is_among}
 use Rattle.flush_order.specs.Refers.{new_refers}
 use Rattle.flush_order.specs.Sorted.{Place}
 use Rattle.flush_plan.specs.Flushing.{Keys, Sofar, value_of_cell}
-use Rattle.flush_plan.specs.Planning.{late_gone, place_of_changed, writes_some}
+use Rattle.flush_writes.specs.Writes.{late_gone, place_of_changed, writes_some}
 use Rattle.flush_plan.specs.Stating.{Edit, all_placed, blend, edit_changed, edit_gone, edit_new, edits, is_present, old_row, place_of_new, put_cells, row_at, stated_tables, written_rows}
 use Rattle.plan_laws.proofs.Drawn.{drawn_under}
 use Rattle.plan_laws.specs.Laws.{IsComplete, IsProjected, before, changes_to_write}

@@ -8,7 +8,8 @@ use Rattle.schema_core.specs.Declaration.{some_two}
 use Rattle.table_laws.proofs.Entries.{all_map, all_swap, any_none}
 use Rattle.flush_order.specs.Orders.{place_of_gone}
 use Rattle.flush_order.specs.Sorted.{Place, same_place}
-use Rattle.flush_plan.specs.Planning.{Writing, cells_when, late_gone, late_writings, place_of_changed, writing_some}
+use Rattle.flush_plan.specs.Planning.{late_writings}
+use Rattle.flush_writes.specs.Writes.{Writing, cells_when, late_gone, place_of_changed, writing_some}
 use Rattle.plan_laws.proofs.Items.{all_at, all_map_of, map_map}
 use Rattle.plan_laws.proofs.Newness.{place_same}
 use Rattle.plan_laws.proofs.Numbers.{AreOther}

@@ -18,9 +18,9 @@ use Rattle.row_order.specs.Places.{IsOrder, is_among}
 use Rattle.flush_order.specs.Refers.{new_refers}
 use Rattle.flush_order.specs.Sorted.{Place, same_place}
 use Rattle.flush_plan.specs.Flushing.{Sofar, is_stale}
-use Rattle.flush_plan.specs.Planning.{cells_when, column_of, is_written_when, late_gone, no_changed, place_of_changed, writes_some}
-use Rattle.flush_plan.specs.Runs.{runs}
-use Rattle.flush_plan.specs.Planning.{insert_run}
+use Rattle.flush_writes.specs.Writes.{cells_when, column_of, is_written_when, late_gone, no_changed, place_of_changed, writes_some}
+use Rattle.flush_writes.specs.Runs.{runs}
+use Rattle.flush_writes.specs.Writes.{insert_run}
 use Rattle.flush_plan.specs.Stating.{all_placed, with_edit, edits, is_present, place_of_new, row_at, stated_tables, stated_under, written_rows}
 use Rattle.plan_laws.specs.Laws.{AcceptedIsLegal, AcceptedIsStated, AreDeclared, IsProjected, before, changes_to_write}
 use Rattle.plan_laws.specs.Premises.{IsSorted}

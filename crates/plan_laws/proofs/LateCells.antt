@@ -7,8 +7,8 @@ use Rattle.base_core.specs.declared.ids.ColumnNo.{ColumnNo}
 use Rattle.base_core.specs.declared.value.Value.{Value}
 use Rattle.schema_core.specs.declared.changes.RowCell.{RowCell}
 use Rattle.schema_core.specs.declared.table.ColumnSpec.{ColumnSpec}
-use Rattle.flush_plan.specs.Planning.{cells_from_number}
-use Rattle.flush_plan.specs.Runs.{is_nothing}
+use Rattle.flush_writes.specs.Writes.{cells_from_number}
+use Rattle.flush_writes.specs.Runs.{is_nothing}
 use Rattle.flush_plan.specs.Stating.{blend, put_cells}
 use Rattle.plan_laws.proofs.Blend.{Long, test}
 use Rattle.schema_core.specs.Apply.{with_cells}

@@ -15,8 +15,9 @@ use Rattle.flush_order.specs.Cells.{is_late, late_name, new_at, table_at}
 use Rattle.row_order.specs.Places.{is_among}
 use Rattle.flush_order.specs.Sorted.{Place}
 use Rattle.flush_plan.specs.Flushing.{Keys, Sofar, value_of_cell}
-use Rattle.flush_plan.specs.Runs.{is_nothing}
-use Rattle.flush_plan.specs.Planning.{key_at, late_new, writes_some}
+use Rattle.flush_writes.specs.Runs.{is_nothing}
+use Rattle.flush_plan.specs.Planning.{key_at, late_new}
+use Rattle.flush_writes.specs.Writes.{writes_some}
 use Rattle.flush_plan.specs.Stating.{blend, place_of_new, put_cells, row_at}
 use Rattle.plan_laws.proofs.Between.{early_part}
 use Rattle.plan_laws.proofs.Blend.{Long, nulls, nulls_are_long, test}

@@ -2,7 +2,7 @@
 use Rattle.std.proofs.Common.{◌≡◌, ℕ, Bool, true, false, cond, List, [], ◌∷◌, ◌++◌, refl, sym, ap, ◌∙◌, subst, append_assoc}
 use Rattle.schema_core.specs.declared.changes.RowChanges.{RowChanges}
 use Rattle.schema_core.specs.Catalog.{Catalog}
-use Rattle.flush_plan.specs.Runs.{runs_from, nonempty_run, joins, runs}
+use Rattle.flush_writes.specs.Runs.{runs_from, nonempty_run, joins, runs}
 use Rattle.plan_laws.specs.AsSets.{AreRuns}
 use Rattle.plan_laws.proofs.Items.{append_none}
 use Rattle.plan_laws.proofs.RunsWhole.{all_rows, runs_whole}

@@ -19,8 +19,8 @@ use Rattle.table_laws.proofs.SameValues.{is_equal, same_table}
 use Rattle.flush_order.specs.Cells.{first_cells, table_at}
 use Rattle.flush_order.specs.Refers.{comes_from}
 use Rattle.flush_plan.specs.Flushing.{Keys, Sofar, is_stale, row_sent, with_keys}
-use Rattle.flush_plan.specs.Planning.{insert_run}
-use Rattle.flush_plan.specs.Runs.{runs_from, nonempty_run, joins, runs}
+use Rattle.flush_writes.specs.Writes.{insert_run}
+use Rattle.flush_writes.specs.Runs.{runs_from, nonempty_run, joins, runs}
 use Rattle.flush_plan.specs.Stating.{place_new, placed_in, placed_under, row_at}
 use Rattle.plan_laws.specs.Premises.{IsSorted}
 use Rattle.plan_laws.proofs.Accepted.{Accepts, sent_of}

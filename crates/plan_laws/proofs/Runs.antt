@@ -26,8 +26,8 @@ use Rattle.table_laws.proofs.RowFits.{and_true}
 use Rattle.flush_order.specs.Cells.{first_cells, table_at}
 use Rattle.flush_order.specs.Refers.{comes_from, new_refers}
 use Rattle.flush_plan.specs.Flushing.{Keys, Sofar, after_outcome, is_stale, value_of_cell, row_sent, send, with_keys}
-use Rattle.flush_plan.specs.Planning.{insert_run}
-use Rattle.flush_plan.specs.Runs.{runs_from, nonempty_run, goes_with, joins, leaves_key, runs}
+use Rattle.flush_writes.specs.Writes.{insert_run}
+use Rattle.flush_writes.specs.Runs.{runs_from, nonempty_run, goes_with, joins, leaves_key, runs}
 use Rattle.plan_laws.specs.Laws.{insert_of}
 use Rattle.plan_laws.proofs.Items.{append_none}
 use Rattle.plan_laws.proofs.Prefixes.{Goes, goes_on}

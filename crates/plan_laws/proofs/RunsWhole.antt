@@ -4,7 +4,7 @@ use Rattle.std.proofs.lemmas.Grind.{flat_map-append}
 use Rattle.std.specs.List.{flat_map}
 use Rattle.schema_core.specs.declared.changes.RowChanges.{RowChanges}
 use Rattle.schema_core.specs.Catalog.{Catalog}
-use Rattle.flush_plan.specs.Runs.{runs_from, nonempty_run, joins, runs}
+use Rattle.flush_writes.specs.Runs.{runs_from, nonempty_run, joins, runs}
 use Rattle.plan_laws.proofs.Items.{append_none}
 
 abbrev pub all_rows : List (List ℕ) → List ℕ

@@ -16,7 +16,7 @@ use Rattle.flush_order.specs.Orders.{place_of_gone}
 use Rattle.row_order.specs.Places.{is_among}
 use Rattle.flush_order.specs.Sorted.{Place, same_place}
 use Rattle.flush_plan.specs.Flushing.{Sofar}
-use Rattle.flush_plan.specs.Planning.{late_gone, place_of_changed, writes_some}
+use Rattle.flush_writes.specs.Writes.{late_gone, place_of_changed, writes_some}
 use Rattle.flush_plan.specs.Stating.{Edit, edit_changed, edit_gone, edit_new, edits, is_present, place_of_new, row_at, written_rows}
 use Rattle.plan_laws.specs.Premises.{IsSorted}
 use Rattle.plan_laws.proofs.Editing.{AreApart, IsEdit, NoEdit, at_edits, edit_cases, fold_created, fold_sorted, not_edited}

@@ -21,7 +21,8 @@ use Rattle.flush_order.specs.Orders.{no_gone, place_of_gone}
 use Rattle.row_order.specs.Places.{is_among}
 use Rattle.flush_order.specs.Sorted.{Place, sorted_numbers}
 use Rattle.flush_plan.specs.Flushing.{Keys, Sofar}
-use Rattle.flush_plan.specs.Planning.{Writing, cells_when, changed_rows, is_of, late_gone, late_in, late_new, late_old, late_updates, late_writings, is_written_when, no_changed, no_writing, place_of_changed, updates, writes_some, writing_some}
+use Rattle.flush_plan.specs.Planning.{is_of, late_in, late_new, late_old, late_updates, late_writings, no_writing}
+use Rattle.flush_writes.specs.Writes.{Writing, cells_when, changed_rows, late_gone, is_written_when, no_changed, place_of_changed, updates, writes_some, writing_some}
 use Rattle.flush_plan.specs.Stating.{edit_changed, edit_gone, edit_new, edits, is_present, place_of_new, row_at, written_rows}
 use Rattle.plan_laws.specs.Laws.{AreAsRead, IsProjected}
 use Rattle.plan_laws.proofs.Blend.{blend_self}

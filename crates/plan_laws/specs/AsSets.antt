@@ -6,7 +6,7 @@ use Rattle.schema_core.specs.declared.changes.RowChanges.{RowChanges}
 use Rattle.schema_core.specs.Catalog.{Catalog}
 use Rattle.row_order.specs.Places.{is_among}
 use Rattle.flush_order.specs.Sorted.{Place, place_cmp, same_place}
-use Rattle.flush_plan.specs.Runs.{joins}
+use Rattle.flush_writes.specs.Runs.{joins}
 
 -- the runs of an order
 pub record AreRuns (schema : Catalog) (changes : RowChanges) (order : List ℕ) (runs : List (List ℕ)) : Type 0 where

@@ -23,7 +23,8 @@ use Rattle.flush_order.specs.Orders.{insert_order, place_of_gone}
 use Rattle.flush_order.specs.Sorted.{same_place}
 use Rattle.flush_plan.specs.Flushing.{Sofar, send_all, send, statement_sent}
 use Rattle.schema_core.specs.declared.changes.Planned.TheVariants.{Insert}
-use Rattle.flush_plan.specs.Planning.{key_at, place_of_changed, plan}
+use Rattle.flush_plan.specs.Planning.{key_at, plan}
+use Rattle.flush_writes.specs.Writes.{place_of_changed}
 use Rattle.flush_plan.specs.Stating.{all_placed, blend, guess, row_at, stated_tables, written_rows}
 use Rattle.plan_laws.specs.Premises.{IsClear, IsFit, IsSorted}
 

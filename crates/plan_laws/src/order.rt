@@ -6,7 +6,7 @@ ghost use Rattle.schema_core.specs.declared.changes.RowChanges.{RowChanges};
 ghost use Rattle.schema_core.specs.Catalog.{Catalog};
 ghost use Rattle.row_order.specs.Places.{IsCycle, IsOrder, order_or_cycle};
 ghost use Rattle.flush_order.specs.Sorted.{Place, sorted_numbers};
-ghost use Rattle.flush_plan.specs.Runs.{runs};
+ghost use Rattle.flush_writes.specs.Runs.{runs};
 ghost use Rattle.plan_laws.specs.AsSets.{AreByPlace, AreRuns};
 
 #[tactic(auto, using(crate::proofs::Orders::order_laws))]

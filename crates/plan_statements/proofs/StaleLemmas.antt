@@ -21,7 +21,7 @@ use Rattle.schema_core.specs.Tables.{table_cmp}
 use Rattle.flush_order.specs.Refers.{gone_key}
 use Rattle.flush_order.specs.Sorted.{Place, place_cmp, same_place}
 use Rattle.flush_plan.specs.Flushing.{is_stale}
-use Rattle.flush_plan.specs.Planning.{place_of_changed, writes_some}
+use Rattle.flush_writes.specs.Writes.{place_of_changed, writes_some}
 use Rattle.plan_statements.specs.Stale.{has_place, is_deleted_at, is_written_at}
 
 -- ---- tables and keys that are the same

@@ -10,7 +10,7 @@ use Rattle.schema_core.specs.Catalog.{Catalog}
 use Rattle.flush_order.specs.Orders.{place_of_gone}
 use Rattle.flush_order.specs.Sorted.{Place, place_cmp, same_place}
 use Rattle.flush_plan.specs.Flushing.{is_stale}
-use Rattle.flush_plan.specs.Planning.{place_of_changed, writes_some}
+use Rattle.flush_writes.specs.Writes.{place_of_changed, writes_some}
 
 -- a row of this table and key is written
 abbrev pub is_written_at : TableId → List Value → ChangedRow → Bool

@@ -19,7 +19,7 @@ use Rattle.object_arena.specs.Graph.{Graph, IsObject, is_persistent, object_at}
 use Rattle.object_arena.specs.Identity.{id_of_place}
 use Rattle.flush_order.specs.Orders.{place_of_gone}
 use Rattle.flush_order.specs.Sorted.{Place, same_place}
-use Rattle.flush_plan.specs.Planning.{place_of_changed}
+use Rattle.flush_writes.specs.Writes.{place_of_changed}
 use Rattle.object_rows.specs.declared.prepared.Prepared.{Prepared}
 use Rattle.object_rows.specs.Rows as rows
 use Rattle.object_rows.specs.Seen.{keeps_rows, object_ids}

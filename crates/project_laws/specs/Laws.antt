@@ -17,7 +17,7 @@ use Rattle.object_arena.specs.Fit as object_fit
 use Rattle.object_arena.specs.Graph.{Graph}
 use Rattle.flush_order.specs.Orders.{gone_at, place_of_gone}
 use Rattle.flush_order.specs.Sorted.{same_place}
-use Rattle.flush_plan.specs.Planning.{place_of_changed}
+use Rattle.flush_writes.specs.Writes.{place_of_changed}
 use Rattle.object_rows.specs.declared.prepared.Prepared.{Prepared}
 use Rattle.plan_laws.specs.Laws.{AreLoose, are_at}
 use Rattle.plan_laws.specs.Premises.{IsFit}

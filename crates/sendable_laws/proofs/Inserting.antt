@@ -26,8 +26,8 @@ use Rattle.flush_order.specs.Cells.{cells_cleared, first_cells, is_late, key_par
 use Rattle.flush_order.specs.Refers.{new_refers}
 use Rattle.flush_order.specs.Orders.{insert_order}
 use Rattle.flush_plan.specs.Flushing.{Keys, Sofar, row_sent, send, statement_sent, value_of_cell, with_keys}
-use Rattle.flush_plan.specs.Planning.{insert_run}
-use Rattle.flush_plan.specs.Runs.{goes_with, is_nothing, joins, leaves_key, nonempty_run, runs, runs_from, width}
+use Rattle.flush_writes.specs.Writes.{insert_run}
+use Rattle.flush_writes.specs.Runs.{goes_with, is_nothing, joins, leaves_key, nonempty_run, runs, runs_from, width}
 use Rattle.plan_statements.specs.Known.{is_of_rows, is_place_of, is_sendable}
 use Rattle.plan_laws.specs.Laws.{before}
 use Rattle.plan_laws.proofs.Accepted.{sent_of}

@@ -22,8 +22,9 @@ use Rattle.schema_core.specs.WellFormed.{is_key}
 use Rattle.flush_order.specs.Cells.{first_cells, is_late, key_parts, new_at, no_row, table_at}
 use Rattle.flush_order.specs.Sorted.{sorted_numbers}
 use Rattle.flush_plan.specs.Flushing.{Keys, key_of_new, value_of_cell}
-use Rattle.flush_plan.specs.Planning.{Writing, cells_from_number, cells_when, is_of, key_at, late_gone, late_in, late_new, late_old, late_updates, late_updates_of, late_writings, no_writing, update_of, writes_some, writing_some}
-use Rattle.flush_plan.specs.Runs.{is_nothing}
+use Rattle.flush_plan.specs.Planning.{is_of, key_at, late_in, late_new, late_old, late_updates, late_updates_of, late_writings, no_writing}
+use Rattle.flush_writes.specs.Writes.{Writing, cells_from_number, cells_when, late_gone, update_of, writes_some, writing_some}
+use Rattle.flush_writes.specs.Runs.{is_nothing}
 use Rattle.plan_laws.proofs.Items.{all_at, all_filter, all_flat, all_map_of, all_members, length_mapped}
 use Rattle.plan_laws.proofs.Numbers.{numbers_within}
 use Rattle.prefix_laws.proofs.LinkKinds.{parts_long}

@@ -23,7 +23,7 @@ use Rattle.class_mapping.proofs.Having.{from_filter, has_at}
 use Rattle.flush_order.specs.Cells.{table_at}
 use Rattle.flush_order.specs.Refers.{comes_from}
 use Rattle.flush_plan.specs.Flushing.{Keys, key_of_new, value_of_cell}
-use Rattle.flush_plan.specs.Runs.{is_nothing}
+use Rattle.flush_writes.specs.Runs.{is_nothing}
 use Rattle.prefix_laws.proofs.Named.{opposite}
 use Rattle.sendable_laws.specs.Sending.{cell_fits, takes_part}
 

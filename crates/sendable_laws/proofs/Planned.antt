@@ -9,8 +9,9 @@ use Rattle.schema_core.specs.Tables.{Tables}
 use Rattle.flush_order.specs.Orders.{delete_order, gone_at, gone_rows, insert_order}
 use Rattle.flush_order.specs.Refers.{gone_refers, new_refers}
 use Rattle.flush_plan.specs.Flushing.{Sofar}
-use Rattle.flush_plan.specs.Planning.{insert_run, late_updates, plan, removes, statements, unless_gone_cycle, unless_new_cycle, updates}
-use Rattle.flush_plan.specs.Runs.{runs}
+use Rattle.flush_plan.specs.Planning.{late_updates, plan, statements, unless_gone_cycle, unless_new_cycle}
+use Rattle.flush_writes.specs.Writes.{insert_run, removes, updates}
+use Rattle.flush_writes.specs.Runs.{runs}
 use Rattle.plan_laws.specs.Laws.{before}
 use Rattle.plan_laws.proofs.Accepted.{sent_of}
 use Rattle.plan_laws.proofs.Items.{all_members, among_member, member_all}

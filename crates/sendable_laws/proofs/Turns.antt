@@ -10,7 +10,7 @@ use Rattle.flush_order.specs.Cells.{first_cells, table_at}
 use Rattle.flush_order.specs.Orders.{insert_order}
 use Rattle.row_order.specs.Places.{IsOrder, is_among, next_place}
 use Rattle.flush_order.specs.Refers.{comes_from, new_refers}
-use Rattle.flush_plan.specs.Runs.{goes_with, joins, leaves_key, nonempty_run, runs, runs_from, width}
+use Rattle.flush_writes.specs.Runs.{goes_with, joins, leaves_key, nonempty_run, runs, runs_from, width}
 use Rattle.plan_laws.proofs.Facts.{bool_cases, not_true, or_false, true_false}
 use Rattle.plan_laws.proofs.InsertOrder.{get_seam, length_seam, take_prefix}
 use Rattle.plan_laws.proofs.Items.{Member, among_member, append_none, member_all, member_split}

@@ -23,7 +23,7 @@ use Rattle.flush_order.specs.Refers.{gone_key}
 use Rattle.flush_order.specs.Sorted.{Place, sorted_numbers}
 use Rattle.schema_core.specs.declared.changes.Planned.TheVariants.{Update}
 use Rattle.flush_plan.specs.Flushing.{Keys, keys_then, value_of_cell}
-use Rattle.flush_plan.specs.Planning.{Writing, cells_when, changed_rows, is_written_when, no_changed, place_of_changed, remove_of, removes, update_of, updates, writes_some, writing_some}
+use Rattle.flush_writes.specs.Writes.{Writing, cells_when, changed_rows, is_written_when, no_changed, place_of_changed, remove_of, removes, update_of, updates, writes_some, writing_some}
 use Rattle.plan_statements.specs.Known.{is_sendable}
 use Rattle.plan_laws.proofs.Facts.{or_cases}
 use Rattle.plan_laws.proofs.Items.{all_at, all_filter, all_map_of, all_members, length_mapped}

@@ -44,7 +44,7 @@ use Rattle.object_arena.specs.Graph.{Graph, IsObject, expired_cell, is_persisten
 use Rattle.object_arena.specs.Identity.{id_of_place}
 use Rattle.object_arena.proofs.FitLemmas.{fit_at, fit_cells, fit_class}
 use Rattle.flush_order.specs.Refers.{gone_key}
-use Rattle.flush_plan.specs.Planning.{no_column}
+use Rattle.flush_writes.specs.Writes.{no_column}
 use Rattle.flush_plan.specs.Stating.{row_at}
 use Rattle.object_rows.specs.declared.prepared.Prepared.{Prepared}
 use Rattle.object_rows.specs.Cells.{key_value}

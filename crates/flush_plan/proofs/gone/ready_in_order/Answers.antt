@@ -1,6 +1,6 @@
 use Rattle.std.proofs.Common.{[], ◌∷◌, ◌++◌, sym, ap, ◌∙◌}
 use Rattle.flush_order.specs.Ready.{ready_gone}
-use Rattle.flush_plan.proofs.UpdateSteps.{ready_more}
+use Rattle.flush_plan.proofs.GoneSteps.{ready_more}
 use Rattle.flush_plan.proofs.gone.ready_in_order.Goals as goal
 
 pub loop-number-preserved : goal.loop-number-preserved

@@ -1,5 +1,5 @@
 use Rattle.std.proofs.Common.{ap, ◌∙◌}
-use Rattle.flush_plan.specs.Planning.{removes}
+use Rattle.flush_writes.specs.Writes.{removes}
 use Rattle.flush_plan.proofs.PhaseSteps.{four_parts}
 use Rattle.flush_plan.proofs.phases.statements.Goals as goal
 

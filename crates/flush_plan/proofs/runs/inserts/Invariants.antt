@@ -1,8 +1,0 @@
-use Rattle.std.proofs.Common.{◌≡◌, ◌<◌, ◌++◌, map, drop, length}
-use Rattle.std.specs.List.{All}
-use Rattle.flush_plan.specs.Planning.{insert_run}
-use Rattle.flush_plan.specs.Runs.{runs_from, runs}
-use Rattle.flush_plan.proofs.runs.inserts.Given as goal
-
-abbrev pub invariant-loop-row : goal.invariant-loop-row
-invariant-loop-row l = (l.statements.items ++ map (insert_run l.new.changes.now) (runs_from l.new.schema.now l.new.changes.now l.run.items (drop l.row-index l.order)) ≡ map (insert_run l.new.changes.now) (runs l.new.schema.now l.new.changes.now l.order)) × All (λ row. row < length l.new.rows.now) l.run.items

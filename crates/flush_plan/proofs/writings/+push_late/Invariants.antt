@@ -1,5 +1,0 @@
-use Rattle.std.proofs.Common.{length}
-use Rattle.flush_plan.proofs.writings.+push_late.Given as goal
-
-abbrev pub decreases-push_late : goal.decreases-push_late
-decreases-push_late l = length l.columns.now

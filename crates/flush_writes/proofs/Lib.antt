@@ -1,0 +1,3 @@
+pub mod RunSteps
+pub mod UpdateSteps
+pub mod WritingSteps
