@@ -12,5 +12,5 @@ mod values;
 pub use connections::Opens;
 pub use database::Database;
 pub use ending::Ending;
-pub use link::{Link, Sqlite};
+pub use link::Link;
 pub use over::{OverDatabases, over_sqlite};

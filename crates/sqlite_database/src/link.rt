@@ -3,7 +3,6 @@
 use crate::database::Database;
 use crate::ending::Ending;
 use base_core::{Kind, RowList, Value};
-use sqlite::{Connection, File, FileStore, MemStore};
 use std::alloc::Global;
 
 /// A database in memory or in a file.
@@ -12,10 +11,6 @@ pub enum Link<M, F> {
     Memory(Box<M>),
     File(Box<F>),
 }
-
-/// A database of SQLite. A function in which one stands by this name takes half a minute to be proved, so what handles databases takes
-/// any.
-pub type Sqlite = Link<Connection<MemStore>, Connection<FileStore<File>>>;
 
 /// The database on the heap.
 fn to_heap<D: Drop>(alloc: Global, database: Result<D, Ending>) -> Result<Box<D>, Ending> {

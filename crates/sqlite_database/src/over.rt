@@ -1,7 +1,9 @@
 //! What is done over databases of SQLite by those that name none.
 
+use crate::connections::Opens;
 use crate::database::Database;
-use crate::link::Sqlite;
+use crate::link::Link;
+use sqlite::{Connection, File, FileStore, MemStore};
 
 /// What is done over databases of one kind, whichever it is.
 pub trait OverDatabases {
@@ -9,8 +11,18 @@ pub trait OverDatabases {
     fn run<D: Database + Drop>(rt: HostRuntime) -> u8;
 }
 
-/// Does it over databases of SQLite, and answers its status. Only here the kind is named, so a program that is run so is proved
-/// without the half minute that each function takes which names it.
+/// Does it over databases in memory or in files, of any two kinds.
+fn over_links<P: OverDatabases, M: Database + Drop, F: Database + Drop>(rt: HostRuntime) -> u8 {
+    P::run::<Link<M, F>>(rt)
+}
+
+/// Does it over connections to any two stores of pages.
+fn over_connections<P: OverDatabases, M: Opens + Drop, F: Opens + Drop>(rt: HostRuntime) -> u8 {
+    over_links::<P, Connection<M>, Connection<F>>(rt)
+}
+
+/// Does it over databases of SQLite, and answers its status. Only here their stores are named, and each function called adds one layer
+/// to their type: all layers at once take half as long again to be proved.
 pub fn over_sqlite<P: OverDatabases>(rt: HostRuntime) -> u8 {
-    P::run::<Sqlite>(rt)
+    over_connections::<P, MemStore, FileStore<File>>(rt)
 }

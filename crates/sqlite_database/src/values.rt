@@ -61,11 +61,22 @@ fn value_of(alloc: Global, kind: Kind, value: ValueRef<'_>) -> Result<Value, End
     }
 }
 
+/// The value at a place of a row.
+fn value_at(alloc: Global, kind: Kind, row: &Row, place: usize) -> Result<Value, Ending> {
+    value_of(alloc, kind, row.get_ref(place)?)
+}
+
+/// One more item, where it was read.
+fn add_read<T: Drop>(items: &mut Vec<T>, item: Result<T, Ending>) -> Result<(), Ending> {
+    items.push(item?)?;
+    Ok(())
+}
+
 /// The values of a row, each of its kind.
 fn row_of(alloc: Global, kinds: &[Kind], row: &Row) -> Result<RowValues, Ending> {
     let mut values = Vec::with_capacity(alloc, kinds.len())?;
     for (place, kind) in kinds.iter().enumerate() {
-        values.push(value_of(alloc, *kind, row.get_ref(place)?)?)?;
+        add_read(&mut values, value_at(alloc, *kind, row, place))?;
     }
     Ok(ListOf::from_vec(values))
 }
@@ -74,7 +85,7 @@ fn row_of(alloc: Global, kinds: &[Kind], row: &Row) -> Result<RowValues, Ending>
 pub(crate) fn rows_of(alloc: Global, kinds: &[Kind], rows: &[Row]) -> Result<RowList, Ending> {
     let mut read = Vec::with_capacity(alloc, rows.len())?;
     for row in rows {
-        read.push(row_of(alloc, kinds, row)?)?;
+        add_read(&mut read, row_of(alloc, kinds, row))?;
     }
     Ok(ListOf::from_vec(read))
 }
