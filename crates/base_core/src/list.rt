@@ -11,7 +11,7 @@ use std::marker::Model;
 use std::{mem, slice};
 
 /// A list of items. Contracts see the list alone, so two lists with the same items are equal.
-#[derive(Debug)]
+
 pub struct ListOf<T> {
     items: Vec<T>,
 }

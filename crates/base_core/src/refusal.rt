@@ -32,7 +32,7 @@ pub enum ArgumentKind {
 }
 
 /// A request does not fit the state that it meets.
-#[derive(Debug, Drop, PartialEq, Eq)]
+#[derive(Drop)]
 pub enum RequestKind {
     NotConfigured,
     Configured,
@@ -55,14 +55,14 @@ pub enum RequestKind {
 }
 
 /// Of what there are too many.
-#[derive(Clone, Copy, Debug, PartialEq, Eq)]
+#[derive(Clone, Copy, PartialEq, Eq)]
 pub enum LimitKind {
     Objects,
     Savepoints,
 }
 
 /// Which constraint of a table a statement breaks.
-#[derive(Clone, Copy, Debug, PartialEq, Eq)]
+#[derive(Clone, Copy, PartialEq, Eq)]
 pub enum IntegrityKind {
     NotNull,
     PrimaryKey,
@@ -71,7 +71,7 @@ pub enum IntegrityKind {
 }
 
 /// A row of a flush, by its table and the object that it belongs to.
-#[derive(Clone, Copy, Debug, PartialEq, Eq)]
+#[derive(Clone, Copy, PartialEq, Eq)]
 pub struct RowName {
     pub table: TableId,
     pub object: ObjId,
@@ -99,7 +99,7 @@ impl Copied for Warning {
 }
 
 /// Why a call is refused. `Memory` and `KeeperFault` end a run, and every other refusal is a command's answer.
-#[derive(Debug, Drop, PartialEq, Eq)]
+#[derive(Drop)]
 pub enum Refusal {
     /// Memory ran out.
     Memory,

@@ -102,7 +102,7 @@ impl Ord for Text {
 }
 
 /// A name, seen as the list of its bytes.
-#[derive(Debug)]
+
 pub struct Name {
     text: String,
 }

@@ -79,7 +79,7 @@ fn rank(value: &Value) -> u8
 }
 
 /// A column's kind.
-#[derive(Clone, Copy, Debug, PartialEq, Eq)]
+#[derive(Clone, Copy, PartialEq, Eq)]
 pub enum Kind {
     Integer,
     Text,
@@ -113,7 +113,7 @@ pub type RowValues = ListOf<Value>;
 pub type RowList = ListOf<RowValues>;
 
 /// An operator on integers.
-#[derive(Clone, Copy, Debug, PartialEq, Eq)]
+#[derive(Clone, Copy, PartialEq, Eq)]
 pub enum ArithOp {
     Add,
     Sub,

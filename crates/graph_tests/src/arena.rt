@@ -1,21 +1,21 @@
 //! Cells of objects, and the keys that objects stand for.
 
-use crate::fixture::{is_made, key, keys_alone};
+use crate::fixture::{is_made, key, keys_alone, refused};
 use base_core::{AttrNo, ClassId, Kind, ObjId, Refusal, RequestKind, Value};
 use class_mapping::Mapping;
 use object_arena::{Arena, CellRead, State};
 use std::alloc::Global;
 use std::test::Fail;
 
-/// Whether the key's cell of a new object gives a value this answer, and holds this then.
+/// Whether the key's cell of a new object takes a value, or tells this mismatch of kinds, and holds this then.
 fn answers(
     alloc: Global,
     value: Value,
-    answer: Result<(), Refusal>,
+    mismatch: Option<(Kind, Kind)>,
     held: Value,
 ) -> Result<bool, Refusal> {
     let mapping = keys_alone(alloc)?;
-    gives(alloc, &*mapping, value, answer, held)
+    gives(alloc, &*mapping, value, mismatch, held)
 }
 
 /// The same over a mapping.
@@ -23,7 +23,7 @@ fn gives(
     alloc: Global,
     mapping: &Mapping,
     value: Value,
-    answer: Result<(), Refusal>,
+    mismatch: Option<(Kind, Kind)>,
     held: Value,
 ) -> Result<bool, Refusal> {
     if mapping.count() == 0 || !mapping.is_configured() {
@@ -35,7 +35,16 @@ fn gives(
     let mut arena = Arena::new(alloc);
     let object = arena.make(mapping, ClassId(0))?;
     let given = arena.set_cell(mapping, object, AttrNo(0), value);
-    Ok(given == answer && shows(&arena, object, held))
+    Ok(is_answer(&given, mismatch) && shows(&arena, object, held))
+}
+
+/// Whether a value was taken, or was refused for its kind, where a mismatch of kinds is wanted.
+fn is_answer(given: &Result<(), Refusal>, mismatch: Option<(Kind, Kind)>) -> bool {
+    match (given, mismatch) {
+        (Ok(()), None) => true,
+        (Err(Refusal::TypeMismatch(wanted, found)), Some(kinds)) => (*wanted, *found) == kinds,
+        _ => false,
+    }
 }
 
 /// Whether the first cell of an object shows a value.
@@ -96,9 +105,9 @@ fn stands(alloc: Global, arena: &Arena, object: ObjId) -> Result<bool, Refusal> 
 #[test]
 fn a_cell_takes_values_of_its_kind(rt: HostRuntime) -> Result<(), Fail> {
     let alloc = rt.alloc();
-    let mismatch = Refusal::TypeMismatch(Kind::Integer, Kind::Boolean);
-    assert!(rt; answers(alloc, Value::Int(7), Ok(()), Value::Int(7))?);
-    assert!(rt; answers(alloc, Value::Bool(true), Err(mismatch), Value::Null)?);
+    let mismatch = Some((Kind::Integer, Kind::Boolean));
+    assert!(rt; answers(alloc, Value::Int(7), None, Value::Int(7)).map_err(refused)?);
+    assert!(rt; answers(alloc, Value::Bool(true), mismatch, Value::Null).map_err(refused)?);
     Ok(())
 }
 
@@ -106,8 +115,11 @@ fn a_cell_takes_values_of_its_kind(rt: HostRuntime) -> Result<(), Fail> {
 fn first_stands(alloc: Global, arena: &mut Arena) -> Result<bool, Refusal> {
     register(alloc, arena, ObjId(1), 7)?;
     let taken = register(alloc, arena, ObjId(2), 7);
-    let conflict = Err(Refusal::InvalidRequestError(RequestKind::IdentityConflict));
-    Ok(taken == conflict && stands(alloc, arena, ObjId(1))?)
+    let is_conflict = matches!(
+        taken,
+        Err(Refusal::InvalidRequestError(RequestKind::IdentityConflict))
+    );
+    Ok(is_conflict && stands(alloc, arena, ObjId(1))?)
 }
 
 /// The first object leaves, and the second takes the key.
@@ -130,8 +142,8 @@ fn stand_in_turn(alloc: Global, arena: &mut Arena) -> Result<bool, Refusal> {
 #[test]
 fn one_object_stands_for_a_key_until_it_leaves(rt: HostRuntime) -> Result<(), Fail> {
     let alloc = rt.alloc();
-    let mapping = keys_alone(alloc)?;
-    let mut arena = two(alloc, &*mapping)?;
-    assert!(rt; stand_in_turn(alloc, &mut arena)?);
+    let mapping = keys_alone(alloc).map_err(refused)?;
+    let mut arena = two(alloc, &*mapping).map_err(refused)?;
+    assert!(rt; stand_in_turn(alloc, &mut arena).map_err(refused)?);
     Ok(())
 }

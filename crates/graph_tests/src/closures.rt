@@ -1,6 +1,6 @@
 //! The closures of objects.
 
-use crate::fixture::keys_alone;
+use crate::fixture::{keys_alone, refused};
 use base_core::{ClassId, ObjSet, Refusal};
 use cascades::{delete_closure, expire_closure, expunge_closure, save_closure};
 use class_mapping::Mapping;
@@ -31,7 +31,7 @@ fn alone(alloc: Global, mapping: &Mapping) -> Result<bool, Refusal> {
 
 #[test]
 fn an_object_without_links_is_its_closure(rt: HostRuntime) -> Result<(), Fail> {
-    let mapping = keys_alone(rt.alloc())?;
-    assert!(rt; alone(rt.alloc(), &*mapping)?);
+    let mapping = keys_alone(rt.alloc()).map_err(refused)?;
+    assert!(rt; alone(rt.alloc(), &*mapping).map_err(refused)?);
     Ok(())
 }

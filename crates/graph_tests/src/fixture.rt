@@ -9,6 +9,12 @@ use class_types::{ClassSpec, Hooks};
 use object_arena::Arena;
 use schema_core::{ColumnKind, ColumnSpec, TableSpec};
 use std::alloc::{AllocError, Global};
+use std::test::Fail;
+
+/// What ends a test in which a call is refused that is to be done.
+pub(crate) fn refused(_refusal: Refusal) -> Fail {
+    Fail::from("refused")
+}
 
 pub(crate) fn name(alloc: Global, text: &str) -> Result<Name, AllocError> {
     Ok(Name::new(String::from_str(alloc, text)?))

@@ -2,7 +2,7 @@
 
 ghost use Rattle.object_arena.specs.Graph.{IsObject};
 
-use crate::fixture::{is_made, key, keys_alone};
+use crate::fixture::{is_made, key, keys_alone, refused};
 use base_core::{AttrNo, ClassId, Key, LimitKind, ObjId, Refusal, Value};
 use class_mapping::Mapping;
 use object_arena::{Arena, CellRead, State};
@@ -187,7 +187,7 @@ fn a_rollback_goes_back_to_the_start(rt: HostRuntime) -> Result<(), Fail> {
         (1, State::Persistent, 7, true),
         (2, State::Transient, 0, false),
     ];
-    assert!(rt; leaves(rt.alloc(), &acts, 0, &stand)?);
+    assert!(rt; leaves(rt.alloc(), &acts, 0, &stand).map_err(refused)?);
     Ok(())
 }
 
@@ -210,7 +210,7 @@ fn an_identity_comes_back_to_its_object(rt: HostRuntime) -> Result<(), Fail> {
         (1, State::Persistent, 7, true),
         (2, State::Detached, 7, false),
     ];
-    assert!(rt; leaves(rt.alloc(), &acts, 1, &stand)?);
+    assert!(rt; leaves(rt.alloc(), &acts, 1, &stand).map_err(refused)?);
     Ok(())
 }
 
@@ -233,7 +233,7 @@ fn of_two_that_were_loaded_the_lesser_number_stays(rt: HostRuntime) -> Result<()
         (1, State::Persistent, 7, true),
         (2, State::Detached, 7, false),
     ];
-    assert!(rt; leaves(rt.alloc(), &acts, 1, &stand)?);
+    assert!(rt; leaves(rt.alloc(), &acts, 1, &stand).map_err(refused)?);
     Ok(())
 }
 
@@ -259,7 +259,7 @@ fn what_was_loaded_stays(rt: HostRuntime) -> Result<(), Fail> {
         (1, State::Persistent, 8, true),
         (2, State::Transient, 0, false),
     ];
-    assert!(rt; leaves(rt.alloc(), &acts, 1, &stand)?);
+    assert!(rt; leaves(rt.alloc(), &acts, 1, &stand).map_err(refused)?);
     Ok(())
 }
 
@@ -283,7 +283,7 @@ fn a_released_scope_passes_on_what_was_touched(rt: HostRuntime) -> Result<(), Fa
         (1, State::Persistent, 7, true),
         (2, State::Persistent, 8, false),
     ];
-    assert!(rt; leaves(rt.alloc(), &acts, 1, &stand)?);
+    assert!(rt; leaves(rt.alloc(), &acts, 1, &stand).map_err(refused)?);
     Ok(())
 }
 
@@ -302,7 +302,7 @@ fn one_too_many(alloc: Global) -> Result<Refusal, Refusal> {
 
 #[test]
 fn there_are_64_savepoints(rt: HostRuntime) -> Result<(), Fail> {
-    let refusal = one_too_many(rt.alloc())?;
-    assert!(rt; refusal == Refusal::LimitReached(LimitKind::Savepoints));
+    let refusal = one_too_many(rt.alloc()).map_err(refused)?;
+    assert!(rt; matches!(refusal, Refusal::LimitReached(LimitKind::Savepoints)));
     Ok(())
 }

@@ -9,6 +9,11 @@ mod tests {
     use std::process::Abort;
     use std::test::Fail;
 
+    /// What ends a test in which a call is refused that is to be done.
+    fn refused(_refusal: Refusal) -> Fail {
+        Fail::from("refused")
+    }
+
     /// For each row those for which it waits.
     fn lists_of(alloc: Global, waits: &[&[u32]]) -> Result<Vec<ListOf<u32>>, Refusal> {
         let mut lists = Vec::new(alloc);
@@ -34,14 +39,14 @@ mod tests {
         cycle: &[u32],
     ) -> Result<(), Fail> {
         let alloc = rt.alloc();
-        let lists = lists_of(alloc, waits)?;
+        let lists = lists_of(alloc, waits).map_err(refused)?;
         assert!(rt; lists.len() <= 1000);
         let rows = Rows {
             lists: lists.as_slice(),
             waiting: &[],
         };
-        let counted = order_or_cycle(alloc, &rows)?;
-        let plain = plain_order_or_cycle(alloc, &rows)?;
+        let counted = order_or_cycle(alloc, &rows).map_err(refused)?;
+        let plain = plain_order_or_cycle(alloc, &rows).map_err(refused)?;
         assert!(rt; is_told(&counted, order, cycle));
         assert!(rt; is_told(&plain, order, cycle));
         Ok(())

@@ -17,7 +17,7 @@ use object_arena::{Arena, Cell, Link, Object};
 use std::alloc::Global;
 
 /// What is known of the object to which a link has led.
-#[derive(Clone, Copy, Debug, PartialEq, Eq)]
+#[derive(Clone, Copy, PartialEq, Eq)]
 pub enum OldParent {
     /// It is this one, or none.
     Known(Option<ObjId>),

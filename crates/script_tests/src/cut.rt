@@ -1,5 +1,6 @@
 //! Lines against scripts cut by hand.
 
+use crate::refused;
 use byte_streams::MemSource;
 use script_lines::{LineBuffer, NextLine, ReadStop};
 use std::alloc::Global;
@@ -8,7 +9,7 @@ use std::test::Fail;
 /// What ten calls say of a script, one after another: a line and a bar, a star for a long line,
 /// or `.` at the end, `!` for what is too long, and `?` for a fault.
 fn heard(alloc: Global, script: &[u8], failing: &[u64]) -> Result<Vec<u8>, Fail> {
-    let mut source = MemSource::new(alloc, script, failing)?;
+    let mut source = MemSource::new(alloc, script, failing).map_err(refused)?;
     let mut buffer = LineBuffer::new(alloc);
     let mut said = Vec::new(alloc);
     for _ in 0..10 {

@@ -7,3 +7,14 @@ mod cut;
 mod read;
 #[cfg(test)]
 mod texts;
+
+#[cfg(test)]
+use base_core::Refusal;
+#[cfg(test)]
+use std::test::Fail;
+
+/// What ends a test in which a call is refused that is to be done.
+#[cfg(test)]
+fn refused(_refusal: Refusal) -> Fail {
+    Fail::from("refused")
+}

@@ -1,5 +1,6 @@
 //! The texts of values, objects, refusals and warnings, as the script language has them.
 
+use crate::refused;
 use base_core::{
     AttrNo, Blob, ClassId, ColumnNo, ListOf, Name, ObjId, Refusal, RelNo, TableId, Text, Value,
     Warning,
@@ -57,15 +58,15 @@ fn values_objects_and_refusals_are_written_as_the_script_language_has_them(
     rt: HostRuntime,
 ) -> Result<(), Fail> {
     let alloc = rt.alloc();
-    let row = row(alloc)?;
+    let row = row(alloc).map_err(refused)?;
     let names = &OneName;
     assert_eq!(rt;
         format!(in alloc; "{}", RowText(&row))?.as_str(),
         "(null, -7, 'o''c', true, x'0aff')"
     );
     let mut objects = ListOf::new(alloc);
-    objects.push(ObjId(1))?;
-    objects.push(ObjId(2))?;
+    objects.push(ObjId(1)).map_err(refused)?;
+    objects.push(ObjId(2)).map_err(refused)?;
     let listed = ObjectsText {
         names,
         objects: &objects,
