@@ -2,9 +2,11 @@
 """gate_cost.py LOG: the processor seconds that each crate's proof, tests and wrong bodies took in a run of the gate, dearest crates first.
 
     tools/gate_cost.py LOG -- rt ci         runs the gate, notes what its processes use in LOG, and prints the table
+    tools/gate_cost.py LOG beside PROCESS   notes what the processes below PROCESS use in LOG, until it is told to end or PROCESS has ended
     tools/gate_cost.py LOG                  prints the table of a LOG that was noted before
 
-The gate's own output, which tells no seconds, stands in LOG too, a line each as it came. Beside it stand lines
+`.ci/run` notes its own run by the second form. By the first the gate's own output, which tells no seconds, stands in LOG too, a line
+each as it came, and the table counts the wrong bodies that were refused. Beside it stand lines
 
     cost CRATE PART PROCESS SECONDS
 
@@ -22,10 +24,10 @@ are compared by it.
 import collections
 import os
 import re
+import signal
 import subprocess
 import sys
 import threading
-import time
 
 STEP = 0.5
 CLOCK_STEP = 60
@@ -73,8 +75,8 @@ def of_prover(number):
     return crate, "edits" if is_edit else "tests" if "--test" in words else "proof"
 
 
-def watch(top, out):
-    """Notes the seconds of each process of the prover below the top one, when it has ended."""
+def watch(top, out, is_over):
+    """Notes the seconds of each process of the prover below the top one, when it has ended, and of those that run where this is over."""
     known, used = {}, {}
     while True:
         now = processes()
@@ -84,12 +86,13 @@ def watch(top, out):
                 known[number] = of_prover(number)
             if known.get(number):
                 used[number] = seconds
-        for number in [it for it in used if it not in now]:
+        ends = top not in now or is_over.is_set()
+        for number in [it for it in used if ends or it not in now]:
             crate, part = known.pop(number)
             out(f"cost {crate} {part} {number} {used.pop(number):.2f}")
-        if top not in now:
+        if ends:
             return
-        time.sleep(STEP)
+        is_over.wait(STEP)
 
 
 def tell_clock(is_over, out):
@@ -100,18 +103,23 @@ def tell_clock(is_over, out):
             out(f"clock {float(told):.2f}")
 
 
-def run(log, words):
+def line_by_line(file):
+    """Gives what writes a line whole, whichever thread calls it."""
     alone = threading.Lock()
+
+    def out(line):
+        with alone:
+            print(line, file=file, flush=True)
+
+    return out
+
+
+def run(log, words):
     with open(log, "w", encoding="utf-8") as file:
-
-        def out(line):
-            with alone:
-                print(line, file=file, flush=True)
-
+        out, is_over, never = line_by_line(file), threading.Event(), threading.Event()
         gate = subprocess.Popen(words, stdout=subprocess.PIPE, stderr=subprocess.STDOUT, text=True, errors="replace")
-        watcher = threading.Thread(target=watch, args=(gate.pid, out))
+        watcher = threading.Thread(target=watch, args=(gate.pid, out, never))
         watcher.start()
-        is_over = threading.Event()
         clock = threading.Thread(target=tell_clock, args=(is_over, out))
         clock.start()
         for line in gate.stdout:
@@ -122,6 +130,18 @@ def run(log, words):
         is_over.set()
         clock.join()
     return status
+
+
+def beside(log, top):
+    """Notes what the processes below the top one use, until this process is told to end."""
+    with open(log, "w", encoding="utf-8") as file:
+        out, is_over = line_by_line(file), threading.Event()
+        signal.signal(signal.SIGTERM, lambda *_: is_over.set())
+        clock = threading.Thread(target=tell_clock, args=(is_over, out))
+        clock.start()
+        watch(top, out, is_over)
+        is_over.set()
+        clock.join()
 
 
 def table(log):
@@ -138,16 +158,19 @@ def table(log):
             if found:
                 edits[found[1]] += 1
     rows = sorted(seconds.items(), key=lambda row: -sum(row[1].values()))
-    print(f"{'crate':<20}" + "".join(f"{part:>9}" for part in PARTS) + f"{'all':>9}{'refused':>9}")
+    refused = (lambda count: f"{count:>9}") if edits else (lambda count: "")
+    print(f"{'crate':<20}" + "".join(f"{part:>9}" for part in PARTS) + f"{'all':>9}" + refused("refused"))
     for crate, of in rows:
-        print(f"{crate:<20}" + "".join(f"{of[part]:>9.0f}" for part in PARTS) + f"{sum(of.values()):>9.0f}{edits[crate]:>9}")
+        print(f"{crate:<20}" + "".join(f"{of[part]:>9.0f}" for part in PARTS) + f"{sum(of.values()):>9.0f}" + refused(edits[crate]))
     whole = [sum(of[part] for _, of in rows) for part in PARTS]
-    print(f"{'all':<20}" + "".join(f"{it:>9.0f}" for it in whole) + f"{sum(whole):>9.0f}{sum(edits.values()):>9}")
+    print(f"{'all':<20}" + "".join(f"{it:>9.0f}" for it in whole) + f"{sum(whole):>9.0f}" + refused(sum(edits.values())))
     if clocks:
         print(f"ten million additions in python: {sum(clocks) / len(clocks):.2f} s on average ({min(clocks):.2f} to {max(clocks):.2f})")
 
 
 def main(words):
+    if len(words) == 3 and words[1] == "beside" and words[2].isdigit():
+        return beside(words[0], int(words[2]))
     if not words or "--" in words[:1] or len(words) > 1 and (words[1] != "--" or len(words) < 3):
         sys.exit(__doc__)
     status = run(words[0], words[2:]) if len(words) > 1 else 0
