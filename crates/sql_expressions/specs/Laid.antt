@@ -18,6 +18,7 @@ use Rattle.sql_semantics.specs.Plain.{name_of, name_or}
 use Rattle.sql_text.specs.declared.names.Quoting.{Quoting}
 use Rattle.sql_text.specs.declared.names.Quoting.TheVariants.{Sqlite, Postgresql, Mysql}
 use Rattle.sql_text.specs.Columns.{column_name}
+use Rattle.sql_text.specs.Rules as rules
 use Rattle.sql_text.specs.Words.{null_word, like_word, ilike_word, in_word, empty_word, between_word, distinct_word, sqlite_distinct_word}
 use Rattle.sql_text.specs.Written.{Piece, words, name, value, with_separators}
 
@@ -100,8 +101,7 @@ in_level [] = 8
 in_level (v ∷ values) = 4
 
 abbrev pub exists_level : Bool → ℕ
-exists_level false = 8
-exists_level true = 3
+exists_level negated = rules.exists_level negated
 
 abbrev pub level_at : {A : Type 0} → Quoting → Expr-F A → ℕ
 level_at quoting (Expr-F.Column source column) = 8

@@ -13,7 +13,7 @@ use crate::words::{
 use base_core::{ArithOp, ColumnNo, Copied, Refusal, Value};
 use expr_types::{Expr, Func, Origin};
 use schema_core::Schema;
-use sql_text::{Quoting, Writer, table_name};
+use sql_text::{Quoting, Writer, arith_least, concat_least, prefix_least, table_name};
 use std::alloc::{AllocError, Global};
 
 /// The base name of a value that is not beside a column.
@@ -260,9 +260,33 @@ fn arith(
         (laid writer.old.quoting schema.now b.now) scope.now) result writer.old writer.new }
 {
     match op {
-        ArithOp::Add => two(writer, schema, scope, (5, 6), " + ", a, b),
-        ArithOp::Sub => two(writer, schema, scope, (5, 6), " - ", a, b),
-        ArithOp::Mul => two(writer, schema, scope, (6, 7), " * ", a, b),
+        ArithOp::Add => two(
+            writer,
+            schema,
+            scope,
+            arith_least(ArithOp::Add),
+            " + ",
+            a,
+            b,
+        ),
+        ArithOp::Sub => two(
+            writer,
+            schema,
+            scope,
+            arith_least(ArithOp::Sub),
+            " - ",
+            a,
+            b,
+        ),
+        ArithOp::Mul => two(
+            writer,
+            schema,
+            scope,
+            arith_least(ArithOp::Mul),
+            " * ",
+            a,
+            b,
+        ),
     }
 }
 
@@ -280,8 +304,10 @@ fn concat(
         scope.now) result writer.old writer.new }
 {
     match writer.quoting() {
-        Quoting::Sqlite | Quoting::Postgresql => two(writer, schema, scope, (5, 6), " || ", a, b),
-        Quoting::Mysql => enclosed(writer, schema, scope, (5, 6), "concat(", ", ", a, b),
+        Quoting::Sqlite | Quoting::Postgresql => {
+            two(writer, schema, scope, concat_least(), " || ", a, b)
+        }
+        Quoting::Mysql => { enclosed(writer, schema, scope, concat_least(), "concat(", ", ", a, b) }
     }
 }
 
@@ -379,7 +405,7 @@ fn behind(
         result writer.old writer.new }
 {
     writer.put_words(word)?;
-    under(writer, schema, scope, param(), 8, a)
+    under(writer, schema, scope, param(), prefix_least(), a)
 }
 
 /// An operand before a word.

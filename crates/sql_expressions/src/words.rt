@@ -8,7 +8,7 @@ ghost use Rattle.sql_expressions.specs.Laid.{laid};
 
 use base_core::ArithOp;
 use expr_types::{CompareOp, Expr, Func};
-use sql_text::Quoting;
+use sql_text::{Quoting, exists_level};
 
 pub(crate) fn compare_word(op: CompareOp) -> &'static str
     ensures { result.now ≡ spec.compare_word op }
@@ -154,7 +154,7 @@ pub(crate) fn level_of(quoting: Quoting, e: &Expr) -> u8
         Expr::Or(_) => 1,
         Expr::And(_) => 2,
         Expr::Not(_) => 3,
-        Expr::Exists(negated, _, _) => { if *negated { 3 } else { 8 } }
+        Expr::Exists(negated, _, _) => exists_level(*negated),
         Expr::Compare(_, _, _) | Expr::IsNull(_, _) => 4,
         Expr::Like(_, _, _) | Expr::Ilike(_, _, _) | Expr::Between(_, _, _, _) => 4,
         Expr::InList(_, _, values) => { if values.is_empty() { 8 } else { 4 } }

@@ -6,7 +6,7 @@ ghost use Rattle.sql_text.specs.Written.{Wrote};
 
 use base_core::{Refusal, Value};
 use sql_expressions::param;
-use sql_text::{Quoting, Writer};
+use sql_text::{Quoting, Writer, mysql_cut};
 
 /// The number of a cut.
 fn number(writer: &mut Writer, n: u64) -> Result<(), Refusal>
@@ -44,14 +44,14 @@ fn offset_alone(writer: &mut Writer, offset: u64) -> Result<(), Refusal>
 
 /// MySQL's cut by both.
 #[tactic(auto, using(sql_text::proofs::Steps::steps))]
-fn offset_first(writer: &mut Writer, offset: u64, limit: u64) -> Result<(), Refusal>
-    requires offset { offset < 2 ^ 63 }
-    requires limit { limit < 2 ^ 63 }
-    ensures { Wrote (spec.row_count_pieces (codes " LIMIT ") offset ++ spec.row_count_pieces (codes ", ") limit)
+fn offset_first(writer: &mut Writer, numbers: (u64, u64)) -> Result<(), Refusal>
+    requires first { numbers.0 < 2 ^ 63 }
+    requires second { numbers.1 < 2 ^ 63 }
+    ensures { Wrote (spec.row_count_pieces (codes " LIMIT ") numbers.0 ++ spec.row_count_pieces (codes ", ") numbers.1)
         result writer.old writer.new }
 {
-    counted(writer, " LIMIT ", offset)?;
-    counted(writer, ", ", limit)
+    counted(writer, " LIMIT ", numbers.0)?;
+    counted(writer, ", ", numbers.1)
 }
 
 /// The cut by a limit and an offset, which MySQL writes first.
@@ -67,7 +67,7 @@ fn both_cuts(writer: &mut Writer, limit: u64, offset: u64) -> Result<(), Refusal
             counted(writer, " LIMIT ", limit)?;
             counted(writer, " OFFSET ", offset)
         }
-        Quoting::Mysql => offset_first(writer, offset, limit),
+        Quoting::Mysql => offset_first(writer, mysql_cut(limit, offset)),
     }
 }
 

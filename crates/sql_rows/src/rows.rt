@@ -9,7 +9,7 @@ ghost use Rattle.sql_text.specs.Written.{Wrote, with_leading_separators, with_se
 
 use base_core::{ColumnNo, Refusal, RowValues, TableId, Value};
 use schema_core::{ColumnSpec, RowStmt, Schema};
-use sql_text::{Quoting, Writer, column_name, columns_of, table_name};
+use sql_text::{Quoting, Writer, column_name, columns_of, table_name, tells_key};
 
 /// Stands for the values of a row without columns.
 pub fn default_word(quoting: Quoting) -> &'static str
@@ -231,7 +231,7 @@ fn returning(
 {
     match writer.quoting() {
         Quoting::Postgresql => {
-            if drawn {
+            if tells_key(Quoting::Postgresql, drawn) {
                 key_names(writer, schema, table)
             } else {
                 Ok(())

@@ -1,7 +1,6 @@
 //! The texts that make tables and drop them.
 
-ghost use Rattle.std.specs.Prelude.{◌≡◌, ◌<◌, ◌==◌, ◌∷◌, [], Ok, IfOk, IfErr, codes, length, string_bytes};
-ghost use Rattle.std.specs.List.{list_any};
+ghost use Rattle.std.specs.Prelude.{◌≡◌, ◌<◌, ◌∷◌, [], Ok, IfOk, IfErr, codes, length, string_bytes};
 ghost use Rattle.base_core.specs.Answers.{Gives};
 ghost use Rattle.base_core.specs.declared.refusal.Refusal.TheVariants.{Memory};
 ghost use Rattle.schema_core.specs.Catalog.{IsTable, spec_of};
@@ -12,7 +11,7 @@ use base_core::{ColumnNo, ListOf, Name, Refusal, TableId, Text};
 use schema_core::{
     ColumnKind, ColumnSpec, ForeignSpec, Schema, TableSpec, has_generated_key, is_required,
 };
-use sql_text::{Compiled, Quoting, Writer, columns_of, table_name};
+use sql_text::{Compiled, Quoting, Writer, columns_of, comes_later, table_name};
 use std::alloc::{AllocError, Global};
 
 fn varchar_word(alloc: Global, most: Option<u32>) -> Result<String, AllocError>
@@ -216,12 +215,6 @@ fn foreign(writer: &mut Writer, schema: &Schema, foreign: &ForeignSpec) -> Resul
     foreign_to(writer, schema, foreign.columns.as_slice(), target)
 }
 
-fn has_number(numbers: &[u32], number: usize) -> bool
-    ensures { result ≡ list_any (λ other. other == number) numbers.now }
-{
-    numbers.iter().any(|other| *other as usize == number)
-}
-
 /// The foreign keys but for those that come later.
 #[tactic(auto, unfolding(sql_text::specs::Written::put_all), using(sql_text::proofs::Steps::steps))]
 fn foreigns(
@@ -234,7 +227,7 @@ fn foreigns(
         result writer.old writer.new }
 {
     for (number, next) in foreigns.iter().enumerate() {
-        if has_number(later, number) {
+        if comes_later(later, number) {
             continue;
         }
         writer.put_words(", ")?;

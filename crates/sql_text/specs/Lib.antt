@@ -1,4 +1,5 @@
 pub mod Columns
 pub mod Names
+pub mod Rules
 pub mod Words
 pub mod Written

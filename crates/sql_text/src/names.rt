@@ -160,17 +160,26 @@ fn with_percents(alloc: Global, quoting: Quoting, text: &str) -> Result<String, 
     }
 }
 
+/// The text between two of these marks.
+fn enclosed_in(alloc: Global, mark: char, text: &str) -> Result<String, AllocError>
+    requires { mark < 128 }
+    ensures { IfOk result (λ shown. string_bytes shown ≡ mark ∷ text.now ++ mark ∷ []) }
+{
+    let mut shown = String::new(alloc);
+    shown.push(mark)?;
+    shown.push_str(text)?;
+    shown.push(mark)?;
+    Ok(shown)
+}
+
 /// The name in quotes.
 pub(crate) fn quoted(alloc: Global, quoting: Quoting, name: &str) -> Result<String, AllocError>
     ensures { IfOk result (λ shown. string_bytes shown ≡ spec.quoted_name quoting name.now) }
 {
     let quote = quote_of(quoting);
-    let inner = doubled(alloc, quote, with_percents(alloc, quoting, name)?.as_str())?;
-    let mut shown = String::new(alloc);
-    shown.push(quote)?;
-    shown.push_str(inner.as_str())?;
-    shown.push(quote)?;
-    Ok(shown)
+    let percents = with_percents(alloc, quoting, name)?;
+    let inner = doubled(alloc, quote, percents.as_str())?;
+    enclosed_in(alloc, quote, inner.as_str())
 }
 
 fn cleaned_byte(byte: u8) -> u8

@@ -8,7 +8,7 @@ ghost use Rattle.sql_text.specs.Written.{Wrote, nothing_written, mark_name};
 use crate::Quoting;
 use crate::bases::Bases;
 use crate::names::{cleaned, needs_quotes, quoted};
-use base_core::{Copied, ListOf, Name, Refusal, RowValues, Text, Value};
+use base_core::{Copied, ListOf, Name, Refusal, RowValues, Text, Value, both};
 use std::alloc::{AllocError, Global};
 use std::marker::Model;
 
@@ -175,10 +175,14 @@ impl Writer {
         ensures ok { IfOk result (λ copy. copy ≡ self.now) }
         ensures cause { IfErr result (λ e. e ≡ Memory) }
     {
-        let text = self.text.clone()?;
         let bases = self.bases.copied(self.alloc)?;
-        let names = copies(self.alloc, self.names.as_slice())?;
-        let values = copies(self.alloc, self.values.as_slice())?;
+        let (text, (names, values)) = both(
+            self.text.clone(),
+            both(
+                copies(self.alloc, self.names.as_slice()),
+                copies(self.alloc, self.values.as_slice()),
+            ),
+        )?;
         Ok(Writer {
             alloc: self.alloc,
             quoting: self.quoting,
