@@ -4,10 +4,11 @@
 mod names;
 mod objects;
 mod refusals;
-mod values;
+mod rows;
 mod words;
 
 pub use names::Naming;
 pub use objects::{ObjectText, ObjectsText, RowNameText};
 pub use refusals::{RefusalText, WarningText};
-pub use values::{RowText, ValueText};
+pub use rows::RowText;
+pub use value_texts::ValueText;

@@ -1,8 +1,8 @@
 -- Quotes doubled one at a time.
-use Rattle.std.proofs.Common.{◌≡◌, ◌≢◌, ℕ, suc, ◌+◌, ◌<◌, Bool, true, false, cond, List, [], ◌∷◌, ◌++◌, length, get_or, refl, sym, ap, ◌∙◌, append_assoc, arith}
+use Rattle.std.proofs.Common.{◌≡◌, ◌≢◌, ℕ, suc, ◌<◌, cond, List, [], ◌∷◌, ◌++◌, length, get_or, refl, sym, ap, ◌∙◌, append_assoc, arith}
 use Rattle.std.proofs.lemmas.Bool.{ne_eqb}
 use Rattle.std.proofs.lemmas.Grind.{flat_map-append}
-use Rattle.printing.specs.Texts.{with_quotes_doubled, doubled_byte}
+use Rattle.value_texts.specs.Values.{with_quotes_doubled, doubled_byte}
 
 -- a text without a quote stays
 pub doubled_plain : (xs : List ℕ) → ((i : ℕ) → i < length xs → get_or xs i 0 ≢ 39) → with_quotes_doubled xs ≡ xs

@@ -1,8 +1,8 @@
-use Rattle.std.proofs.Common.{◌≡◌, ℕ, ◌<◌, List, [], ◌∷◌, ◌++◌, length, get_or, None, Some, refl, sym, ap, ◌∙◌, arith, rules, lit<}
+use Rattle.std.proofs.Common.{[], ◌∷◌, ◌++◌, None, Some, refl, sym, ap, ◌∙◌, rules, lit<}
 use Rattle.std.proofs.Output.{has_written_append, has_written_of_eq}
 use Rattle.std.proofs.lemmas.Str.Pattern.{split_parts}
-use Rattle.printing.proofs.Doubling.{doubled_plain, doubled_step}
-use Rattle.printing.proofs.values.write_doubled.Goals as goal
+use Rattle.value_texts.proofs.Doubling.{doubled_plain, doubled_step}
+use Rattle.value_texts.proofs.values.write_doubled.Goals as goal
 
 pub loop-before-preserved : goal.loop-before-preserved
 loop-before-preserved g c =

@@ -1,11 +1,11 @@
-//! The texts of values and rows.
+//! The texts of values.
 
-ghost use Rattle.std.specs.Prelude.{◌≡◌, Some, codes};
+ghost use Rattle.std.specs.Prelude.{◌≡◌, Some};
 ghost use Rattle.std.specs.Fmt.{DisplaysOnOk};
 ghost use Rattle.std.specs.List.{flat_map};
-ghost use Rattle.printing.specs.Texts.{bytes_text, with_quotes_doubled, hex_byte, with_separators, with_leading_separators, text_in_quotes, row_text, value_text, word_of};
+ghost use Rattle.value_texts.specs.Values.{bytes_text, hex_byte, text_in_quotes, value_text, with_quotes_doubled, word_of};
 
-use base_core::{RowValues, Value};
+use base_core::Value;
 use std::fmt;
 
 /// Writes a value: `null`, a decimal number, `'text'` with `'` doubled, `true` or `false`, `x'0aff'` in lower case.
@@ -78,46 +78,5 @@ impl<'a> fmt::Display for ValueText<'a> {
             Value::Bytes(bytes) => write_bytes(f, bytes.get()),
             Value::Null | Value::Bool(_) => f.write_str(word(self.0)),
         }
-    }
-}
-
-/// Writes each value with a comma before it.
-fn write_led<W: fmt::Write>(f: &mut fmt::Formatter<W>, values: &[Value]) -> fmt::Result
-    ensures { DisplaysOnOk W.write_str_gives f.old result
-        (Some (with_leading_separators (codes ", ") value_text values.now)) f.new }
-{
-    for value in values {
-        let shown = ValueText(value);
-        write!(f, ", {shown}")?;
-    }
-    Ok(())
-}
-
-/// Writes the values with a comma between each two.
-fn write_values<W: fmt::Write>(f: &mut fmt::Formatter<W>, values: &[Value]) -> fmt::Result
-    ensures { DisplaysOnOk W.write_str_gives f.old result
-        (Some (with_separators (codes ", ") value_text values.now)) f.new }
-{
-    match values.split_first() {
-        Some((first, rest)) => {
-            let shown = ValueText(first);
-            write!(f, "{shown}")?;
-            write_led(f, rest)
-        }
-        None => Ok(()),
-    }
-}
-
-/// Writes a row: its values in parentheses.
-#[derive(Drop)]
-pub struct RowText<'a>(pub &'a RowValues);
-
-impl<'a> fmt::Display for RowText<'a> {
-    ghost output = { λ r. Some (row_text r.0.now) };
-
-    fn fmt<W: fmt::Write>(&self, f: &mut fmt::Formatter<W>) -> fmt::Result {
-        f.write_str("(")?;
-        write_values(f, self.0.as_slice())?;
-        f.write_str(")")
     }
 }

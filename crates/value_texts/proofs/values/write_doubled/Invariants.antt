@@ -2,8 +2,8 @@ use Rattle.std.proofs.Common.{◌≡◌, ℕ, List, ◌++◌, length}
 use denote.Text.{Utf8}
 use denote.Shadow.{shadow}
 use Rattle.std.specs.Fmt.{HasWritten, IsPlainFormatter}
-use Rattle.printing.specs.Texts.{with_quotes_doubled}
-use Rattle.printing.proofs.values.write_doubled.Given as goal
+use Rattle.value_texts.specs.Values.{with_quotes_doubled}
+use Rattle.value_texts.proofs.values.write_doubled.Given as goal
 
 abbrev pub invariant-loop-before : goal.invariant-loop-before
 invariant-loop-before g l =
