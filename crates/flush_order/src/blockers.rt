@@ -20,15 +20,15 @@ use std::collections::BTreeMap;
 fn push_taken(list: &mut Vec<u32>, size: usize, cells: &[RowCell]) -> Result<(), AllocError>
     ensures { OnOk result (list.new.items ≡ list.old.items ++ rows_taken size cells.now) }
 {
-    if let Some((cell, cells)) = cells.split_first() {
-        if let RowCell::KeyOf(place, _part) = cell {
-            if (*place as usize) < size {
-                list.push(*place)?;
-            }
+    let Some((cell, cells)) = cells.split_first() else {
+        return Ok(());
+    };
+    if let RowCell::KeyOf(place, _part) = cell {
+        if (*place as usize) < size {
+            list.push(*place)?;
         }
-        push_taken(list, size, cells)?;
     }
-    Ok(())
+    push_taken(list, size, cells)
 }
 
 /// The new rows for which a new row waits.

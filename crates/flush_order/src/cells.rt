@@ -1,6 +1,6 @@
 //! The columns that are written after all rows, and the cells of new rows while keys stand open.
 
-ghost use Rattle.std.specs.Prelude.{◌≡◌, ◌++◌, map, IfOk, IfErr, OnOk, slice_index_or};
+ghost use Rattle.std.specs.Prelude.{◌≡◌, [], ◌∷◌, ◌++◌, map, IfOk, IfErr, OnOk, slice_index_or};
 ghost use Rattle.std.specs.List.{list_any};
 ghost use Rattle.std.specs.Option.{option_copied};
 ghost use Rattle.base_core.specs.declared.refusal.Refusal.TheVariants.{Memory};
@@ -66,18 +66,16 @@ pub fn push_cleared<T: Copied + Drop>(
     ensures { OnOk result (out.new.items ≡ out.old.items
         ++ cells_cleared (is_late schema.now changes.now table) none.now columns.now cells.now) }
 {
-    if let (Some((column, columns)), Some((cell, cells))) = (
+    let (Some((column, columns)), Some((cell, cells))) = (
         columns.split_first(),
         cells.split_first(),
-    ) {
-        if is_late(schema, changes, table, &column.name) {
-            out.push(none.copied()?)?;
-        } else {
-            out.push(cell.copied()?)?;
-        }
-        push_cleared(out, schema, changes, table, none, columns, cells)?;
-    }
-    Ok(())
+    ) else {
+        return Ok(());
+    };
+    let late = is_late(schema, changes, table, &column.name);
+    let written = if late { none } else { cell };
+    out.push(written.copied()?)?;
+    push_cleared(out, schema, changes, table, none, columns, cells)
 }
 
 /// The part of a row's key at a place in it; none where the key has no such part.
@@ -123,6 +121,17 @@ pub fn cell_of<'a>(columns: &[ColumnSpec], row: &'a [Value], name: &Name) -> Opt
         return Some(cell);
     }
     cell_of(columns, row, name)
+}
+
+/// Puts a cell behind others, NULL where there is none.
+pub(crate) fn push_value(out: &mut Vec<Value>, value: Option<&Value>) -> Result<(), AllocError>
+    ensures { OnOk result (out.new.items ≡ out.old.items ++ value_or_null (option_copied value.entry) ∷ []) }
+{
+    let value = match value {
+        Some(value) => value.copied()?,
+        None => Value::Null,
+    };
+    Ok(out.push(value)?)
 }
 
 fn is_null(value: Option<&Value>) -> bool

@@ -8,7 +8,7 @@ ghost use Rattle.schema_core.specs.Tables.{cell_of};
 ghost use Rattle.flush_order.specs.Index.{rows_named, rows_referred, rows_under};
 ghost use Rattle.flush_order.specs.Sorted.{Place, same_place};
 
-use crate::cells::{cell_of, has_null_in};
+use crate::cells::{cell_of, has_null_in, push_value};
 use base_core::{Copied, Key, ListOf, Name, Refusal, TableId, Value};
 use schema_core::{ColumnSpec, ForeignSpec, Schema};
 use std::alloc::{AllocError, Global};
@@ -55,24 +55,21 @@ fn push_cells(
     ensures { OnOk result
         (out.new.items ≡ out.old.items ++ map (cell_of columns.now row.now) names.now) }
 {
-    if let Some((name, names)) = names.split_first() {
-        match cell_of(columns, row, name) {
-            Some(value) => out.push(value.copied()?)?,
-            None => out.push(Value::Null)?,
-        }
-        push_cells(out, columns, row, names)?;
-    }
-    Ok(())
+    let Some((name, names)) = names.split_first() else {
+        return Ok(());
+    };
+    push_value(out, cell_of(columns, row, name))?;
+    push_cells(out, columns, row, names)
 }
 
 /// Puts the rows under a table and key behind others.
 fn push_under(list: &mut Vec<u32>, index: &Index, place: &(TableId, Key)) -> Result<(), AllocError>
     ensures { OnOk result (list.new.items ≡ list.old.items ++ rows_under index.now place.now) }
 {
-    if let Some(rows) = index.get(place) {
-        list.extend_from_slice(rows.as_slice())?;
+    match index.get(place) {
+        Some(rows) => list.extend_from_slice(rows.as_slice()),
+        None => Ok(()),
     }
-    Ok(())
 }
 
 /// Puts the rows behind others that a foreign key of a row names.
@@ -116,9 +113,9 @@ pub(crate) fn push_referred(
     ensures { OnOk result (list.new.items ≡ list.old.items
         ++ rows_referred schema.now index.now row.now table foreigns.now) }
 {
-    if let Some((foreign, foreigns)) = foreigns.split_first() {
-        push_named(list, alloc, schema, index, row, table, foreign)?;
-        push_referred(list, alloc, schema, index, row, table, foreigns)?;
-    }
-    Ok(())
+    let Some((foreign, foreigns)) = foreigns.split_first() else {
+        return Ok(());
+    };
+    push_named(list, alloc, schema, index, row, table, foreign)?;
+    push_referred(list, alloc, schema, index, row, table, foreigns)
 }

@@ -10,7 +10,7 @@ ghost use Rattle.flush_order.specs.Ready.{AreFirst, AreInRange, AreReady, ready_
 ghost use Rattle.flush_order.specs.Told.{held_cell};
 
 use crate::ReadyRow;
-use crate::cells::{part_of, push_cleared};
+use crate::cells::{part_of, push_cleared, push_value};
 use base_core::{Copied, ListOf, Refusal, Value};
 use schema_core::{ColumnSpec, RowCell, RowChanges, Schema};
 use std::alloc::{AllocError, Global};
@@ -127,14 +127,11 @@ fn push_known(
     ensures { OnOk result (out.new.items ≡ out.old.items
         ++ map (known_value schema.now changes.now (length changes.now.fresh)) cells.now) }
 {
-    if let Some((cell, cells)) = cells.split_first() {
-        match known_value(schema, changes, firsts, cell) {
-            Some(value) => out.push(value.copied()?)?,
-            None => out.push(Value::Null)?,
-        }
-        push_known(out, schema, changes, firsts, cells)?;
-    }
-    Ok(())
+    let Some((cell, cells)) = cells.split_first() else {
+        return Ok(());
+    };
+    push_value(out, known_value(schema, changes, firsts, cell))?;
+    push_known(out, schema, changes, firsts, cells)
 }
 
 /// Puts the cells of the primary key behind others.
@@ -145,16 +142,14 @@ pub fn push_key(
 ) -> Result<(), AllocError>
     ensures { OnOk result (out.new.items ≡ out.old.items ++ key_cells columns.now row.now) }
 {
-    if let (Some((column, columns)), Some((cell, row))) = (
-        columns.split_first(),
-        row.split_first(),
-    ) {
-        if column.key {
-            out.push(cell.copied()?)?;
-        }
-        push_key(out, columns, row)?;
+    let (Some((column, columns)), Some((cell, row))) = (columns.split_first(), row.split_first())
+    else {
+        return Ok(());
+    };
+    if column.key {
+        out.push(cell.copied()?)?;
     }
-    Ok(())
+    push_key(out, columns, row)
 }
 
 /// A new row made ready.

@@ -82,13 +82,13 @@ pub fn order_of_lists(alloc: Global, lists: &[ListOf<u32>]) -> Result<Ordered, R
 fn push_within(out: &mut Vec<u32>, size: usize, rows: &[u32]) -> Result<(), AllocError>
     ensures { OnOk result (out.new.items ≡ out.old.items ++ rows_within size rows.now) }
 {
-    if let Some((row, rows)) = rows.split_first() {
-        if (*row as usize) < size {
-            out.push(*row)?;
-        }
-        push_within(out, size, rows)?;
+    let Some((row, rows)) = rows.split_first() else {
+        return Ok(());
+    };
+    if (*row as usize) < size {
+        out.push(*row)?;
     }
-    Ok(())
+    push_within(out, size, rows)
 }
 
 /// A list without what is none of so many rows.
