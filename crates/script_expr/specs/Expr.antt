@@ -111,6 +111,18 @@ star_of _ = pure false
 unfoldable pub takes_all : Func → Reader Bool
 takes_all f = star_of f
 
+-- where the operand behind `not` and behind a minus stands
+abbrev pub operand_level : Kind → Level
+operand_level k.Not = level.Negation
+operand_level k.Minus = level.Unary
+operand_level _ = level.Whole
+
+-- the literals of a list behind its opening parenthesis, to its closing one
+abbrev pub listed : Reader (List Value)
+listed = do
+  is_empty ← eat k.RParen
+  if is_empty then pure [] else (do found ← literals; expect k.RParen; pure found)
+
 -- The number says how many more of parentheses, `not` and unary minus may nest, and the reader reads an expression inside one.
 module _ (depth : ℕ) (expr : Level → Reader Syn) where
   -- a token that nests, where one more may

@@ -1,2 +1,1 @@
 pub mod Expr
-pub mod Nests

@@ -7,7 +7,8 @@ ghost use Rattle.script_expr.specs.Expr.{whole as an_expression};
 ghost use Rattle.script_select.specs.Select as spec;
 
 use base_core::{ListOf, Name};
-use script_expr::{source, whole};
+use script_expr::source;
+use script_grammar::whole;
 use script_lex::Kind;
 use script_tokens::lists::{many, separated};
 use script_tokens::literals::int;

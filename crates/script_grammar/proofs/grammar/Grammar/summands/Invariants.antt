@@ -1,6 +1,6 @@
 use Rattle.std.proofs.Common.{◌≡◌, ◌-◌}
 use Rattle.script_expr.specs.Expr.{expr, summands, product, sum_joint, chained_from}
-use Rattle.script_expr.proofs.grammar.Grammar.summands.Given as goal
+use Rattle.script_grammar.proofs.grammar.Grammar.summands.Given as goal
 
 abbrev pub invariant-loop-turn : goal.invariant-loop-turn
 invariant-loop-turn g l =

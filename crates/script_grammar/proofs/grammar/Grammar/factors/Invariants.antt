@@ -1,6 +1,6 @@
 use Rattle.std.proofs.Common.{◌≡◌, ◌-◌}
 use Rattle.script_expr.specs.Expr.{expr, factors, unary, product_joint, chained_from}
-use Rattle.script_expr.proofs.grammar.Grammar.factors.Given as goal
+use Rattle.script_grammar.proofs.grammar.Grammar.factors.Given as goal
 
 abbrev pub invariant-loop-turn : goal.invariant-loop-turn
 invariant-loop-turn g l =

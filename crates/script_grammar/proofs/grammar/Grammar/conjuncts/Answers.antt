@@ -4,7 +4,7 @@ use Rattle.script_lex.specs.declared.kind.Kind.TheVariants as k
 use Rattle.script_tokens.specs.Input.{separated_from}
 use Rattle.script_expr.specs.Expr.{expr, negation, conjuncts}
 use Rattle.script_tokens.proofs.Turns.{one_more, no_more}
-use Rattle.script_expr.proofs.grammar.Grammar.conjuncts.Goals as goal
+use Rattle.script_grammar.proofs.grammar.Grammar.conjuncts.Goals as goal
 
 pub loop-turn-init : goal.loop-turn-init
 unfolding conjuncts

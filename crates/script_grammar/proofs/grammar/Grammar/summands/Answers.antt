@@ -2,7 +2,7 @@ use Rattle.std.proofs.Common.{rules, arith}
 use Rattle.std.proofs.lemmas.Grind.{common_steps}
 use Rattle.script_expr.specs.Expr.{expr, summands, product, sum_joint, chained_from}
 use Rattle.script_tokens.proofs.Turns.{one_more, no_more}
-use Rattle.script_expr.proofs.grammar.Grammar.summands.Goals as goal
+use Rattle.script_grammar.proofs.grammar.Grammar.summands.Goals as goal
 
 pub loop-turn-init : goal.loop-turn-init
 unfolding summands

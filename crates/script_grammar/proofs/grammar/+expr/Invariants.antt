@@ -1,4 +1,4 @@
-use Rattle.script_expr.proofs.grammar.+expr.Given as goal
+use Rattle.script_grammar.proofs.grammar.+expr.Given as goal
 
 abbrev pub decreases-expr : goal.decreases-expr
 decreases-expr l = l.depth

@@ -1,7 +1,7 @@
 use Rattle.std.proofs.Common.{◌≡◌, ◌∙◌, Err, ap, sym, arith}
 use Rattle.script_expr.specs.Expr.{expr}
 use Rattle.script_tokens.proofs.Turns.{deeper}
-use Rattle.script_expr.proofs.grammar.+expr.Goals as goal
+use Rattle.script_grammar.proofs.grammar.+expr.Goals as goal
 
 pub returns-then-depth-eq0 : goal.returns-then-depth-eq0
 unfolding expr

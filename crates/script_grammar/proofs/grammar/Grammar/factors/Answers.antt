@@ -2,7 +2,7 @@ use Rattle.std.proofs.Common.{rules, arith}
 use Rattle.std.proofs.lemmas.Grind.{common_steps}
 use Rattle.script_expr.specs.Expr.{expr, factors, unary, product_joint, chained_from}
 use Rattle.script_tokens.proofs.Turns.{one_more, no_more}
-use Rattle.script_expr.proofs.grammar.Grammar.factors.Goals as goal
+use Rattle.script_grammar.proofs.grammar.Grammar.factors.Goals as goal
 
 pub loop-turn-init : goal.loop-turn-init
 unfolding factors

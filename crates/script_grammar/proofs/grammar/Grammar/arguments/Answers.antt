@@ -5,7 +5,7 @@ use Rattle.script_tokens.specs.Input.{separated_from}
 use Rattle.script_expr.specs.declared.grammar.Level.TheVariants as level
 use Rattle.script_expr.specs.Expr.{expr, arguments}
 use Rattle.script_tokens.proofs.Turns.{one_more, no_more}
-use Rattle.script_expr.proofs.grammar.Grammar.arguments.Goals as goal
+use Rattle.script_grammar.proofs.grammar.Grammar.arguments.Goals as goal
 
 pub loop-turn-init : goal.loop-turn-init
 unfolding arguments
