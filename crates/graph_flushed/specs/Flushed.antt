@@ -1,5 +1,5 @@
 -- What success of a flush makes of the objects: one map over their places.
-use Rattle.std.specs.Prelude.{ℕ, Bool, true, false, ◌==◌, List, [], map, slice_index_or, Option, None, Some, if◌then◌else◌}
+use Rattle.std.specs.Prelude.{ℕ, Bool, true, false, ◌==◌, List, map, slice_index_or, Option, None, Some, if◌then◌else◌}
 use Rattle.std.specs.List.{enumerate_from, position}
 use Rattle.std.specs.Option.{option_map, unwrap_or}
 use Rattle.base_core.specs.declared.ids.AttrNo.{AttrNo}
@@ -16,13 +16,14 @@ use Rattle.class_types.specs.declared.mapped.Attribute.{Attribute}
 use Rattle.class_mapping.specs.Mapped.{Mapped, attribute_of, class_spec, is_key_attribute, key_attributes}
 use Rattle.object_arena.specs.declared.object.Cell.{Cell}
 use Rattle.object_arena.specs.declared.object.Link.{Link}
-use Rattle.object_arena.specs.declared.object.Link.TheVariants.{Unset, Unloaded, One, Many}
+use Rattle.object_arena.specs.declared.object.Link.TheVariants.{One}
 use Rattle.object_arena.specs.declared.object.Object.{Object}
 use Rattle.object_arena.specs.declared.object.State.{State}
 use Rattle.object_arena.specs.declared.object.State.TheVariants.{Transient, Pending, Persistent, Deleted, Detached}
 use Rattle.object_arena.specs.Every.{each_placed}
 use Rattle.object_arena.specs.Graph.{Graph, is_among, place_of, root_at}
 use Rattle.object_arena.specs.Identity.{id_of_place, is_other}
+pub use Rattle.object_parts.specs.Links.{kept_link}
 use Rattle.object_rows.specs.declared.prepared.Prepared.{Prepared}
 use Rattle.object_rows.specs.Cells.{key_value, linked_cell}
 use Rattle.object_rows.specs.Rows.{is_discriminator, new_names}
@@ -104,13 +105,6 @@ prepared_link false link = link
 
 abbrev pub prepared_links : Prepared → ObjId → List Link → List Link
 prepared_links prepared object links = map (λ placed. prepared_link (is_cleared prepared object (record { 0 = placed.0 })) placed.1) (enumerate_from 0 links)
-
--- a link without flags and kept changes; what was not set is to be read
-abbrev pub kept_link : Link → Link
-kept_link Unset = Unloaded [] []
-kept_link (Unloaded added removed) = Unloaded [] []
-kept_link (One end changed) = One end false
-kept_link (Many members base) = Many members members
 
 abbrev pub kept_links : Prepared → ObjId → List Link → List Link
 kept_links prepared object links = map kept_link (prepared_links prepared object links)

@@ -9,6 +9,7 @@ ghost use Rattle.graph_flushed.specs.Flushed as spec;
 use base_core::{Copied, ListOf, ObjId, Refusal, RelNo};
 use class_layouts::number_of;
 use object_arena::Link;
+use object_parts::kept_link;
 use object_rows::Prepared;
 use std::alloc::Global;
 
@@ -88,27 +89,6 @@ pub fn keeps_links(prepared: &Prepared, object: ObjId, links: &[Link]) -> Result
         }
     }
     Ok(true)
-}
-
-/// A link without flags and kept changes.
-fn kept_link(alloc: Global, link: &Link) -> Result<Link, Refusal>
-    ensures link { IfOk result (λ kept. kept ≡ spec.kept_link link.now) }
-    ensures cause { IfErr result (λ e. e ≡ Memory) }
-{
-    match link {
-        Link::Unset | Link::Unloaded { .. } => Ok(Link::Unloaded {
-            added: ListOf::new(alloc),
-            removed: ListOf::new(alloc),
-        }),
-        Link::One { end, .. } => Ok(Link::One {
-            end: *end,
-            changed: false,
-        }),
-        Link::Many { members, .. } => Ok(Link::Many {
-            members: members.copied()?,
-            base: members.copied()?,
-        }),
-    }
 }
 
 /// These links without flags and kept changes.

@@ -1,6 +1,5 @@
 -- Links that are loaded: what was read, with the changes that were kept for them.
-use Rattle.std.specs.Prelude.{Bool, false, not, ◌==◌, List, [], ◌∷◌, ◌++◌, filter, fold, slice_index_or, Option, None, Some}
-use Rattle.std.specs.List.{list_all}
+use Rattle.std.specs.Prelude.{false, List, [], ◌∷◌, ◌++◌, fold, slice_index_or, Option, None, Some}
 use Rattle.std.specs.BTreeMap.{insert_entry}
 use Rattle.std.specs.Map.{values_of}
 use Rattle.base_core.specs.declared.ids.ObjId.{ObjId}
@@ -11,6 +10,7 @@ use Rattle.keeper_core.specs.declared.notes.Note.TheVariants as note
 use Rattle.object_arena.specs.declared.object.Link.{Link}
 use Rattle.object_arena.specs.declared.object.Link.TheVariants.{Unset, Unloaded, One, Many}
 use Rattle.object_arena.specs.Graph.{Graph, object_at, with_link}
+pub use Rattle.object_parts.specs.Members.{linked, without}
 use Rattle.load_rows.specs.Loading.{Loading}
 use Rattle.load_rows.specs.Reading.{identity_key}
 
@@ -23,17 +23,6 @@ with_key graph entries object = insert_entry values_cmp entries (identity_key gr
 -- objects in the order of their keys, each once
 unfoldable pub in_key_order : Graph → List ObjId → List ObjId
 in_key_order graph objects = values_of (fold (with_key graph) [] objects)
-
-abbrev pub is_apart : List ObjId → ObjId → Bool
-is_apart others object = list_all (λ other. not (other.0 == object.0)) others
-
--- the objects that are none of the others
-abbrev pub without : List ObjId → List ObjId → List ObjId
-without others objects = filter (is_apart others) objects
-
--- what was read without the kept removes, and behind it the kept adds that are not there already
-abbrev pub linked : List ObjId → List ObjId → List ObjId → List ObjId
-linked added removed read = without removed read ++ without (without removed read) added
 
 -- ---- links
 

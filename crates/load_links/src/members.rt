@@ -1,61 +1,13 @@
 //! What a collection holds, once it is loaded. The only refusal is `Memory`.
 
-ghost use Rattle.std.specs.Prelude.{◌≡◌, ◌++◌, IfErr, IfOk, OnOk};
+ghost use Rattle.std.specs.Prelude.{◌≡◌, IfErr, IfOk};
 ghost use Rattle.base_core.specs.declared.refusal.Refusal.TheVariants.{Memory};
 ghost use Rattle.load_links.specs.Links as spec;
 
-use base_core::{ListOf, ObjId, ObjList, Refusal};
+use base_core::{ObjList, Refusal};
 use object_arena::Link;
+use object_parts::linked;
 use std::alloc::Global;
-
-/// Whether an object is none of others.
-fn is_apart(others: &[ObjId], object: ObjId) -> bool
-    ensures { result ≡ spec.is_apart others.now object }
-{
-    others.iter().all(|other| other.0 != object.0)
-}
-
-/// The objects that are none of the others.
-fn without(alloc: Global, others: &[ObjId], objects: &[ObjId]) -> Result<ObjList, Refusal>
-    ensures left { IfOk result (λ left. left ≡ spec.without others.now objects.now) }
-    ensures cause { IfErr result (λ e. e ≡ Memory) }
-{
-    let mut left = ListOf::new(alloc);
-    for object in objects {
-        if is_apart(others, *object) {
-            left.push(*object)?;
-        }
-    }
-    Ok(left)
-}
-
-/// Objects go behind others.
-fn push_objects(out: &mut ObjList, objects: &[ObjId]) -> Result<(), Refusal>
-    ensures objects { OnOk result (out.new ≡ out.old ++ objects.now) }
-    ensures cause { IfErr result (λ e. e ≡ Memory) }
-{
-    for object in objects {
-        out.push(*object)?;
-    }
-    Ok(())
-}
-
-/// What was read without the kept removes, and behind it the kept adds that are not there already.
-fn linked(
-    alloc: Global,
-    added: &[ObjId],
-    removed: &[ObjId],
-    read: &[ObjId],
-) -> Result<ObjList, Refusal>
-    ensures members { IfOk result
-        (λ members. members ≡ spec.linked added.now removed.now read.now) }
-    ensures cause { IfErr result (λ e. e ≡ Memory) }
-{
-    let mut members = without(alloc, removed, read)?;
-    let more = without(alloc, members.as_slice(), added)?;
-    push_objects(&mut members, more.as_slice())?;
-    Ok(members)
-}
 
 /// An unloaded collection is loaded with what was read and the kept changes; a loaded link stays.
 pub(crate) fn collection_of(

@@ -11,6 +11,7 @@ ghost use Rattle.load_links.specs.Links as spec;
 
 use base_core::{Copied, Key, ListOf, ObjId, ObjList, Refusal};
 use object_arena::Arena;
+use object_parts::enter_under;
 use std::alloc::Global;
 use std::collections::BTreeMap;
 
@@ -39,8 +40,7 @@ fn enter(
     ensures cause { IfErr result (λ e. e ≡ Memory) }
 {
     let key = identity_key(alloc, arena, object)?;
-    entries.insert(key, object)?;
-    Ok(())
+    enter_under(entries, key, object)
 }
 
 /// The objects that stand under keys, in order.

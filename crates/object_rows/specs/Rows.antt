@@ -2,7 +2,6 @@
 use Rattle.std.specs.Prelude.{ℕ, ◌-◌, Bool, false, not, ◌&&◌, ◌==◌, List, [], map, take, slice_get, Option, None, Some, if◌then◌else◌}
 use Rattle.std.specs.List.{count_by, enumerate_from, filter, filter_map, flat_map, position}
 use Rattle.std.specs.Option.{option_and_then}
-use Rattle.std.specs.Ordering.{is_eq}
 use Rattle.base_core.specs.declared.ids.ClassId.{ClassId}
 use Rattle.base_core.specs.declared.ids.ColumnNo.{ColumnNo}
 use Rattle.base_core.specs.declared.ids.ObjId.{ObjId}
@@ -10,7 +9,6 @@ use Rattle.base_core.specs.declared.ids.TableId.{TableId}
 use Rattle.base_core.specs.declared.refusal.RowName.{RowName}
 use Rattle.base_core.specs.declared.value.Value.{Value}
 use Rattle.base_core.specs.declared.value.Value.TheVariants.{Null}
-use Rattle.base_core.specs.Order.{value_cmp}
 use Rattle.schema_core.specs.declared.changes.ChangedRow.{ChangedRow}
 use Rattle.schema_core.specs.declared.changes.GoneRow.{GoneRow}
 use Rattle.schema_core.specs.declared.changes.NewRow.{NewRow}
@@ -26,6 +24,7 @@ use Rattle.object_arena.specs.declared.object.Cell.{Cell}
 use Rattle.object_arena.specs.declared.object.Object.{Object}
 use Rattle.object_arena.specs.Fit.{is_empty}
 use Rattle.object_arena.specs.Graph.{Graph, object_at}
+pub use Rattle.object_parts.specs.Cells.{is_base}
 use Rattle.object_rows.specs.declared.prepared.Prepared.{Prepared}
 use Rattle.object_rows.specs.Seen.{keeps_rows, new_objects, object_ids}
 use Rattle.object_rows.specs.Cells.{key_value, linked_cell}
@@ -106,11 +105,6 @@ new_rows mapped graph prepared =
     map (new_row mapped graph prepared (new_names mapped graph prepared)) (enumerate_from 0 (new_names mapped graph prepared))
 
 -- ---- changed rows
-
--- the value is the one that was last read or written
-abbrev pub is_base : Option Value → Value → Bool
-is_base None value = false
-is_base (Some base) value = is_eq (value_cmp value base)
 
 abbrev pub change_to : Option Value → Value → Option RowCell
 change_to base value = if is_base base value then None else Some (Given value)

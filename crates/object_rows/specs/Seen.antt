@@ -8,10 +8,11 @@ use Rattle.std.specs.Map.{values_of}
 use Rattle.base_core.specs.declared.ids.ObjId.{ObjId}
 use Rattle.base_core.specs.declared.ids.RelNo.{RelNo}
 use Rattle.object_arena.specs.declared.object.Link.{Link}
-use Rattle.object_arena.specs.declared.object.Link.TheVariants.{Unset, Unloaded, One, Many}
+use Rattle.object_arena.specs.declared.object.Link.TheVariants.{Unset}
 use Rattle.object_arena.specs.declared.object.Object.{Object}
 use Rattle.object_arena.specs.Graph.{Graph, IsObject, is_persistent, object_at, Queue, is_among, is_pending, rank_cmp}
 use Rattle.object_arena.specs.Identity.{id_of_place}
+pub use Rattle.object_parts.specs.Links.{changed_end, end_if}
 use Rattle.object_rows.specs.declared.prepared.Prepared.{Prepared}
 
 -- the objects by number
@@ -53,17 +54,6 @@ new_objects graph prepared = values_of (fold (with_queued graph prepared) [] (ob
 -- the link of a number
 abbrev pub link_of : Object → RelNo → Link
 link_of object relation = slice_index_or object.links relation.0 Unset
-
-abbrev pub end_if : Bool → Option ObjId → Option (Option ObjId)
-end_if true end = Some end
-end_if false end = None
-
--- the end of a many-to-one link that was changed
-abbrev pub changed_end : Link → Option (Option ObjId)
-changed_end Unset = None
-changed_end (Unloaded added removed) = None
-changed_end (One end changed) = end_if changed end
-changed_end (Many members base) = None
 
 -- the object's link is to become none
 abbrev pub is_cleared : Prepared → ObjId → RelNo → Bool

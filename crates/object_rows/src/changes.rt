@@ -6,17 +6,8 @@ ghost use Rattle.object_rows.specs.Rows as spec;
 
 use base_core::{Copied, Refusal, Value};
 use object_arena::Cell;
+use object_parts::is_base;
 use schema_core::RowCell;
-
-/// Whether a value is the one that was last read or written.
-fn is_base(base: &Option<Value>, value: &Value) -> bool
-    ensures { result ≡ spec.is_base base.now value.now }
-{
-    match base {
-        Some(base) => value.cmp(base).is_eq(),
-        None => false,
-    }
-}
 
 /// What a value changes, unless it is what the row has.
 fn change_to(base: &Option<Value>, value: &Value) -> Result<Option<RowCell>, Refusal>

@@ -12,6 +12,7 @@ ghost use Rattle.object_rows.specs.Cells.{key_value};
 use crate::prepared::Prepared;
 use base_core::{Copied, Key, ObjId, ObjList, Refusal, RelNo, Value};
 use object_arena::{Arena, Link, State};
+use object_parts::changed_end;
 use std::collections::BTreeSet;
 
 /// An object's state; one that has not been made is transient.
@@ -98,16 +99,6 @@ pub fn is_kept_end(arena: &Arena, prepared: &Prepared, end: Option<ObjId>) -> bo
     match end {
         Some(end) => is_in_session(arena, prepared, end),
         None => true,
-    }
-}
-
-/// The end of a many-to-one link that was changed.
-fn changed_end(link: &Link) -> Option<Option<ObjId>>
-    ensures { result ≡ spec.changed_end link.now }
-{
-    match link {
-        Link::One { end, changed } => { if *changed { Some(*end) } else { None } }
-        Link::Unset | Link::Unloaded { .. } | Link::Many { .. } => None,
     }
 }
 

@@ -11,10 +11,7 @@ use Rattle.object_arena.specs.declared.object.Cell.{Cell}
 use Rattle.object_arena.specs.declared.object.Link.{Link}
 use Rattle.object_arena.specs.declared.object.Link.TheVariants.{Unset, Unloaded, One, Many}
 use Rattle.object_arena.specs.declared.object.Object.{Object}
-use Rattle.object_arena.specs.declared.object.State.{State}
-use Rattle.object_arena.specs.declared.object.State.TheVariants.{Transient, Pending, Persistent, Deleted, Detached}
-use Rattle.object_arena.specs.Graph.{Graph, expired_cell, expired_object, is_persistent, object_at, with_object}
-use Rattle.object_arena.proofs.TurnLemmas.{with_same}
+use Rattle.object_arena.specs.Graph.{expired_cell, expired_object, is_persistent}
 use Rattle.touching.specs.Same.{same_object}
 use Rattle.touching.proofs.Differing.{differs_as}
 use Rattle.touching.proofs.Exact.{object_itself}
@@ -88,23 +85,8 @@ stays_unread o is_read is = ap not (sym (object_itself o)) ∙ ap (λ (b : Bool)
 
 pub ruleset differences = (differs_read, stays_unread)
 
--- ---- an object is expired
+-- ---- an object that is to be read again
 
-pub persistent_is : (state : State) → is_persistent state ≡ true → state ≡ Persistent
-persistent_is Transient is = absurd cc
-persistent_is Pending is = absurd cc
-persistent_is Persistent is = refl
-persistent_is Deleted is = absurd cc
-persistent_is Detached is = absurd cc
-
--- an object that is to be read again is persistent
+-- it is persistent
 pub read_persists : (mapped : Mapped) (table : TableId) (o : Object) → is_reread mapped table o ≡ true → is_persistent o.state ≡ true
 read_persists mapped table o is = (and_parts (is_persistent o.state) (list_any (λ own. own.0 == table.0) (tables_of mapped o.class)) is).0
-
-pub expired_put : (graph new : Graph) (object : ObjId) (is_read : Bool) → is_read ≡ true → new ≡ with_object graph object (expired_object (object_at graph object)) → new ≡ with_object graph object (expired_if is_read (object_at graph object))
-expired_put graph new object is_read is put = put ∙ ap (λ (b : Bool). with_object graph object (expired_if b (object_at graph object))) (sym is)
-
-pub expired_not : (graph : Graph) (object : ObjId) (is_read : Bool) → is_read ≡ false → graph ≡ with_object graph object (expired_if is_read (object_at graph object))
-expired_not graph object is_read is = sym (with_same graph object) ∙ ap (λ (b : Bool). with_object graph object (expired_if b (object_at graph object))) (sym is)
-
-pub ruleset expiries = (persistent_is, expired_put, expired_not)

@@ -9,16 +9,13 @@ use Rattle.object_arena.specs.declared.object.Link.{Link}
 use Rattle.object_arena.specs.declared.object.Link.TheVariants.{Unset, Unloaded, One, Many}
 use Rattle.object_arena.specs.declared.object.Object.{Object}
 use Rattle.object_arena.specs.Every.{each_object}
-use Rattle.object_arena.specs.Graph.{Graph, expired_object, is_persistent}
+use Rattle.object_arena.specs.Graph.{Graph, is_persistent}
+pub use Rattle.object_parts.specs.Expired.{expired_if}
 use Rattle.session_scopes.specs.SessionState.{SessionState, with_graph}
 
 -- the object is persistent, and the table is one of those of its class
 abbrev pub is_reread : Mapped → TableId → Object → Bool
 is_reread mapped table object = is_persistent object.state && list_any (λ own. own.0 == table.0) (tables_of mapped object.class)
-
-abbrev pub expired_if : Bool → Object → Object
-expired_if true object = expired_object object
-expired_if false object = object
 
 -- a persistent object with rows in the table is to be read again
 abbrev pub reread_of : Mapped → TableId → Object → Object

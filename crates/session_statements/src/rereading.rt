@@ -14,6 +14,7 @@ ghost use Rattle.session_statements.specs.Rewriting as spec;
 use base_core::{ClassId, ObjId, Refusal, TableId};
 use class_mapping::Mapping;
 use object_arena::{Arena, Cell, Link, Object, State};
+use object_parts::expire_if;
 use savepoints::Frames;
 use session_scopes::ObjectStep;
 
@@ -132,20 +133,6 @@ fn expire_one(mapping: &Mapping, arena: &mut Arena, table: TableId, object: ObjI
 {
     let is_read = is_reread(mapping, arena.object(object), table);
     expire_if(arena, object, is_read);
-}
-
-/// A persistent object is expired, where that is asked for.
-#[tactic(auto, using(crate::proofs::RereadLemmas::expiries, object_arena::proofs::KeepLemmas::keeps_same))]
-fn expire_if(arena: &mut Arena, object: ObjId, is_read: bool)
-    requires object { IsObject arena.old object }
-    requires persistent { is_read ≡ true → is_persistent (object_at arena.old object).state ≡ true }
-    ensures reread { arena.new ≡ with_object arena.old object
-        (spec.expired_if is_read (object_at arena.old object)) }
-    ensures keeps { Keeps arena.old arena.new }
-{
-    if is_read {
-        arena.expire(object);
-    }
 }
 
 /// Whether an object is persistent with rows in the table.

@@ -1,0 +1,4 @@
+pub mod Cells
+pub mod Expired
+pub mod Links
+pub mod Members

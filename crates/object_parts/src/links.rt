@@ -1,0 +1,40 @@
+//! What is changed and kept of a link.
+
+ghost use Rattle.std.specs.Prelude.{◌≡◌, IfErr, IfOk};
+ghost use Rattle.base_core.specs.declared.refusal.Refusal.TheVariants.{Memory};
+ghost use Rattle.object_parts.specs.Links as spec;
+
+use base_core::{Copied, ListOf, ObjId, Refusal};
+use object_arena::Link;
+use std::alloc::Global;
+
+/// The end of a many-to-one link that was changed.
+pub fn changed_end(link: &Link) -> Option<Option<ObjId>>
+    ensures { result ≡ spec.changed_end link.now }
+{
+    match link {
+        Link::One { end, changed } => { if *changed { Some(*end) } else { None } }
+        Link::Unset | Link::Unloaded { .. } | Link::Many { .. } => None,
+    }
+}
+
+/// A link without flags and kept changes. The only refusal is `Memory`.
+pub fn kept_link(alloc: Global, link: &Link) -> Result<Link, Refusal>
+    ensures link { IfOk result (λ kept. kept ≡ spec.kept_link link.now) }
+    ensures cause { IfErr result (λ e. e ≡ Memory) }
+{
+    match link {
+        Link::Unset | Link::Unloaded { .. } => Ok(Link::Unloaded {
+            added: ListOf::new(alloc),
+            removed: ListOf::new(alloc),
+        }),
+        Link::One { end, .. } => Ok(Link::One {
+            end: *end,
+            changed: false,
+        }),
+        Link::Many { members, .. } => Ok(Link::Many {
+            members: members.copied()?,
+            base: members.copied()?,
+        }),
+    }
+}
