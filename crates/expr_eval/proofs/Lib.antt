@@ -1,5 +1,3 @@
-pub mod Ends
 pub mod Linked
 pub mod Operands
 pub mod Refused
-pub mod Truths

@@ -10,17 +10,15 @@ ghost use Rattle.expr_eval.specs.Place.{place_of};
 ghost use Rattle.lent_tables.specs.Walks.{rows_left};
 ghost use Rattle.sql_semantics.specs.Truth as truth;
 
-use crate::aggregate::{aggregated, known};
-use crate::compare::{among, between, compared, is_null, same};
-use crate::function::applied;
-use crate::number::{arithmetic, negated};
-use crate::scope::{Scope, counted, joined, more_starts};
-use crate::text::{concatenated, is_like};
+use crate::scope::{Scope, counted, more_starts};
 use crate::tried::rows_tried;
-use crate::truth::{all3, any3, not3, passes, signed, truth_of, value_of};
 use base_core::{ArithOp, Copied, Refusal, RowValues, Value};
 use expr_types::{CompareOp, Expr, Func, Origin};
 use lent_tables::{LentTables, RowWalk};
+use query_steps::{
+    aggregated, all3, among, any3, applied, arithmetic, between, compared, concatenated, is_like,
+    is_null, joined, known, negated, not3, passes, same, signed, truth_of, value_of,
+};
 use sqlite_items::{Boxed, Items};
 use std::alloc::Global;
 

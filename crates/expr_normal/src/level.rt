@@ -6,22 +6,10 @@ ghost use Rattle.expr_types.specs.Normal as spec;
 ghost use Rattle.expr_types.specs.declared.expr.Expr.TheVariants as expr;
 
 use base_core::both;
-use expr_types::{CompareOp, Expr, Func};
+use expr_types::{Expr, Func};
+use query_steps::opposite;
 use sqlite_items::{Boxed, Items};
 use std::alloc::{AllocError, Global};
-
-fn opposite(op: CompareOp) -> CompareOp
-    ensures { result ≡ spec.opposite op }
-{
-    match op {
-        CompareOp::Equal => CompareOp::NotEqual,
-        CompareOp::NotEqual => CompareOp::Equal,
-        CompareOp::Less => CompareOp::GreaterEqual,
-        CompareOp::LessEqual => CompareOp::Greater,
-        CompareOp::Greater => CompareOp::LessEqual,
-        CompareOp::GreaterEqual => CompareOp::Less,
-    }
-}
 
 /// The opposite of an expression.
 #[tactic(auto, unfolding(expr_types::specs::Normal::negation_of))]

@@ -1,6 +1,5 @@
 pub mod Declared
 pub mod Surveys
-pub mod Firsts
 pub mod ItemKinds
 pub mod Items
 pub mod NotNull

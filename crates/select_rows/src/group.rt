@@ -10,12 +10,12 @@ ghost use Rattle.expr_eval.specs.Place.{place_of};
 ghost use Rattle.select_sources.specs.Frames.{frame_of};
 ghost use Rattle.sql_semantics.specs.Rows as spec;
 
-use crate::seen::keep_first;
 use base_core::{Copied, ListOf, Name, Refusal, RowValues};
 use expr_eval::{Scope, value_in};
 use expr_types::{Expr, ExprList, Select};
 use expr_typing::has_aggregate;
 use join_keys::{Keyed, by_key, rows_at};
+use query_steps::keep_first;
 use select_sources::{Frame, scope_at};
 use sql_semantics::Basis;
 use std::alloc::{AllocError, Global};

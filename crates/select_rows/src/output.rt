@@ -8,10 +8,10 @@ ghost use Rattle.select_sources.specs.Frames.{frame_of};
 ghost use Rattle.sql_semantics.specs.Rows as spec;
 
 use crate::basis::scope_of;
-use crate::order::Output;
 use base_core::{ListOf, Name, Refusal, RowValues};
 use expr_eval::{Scope, value_in};
 use expr_types::{Expr, Select};
+use query_steps::Output;
 use select_sources::Frame;
 use sql_semantics::{Basis, SortKey};
 use std::alloc::Global;

@@ -1,6 +1,6 @@
 use Rattle.std.proofs.Common.{◌≡◌, [], drop, map}
 use Rattle.sql_semantics.specs.Rows as spec
-use Rattle.select_rows.specs.Seen.{HasSeen}
+use Rattle.query_steps.specs.Seen.{HasSeen}
 use Rattle.select_rows.proofs.group.keys.Given as goal
 
 abbrev pub invariant-loop-keyed : goal.invariant-loop-keyed

@@ -1,0 +1,5 @@
+mod Ends
+pub mod Firsts
+mod Nulls
+mod Truths
+pub mod Values

@@ -1,0 +1,6 @@
+use Rattle.std.proofs.Common.{◌≡◌, map, drop}
+use Rattle.sql_semantics.specs.Truth as spec
+use Rattle.query_steps.proofs.truth.any3.Given as goal
+
+abbrev pub invariant-loop-value : goal.invariant-loop-value
+invariant-loop-value l = spec.or3 l.found (spec.any3 (map spec.truth_of (drop l.value-index l.values))) ≡ spec.any3 (map spec.truth_of l.values)
