@@ -1,7 +1,6 @@
 //! A law of the programs of the store: what a savepoint is for.
-#![tactic(auto)]
 
-ghost use Rattle.savepoint_laws.specs.Inside.{RollbackToRestores};
+ghost use Rattle.legality_laws.specs.Savepoints.{RollbackToRestores};
 
 /// A savepoint, any calls inside it, and the rollback to it leave the tables and the scopes at its start.
 pub fn rollback_to_restores()

@@ -12,7 +12,7 @@ use Rattle.expr_types.specs.declared.select.Bulk.{Bulk}
 use Rattle.programs.specs.Programs.{give}
 use Rattle.programs.specs.Store.{Store}
 use Rattle.keeper_core.specs.Calls as call
-use Rattle.savepoint_laws.specs.Inside.{Call, AreInside, IsInside, Query, Release, RollbackTo, RollbackToRestores, Savepoint, Scan, Write, WriteMany, after_call, after_calls}
+use Rattle.legality_laws.specs.Savepoints.{Call, AreInside, IsInside, Query, Release, RollbackTo, RollbackToRestores, Savepoint, Scan, Write, WriteMany, after_call, after_calls}
 
 -- the scopes end with those outside
 abbrev EndsWith : List Tables → List Tables → Type 0
