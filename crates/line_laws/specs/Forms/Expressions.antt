@@ -12,8 +12,8 @@ use Rattle.script_types.specs.declared.expression.SynSource.{SynSource}
 use Rattle.script_lex.specs.declared.kind.Kind.{Kind}
 use Rattle.script_lex.specs.declared.kind.Kind.TheVariants as k
 use Rattle.script_lex.specs.declared.token.Token.{Token}
-use Rattle.script_forms.specs.Form.{Form, Both, ◌>>=◌, ◌>>◌, ◌<$>◌, ◌or◌, says, word, maybe, whether, separated_list}
-use Rattle.script_forms.specs.Basics.{name, literal}
+use Rattle.line_laws.specs.Forms.Form.{Form, Both, ◌>>=◌, ◌>>◌, ◌<$>◌, ◌or◌, says, word, maybe, whether, separated_list}
+use Rattle.line_laws.specs.Forms.Basics.{name, literal}
 
 -- ---- parts of forms
 

@@ -5,9 +5,9 @@ use Rattle.script_types.specs.declared.command.Command.{Command}
 use Rattle.script_types.specs.declared.command.Command.TheVariants as c
 use Rattle.script_types.specs.declared.command.Term.{Term}
 use Rattle.script_lex.specs.declared.kind.Kind.TheVariants as k
-use Rattle.script_forms.specs.Form.{Form, ◌>>=◌, ◌>>◌, ◌<$>◌, ◌or◌, says, word, separated_list}
-use Rattle.script_forms.specs.Basics.{name, literal, value, term}
-use Rattle.script_forms.specs.Queries.{query}
+use Rattle.line_laws.specs.Forms.Form.{Form, ◌>>=◌, ◌>>◌, ◌<$>◌, ◌or◌, says, word, separated_list}
+use Rattle.line_laws.specs.Forms.Basics.{name, literal, value, term}
+use Rattle.line_laws.specs.Forms.Queries.{query}
 
 -- `TERM.NAME`
 abbrev pub member : Form (Term × List ℕ)

@@ -2,10 +2,10 @@
 use Rattle.std.specs.Prelude.{ℕ, Bool, true, false, List, []}
 use Rattle.script_types.specs.declared.select.SynQuery.{SynQuery}
 use Rattle.script_lex.specs.declared.kind.Kind.TheVariants as k
-use Rattle.script_forms.specs.Form.{Form, ◌>>=◌, ◌>>◌, ◌or◌, says, word, separated_list}
-use Rattle.script_forms.specs.Basics.{name}
-use Rattle.script_forms.specs.Expressions.{many}
-use Rattle.script_forms.specs.Selects.{condition, order, int_after}
+use Rattle.line_laws.specs.Forms.Form.{Form, ◌>>=◌, ◌>>◌, ◌or◌, says, word, separated_list}
+use Rattle.line_laws.specs.Forms.Basics.{name}
+use Rattle.line_laws.specs.Forms.Expressions.{many}
+use Rattle.line_laws.specs.Forms.Selects.{condition, order, int_after}
 
 -- `NAME.NAME`
 abbrev pub pair : Form (List ℕ × List ℕ)

@@ -13,8 +13,8 @@ use Rattle.script_lex.specs.Shape.{Text, is_in, lookup, reserved_words, other_wo
 use Rattle.script_lex.specs.Content.{content, content_by, if_utf8, inside}
 use Rattle.script_lex.specs.Lex.{same_kind}
 use Rattle.script_tokens.proofs.Alike.{same}
-use Rattle.token_laws.specs.Spelling.{every, symbol}
-use Rattle.token_laws.proofs.Runs.{false_true, both_true, if_true, same_some, none_some}
+use Rattle.line_laws.specs.Tokens.Spelling.{every, symbol}
+use Rattle.line_laws.proofs.Tokens.Runs.{false_true, both_true, if_true, same_some, none_some}
 
 -- ---- kinds whose tokens hold their spelling
 

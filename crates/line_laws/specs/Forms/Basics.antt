@@ -9,7 +9,7 @@ use Rattle.script_lex.specs.declared.token.Content.TheVariants as content
 use Rattle.script_lex.specs.declared.token.Token.{Token}
 use Rattle.script_tokens.specs.Names.{is_no_name, has_length}
 use Rattle.script_tokens.specs.Literals.{literal_in}
-use Rattle.script_forms.specs.Form.{Form, ◌>>=◌, ◌>>◌, ◌or◌, says, word, maybe, separated_list}
+use Rattle.line_laws.specs.Forms.Form.{Form, ◌>>=◌, ◌>>◌, ◌or◌, says, word, maybe, separated_list}
 
 -- a name that is none of these words: a quoted name, or a word that may be one, of 1 to 255 bytes
 abbrev pub name_but : (Kind → Bool) → Form (List ℕ)

@@ -4,8 +4,8 @@ use Rattle.base_core.specs.declared.value.Value.{Value}
 use Rattle.script_types.specs.declared.command.Command.{Command}
 use Rattle.script_types.specs.declared.command.Command.TheVariants as c
 use Rattle.script_lex.specs.declared.kind.Kind.TheVariants as k
-use Rattle.script_forms.specs.Form.{Form, ◌>>=◌, ◌>>◌, ◌or◌, says, word, maybe}
-use Rattle.script_forms.specs.Basics.{name, names, literal}
+use Rattle.line_laws.specs.Forms.Form.{Form, ◌>>=◌, ◌>>◌, ◌or◌, says, word, maybe}
+use Rattle.line_laws.specs.Forms.Basics.{name, names, literal}
 
 -- `identity LIT`
 abbrev pub identity : Form Value

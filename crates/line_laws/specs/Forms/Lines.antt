@@ -4,7 +4,7 @@ use Rattle.script_types.specs.declared.command.Command.{Command}
 use Rattle.script_lex.specs.declared.kind.Kind.TheVariants as k
 use Rattle.script_lex.specs.declared.token.Token.{Token}
 use Rattle.script_tokens.specs.Input.{first_of}
-use Rattle.script_forms.specs.Form.{Form}
+use Rattle.line_laws.specs.Forms.Form.{Form}
 
 -- the tokens up to the end of the line say this
 pub record Says (form : Form Command) (tokens : List Token) (command : Command) : Type 0 where

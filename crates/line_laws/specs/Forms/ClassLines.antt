@@ -4,9 +4,9 @@ use Rattle.class_types.specs.declared.declared.Cascade.{Cascade}
 use Rattle.script_types.specs.declared.command.Command.{Command}
 use Rattle.script_types.specs.declared.command.Command.TheVariants as c
 use Rattle.script_lex.specs.declared.kind.Kind.TheVariants as k
-use Rattle.script_forms.specs.Form.{Form, ◌>>=◌, ◌>>◌, ◌<$>◌, ◌or◌, says, word, maybe, whether, separated_list}
-use Rattle.script_forms.specs.Basics.{name, names}
-use Rattle.script_forms.specs.TableLines.{end_line}
+use Rattle.line_laws.specs.Forms.Form.{Form, ◌>>=◌, ◌>>◌, ◌<$>◌, ◌or◌, says, word, maybe, whether, separated_list}
+use Rattle.line_laws.specs.Forms.Basics.{name, names}
+use Rattle.line_laws.specs.Forms.TableLines.{end_line}
 
 -- whether the partner is made by this line
 abbrev pub back : Form Bool

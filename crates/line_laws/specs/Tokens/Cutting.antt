@@ -7,7 +7,7 @@ use Rattle.script_lex.specs.declared.token.Token.{Token}
 use Rattle.script_lex.specs.Shape.{Text}
 use Rattle.script_lex.specs.Content.{undouble}
 use Rattle.script_lex.specs.Lex.{is_blank, tokens}
-use Rattle.token_laws.specs.Spelling.{every, with_quotes_doubled, Spells, IsSpelled}
+use Rattle.line_laws.specs.Tokens.Spelling.{every, with_quotes_doubled, Spells, IsSpelled}
 
 -- The token that a text begins with is the longest prefix of it that is spelled.
 pub record IsFirst (kind : Kind) (content : Content) (spelling behind : Text) : Type 0 where

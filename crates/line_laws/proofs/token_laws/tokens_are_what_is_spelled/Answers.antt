@@ -1,6 +1,6 @@
-use Rattle.token_laws.proofs.Lines.{cuts_tokens, cuts_all_tokens}
-use Rattle.token_laws.proofs.Quotes.{undoes_doubling}
-use Rattle.token_laws.proofs.tokens_are_what_is_spelled.Goals as goal
+use Rattle.line_laws.proofs.Tokens.Lines.{cuts_tokens, cuts_all_tokens}
+use Rattle.line_laws.proofs.Tokens.Quotes.{undoes_doubling}
+use Rattle.line_laws.proofs.token_laws.tokens_are_what_is_spelled.Goals as goal
 
 pub returns-clause-cut : goal.returns-clause-cut
 returns-clause-cut c = cuts_tokens

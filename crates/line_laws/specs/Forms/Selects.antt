@@ -5,9 +5,9 @@ use Rattle.script_types.specs.declared.select.SynJoin.{SynJoin}
 use Rattle.script_types.specs.declared.select.SynSelect.{SynSelect}
 use Rattle.script_lex.specs.declared.kind.Kind.{Kind}
 use Rattle.script_lex.specs.declared.kind.Kind.TheVariants as k
-use Rattle.script_forms.specs.Form.{Form, ◌>>=◌, ◌>>◌, ◌or◌, says, word, maybe, whether, separated_list}
-use Rattle.script_forms.specs.Basics.{name, int}
-use Rattle.script_forms.specs.Expressions.{many, source, expression_to}
+use Rattle.line_laws.specs.Forms.Form.{Form, ◌>>=◌, ◌>>◌, ◌or◌, says, word, maybe, whether, separated_list}
+use Rattle.line_laws.specs.Forms.Basics.{name, int}
+use Rattle.line_laws.specs.Forms.Expressions.{many, source, expression_to}
 
 -- whether it is `desc`: `desc`, `asc`, or neither
 abbrev pub is_descending : Form Bool

@@ -6,13 +6,13 @@ use Rattle.script_types.specs.declared.command.Dialect.{Dialect}
 use Rattle.script_types.specs.declared.command.Dialect.TheVariants.{Sqlite, Postgresql, Mysql}
 use Rattle.script_types.specs.declared.command.Term.{Term}
 use Rattle.script_lex.specs.declared.kind.Kind.TheVariants as k
-use Rattle.script_forms.specs.Form.{Form, ◌>>=◌, ◌>>◌, ◌<$>◌, ◌or◌, says, word, maybe}
-use Rattle.script_forms.specs.Basics.{name, value, term}
-use Rattle.script_forms.specs.Selects.{select}
-use Rattle.script_forms.specs.Queries.{query}
-use Rattle.script_forms.specs.Bulk.{bulk}
-use Rattle.script_forms.specs.ClassHeads.{class_head}
-use Rattle.script_forms.specs.Bindings.{member, binding_line}
+use Rattle.line_laws.specs.Forms.Form.{Form, ◌>>=◌, ◌>>◌, ◌<$>◌, ◌or◌, says, word, maybe}
+use Rattle.line_laws.specs.Forms.Basics.{name, value, term}
+use Rattle.line_laws.specs.Forms.Selects.{select}
+use Rattle.line_laws.specs.Forms.Queries.{query}
+use Rattle.line_laws.specs.Forms.Bulk.{bulk}
+use Rattle.line_laws.specs.Forms.ClassHeads.{class_head}
+use Rattle.line_laws.specs.Forms.Bindings.{member, binding_line}
 
 -- one word
 abbrev pub bare_line : Form Command

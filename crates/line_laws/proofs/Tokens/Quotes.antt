@@ -3,9 +3,9 @@ use Rattle.std.proofs.Common.{◌≡◌, ℕ, zero, suc, ◌+◌, Bool, true, fa
 use Rattle.std.proofs.lemmas.Bool.{eqb-true, eq-eqb, ne_eqb}
 use Rattle.script_lex.specs.Shape.{Text, quote_end}
 use Rattle.script_lex.specs.Content.{undouble}
-use Rattle.token_laws.specs.Spelling.{starts, with_quotes_doubled}
-use Rattle.token_laws.specs.Cutting.{UndoublingUndoesDoubling}
-use Rattle.token_laws.proofs.Runs.{if_true, if_false, same_some, none_some}
+use Rattle.line_laws.specs.Tokens.Spelling.{starts, with_quotes_doubled}
+use Rattle.line_laws.specs.Tokens.Cutting.{UndoublingUndoesDoubling}
+use Rattle.line_laws.proofs.Tokens.Runs.{if_true, if_false, same_some, none_some}
 
 same_number : (q : ℕ) → (q == q) ≡ true
 same_number q = eq-eqb q q refl

@@ -5,10 +5,10 @@ use Rattle.script_types.specs.declared.expression.Syn.{Syn}
 use Rattle.script_types.specs.declared.select.SynBulk.{SynBulk}
 use Rattle.script_types.specs.declared.select.SynBulk.TheVariants as b
 use Rattle.script_lex.specs.declared.kind.Kind.TheVariants as k
-use Rattle.script_forms.specs.Form.{Form, ◌>>=◌, ◌>>◌, ◌<$>◌, ◌or◌, says, word, separated_list}
-use Rattle.script_forms.specs.Basics.{name, names, value}
-use Rattle.script_forms.specs.Expressions.{expression_to}
-use Rattle.script_forms.specs.Selects.{condition}
+use Rattle.line_laws.specs.Forms.Form.{Form, ◌>>=◌, ◌>>◌, ◌<$>◌, ◌or◌, says, word, separated_list}
+use Rattle.line_laws.specs.Forms.Basics.{name, names, value}
+use Rattle.line_laws.specs.Forms.Expressions.{expression_to}
+use Rattle.line_laws.specs.Forms.Selects.{condition}
 
 -- `(VALUE {, VALUE})`
 abbrev pub row : Form (List Value)

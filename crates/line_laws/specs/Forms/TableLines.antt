@@ -8,8 +8,8 @@ use Rattle.script_lex.specs.declared.kind.Kind.{Kind}
 use Rattle.script_lex.specs.declared.kind.Kind.TheVariants as k
 use Rattle.script_lex.specs.declared.token.Token.{Token}
 use Rattle.script_lex.specs.declared.token.Content.TheVariants as content
-use Rattle.script_forms.specs.Form.{Form, ◌>>=◌, ◌>>◌, ◌<$>◌, ◌or◌, says, word, maybe, whether}
-use Rattle.script_forms.specs.Basics.{name_but, name, names}
+use Rattle.line_laws.specs.Forms.Form.{Form, ◌>>=◌, ◌>>◌, ◌<$>◌, ◌or◌, says, word, maybe, whether}
+use Rattle.line_laws.specs.Forms.Basics.{name_but, name, names}
 
 -- the length of a varchar, at most 4294967295
 abbrev pub length : Form ℕ

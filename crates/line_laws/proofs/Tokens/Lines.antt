@@ -13,12 +13,12 @@ use Rattle.script_lex.specs.Content.{content, content_by}
 use Rattle.script_lex.specs.Lex.{same_kind, is_blank, token_or_bad, first_token, tokens_from, tokens}
 use Rattle.script_lex.proofs.TokensGo.{tokens_step, tokens_end}
 use Rattle.script_tokens.proofs.Alike.{same, alike}
-use Rattle.token_laws.specs.Spelling.{every, with_quotes_doubled, starts, symbol as symbol_text, Spells, Word, QuotedName, QuotedText, QuotedBytes, Digits, Sign, Minus, Symbol, IsSpelled}
-use Rattle.token_laws.specs.Cutting.{IsFirst, BeginsNoToken, IsNext, Ends, LineEnd, Fault, AreTokens, CutsTokens, CutsAllTokens}
-use Rattle.token_laws.proofs.Runs.{true_false, false_true, both_true, if_true, if_false, none_some}
-use Rattle.token_laws.proofs.Words.{plain_good, keyword_plain, symbol_plain, content_at}
-use Rattle.token_laws.proofs.Reached.{bytes_good, number_good, signed_good, names, texts, Reached, reached}
-use Rattle.token_laws.proofs.Right.{begun}
+use Rattle.line_laws.specs.Tokens.Spelling.{every, with_quotes_doubled, starts, symbol as symbol_text, Spells, Word, QuotedName, QuotedText, QuotedBytes, Digits, Sign, Minus, Symbol, IsSpelled}
+use Rattle.line_laws.specs.Tokens.Cutting.{IsFirst, BeginsNoToken, IsNext, Ends, LineEnd, Fault, AreTokens, CutsTokens, CutsAllTokens}
+use Rattle.line_laws.proofs.Tokens.Runs.{true_false, false_true, both_true, if_true, if_false, none_some}
+use Rattle.line_laws.proofs.Tokens.Words.{plain_good, keyword_plain, symbol_plain, content_at}
+use Rattle.line_laws.proofs.Tokens.Reached.{bytes_good, number_good, signed_good, names, texts, Reached, reached}
+use Rattle.line_laws.proofs.Tokens.Right.{begun}
 
 -- ---- the first token
 

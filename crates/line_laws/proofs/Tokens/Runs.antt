@@ -2,7 +2,7 @@
 use Rattle.std.proofs.Common.{◌≡◌, ℕ, ◌+◌, Bool, true, false, cond, ◌&&◌, if◌then◌else◌, [], ◌∷◌, ◌++◌, length, Option, Some, None, refl, ap, sym, ◌∙◌, arith}
 use Rattle.std.specs.List.{prefix_len}
 use Rattle.script_lex.specs.Shape.{Text}
-use Rattle.token_laws.specs.Spelling.{every, starts}
+use Rattle.line_laws.specs.Tokens.Spelling.{every, starts}
 
 -- ---- tests
 

@@ -13,10 +13,10 @@ use Rattle.script_lex.specs.declared.shape.Class.TheVariants as class
 use Rattle.script_lex.specs.Shape.{Text, is_in, past, keyword, word, quote_end, kind_or_bad, symbol as symbol_prefix, is_bytes, token_prefix}
 use Rattle.script_lex.specs.Content.{content, content_by, if_utf8, undouble, inside, number, bytes_of_hex, signed_digits}
 use Rattle.script_lex.specs.Lex.{same_kind}
-use Rattle.token_laws.specs.Spelling.{every, starts, with_quotes_doubled, in_quotes, IsWord, symbol, Spells, Word, QuotedName, QuotedText, QuotedBytes, Digits, Sign, Minus, Symbol}
-use Rattle.token_laws.proofs.Runs.{false_true, both_true, if_true, if_false, apart, Run, run_of, passes_along, run_length, same_some, none_some}
-use Rattle.token_laws.proofs.Quotes.{closes_there, undoes_doubling}
-use Rattle.token_laws.proofs.Words.{plain_good, keyword_plain, symbol_plain, word_utf8, is_small, small_utf8, utf8_kept, spelling_held, content_at, within_marks, same_front}
+use Rattle.line_laws.specs.Tokens.Spelling.{every, starts, with_quotes_doubled, in_quotes, IsWord, symbol, Spells, Word, QuotedName, QuotedText, QuotedBytes, Digits, Sign, Minus, Symbol}
+use Rattle.line_laws.proofs.Tokens.Runs.{false_true, both_true, if_true, if_false, apart, Run, run_of, passes_along, run_length, same_some, none_some}
+use Rattle.line_laws.proofs.Tokens.Quotes.{closes_there, undoes_doubling}
+use Rattle.line_laws.proofs.Tokens.Words.{plain_good, keyword_plain, symbol_plain, word_utf8, is_small, small_utf8, utf8_kept, spelling_held, content_at, within_marks, same_front}
 
 -- what is cut of a text of which the first n bytes are spelled: more bytes, or these as this token
 pub record Reached (z : Text) (n : ℕ) (kind : Kind) (held : Content) : Type 0 where

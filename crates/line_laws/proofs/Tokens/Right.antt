@@ -12,11 +12,11 @@ use Rattle.script_lex.specs.Shape.{Text, is_in, past, keyword, word, quote_end, 
 use Rattle.script_lex.specs.Content.{content_by, if_utf8, number, bytes_of_hex}
 use Rattle.script_lex.specs.Lex.{same_kind}
 use Rattle.script_tokens.proofs.Alike.{alike}
-use Rattle.token_laws.specs.Spelling.{every, starts, with_quotes_doubled, in_quotes, symbol, Spells, Word, QuotedName, QuotedText, QuotedBytes, Digits, Sign, Minus, Symbol}
-use Rattle.token_laws.proofs.Runs.{true_false, false_true, both_true, Run, run_of, same_some}
-use Rattle.token_laws.proofs.Quotes.{closed_by}
-use Rattle.token_laws.proofs.Words.{is_plain, keyword_plain, word_utf8, spelling_held, utf8_told, small_utf8}
-use Rattle.token_laws.proofs.Reached.{marks, word_run, InQuotes, names, texts, quoted_length, inside_quotes, bytes_spelling, bytes_length, inside_bytes, digits_behind, symbol_utf8}
+use Rattle.line_laws.specs.Tokens.Spelling.{every, starts, with_quotes_doubled, in_quotes, symbol, Spells, Word, QuotedName, QuotedText, QuotedBytes, Digits, Sign, Minus, Symbol}
+use Rattle.line_laws.proofs.Tokens.Runs.{true_false, false_true, both_true, Run, run_of, same_some}
+use Rattle.line_laws.proofs.Tokens.Quotes.{closed_by}
+use Rattle.line_laws.proofs.Tokens.Words.{is_plain, keyword_plain, word_utf8, spelling_held, utf8_told, small_utf8}
+use Rattle.line_laws.proofs.Tokens.Reached.{marks, word_run, InQuotes, names, texts, quoted_length, inside_quotes, bytes_spelling, bytes_length, inside_bytes, digits_behind, symbol_utf8}
 
 -- a front of this many bytes is spelled as a token of this kind, whatever it holds
 pub record Begun (z : Text) (kind : Kind) (len : ℕ) : Type 0 where
