@@ -1,3 +1,4 @@
+pub mod Savepoints
 mod Cells
 mod Evaluated
 pub mod Accepted

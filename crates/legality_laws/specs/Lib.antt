@@ -1,1 +1,2 @@
+pub mod Savepoints
 pub mod Legality

@@ -1,11 +1,12 @@
-//! Laws of legality: what statements and programs of the store leave legal. Each is the contract of a function that does nothing, so
-//! there is no body that could be turned into a wrong one.
+//! Laws of the programs of the store: what they leave legal, and what a savepoint and the rollback to it leave. Each is the
+//! contract of a function that does nothing, so there is no body that could be turned into a wrong one.
 #![tactic(auto)]
 
 mod bulk;
 mod calls;
 mod joined;
 mod rows;
+mod savepoint_laws;
 mod told;
 
 pub use bulk::accepted_bulk_is_legal;
@@ -14,6 +15,7 @@ pub use joined::{
     joined_programs_keep_legal, programs_beside_keep_legal, quiet_programs_keep_legal,
 };
 pub use rows::{a_legal_store_holds_legal_rows, scanned_rows_ascend};
+pub use savepoint_laws::rollback_to_restores;
 pub use told::{
     what_is_scanned_ascends, what_is_told_stays_ascending, what_is_told_stays_legal,
     what_ran_leaves_legal,

@@ -8,8 +8,8 @@ use Rattle.script_tokens.specs.declared.fault.Fault.{Fault}
 use Rattle.script_tokens.specs.declared.fault.Fault.TheVariants.{At}
 use Rattle.script_tokens.specs.Input.{Reader, first_of, start_of}
 use Rattle.script_read.specs.Line.{line_of}
-use Rattle.script_forms.specs.Form.{Form}
-use Rattle.script_forms.specs.Lines.{Begins}
+use Rattle.line_laws.specs.Forms.Form.{Form}
+use Rattle.line_laws.specs.Forms.Lines.{Begins}
 use Rattle.line_laws.specs.Nesting.{nests}
 use Rattle.line_laws.specs.Language.{form_for}
 use Rattle.line_laws.proofs.Forms.Exact.{EndsAViablePrefix}

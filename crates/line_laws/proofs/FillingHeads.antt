@@ -6,9 +6,9 @@ use Rattle.script_lex.specs.declared.kind.Kind.TheVariants as k
 use Rattle.script_lex.specs.Lex.{same_kind}
 use Rattle.script_tokens.specs.Input.{◌>>=◌, ◌>>◌, pure, take_token}
 use Rattle.script_blocks.specs.Classes as r
-use Rattle.script_forms.specs.Form.{sequence, says, ◌or◌}
-use Rattle.script_forms.specs.Basics as basic
-use Rattle.script_forms.specs.ClassHeads as form
+use Rattle.line_laws.specs.Forms.Form.{sequence, says, ◌or◌}
+use Rattle.line_laws.specs.Forms.Basics as basic
+use Rattle.line_laws.specs.Forms.ClassHeads as form
 use Rattle.line_laws.proofs.Forms.Taking.{Mode}
 use Rattle.line_laws.proofs.Forms.Filling.{Complete, always, both, then_any, less, made, expected, taken, on_word, either, introduced, word_opens, first_opens}
 use Rattle.line_laws.proofs.Forms.FillingBasics.{named, names_read}

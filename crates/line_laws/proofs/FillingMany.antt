@@ -3,8 +3,8 @@ use Rattle.std.proofs.Common.{◌≡◌, ℕ, zero, suc, ◌+◌, ◌≤◌, Boo
 use Rattle.script_lex.specs.declared.kind.Kind.{Kind}
 use Rattle.script_lex.specs.declared.token.Token.{Token}
 use Rattle.script_tokens.specs.Input.{Reader, first_of}
-use Rattle.script_forms.specs.Form.{Form}
-use Rattle.script_forms.specs.Expressions.{many}
+use Rattle.line_laws.specs.Forms.Form.{Form}
+use Rattle.line_laws.specs.Forms.Expressions.{many}
 use Rattle.line_laws.proofs.Forms.Taking.{Mode, Enough}
 use Rattle.line_laws.proofs.Forms.Steps.{budget_none, budget_more}
 use Rattle.line_laws.proofs.Forms.Filling.{given, given_map, given_then, Read, Complete, Opens, always, enough_first, enough_then}

@@ -6,7 +6,7 @@ use Rattle.script_lex.specs.declared.token.Token.{Token}
 use Rattle.script_lex.specs.Lex.{same_kind}
 use Rattle.script_tokens.proofs.Alike.{alike}
 use Rattle.script_tokens.specs.Input.{Input, Reader, ◌>>=◌, pure, peek, eat, clause, head, sees, first_of}
-use Rattle.script_forms.specs.Form.{Form, sequence, says, word, maybe, ◌or◌}
+use Rattle.line_laws.specs.Forms.Form.{Form, sequence, says, word, maybe, ◌or◌}
 use Rattle.line_laws.proofs.Forms.Taking.{Mode, Enough}
 use Rattle.line_laws.proofs.Forms.Sequences.{then_value}
 use Rattle.line_laws.proofs.Forms.Filling.{given_as, Read, Complete, Opens, both, less, made, either, absent, introduced, if_word, made_opens, word_opens, then_opens, first_opens, maybe_opens, either_opens}

@@ -13,11 +13,11 @@ use Rattle.script_expr.specs.Expr as x
 use Rattle.script_select.specs.Select as s
 use Rattle.script_select.specs.Query as q
 use Rattle.script_select.specs.Bulk as b
-use Rattle.script_forms.specs.Form.{Form, Both, sequence, says, word, whether, separated_list, ◌or◌}
-use Rattle.script_forms.specs.Expressions.{many, expression_to, source}
-use Rattle.script_forms.specs.Selects as form
-use Rattle.script_forms.specs.Queries as query
-use Rattle.script_forms.specs.Bulk as statement
+use Rattle.line_laws.specs.Forms.Form.{Form, Both, sequence, says, word, whether, separated_list, ◌or◌}
+use Rattle.line_laws.specs.Forms.Expressions.{many, expression_to, source}
+use Rattle.line_laws.specs.Forms.Selects as form
+use Rattle.line_laws.specs.Forms.Queries as query
+use Rattle.line_laws.specs.Forms.Bulk as statement
 use Rattle.line_laws.proofs.Forms.Taking.{Mode, Enough}
 use Rattle.line_laws.proofs.Forms.Steps.{budget_none}
 use Rattle.line_laws.proofs.Forms.Filling.{given, given_as, Read, Complete, Opens, Begun, always, both, then_any, less, made, expected, taken, on_word, either, eaten, by_kind_read, mapped_run, word_begun, then_begun, made_opens, word_opens, then_opens, first_opens, whether_opens, either_opens}

@@ -27,15 +27,15 @@ use Rattle.script_read.specs.Terms as R
 use Rattle.script_read.specs.Bindings as b
 use Rattle.script_read.specs.Top as r
 use Rattle.script_read.specs.Line.{outer}
-use Rattle.script_forms.specs.Form.{Form, sequence, says, word, maybe, ◌or◌}
-use Rattle.script_forms.specs.Basics as basic
-use Rattle.script_forms.specs.Expressions.{expression_to}
-use Rattle.script_forms.specs.Selects.{select}
-use Rattle.script_forms.specs.Queries.{query}
-use Rattle.script_forms.specs.Bulk.{bulk}
-use Rattle.script_forms.specs.ClassHeads as heads
-use Rattle.script_forms.specs.Bindings as bindings
-use Rattle.script_forms.specs.TopLines as form
+use Rattle.line_laws.specs.Forms.Form.{Form, sequence, says, word, maybe, ◌or◌}
+use Rattle.line_laws.specs.Forms.Basics as basic
+use Rattle.line_laws.specs.Forms.Expressions.{expression_to}
+use Rattle.line_laws.specs.Forms.Selects.{select}
+use Rattle.line_laws.specs.Forms.Queries.{query}
+use Rattle.line_laws.specs.Forms.Bulk.{bulk}
+use Rattle.line_laws.specs.Forms.ClassHeads as heads
+use Rattle.line_laws.specs.Forms.Bindings as bindings
+use Rattle.line_laws.specs.Forms.TopLines as form
 use Rattle.line_laws.proofs.Forms.Taking.{Mode, Enough}
 use Rattle.line_laws.proofs.Forms.Filling.{given_as, Read, Complete, Opens, always, both, then_any, less, made, expected, taken, on_word, either, if_word, made_opens, word_opens, then_opens, first_opens, maybe_opens, whether_opens, either_opens}
 use Rattle.line_laws.proofs.Forms.FillingBasics.{named, listed}

@@ -13,10 +13,10 @@ use Rattle.script_tokens.specs.Literals as l
 use Rattle.script_tokens.specs.Literals.{begins_literal}
 use Rattle.script_read.specs.Terms as r
 use Rattle.script_read.specs.Bindings as b
-use Rattle.script_forms.specs.Form.{sequence, says, word, maybe}
-use Rattle.script_forms.specs.Basics as form
-use Rattle.script_forms.specs.Bindings as bindings
-use Rattle.script_forms.specs.TopLines as top
+use Rattle.line_laws.specs.Forms.Form.{sequence, says, word, maybe}
+use Rattle.line_laws.specs.Forms.Basics as form
+use Rattle.line_laws.specs.Forms.Bindings as bindings
+use Rattle.line_laws.specs.Forms.TopLines as top
 use Rattle.line_laws.proofs.Forms.Taking.{Mode}
 use Rattle.line_laws.proofs.Forms.Steps.{budget_none}
 use Rattle.line_laws.proofs.Forms.Filling.{given, Read, Complete, Opens, always, both, then_any, less, made, expected, introduced, word_opens, first_opens, made_opens, either_opens}

@@ -4,7 +4,7 @@ use Rattle.script_lex.specs.declared.kind.Kind.{Kind}
 use Rattle.script_lex.specs.declared.kind.Kind.TheVariants as k
 use Rattle.script_tokens.proofs.Alike.{same}
 use Rattle.script_tokens.specs.Input.{Input, Outcome, Reader, ◌>>=◌, and_then, pure, peek, take_token, eat, expect, clause, kind, sees, separated_from}
-use Rattle.script_forms.specs.Form.{Form, sequence, says, word, maybe, whether, separated_list, ◌or◌}
+use Rattle.line_laws.specs.Forms.Form.{Form, sequence, says, word, maybe, whether, separated_list, ◌or◌}
 use Rattle.line_laws.proofs.Forms.Taking.{Mode, Kept, Out, Whole, Sound, Inhabited}
 use Rattle.line_laws.proofs.Forms.Steps as step
 use Rattle.line_laws.proofs.Forms.Steps.{begun_by, budget_none, within_out, is_end}

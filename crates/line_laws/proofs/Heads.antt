@@ -7,9 +7,9 @@ use Rattle.script_lex.specs.declared.kind.Kind.TheVariants as k
 use Rattle.script_tokens.specs.Input.{Input, Reader, ◌>>=◌, pure, clause, kind}
 use Rattle.script_tokens.specs.Names.{name}
 use Rattle.script_blocks.specs.Classes as r
-use Rattle.script_forms.specs.Form.{sequence, says, word, maybe, ◌or◌}
-use Rattle.script_forms.specs.Basics as basic
-use Rattle.script_forms.specs.ClassHeads as form
+use Rattle.line_laws.specs.Forms.Form.{sequence, says, word, maybe, ◌or◌}
+use Rattle.line_laws.specs.Forms.Basics as basic
+use Rattle.line_laws.specs.Forms.ClassHeads as form
 use Rattle.line_laws.proofs.Forms.Taking.{Mode, Plain, Out, Whole, Inhabited}
 use Rattle.line_laws.proofs.Forms.Steps.{left_of, right_of, refused_at, some_left}
 use Rattle.line_laws.proofs.Flat.{through, clause_same}

@@ -9,7 +9,7 @@ use Rattle.script_lex.specs.Lex.{is_ignored, tokens}
 use Rattle.script_tokens.specs.declared.fault.Fault.{Fault}
 use Rattle.script_tokens.specs.Input.{Outcome, start_of}
 use Rattle.script_read.specs.Line.{line, line_of, answer_of, refusal_of}
-use Rattle.script_forms.specs.Lines.{Says}
+use Rattle.line_laws.specs.Forms.Lines.{Says}
 use Rattle.line_laws.proofs.Forms.Exact.{ReadsWhatIsSaid, ReadsAllThatIsSaid}
 use Rattle.line_laws.proofs.Forms.Lines.{tables_read, tables_all_read, tables_say_one_thing, classes_read, classes_all_read, classes_say_one_thing}
 use Rattle.line_laws.specs.Language.{line_form, form_of_kind, TellsTheColumn, AnswersWhatIsSaid, AnswersAllThatIsSaid, SayOneThing, RefusesByColumn}

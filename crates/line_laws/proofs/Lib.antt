@@ -1,3 +1,4 @@
+pub mod Tokens
 pub mod Opens
 pub mod Steady
 pub mod Forms

@@ -12,11 +12,11 @@ use Rattle.script_expr.specs.Expr.{whole}
 use Rattle.script_read.specs.Bindings.{binding}
 use Rattle.script_read.specs.Top.{top}
 use Rattle.script_read.specs.Line.{ends, line_of, outer}
-use Rattle.script_forms.specs.Form.{Form}
-use Rattle.script_forms.specs.Lines.{Says, Begins}
-use Rattle.script_forms.specs.Expressions.{expression_to}
-use Rattle.script_forms.specs.Bindings.{binding_line}
-use Rattle.script_forms.specs.TopLines.{top_line, outer_line}
+use Rattle.line_laws.specs.Forms.Form.{Form}
+use Rattle.line_laws.specs.Forms.Lines.{Says, Begins}
+use Rattle.line_laws.specs.Forms.Expressions.{expression_to}
+use Rattle.line_laws.specs.Forms.Bindings.{binding_line}
+use Rattle.line_laws.specs.Forms.TopLines.{top_line, outer_line}
 use Rattle.line_laws.proofs.Forms.Exact.{EndsAViablePrefix, ReadsWhatIsSaid, ReadsAllThatIsSaid, SaysOneThing}
 use Rattle.line_laws.proofs.Forms.Taking.{Plain, Around, Took, Completed, Refused, Stands, Here, TooDeep, Kept}
 use Rattle.line_laws.proofs.Forms.Filling.{Complete, Opens, always, less}

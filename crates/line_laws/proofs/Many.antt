@@ -4,8 +4,8 @@ use Rattle.script_lex.specs.declared.token.Token.{Token}
 use Rattle.script_tokens.specs.declared.fault.Fault.{Fault}
 use Rattle.script_tokens.specs.Input.{Input, Outcome, Reader, and_then}
 use Rattle.script_tokens.specs.Many.{many_by, many_from}
-use Rattle.script_forms.specs.Form.{Form, maybe}
-use Rattle.script_forms.specs.Expressions.{many}
+use Rattle.line_laws.specs.Forms.Form.{Form, maybe}
+use Rattle.line_laws.specs.Forms.Expressions.{many}
 use Rattle.line_laws.proofs.Forms.Taking.{Mode, Took, Refused, Kept, Whole, Sound}
 use Rattle.line_laws.proofs.Forms.Steps.{whole_rest, budget_none, budget_more, enough_more, begun_by}
 use Rattle.line_laws.proofs.Following.{Follows}

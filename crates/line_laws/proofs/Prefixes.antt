@@ -13,12 +13,12 @@ use Rattle.script_tokens.specs.Input.{Input, Outcome, Reader, ◌>>=◌, and_the
 use Rattle.script_read.specs.Bindings.{binding}
 use Rattle.script_read.specs.Top.{top}
 use Rattle.script_read.specs.Line.{ends, line_of, outer}
-use Rattle.script_forms.specs.Form.{Form}
-use Rattle.script_forms.specs.Lines.{Says, Begins}
-use Rattle.script_forms.specs.Bindings.{binding_line}
-use Rattle.script_forms.specs.TopLines.{top_line}
-use Rattle.script_forms.specs.TableLines as tables
-use Rattle.script_forms.specs.ClassLines as classes
+use Rattle.line_laws.specs.Forms.Form.{Form}
+use Rattle.line_laws.specs.Forms.Lines.{Says, Begins}
+use Rattle.line_laws.specs.Forms.Bindings.{binding_line}
+use Rattle.line_laws.specs.Forms.TopLines.{top_line}
+use Rattle.line_laws.specs.Forms.TableLines as tables
+use Rattle.line_laws.specs.Forms.ClassLines as classes
 use Rattle.line_laws.proofs.Forms.Exact.{EndsAViablePrefix, ReadsAllThatIsSaid, table_reader, class_reader}
 use Rattle.line_laws.proofs.Forms.Taking.{Plain, Around}
 use Rattle.line_laws.proofs.Forms.Steps.{is_end}

@@ -12,12 +12,12 @@ use Rattle.script_expr.specs.Expr as x
 use Rattle.script_select.specs.Select as s
 use Rattle.script_select.specs.Query as q
 use Rattle.script_select.specs.Bulk as b
-use Rattle.script_forms.specs.Form.{Form, sequence, says, word, maybe, separated_list, ◌or◌}
-use Rattle.script_forms.specs.Basics as basic
-use Rattle.script_forms.specs.Expressions.{many, expression_to, source}
-use Rattle.script_forms.specs.Selects as form
-use Rattle.script_forms.specs.Queries as query
-use Rattle.script_forms.specs.Bulk as statement
+use Rattle.line_laws.specs.Forms.Form.{Form, sequence, says, word, maybe, separated_list, ◌or◌}
+use Rattle.line_laws.specs.Forms.Basics as basic
+use Rattle.line_laws.specs.Forms.Expressions.{many, expression_to, source}
+use Rattle.line_laws.specs.Forms.Selects as form
+use Rattle.line_laws.specs.Forms.Queries as query
+use Rattle.line_laws.specs.Forms.Bulk as statement
 use Rattle.line_laws.proofs.Forms.Taking.{Mode, Out, Whole, Inhabited}
 use Rattle.line_laws.proofs.Forms.Steps.{is_end, budget_none, left_of, right_of, refused_at, some_left}
 use Rattle.line_laws.proofs.Expressions.Steps.{within_at, with_word, without_word}

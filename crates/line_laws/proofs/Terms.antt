@@ -7,11 +7,11 @@ use Rattle.script_tokens.specs.Literals as l
 use Rattle.script_expr.specs.Expr as x
 use Rattle.script_read.specs.Terms as r
 use Rattle.script_read.specs.Bindings as b
-use Rattle.script_forms.specs.Form.{sequence, says, word, maybe}
-use Rattle.script_forms.specs.Basics as form
-use Rattle.script_forms.specs.Expressions as expressions
-use Rattle.script_forms.specs.Bindings as bindings
-use Rattle.script_forms.specs.TopLines as top
+use Rattle.line_laws.specs.Forms.Form.{sequence, says, word, maybe}
+use Rattle.line_laws.specs.Forms.Basics as form
+use Rattle.line_laws.specs.Forms.Expressions as expressions
+use Rattle.line_laws.specs.Forms.Bindings as bindings
+use Rattle.line_laws.specs.Forms.TopLines as top
 use Rattle.line_laws.proofs.Forms.Taking.{Mode, Sound}
 use Rattle.line_laws.proofs.Forms.Steps.{both, some_made}
 use Rattle.line_laws.proofs.Forms.Steps as step

@@ -13,11 +13,11 @@ use Rattle.script_expr.specs.Expr.{whole}
 use Rattle.script_read.specs.Terms as R
 use Rattle.script_read.specs.Bindings as b
 use Rattle.script_read.specs.Top as r
-use Rattle.script_forms.specs.Form.{sequence, says, word, maybe, separated_list, ◌or◌}
-use Rattle.script_forms.specs.Basics as basic
-use Rattle.script_forms.specs.Expressions.{expression_to}
-use Rattle.script_forms.specs.Bindings as bindings
-use Rattle.script_forms.specs.TopLines as form
+use Rattle.line_laws.specs.Forms.Form.{sequence, says, word, maybe, separated_list, ◌or◌}
+use Rattle.line_laws.specs.Forms.Basics as basic
+use Rattle.line_laws.specs.Forms.Expressions.{expression_to}
+use Rattle.line_laws.specs.Forms.Bindings as bindings
+use Rattle.line_laws.specs.Forms.TopLines as form
 use Rattle.line_laws.proofs.Forms.Taking.{Mode, Plain, Out, Whole, Inhabited}
 use Rattle.line_laws.proofs.Forms.Steps.{left_of, right_of, refused_at, some_left}
 use Rattle.line_laws.proofs.Following.{Follows, link, made, token, mapped, listed, instead, word_or, decided, unless_end, of_first, perhaps, on_kind, behind_word, at, lead}

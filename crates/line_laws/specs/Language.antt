@@ -10,12 +10,12 @@ use Rattle.script_lex.specs.declared.token.Token.{Token}
 use Rattle.script_lex.specs.Lex.{is_ignored, same_kind, tokens}
 use Rattle.script_tokens.specs.Input.{first_of}
 use Rattle.script_read.specs.Line.{line, column}
-use Rattle.script_forms.specs.Form.{Form}
-use Rattle.script_forms.specs.Lines.{Says, Begins}
-use Rattle.script_forms.specs.TableLines.{table_line}
-use Rattle.script_forms.specs.ClassLines.{class_line}
-use Rattle.script_forms.specs.Bindings.{binding_line}
-use Rattle.script_forms.specs.TopLines.{top_line, outer_line}
+use Rattle.line_laws.specs.Forms.Form.{Form}
+use Rattle.line_laws.specs.Forms.Lines.{Says, Begins}
+use Rattle.line_laws.specs.Forms.TableLines.{table_line}
+use Rattle.line_laws.specs.Forms.ClassLines.{class_line}
+use Rattle.line_laws.specs.Forms.Bindings.{binding_line}
+use Rattle.line_laws.specs.Forms.TopLines.{top_line, outer_line}
 use Rattle.line_laws.specs.Nesting.{nests}
 
 -- the form of the lines that stand there

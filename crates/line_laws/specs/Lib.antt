@@ -1,2 +1,4 @@
+pub mod Tokens
+pub mod Forms
 pub mod Nesting
 pub mod Language

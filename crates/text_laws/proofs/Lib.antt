@@ -1,4 +1,6 @@
+pub mod Grammar
 pub mod Expressions
-pub mod Pieces
-pub mod Rows
+pub mod Forms
+pub mod Readings
 pub mod Statements
+pub mod Values

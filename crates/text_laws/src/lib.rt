@@ -1,12 +1,23 @@
-//! Laws of the texts of statements. Each is the contract of a function that does nothing, so there is no body that could be
-//! turned into a wrong one.
+//! Laws of the texts of statements in three dialects: values stand in no text, and a text with its values is read as one statement.
+//! Each of these functions does nothing when it runs.
 #![tactic(auto)]
 
-ghost use Rattle.text_laws.specs.Values.{ValuesAreInNoText};
+mod expression_laws;
+mod form_laws;
+mod grammar_laws;
+mod reading_laws;
+mod statement_laws;
+mod value_laws;
 
-/// Two statements that differ only in values have one text in a dialect: in literals, cells, the NULLs of a SET, and the
-/// numbers of limit and offset, with as many values in each list and as many rows. A new row whose key is generated differs
-/// from one that gives it.
-pub fn values_are_in_no_text()
-    ensures { ValuesAreInNoText }
-{}
+pub use expression_laws::{expressions_are_read, texts_tell_trees};
+pub use form_laws::{bulks_are_read, rows_are_read, selects_are_read, statements_are_read};
+pub use grammar_laws::one_tree;
+pub use reading_laws::{
+    bulk_texts_tell_forms, one_bulk_form, one_row_form, one_select_form, row_texts_tell_forms,
+    select_texts_tell_forms, texts_tell_expressions,
+};
+pub use statement_laws::{
+    declared_names_are_distinct, one_bulk, one_row, one_select, one_statement, plain_has_cuts,
+    sent_is_plain, texts_tell_statements,
+};
+pub use value_laws::values_are_in_no_text;

@@ -14,10 +14,10 @@ use Rattle.script_tokens.specs.Literals as l
 use Rattle.script_expr.specs.declared.grammar.Level.{Level}
 use Rattle.script_expr.specs.declared.grammar.Level.TheVariants as level
 use Rattle.script_expr.specs.Expr as r
-use Rattle.script_forms.specs.Form.{Form, sequence, says, word, maybe, separated_list, ◌or◌}
-use Rattle.script_forms.specs.Basics as basic
-use Rattle.script_forms.specs.Expressions as form
-use Rattle.script_forms.specs.Expressions.{Place, Anywhere, BehindMinus}
+use Rattle.line_laws.specs.Forms.Form.{Form, sequence, says, word, maybe, separated_list, ◌or◌}
+use Rattle.line_laws.specs.Forms.Basics as basic
+use Rattle.line_laws.specs.Forms.Expressions as form
+use Rattle.line_laws.specs.Forms.Expressions.{Place, Anywhere, BehindMinus}
 use Rattle.line_laws.proofs.Forms.Taking.{Mode, Inside, Budget, Took, Kept, Out, Whole, Sound, Inhabited}
 use Rattle.line_laws.proofs.Forms.Steps.{whole_rest, both, both_taken, both_refused, at, made, some_made, some_both, some_left, some_right, some_word, right_of, within_out, refused_here, expected, on_kind}
 use Rattle.line_laws.proofs.Forms.Options.{introduced}

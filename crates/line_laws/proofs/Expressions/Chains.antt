@@ -8,9 +8,9 @@ use Rattle.script_tokens.specs.declared.fault.Fault.TheVariants.{At}
 use Rattle.script_tokens.specs.Input.{Input, Reader, ◌>>=◌, and_then, pure, eat, head, kind, first_of, operator, separated_from}
 use Rattle.script_expr.specs.declared.expression.Joint.{Joint}
 use Rattle.script_expr.specs.Expr as r
-use Rattle.script_forms.specs.Form.{Form, sequence, says, word, separated_list, ◌or◌}
-use Rattle.script_forms.specs.Expressions as form
-use Rattle.script_forms.specs.Expressions.{many, one_or_list}
+use Rattle.line_laws.specs.Forms.Form.{Form, sequence, says, word, separated_list, ◌or◌}
+use Rattle.line_laws.specs.Forms.Expressions as form
+use Rattle.line_laws.specs.Forms.Expressions.{many, one_or_list}
 use Rattle.line_laws.proofs.Forms.Taking.{Inside, Took, Kept, Whole, Sound, Inhabited}
 use Rattle.line_laws.proofs.Forms.Steps.{budget_none, is_end, whole_next, both, both_taken, made, some_made, some_both, some_left, some_right, within_out, refused_here}
 use Rattle.line_laws.proofs.Forms.Options.{if_word}

@@ -20,9 +20,9 @@ use Rattle.script_expr.specs.declared.grammar.Level.TheVariants as level
 use Rattle.script_expr.specs.declared.expression.Joint.{Joint}
 use Rattle.script_expr.specs.declared.expression.Joint.TheVariants as joint
 use Rattle.script_expr.specs.Expr as r
-use Rattle.script_forms.specs.Form.{Form, sequence, says, word, separated_list}
-use Rattle.script_forms.specs.Basics as basic
-use Rattle.script_forms.specs.Expressions as form
+use Rattle.line_laws.specs.Forms.Form.{Form, sequence, says, word, separated_list}
+use Rattle.line_laws.specs.Forms.Basics as basic
+use Rattle.line_laws.specs.Forms.Expressions as form
 use Rattle.line_laws.proofs.Forms.Taking.{Inside, Enough}
 use Rattle.line_laws.proofs.Opens.{opens}
 use Rattle.line_laws.proofs.Forms.Filling.{given_as, Read, Complete, Opens, Begun, always, both, then_any, made, expected, taken, on_word, on_first, by_kind_read, word_begun, then_begun, either, word_opens, first_opens, either_opens}

@@ -8,9 +8,9 @@ use Rattle.script_tokens.specs.Input.{Input, Outcome, Reader, refuse, ◌>>=◌,
 use Rattle.script_expr.specs.declared.expression.Joint.{Joint}
 use Rattle.script_expr.specs.Expr as r
 use Rattle.script_expr.specs.Expr.{chained_from}
-use Rattle.script_forms.specs.Form.{Form, sequence, says}
-use Rattle.script_forms.specs.Expressions as form
-use Rattle.script_forms.specs.Expressions.{many}
+use Rattle.line_laws.specs.Forms.Form.{Form, sequence, says}
+use Rattle.line_laws.specs.Forms.Expressions as form
+use Rattle.line_laws.specs.Forms.Expressions.{many}
 use Rattle.line_laws.proofs.Forms.Taking.{Inside}
 use Rattle.line_laws.proofs.Forms.Filling.{given, given_as, given_behind, given_then, Read, Complete, both}
 use Rattle.line_laws.proofs.Expressions.FillingSteps.{Sign}

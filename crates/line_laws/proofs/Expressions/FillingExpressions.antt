@@ -10,8 +10,8 @@ use Rattle.script_tokens.specs.Names.{is_no_name}
 use Rattle.script_expr.specs.declared.grammar.Level.{Level}
 use Rattle.script_expr.specs.declared.grammar.Level.TheVariants as level
 use Rattle.script_expr.specs.Expr as r
-use Rattle.script_forms.specs.Form.{Form}
-use Rattle.script_forms.specs.Expressions as form
+use Rattle.line_laws.specs.Forms.Form.{Form}
+use Rattle.line_laws.specs.Forms.Expressions as form
 use Rattle.line_laws.proofs.Forms.Taking.{Plain, Around, Inside}
 use Rattle.line_laws.proofs.Forms.Filling.{given, Read, Complete, Opens, always, both, less, made, on_first, then_begun, either, made_opens, first_opens, either_opens}
 use Rattle.line_laws.proofs.Forms.FillingBasics.{Solid}

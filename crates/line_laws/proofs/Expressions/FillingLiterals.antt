@@ -12,8 +12,8 @@ use Rattle.script_tokens.specs.Input.{Input, head, next, first_of}
 use Rattle.script_tokens.specs.Literals as l
 use Rattle.script_tokens.specs.Literals.{literal_in, begins_literal}
 use Rattle.script_expr.specs.Expr as r
-use Rattle.script_forms.specs.Basics as form
-use Rattle.script_forms.specs.Expressions.{source}
+use Rattle.line_laws.specs.Forms.Basics as form
+use Rattle.line_laws.specs.Forms.Expressions.{source}
 use Rattle.line_laws.proofs.Forms.Taking.{Mode}
 use Rattle.line_laws.proofs.Forms.Steps.{budget_none}
 use Rattle.line_laws.proofs.Forms.Options.{none_same}

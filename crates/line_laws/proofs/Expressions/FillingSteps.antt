@@ -6,8 +6,8 @@ use Rattle.script_lex.specs.declared.token.Token.{Token}
 use Rattle.script_lex.specs.Lex.{same_kind}
 use Rattle.script_tokens.proofs.Alike.{same, alike}
 use Rattle.script_tokens.specs.Input.{Input, Reader, ◌>>=◌, pure, eat, peek, take_token, head, next, sees, after, first_of, separated_from}
-use Rattle.script_forms.specs.Form.{Form, Both, sequence, says, word, whether, separated_list, ◌or◌}
-use Rattle.script_forms.specs.Expressions.{several}
+use Rattle.line_laws.specs.Forms.Form.{Form, Both, sequence, says, word, whether, separated_list, ◌or◌}
+use Rattle.line_laws.specs.Forms.Expressions.{several}
 use Rattle.line_laws.proofs.Forms.Taking.{Mode, Enough}
 use Rattle.line_laws.proofs.Forms.Sequences.{then_to, regrouped}
 use Rattle.line_laws.proofs.Forms.Filling.{given_as, given_behind, Read, Complete, Opens, always, both, less, made, made_opens, if_word, first_opens, word_opens, either_opens}

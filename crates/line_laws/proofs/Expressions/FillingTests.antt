@@ -16,9 +16,9 @@ use Rattle.script_expr.specs.declared.grammar.Level.{Level}
 use Rattle.script_expr.specs.declared.grammar.Level.TheVariants as level
 use Rattle.script_expr.specs.declared.expression.Test.TheVariants as test
 use Rattle.script_expr.specs.Expr as r
-use Rattle.script_forms.specs.Form.{Form, sequence, says, word, whether, separated_list, ◌or◌}
-use Rattle.script_forms.specs.Basics as basic
-use Rattle.script_forms.specs.Expressions as form
+use Rattle.line_laws.specs.Forms.Form.{Form, sequence, says, word, whether, separated_list, ◌or◌}
+use Rattle.line_laws.specs.Forms.Basics as basic
+use Rattle.line_laws.specs.Forms.Expressions as form
 use Rattle.line_laws.proofs.Forms.Sequences.{regrouped}
 use Rattle.line_laws.proofs.Forms.Taking.{Inside}
 use Rattle.line_laws.proofs.Forms.Filling.{Complete, Opens, always, both, then_any, less, made, expected, taken, eaten, on_word, either, made_opens, word_opens, then_opens, first_opens, whether_opens, either_opens}

@@ -8,9 +8,9 @@ use Rattle.script_tokens.specs.Input.{Input, Reader, ◌>>=◌, and_then, pure, 
 use Rattle.script_expr.specs.declared.grammar.Level.{Level}
 use Rattle.script_expr.specs.declared.grammar.Level.TheVariants as level
 use Rattle.script_expr.specs.Expr as r
-use Rattle.script_forms.specs.Form.{Form, sequence, says}
-use Rattle.script_forms.specs.Expressions as form
-use Rattle.script_forms.specs.Expressions.{Place, Anywhere, BehindNot, BehindMinus}
+use Rattle.line_laws.specs.Forms.Form.{Form, sequence, says}
+use Rattle.line_laws.specs.Forms.Expressions as form
+use Rattle.line_laws.specs.Forms.Expressions.{Place, Anywhere, BehindNot, BehindMinus}
 use Rattle.line_laws.proofs.Forms.Taking.{Inside, Out, Whole, Sound, Inhabited}
 use Rattle.line_laws.proofs.Forms.Steps.{both, at, some_made, some_both, some_right, right_of, on_kind}
 use Rattle.line_laws.proofs.Expressions.Steps.{Within, mapped}

@@ -12,8 +12,8 @@ use Rattle.script_tokens.specs.Input.{Input, Outcome, Reader, and_then, refuse, 
 use Rattle.script_expr.specs.declared.grammar.Level.{Level}
 use Rattle.script_expr.specs.declared.grammar.Level.TheVariants as level
 use Rattle.script_expr.specs.Expr as r
-use Rattle.script_forms.specs.Form.{Form, sequence, word}
-use Rattle.script_forms.specs.Expressions.{nesting_token, Place, Anywhere, BehindNot, BehindMinus}
+use Rattle.line_laws.specs.Forms.Form.{Form, sequence, word}
+use Rattle.line_laws.specs.Forms.Expressions.{nesting_token, Place, Anywhere, BehindNot, BehindMinus}
 use Rattle.line_laws.specs.Nesting.{nests}
 use Rattle.line_laws.proofs.Forms.Taking.{Inside, Took, TooDeep, Kept, Out, Whole, Sound, Inhabited}
 use Rattle.line_laws.proofs.Forms.Steps.{is_end, budget_none, begun_none, token_of, taken_by, whole_next, both_taken, within_out, refused_here}

@@ -5,7 +5,7 @@ use Rattle.script_lex.specs.declared.token.Token.{Token}
 use Rattle.script_lex.specs.Lex.{same_kind}
 use Rattle.script_tokens.proofs.Alike.{same}
 use Rattle.script_tokens.specs.Input.{Input, Outcome, Reader, ◌>>=◌, pure, eat, head, next, sees, after, first_of}
-use Rattle.script_forms.specs.Form.{Form, sequence, says, word, whether, ◌or◌}
+use Rattle.line_laws.specs.Forms.Form.{Form, sequence, says, word, whether, ◌or◌}
 use Rattle.line_laws.proofs.Forms.Taking.{Mode, Took, Kept, Out, Whole, Sound}
 use Rattle.line_laws.proofs.Forms.Sequences.{paired, both_to, then_to}
 use Rattle.line_laws.proofs.Forms.Steps.{is_end, taken_by, whole_next, both, both_taken, made, some_made, within_out}

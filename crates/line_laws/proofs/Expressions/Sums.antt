@@ -6,9 +6,9 @@ use Rattle.script_lex.specs.declared.kind.Kind.TheVariants as k
 use Rattle.script_tokens.specs.Input.{Reader}
 use Rattle.script_expr.specs.declared.grammar.Level.{Level}
 use Rattle.script_expr.specs.Expr as r
-use Rattle.script_forms.specs.Form.{Form}
-use Rattle.script_forms.specs.Expressions as form
-use Rattle.script_forms.specs.Expressions.{Place}
+use Rattle.line_laws.specs.Forms.Form.{Form}
+use Rattle.line_laws.specs.Forms.Expressions as form
+use Rattle.line_laws.specs.Forms.Expressions.{Place}
 use Rattle.line_laws.proofs.Forms.Taking.{Inside, Sound, Inhabited}
 use Rattle.line_laws.proofs.Forms.Sequences.{then_says}
 use Rattle.line_laws.proofs.Expressions.Nesting.{Fits, place}

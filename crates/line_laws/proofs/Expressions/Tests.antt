@@ -12,10 +12,10 @@ use Rattle.script_tokens.specs.Input.{Input, Outcome, Reader, ◌>>=◌, ◌>>�
 use Rattle.script_tokens.specs.Literals as l
 use Rattle.script_expr.specs.declared.grammar.Level.{Level}
 use Rattle.script_expr.specs.Expr as r
-use Rattle.script_forms.specs.Form.{Form, sequence, says, word, whether, separated_list, ◌or◌}
-use Rattle.script_forms.specs.Basics.{literal}
-use Rattle.script_forms.specs.Expressions as form
-use Rattle.script_forms.specs.Expressions.{Place, nesting_token}
+use Rattle.line_laws.specs.Forms.Form.{Form, sequence, says, word, whether, separated_list, ◌or◌}
+use Rattle.line_laws.specs.Forms.Basics.{literal}
+use Rattle.line_laws.specs.Forms.Expressions as form
+use Rattle.line_laws.specs.Forms.Expressions.{Place, nesting_token}
 use Rattle.line_laws.proofs.Forms.Taking.{Mode, Inside, Kept, Out, Whole, Sound, Inhabited}
 use Rattle.line_laws.proofs.Forms.Steps.{both, at, made, some_made, some_both, some_left, some_right, some_word, left_of, right_of, refused_at, expected, behind_word, on_kind}
 use Rattle.line_laws.proofs.Forms.Options.{eaten}

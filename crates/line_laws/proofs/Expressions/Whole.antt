@@ -6,7 +6,7 @@ use Rattle.script_tokens.specs.declared.fault.Fault.{Fault}
 use Rattle.script_tokens.specs.Input.{Input, Outcome}
 use Rattle.script_expr.specs.declared.grammar.Level.TheVariants as level
 use Rattle.script_expr.specs.Expr as r
-use Rattle.script_forms.specs.Expressions.{Anywhere, nested_expression, expression, expression_to}
+use Rattle.line_laws.specs.Forms.Expressions.{Anywhere, nested_expression, expression, expression_to}
 use Rattle.line_laws.proofs.Forms.Taking.{Mode, Plain, Around, Inside, Budget, Enough, Stands, Here, TooDeep, Completed, Took, Kept, Sound, Inhabited}
 use Rattle.line_laws.proofs.Expressions.Levels.{nested_read, wider_read, some_nested}
 

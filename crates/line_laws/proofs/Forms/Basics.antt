@@ -13,7 +13,7 @@ use Rattle.script_tokens.specs.Input.{Input, head, kind, next, first_of}
 use Rattle.script_tokens.specs.Names as n
 use Rattle.script_tokens.specs.Names.{is_no_name, has_length, name_in}
 use Rattle.script_tokens.specs.Literals as l
-use Rattle.script_forms.specs.Basics as form
+use Rattle.line_laws.specs.Forms.Basics as form
 use Rattle.line_laws.proofs.Forms.Taking.{Mode, Kept, Out, Whole, Sound, Inhabited}
 use Rattle.line_laws.proofs.Forms.Steps.{budget_none, refused_here, both, made, some_both, some_made, some_word, expected}
 use Rattle.line_laws.proofs.Forms.Lists.{listed, some_list}

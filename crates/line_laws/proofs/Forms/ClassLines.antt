@@ -10,9 +10,9 @@ use Rattle.script_tokens.proofs.Alike.{same}
 use Rattle.script_tokens.specs.declared.fault.Fault.TheVariants.{At}
 use Rattle.script_tokens.specs.Input.{Input, Outcome, ◌>>=◌, ◌>>◌, and_then, pure, expect, eat, take_token, head, kind, next, sees, after, first_of}
 use Rattle.script_blocks.specs.Classes as r
-use Rattle.script_forms.specs.Form.{Form, sequence, says, word, maybe, whether, separated_list}
-use Rattle.script_forms.specs.Basics as basic
-use Rattle.script_forms.specs.ClassLines as form
+use Rattle.line_laws.specs.Forms.Form.{Form, sequence, says, word, maybe, whether, separated_list}
+use Rattle.line_laws.specs.Forms.Basics as basic
+use Rattle.line_laws.specs.Forms.ClassLines as form
 use Rattle.line_laws.proofs.Forms.Taking.{Mode, Took, Refused, Kept, Out, Whole, Sound, Inhabited}
 use Rattle.line_laws.proofs.Forms.Steps.{whole_rest, whole_next, budget_more, begun_by, both, both_taken, both_refused, made, some_both, some_made, some_left, some_right, some_word, left_of, right_of, refused_here, refused_at, is_end, expected, taken_by, taken_at, behind_word, on_kind}
 use Rattle.line_laws.proofs.Forms.Sequences.{then_value, then_says}

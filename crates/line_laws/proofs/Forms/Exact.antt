@@ -8,8 +8,8 @@ use Rattle.script_tokens.specs.declared.fault.Fault.TheVariants.{At}
 use Rattle.script_tokens.specs.Input.{Input, Reader, first_of, start_of}
 use Rattle.script_read.specs.Line.{line_of}
 use Rattle.script_lex.specs.Lex.{tokens}
-use Rattle.script_forms.specs.Form.{Form}
-use Rattle.script_forms.specs.Lines.{Says, Begins}
+use Rattle.line_laws.specs.Forms.Form.{Form}
+use Rattle.line_laws.specs.Forms.Lines.{Says, Begins}
 
 -- a refused token, the tokens before which begin some line
 pub record EndsAViablePrefix (form : Form Command) (line : List Token) (e : Fault) : Type 0 where

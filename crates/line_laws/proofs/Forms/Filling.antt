@@ -6,7 +6,7 @@ use Rattle.script_lex.specs.Lex.{same_kind}
 use Rattle.script_tokens.proofs.Alike.{alike}
 use Rattle.script_tokens.specs.declared.fault.Fault.TheVariants.{At}
 use Rattle.script_tokens.specs.Input.{Input, Outcome, Reader, ◌>>=◌, ◌>>◌, and_then, pure, peek, take_token, eat, expect, clause, head, kind, next, sees, after, first_of}
-use Rattle.script_forms.specs.Form.{Form, sequence, says, word, maybe, whether, ◌or◌}
+use Rattle.line_laws.specs.Forms.Form.{Form, sequence, says, word, maybe, whether, ◌or◌}
 use Rattle.line_laws.proofs.Opens.{opens}
 use Rattle.line_laws.proofs.Forms.Taking.{Mode, Plain, Around, Inside, Budget, Enough}
 use Rattle.line_laws.proofs.Forms.Steps.{budget_none, budget_more}

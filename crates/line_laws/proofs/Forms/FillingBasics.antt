@@ -9,8 +9,8 @@ use Rattle.script_tokens.proofs.Alike.{alike}
 use Rattle.script_tokens.specs.Input.{Input, Reader, ◌>>=◌, pure, eat, head, next, sees, after, first_of, separated_from}
 use Rattle.script_tokens.specs.Names as n
 use Rattle.script_tokens.specs.Names.{is_no_name, has_length, name_in}
-use Rattle.script_forms.specs.Form.{Form, sequence, word, separated_list}
-use Rattle.script_forms.specs.Basics as form
+use Rattle.line_laws.specs.Forms.Form.{Form, sequence, word, separated_list}
+use Rattle.line_laws.specs.Forms.Basics as form
 use Rattle.line_laws.proofs.Forms.Taking.{Mode, Enough}
 use Rattle.line_laws.proofs.Forms.Steps.{budget_none, budget_more}
 use Rattle.line_laws.proofs.Forms.Filling.{given, given_as, given_behind, given_then, Read, Complete, always, enough_first, enough_then, both, then_any, made, expected, first_opens, word_opens}

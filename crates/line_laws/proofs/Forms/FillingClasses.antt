@@ -10,9 +10,9 @@ use Rattle.script_tokens.proofs.Alike.{alike}
 use Rattle.script_tokens.specs.declared.fault.Fault.TheVariants.{At}
 use Rattle.script_tokens.specs.Input.{Reader, ◌>>=◌, ◌>>◌, pure, eat, expect, take_token, head, next, sees, after, first_of}
 use Rattle.script_blocks.specs.Classes as r
-use Rattle.script_forms.specs.Form.{Form, sequence, says, word, maybe, whether, separated_list}
-use Rattle.script_forms.specs.Basics as basic
-use Rattle.script_forms.specs.ClassLines as form
+use Rattle.line_laws.specs.Forms.Form.{Form, sequence, says, word, maybe, whether, separated_list}
+use Rattle.line_laws.specs.Forms.Basics as basic
+use Rattle.line_laws.specs.Forms.ClassLines as form
 use Rattle.line_laws.proofs.Forms.Taking.{Mode, Enough}
 use Rattle.line_laws.proofs.Forms.Steps.{budget_none, budget_more, is_end}
 use Rattle.line_laws.proofs.Forms.Options.{mapped_of}

@@ -11,8 +11,8 @@ use Rattle.script_lex.specs.Lex.{same_kind}
 use Rattle.script_tokens.specs.Input.{Input, Reader, ◌>>=◌, ◌>>◌, pure, eat, expect, peek, take_token, head, next, first_of}
 use Rattle.script_tokens.specs.Literals.{int_by}
 use Rattle.script_blocks.specs.Blocks as r
-use Rattle.script_forms.specs.Form.{Form, sequence, says, word, maybe, whether}
-use Rattle.script_forms.specs.TableLines as form
+use Rattle.line_laws.specs.Forms.Form.{Form, sequence, says, word, maybe, whether}
+use Rattle.line_laws.specs.Forms.TableLines as form
 use Rattle.line_laws.proofs.Forms.Taking.{Mode, Enough}
 use Rattle.line_laws.proofs.Forms.Steps.{budget_none, is_end}
 use Rattle.line_laws.proofs.Forms.Sequences.{then_to, says_to}

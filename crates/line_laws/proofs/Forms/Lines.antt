@@ -11,10 +11,10 @@ use Rattle.script_tokens.specs.declared.fault.Fault.TheVariants.{At}
 use Rattle.script_tokens.specs.Input.{Input, Outcome, Reader, ◌>>=◌, and_then, head, sees, first_of, no_token, start_of}
 use Rattle.script_blocks.specs.Blocks.{table_line}
 use Rattle.script_blocks.specs.Classes.{class_line}
-use Rattle.script_forms.specs.Form.{Form}
-use Rattle.script_forms.specs.Lines.{Says, Begins}
-use Rattle.script_forms.specs.TableLines as form
-use Rattle.script_forms.specs.ClassLines as classes
+use Rattle.line_laws.specs.Forms.Form.{Form}
+use Rattle.line_laws.specs.Forms.Lines.{Says, Begins}
+use Rattle.line_laws.specs.Forms.TableLines as form
+use Rattle.line_laws.specs.Forms.ClassLines as classes
 use Rattle.line_laws.proofs.Forms.Exact.{EndsAViablePrefix, ReadsWhatIsSaid, ReadsAllThatIsSaid, SaysOneThing, RefusesNoSooner, table_reader, class_reader}
 use Rattle.script_read.specs.Line.{ends, line_of}
 use Rattle.line_laws.proofs.Forms.Taking.{Plain, Took, Completed, Refused, Stands, Here, TooDeep, Kept, last_of, Whole, Sound}

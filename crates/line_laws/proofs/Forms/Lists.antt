@@ -6,7 +6,7 @@ use Rattle.script_lex.specs.Lex.{same_kind}
 use Rattle.script_tokens.proofs.Alike.{same}
 use Rattle.script_tokens.specs.declared.fault.Fault.{Fault}
 use Rattle.script_tokens.specs.Input.{Input, Outcome, Reader, ◌>>=◌, and_then, pure, eat, head, next, sees, after, first_of, separated_from}
-use Rattle.script_forms.specs.Form.{Form, sequence, says, word, separated_list}
+use Rattle.line_laws.specs.Forms.Form.{Form, sequence, says, word, separated_list}
 use Rattle.line_laws.proofs.Forms.Taking.{Mode, Took, Refused, Kept, Whole, Sound, Inhabited}
 use Rattle.line_laws.proofs.Forms.Sequences.{then_value}
 use Rattle.line_laws.proofs.Forms.Steps.{whole_rest, whole_next, budget_more, enough_more, begun_by, both_refused, some_made, is_end, taken_by, refused_here}

@@ -5,7 +5,7 @@ use Rattle.script_lex.specs.declared.token.Token.{Token}
 use Rattle.script_lex.specs.Lex.{same_kind}
 use Rattle.script_tokens.proofs.Alike.{same}
 use Rattle.script_tokens.specs.Input.{Input, Reader, ◌>>=◌, ◌>>◌, pure, eat, expect, clause, head, next, sees, after, first_of}
-use Rattle.script_forms.specs.Form.{Form, sequence, says, word, maybe, whether}
+use Rattle.line_laws.specs.Forms.Form.{Form, sequence, says, word, maybe, whether}
 use Rattle.line_laws.proofs.Forms.Taking.{Mode, Took, Kept, Whole, Sound, Inhabited}
 use Rattle.line_laws.proofs.Forms.Sequences.{then_to}
 use Rattle.line_laws.proofs.Forms.Steps.{budget_none, both, both_taken, made, within_out, is_end, taken_by, expected, whole_next}

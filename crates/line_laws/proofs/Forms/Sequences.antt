@@ -1,7 +1,7 @@
 -- One form behind another: what is said of the second, and sequences put together in another way.
 use Rattle.std.proofs.Common.{ℕ, ◌+◌, List, [], ◌++◌, refl, ap, sym, ◌∙◌, append-nil, append_assoc, arith}
 use Rattle.script_lex.specs.declared.token.Token.{Token}
-use Rattle.script_forms.specs.Form.{Form, Both, sequence, says}
+use Rattle.line_laws.specs.Forms.Form.{Form, Both, sequence, says}
 
 -- tokens of one form behind those of another
 pub paired : {A B : Type 0} (g : Form A) (h : A → Form B) (a : A) (b : B) (us vs : List Token) (m l : ℕ) → g us m a → h a vs l b → sequence g h (us ++ vs) (m + l) b

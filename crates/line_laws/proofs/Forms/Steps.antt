@@ -9,7 +9,7 @@ use Rattle.script_tokens.proofs.Alike.{same}
 use Rattle.script_tokens.specs.declared.fault.Fault.{Fault}
 use Rattle.script_tokens.specs.declared.fault.Fault.TheVariants.{At}
 use Rattle.script_tokens.specs.Input.{Input, Outcome, Reader, ◌>>=◌, and_then, pure, refuse, peek, take_token, expect, head, kind, next, sees, first_of, no_token}
-use Rattle.script_forms.specs.Form.{Form, sequence, says, word, ◌or◌}
+use Rattle.line_laws.specs.Forms.Form.{Form, sequence, says, word, ◌or◌}
 use Rattle.line_laws.proofs.Forms.Taking.{Mode, Plain, Around, Inside, Budget, Enough, Here, Took, Completed, Refused, Kept, Out, last_of, Whole, Sound, Inhabited}
 
 last_append : (t : Token) (prefix : List Token) (r : Token) (rs : List Token) → last_of t (prefix ++ r ∷ rs) ≡ last_of r rs

@@ -11,8 +11,8 @@ use Rattle.script_tokens.specs.Input.{Input, head, kind, next, first_of}
 use Rattle.script_tokens.specs.Names as n
 use Rattle.script_tokens.specs.Literals.{int_by}
 use Rattle.script_blocks.specs.Blocks as r
-use Rattle.script_forms.specs.Form.{Form, sequence, says, word, maybe, whether}
-use Rattle.script_forms.specs.TableLines as form
+use Rattle.line_laws.specs.Forms.Form.{Form, sequence, says, word, maybe, whether}
+use Rattle.line_laws.specs.Forms.TableLines as form
 use Rattle.line_laws.proofs.Forms.Taking.{Mode, Kept, Out, Whole, Sound, Inhabited}
 use Rattle.line_laws.proofs.Forms.Steps.{budget_none, both, both_at, made, some_both, some_made, some_left, some_word, left_of, right_of, refused_here, refused_at, expected, behind_word, on_kind}
 use Rattle.line_laws.proofs.Forms.Options.{if_word, bracket_up, two_words}

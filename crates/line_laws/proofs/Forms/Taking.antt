@@ -5,7 +5,7 @@ use Rattle.script_lex.specs.declared.token.Token.{Token}
 use Rattle.script_tokens.specs.declared.fault.Fault.{Fault}
 use Rattle.script_tokens.specs.declared.fault.Fault.TheVariants.{At}
 use Rattle.script_tokens.specs.Input.{Input, Outcome, Reader, first_of, no_token}
-use Rattle.script_forms.specs.Form.{Form}
+use Rattle.line_laws.specs.Forms.Form.{Form}
 use Rattle.line_laws.specs.Nesting.{nests}
 
 -- Where a reader reads: where there are no expressions; where there are whole ones; and inside one, where each of `+ - || *` takes one of those that are left,

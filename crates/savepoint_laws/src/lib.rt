@@ -1,9 +1,0 @@
-//! A law of the programs of the store: what a savepoint is for.
-#![tactic(auto)]
-
-ghost use Rattle.savepoint_laws.specs.Inside.{RollbackToRestores};
-
-/// A savepoint, any calls inside it, and the rollback to it leave the tables and the scopes at its start.
-pub fn rollback_to_restores()
-    ensures { RollbackToRestores }
-{}

@@ -1,5 +1,0 @@
-use Rattle.sql_grammar.proofs.OneTree.{one_tree}
-use Rattle.sql_grammar.proofs.one_tree.Goals as goal
-
-pub returns : goal.returns
-returns c = one_tree

@@ -1,6 +1,0 @@
-mod Bulks
-mod Declared
-mod Parts
-mod Rows
-mod Selects
-mod Statements

@@ -1,0 +1,4 @@
+pub mod Expressions
+pub mod Pieces
+pub mod Rows
+pub mod Statements
