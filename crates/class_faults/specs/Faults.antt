@@ -16,7 +16,7 @@ use Rattle.class_layouts.specs.declared.layout.Layout.{Layout}
 use Rattle.class_layouts.specs.Hierarchy.{line_of, root_in}
 use Rattle.class_layouts.specs.Columns.{columns_in, is_table, layouts_of, lives_in, owner_of}
 use Rattle.class_layouts.specs.Faults.{discriminator_on, is_named, root_table_on}
-use Rattle.class_sides.specs.declared.side.Side.{Side}
+use Rattle.class_blocks.specs.declared.side.Side.{Side}
 use Rattle.class_sides.specs.Keys.{TableKey, is_tied, names_of}
 use Rattle.class_sides.specs.Sides.{sides_of}
 use Rattle.class_sides.specs.Pairs.{differs, has_two_joins, is_plain, join_of, lacks_join, many_cascade, overlaps}

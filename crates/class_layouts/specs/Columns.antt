@@ -1,22 +1,19 @@
 -- The tables of a class, and which of their columns are its attributes.
-use Rattle.std.specs.Prelude.{ℕ, Bool, true, false, not, ◌&&◌, ◌||◌, List, [], ◌∷◌, ◌++◌, map, filter, fold, slice_get, slice_index_or, ◌==◌, Option, None, Some}
+use Rattle.std.specs.Prelude.{ℕ, Bool, false, not, ◌&&◌, ◌||◌, List, map, filter, fold, slice_get, ◌==◌, Option, None, Some}
 use Rattle.std.specs.List.{enumerate_from, filter_map, flat_map, position}
 use Rattle.base_core.specs.declared.ids.AttrNo.{AttrNo}
 use Rattle.base_core.specs.declared.ids.ClassId.{ClassId}
 use Rattle.base_core.specs.declared.ids.TableId.{TableId}
 use Rattle.schema_core.specs.declared.table.ColumnSpec.{ColumnSpec}
 use Rattle.schema_core.specs.declared.table.TableSpec.{TableSpec}
-use Rattle.schema_core.specs.Catalog.{find_table, has_name, kind_of, no_table}
+use Rattle.schema_core.specs.Catalog.{has_name, kind_of}
 use Rattle.class_types.specs.declared.declared.ClassSpec.{ClassSpec}
 use Rattle.class_types.specs.declared.mapped.Attribute.{Attribute}
+pub use Rattle.class_blocks.specs.Lines.{is_above}
+pub use Rattle.class_blocks.specs.Tables.{columns_in, named_table}
 use Rattle.class_layouts.specs.declared.classes.Classes.{Classes}
 use Rattle.class_layouts.specs.declared.layout.Layout.{Layout}
-use Rattle.class_layouts.specs.Hierarchy.{has_class, line_of, root_in, same_root}
-
--- the number of the table that is named
-abbrev pub named_table : List TableSpec → Option (List ℕ) → Option TableId
-named_table tables None = None
-named_table tables (Some name) = find_table tables name
+use Rattle.class_layouts.specs.Hierarchy.{line_of, root_in, same_root}
 
 abbrev pub table_in : List TableSpec → Option ClassSpec → Option TableId
 table_in tables None = None
@@ -51,10 +48,6 @@ is_owner tables classes root table name other =
 abbrev pub owner_of : List TableSpec → Classes → Option ClassId → TableId → List ℕ → Option ℕ
 owner_of tables classes root table name = position (is_owner tables classes root table name) (enumerate_from 0 classes.specs)
 
-abbrev pub is_above : Option ℕ → List ClassId → Bool
-is_above None line = true
-is_above (Some owner) line = has_class line owner
-
 -- no class owns the column, or one does that stands in the line
 abbrev pub is_shown : List TableSpec → Classes → List ClassId → TableId → List ℕ → Bool
 is_shown tables classes line table name = is_above (owner_of tables classes (root_in line) table name) line
@@ -62,9 +55,6 @@ is_shown tables classes line table name = is_above (owner_of tables classes (roo
 -- the column is an attribute; the key of a table behind the root's is none
 abbrev pub is_attribute : List TableSpec → Classes → List ClassId → ℕ → TableId → ColumnSpec → Bool
 is_attribute tables classes line rank table column = (rank == 0 || not column.key) && is_shown tables classes line table column.name
-
-abbrev pub columns_in : List TableSpec → TableId → List ColumnSpec
-columns_in tables table = (slice_index_or tables table.0 no_table).columns
 
 -- the column at a place of a table, as an attribute
 abbrev pub attribute_at : TableId → ℕ × ColumnSpec → Attribute

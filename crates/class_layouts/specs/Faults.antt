@@ -2,7 +2,6 @@
 use Rattle.std.specs.Prelude.{ℕ, Bool, true, false, not, ◌&&◌, ◌||◌, List, [], ◌++◌, length, map, take, find, slice_get, ◌==◌, Option, None, Some, is_some, is_none, if◌then◌else◌}
 use Rattle.std.specs.Option.{option_and_then}
 use Rattle.std.specs.List.{enumerate_from, flat_map, list_any}
-use Rattle.std.specs.Ordering.{is_eq}
 use Rattle.base_core.specs.declared.ids.ClassId.{ClassId}
 use Rattle.base_core.specs.declared.ids.TableId.{TableId}
 use Rattle.base_core.specs.declared.value.Kind.{Kind}
@@ -10,7 +9,6 @@ use Rattle.base_core.specs.declared.value.Kind.TheVariants as kinds
 use Rattle.base_core.specs.declared.value.Value.{Value}
 use Rattle.base_core.specs.declared.refusal.ArgumentKind.{ArgumentKind}
 use Rattle.base_core.specs.declared.refusal.ArgumentKind.TheVariants.{DuplicateName, BadClass, NoDiscriminator, DuplicateIdentity, BadCascade, BadHook}
-use Rattle.base_core.specs.Order.{value_cmp}
 use Rattle.schema_core.specs.declared.table.ColumnSpec.{ColumnSpec}
 use Rattle.schema_core.specs.declared.table.ForeignSpec.{ForeignSpec}
 use Rattle.schema_core.specs.declared.table.TableSpec.{TableSpec}
@@ -18,10 +16,10 @@ use Rattle.schema_core.specs.Catalog.{has_name, kind_of, same_kind, same_name}
 use Rattle.schema_core.specs.Declaration.{some_two}
 use Rattle.schema_core.specs.Tables.{kind_of_value}
 use Rattle.class_types.specs.Rules as hooks
-use Rattle.class_types.specs.declared.declared.Cascade.{Cascade}
 use Rattle.class_types.specs.declared.declared.ClassSpec.{ClassSpec}
 use Rattle.class_types.specs.declared.declared.RelationSpec.{RelationSpec}
 use Rattle.class_types.specs.declared.mapped.Attribute.{Attribute}
+pub use Rattle.class_blocks.specs.Blocks.{cascade_or_default, default_cascade, is_declared, is_identity, is_named, maps_name}
 use Rattle.class_layouts.specs.declared.classes.Classes.{Classes}
 use Rattle.class_layouts.specs.Hierarchy.{line_of, new_line, relations_at, root_in, same_root, with_class}
 use Rattle.class_layouts.specs.Columns.{attributes_on, columns_in, named_table, own_table}
@@ -34,19 +32,7 @@ names_on tables classes line =
     flat_map (λ class. map (λ relation. relation.name) (relations_at classes class.0)) line
     ++ map (λ attribute. attribute.name) (attributes_on tables classes line)
 
-abbrev pub is_declared : List ClassSpec → List ℕ → Bool
-is_declared specs name = list_any (λ spec. same_name spec.name name) specs
-
 -- ---- BadClass
-
-abbrev pub is_named : Option (List ℕ) → List ℕ → Bool
-is_named None name = false
-is_named (Some own) name = same_name own name
-
--- a class maps the table of the name
-abbrev pub maps_name : List ClassSpec → Option (List ℕ) → Bool
-maps_name specs None = false
-maps_name specs (Some name) = list_any (λ spec. is_named spec.table name) specs
 
 -- what a class names is not declared: the class that it extends, or its table; or it names neither
 abbrev pub misses_declaration : List TableSpec → ClassSpec → List ClassId → Bool
@@ -105,23 +91,12 @@ root_table_on tables classes (Some root) = own_table tables classes root.0
 
 -- ---- DuplicateIdentity
 
-abbrev pub is_identity : Option Value → Option Value → Bool
-is_identity (Some one) (Some other) = is_eq (value_cmp one other)
-is_identity one other = false
-
 -- another class of the hierarchy has the identity
 abbrev pub repeats_identity : Classes → ClassSpec → Option ClassId → List ClassSpec → Bool
 repeats_identity classes spec root others =
     list_any (λ other. is_identity other.1.identity spec.identity && same_root (root_in (line_of classes other.0)) root) (enumerate_from 0 others)
 
 -- ---- BadCascade
-
-abbrev pub default_cascade : Cascade
-default_cascade = record { save_update = true; merge = true; refresh_expire = false; expunge = false; delete = false; delete_orphan = false }
-
-abbrev pub cascade_or_default : Option Cascade → Cascade
-cascade_or_default None = default_cascade
-cascade_or_default (Some cascade) = cascade
 
 -- delete-orphan without delete, or at another relationship than one-to-many
 abbrev pub is_bad_cascade : RelationSpec → Bool

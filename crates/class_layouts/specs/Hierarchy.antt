@@ -1,10 +1,12 @@
 -- The declared classes, and the lines from their roots down to them.
 use Rattle.std.specs.Prelude.{ℕ, Bool, false, List, [], ◌∷◌, ◌++◌, length, slice_get, ◌==◌, Option, None, Some}
-use Rattle.std.specs.List.{list_any, position}
+use Rattle.std.specs.List.{position}
 use Rattle.base_core.specs.declared.ids.ClassId.{ClassId}
 use Rattle.schema_core.specs.Catalog.{same_name}
 use Rattle.class_types.specs.declared.declared.ClassSpec.{ClassSpec}
 use Rattle.class_types.specs.declared.declared.RelationSpec.{RelationSpec}
+use Rattle.class_blocks.specs.Lines.{line_in}
+pub use Rattle.class_blocks.specs.Lines.{has_class, line_or_none}
 use Rattle.class_layouts.specs.declared.classes.Classes.{Classes}
 
 -- a class that declares nothing
@@ -20,13 +22,9 @@ abbrev pub place_named : List ClassSpec → Option (List ℕ) → Option ℕ
 place_named specs None = None
 place_named specs (Some name) = place_of specs name
 
-abbrev pub line_or_none : Option (List ClassId) → List ClassId
-line_or_none None = []
-line_or_none (Some line) = line
-
 -- the line of a class: its root, and so on down to the class itself
 abbrev pub line_of : Classes → ℕ → List ClassId
-line_of classes class = line_or_none (slice_get classes.lines class)
+line_of classes class = line_in classes.lines class
 
 abbrev pub line_at : Classes → Option ℕ → List ClassId
 line_at classes None = []
@@ -39,10 +37,6 @@ new_line classes spec = line_at classes (place_named classes.specs spec.base) ++
 -- the classes with one more
 abbrev pub with_class : Classes → ClassSpec → Classes
 with_class classes spec = record { specs = classes.specs ++ spec ∷ []; lines = classes.lines ++ new_line classes spec ∷ [] }
-
--- the class stands in the line
-abbrev pub has_class : List ClassId → ℕ → Bool
-has_class line class = list_any (λ other. other.0 == class) line
 
 -- the root of a line
 abbrev pub root_in : List ClassId → Option ClassId

@@ -1,35 +1,15 @@
 //! The tables of a class.
 
-ghost use Rattle.std.specs.Prelude.{◌≡◌, IfOk, IfErr, None, fold, slice_get};
-ghost use Rattle.std.specs.Option.{option_copied};
+ghost use Rattle.std.specs.Prelude.{◌≡◌, IfOk, IfErr, None, fold};
 ghost use Rattle.base_core.specs.declared.refusal.Refusal.TheVariants.{Memory};
-ghost use Rattle.class_layouts.specs.Columns.{columns_in, later_of, lives_in, named_table, own_table, tables_on};
+ghost use Rattle.class_layouts.specs.Columns.{later_of, lives_in, own_table, tables_on};
 ghost use Rattle.class_layouts.specs.Faults.{foreigns_in, root_table_on};
 
 use crate::Classes;
-use base_core::{ClassId, ListOf, Name, Refusal, TableId};
-use schema_core::{ColumnSpec, ForeignSpec, Schema, TableSpec};
+use base_core::{ClassId, ListOf, Refusal, TableId};
+use class_blocks::{named_table, table_at};
+use schema_core::{ForeignSpec, Schema};
 use std::alloc::Global;
-
-/// The declaration of a table, if there is one of this number.
-pub fn table_at(schema: &Schema, table: TableId) -> Option<&TableSpec>
-    ensures { option_copied result ≡ slice_get schema.now.tables table.0 }
-{
-    if table.0 < schema.count() {
-        return Some(schema.spec(table));
-    }
-    None
-}
-
-/// The columns of a table.
-pub fn columns_of(schema: &Schema, table: TableId) -> &[ColumnSpec]
-    ensures { result.now ≡ columns_in schema.now.tables table }
-{
-    match table_at(schema, table) {
-        Some(spec) => spec.columns.as_slice(),
-        None => &[],
-    }
-}
 
 /// The foreign keys of a table.
 pub fn foreigns_of(schema: &Schema, table: TableId) -> &[ForeignSpec]
@@ -38,16 +18,6 @@ pub fn foreigns_of(schema: &Schema, table: TableId) -> &[ForeignSpec]
     match table_at(schema, table) {
         Some(spec) => spec.foreigns.as_slice(),
         None => &[],
-    }
-}
-
-/// The table that is named, if it is declared.
-pub fn named_table(schema: &Schema, name: &Option<Name>) -> Option<TableId>
-    ensures { result ≡ named_table schema.now.tables name.now }
-{
-    match name {
-        Some(name) => schema.find(name),
-        None => None,
     }
 }
 

@@ -9,17 +9,19 @@ ghost use Rattle.schema_core.specs.Tables.{kind_of_value};
 ghost use Rattle.schema_core.specs.Declaration.{some_two};
 ghost use Rattle.class_types.specs.Shown.{rules_of};
 ghost use Rattle.class_layouts.specs.Columns.{attributes_on};
-ghost use Rattle.class_layouts.specs.Faults.{cascade_or_default, default_cascade, discriminator_on, fails_discriminator, fault_at, fault_of_lines, first_fault, has_kind, is_bad_cascade, is_bad_hook, is_declared, is_discriminating, is_identity, is_named, maps_name, misses_declaration, names_on, repeats_identity, root_table_on, takes_identity, takes_in};
+ghost use Rattle.class_layouts.specs.Faults.{discriminator_on, fails_discriminator, fault_at, fault_of_lines, first_fault, has_kind, is_bad_cascade, is_bad_hook, is_discriminating, is_named, misses_declaration, names_on, repeats_identity, root_table_on, takes_identity, takes_in};
 ghost use Rattle.class_layouts.specs.Hierarchy.{relations_at, root_in};
 
 use crate::Classes;
-use crate::columns::{columns_of, foreigns_of, named_table, own_table, tables_on};
+use crate::columns::{foreigns_of, own_table, tables_on};
 use crate::layout::attributes_on;
-use crate::lookup::{has_name, line_of, place_of, relations_at, root_in, same_root};
-use base_core::{
-    ArgumentKind, ClassId, Copied, Kind, ListOf, Name, Refusal, TableId, Value, compare,
+use crate::lookup::{line_of, relations_at, root_in, same_root};
+use base_core::{ArgumentKind, ClassId, Copied, Kind, ListOf, Name, Refusal, TableId, Value};
+use class_blocks::{
+    cascade_or_default, columns_of, has_name, is_declared, is_named, maps_name, named_table,
+    shares_identity,
 };
-use class_types::{Attribute, Cascade, ClassSpec, Hooks, RelationSpec};
+use class_types::{Attribute, ClassSpec, Hooks, RelationSpec};
 use schema_core::{ColumnSpec, ForeignSpec, Schema, kind_of, kind_of_value, same_kind};
 use std::alloc::Global;
 
@@ -98,41 +100,7 @@ pub fn repeats(names: &[Name]) -> bool
     false
 }
 
-/// Whether a class of the name is declared.
-fn is_declared(specs: &[ClassSpec], name: &Name) -> bool
-    ensures { result ≡ is_declared specs.now name.now }
-{
-    specs.iter().any(|spec| spec.name == *name)
-}
-
 // ---- BadClass
-
-/// Whether the table of a class has the name.
-fn is_named(own: &Option<Name>, name: &Name) -> bool
-    ensures { result ≡ is_named own.now name.now }
-{
-    match own {
-        Some(own) => *own == *name,
-        None => false,
-    }
-}
-
-/// Whether the table of a class has the name.
-fn some_named(specs: &[ClassSpec], name: &Name) -> bool
-    ensures { result ≡ list_any (λ spec. is_named spec.table name.now) specs.now }
-{
-    specs.iter().any(|spec| is_named(&spec.table, name))
-}
-
-/// Whether a class maps the table of the name.
-pub fn maps_name(specs: &[ClassSpec], name: &Option<Name>) -> bool
-    ensures { result ≡ maps_name specs.now name.now }
-{
-    match name {
-        Some(name) => some_named(specs, name),
-        None => false,
-    }
-}
 
 /// Whether what a class names is not declared: the class that it extends, or its table; or it names neither.
 fn misses_declaration(schema: &Schema, spec: &ClassSpec, line: &[ClassId]) -> bool
@@ -280,15 +248,6 @@ pub fn discriminator_is(classes: &Classes, root: Option<ClassId>, name: &Name) -
 
 // ---- DuplicateIdentity
 
-fn is_identity(one: &Option<Value>, other: &Option<Value>) -> bool
-    ensures { result ≡ is_identity one.now other.now }
-{
-    match (one, other) {
-        (Some(one), Some(other)) => compare(one, other).is_eq(),
-        _ => false,
-    }
-}
-
 /// Whether another class of the hierarchy has the identity.
 fn repeats_identity(
     classes: &Classes,
@@ -299,29 +258,11 @@ fn repeats_identity(
     ensures { result ≡ repeats_identity classes.now spec.now root others.now }
 {
     others.iter().enumerate().any(|(class, other)| {
-        is_identity(&other.identity, &spec.identity)
-            && same_root(root_in(line_of(classes, class)), root)
+        shares_identity(other, spec) && same_root(root_in(line_of(classes, class)), root)
     })
 }
 
 // ---- BadCascade
-
-/// The flags of a relationship; without words of its own it has save-update and merge.
-pub fn cascade_or_default(cascade: Option<Cascade>) -> Cascade
-    ensures { result ≡ cascade_or_default cascade }
-{
-    match cascade {
-        Some(cascade) => cascade,
-        None => Cascade {
-            save_update: true,
-            merge: true,
-            refresh_expire: false,
-            expunge: false,
-            delete: false,
-            delete_orphan: false,
-        },
-    }
-}
 
 /// Whether a relationship has delete-orphan without delete, or is another one than one-to-many.
 fn is_bad_cascade(relation: &RelationSpec) -> bool

@@ -6,9 +6,10 @@ ghost use Rattle.base_core.specs.declared.refusal.Refusal.TheVariants.{Memory};
 ghost use Rattle.class_layouts.specs.Columns.{attribute_at, is_attribute, is_key, keys_among, layout_of, layouts_of, table_attributes};
 
 use crate::Classes;
-use crate::columns::{columns_of, tables_on};
+use crate::columns::tables_on;
 use crate::lookup::is_shown;
 use base_core::{AttrNo, ClassId, ColumnNo, Copied, ListOf, Refusal, TableId};
+use class_blocks::columns_of;
 use class_types::Attribute;
 use schema_core::{ColumnSpec, Schema, kind_of};
 use std::alloc::Global;

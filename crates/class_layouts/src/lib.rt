@@ -7,12 +7,11 @@ mod faults;
 mod layout;
 mod lookup;
 
+pub use class_blocks::{
+    cascade_or_default, columns_of, has_class, maps_name, named_table, table_at,
+};
 pub use classes::{Classes, declare};
-pub use columns::{
-    columns_of, foreigns_of, lives_in, named_table, own_table, root_table_on, table_at, tables_on,
-};
-pub use faults::{cascade_or_default, column_of, discriminator_is, maps_name, repeats};
+pub use columns::{foreigns_of, lives_in, own_table, root_table_on, tables_on};
+pub use faults::{column_of, discriminator_is, repeats};
 pub use layout::{Layout, layouts_of, number_of};
-pub use lookup::{
-    has_class, is_shown, is_table, line_of, owner_of, place_named, place_of, root_in,
-};
+pub use lookup::{is_shown, is_table, line_of, owner_of, place_named, place_of, root_in};

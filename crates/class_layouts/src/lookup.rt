@@ -1,14 +1,15 @@
 //! Lines of classes, and which class owns a column.
 
-ghost use Rattle.std.specs.Prelude.{◌≡◌, ◌<◌, ◌==◌, length, IfSome};
-ghost use Rattle.std.specs.List.{enumerate_from, list_any, position};
-ghost use Rattle.schema_core.specs.Catalog.{has_name, same_name};
-ghost use Rattle.class_layouts.specs.Hierarchy.{has_class, line_at, line_of, place_named, place_of, relations_at, root_in, same_root};
-ghost use Rattle.class_layouts.specs.Columns.{is_above, is_owner, is_shown, is_table, owner_of};
+ghost use Rattle.std.specs.Prelude.{◌≡◌, ◌<◌, length, IfSome};
+ghost use Rattle.std.specs.List.{enumerate_from, position};
+ghost use Rattle.schema_core.specs.Catalog.{same_name};
+ghost use Rattle.class_layouts.specs.Hierarchy.{line_at, line_of, place_named, place_of, relations_at, root_in, same_root};
+ghost use Rattle.class_layouts.specs.Columns.{is_owner, is_shown, is_table, owner_of};
 
 use crate::Classes;
 use crate::columns::lives_in;
 use base_core::{ClassId, Name, TableId};
+use class_blocks::{has_name, is_above};
 use class_types::{ClassSpec, RelationSpec};
 use schema_core::Schema;
 
@@ -61,13 +62,6 @@ pub fn relations_at(classes: &Classes, class: usize) -> &[RelationSpec]
     }
 }
 
-/// Whether a class stands in the line.
-pub fn has_class(line: &[ClassId], class: usize) -> bool
-    ensures { result ≡ has_class line.now class }
-{
-    line.iter().any(|other| other.0 as usize == class)
-}
-
 /// The root of a line.
 pub fn root_in(line: &[ClassId]) -> Option<ClassId>
     ensures { result ≡ root_in line.now }
@@ -82,13 +76,6 @@ pub(crate) fn same_root(one: Option<ClassId>, other: Option<ClassId>) -> bool
         (Some(one), Some(other)) => one.0 == other.0,
         _ => false,
     }
-}
-
-/// Whether a name is in the list.
-pub(crate) fn has_name(names: &[Name], name: &Name) -> bool
-    ensures { result ≡ has_name names.now name.now }
-{
-    names.iter().any(|other| *other == *name)
 }
 
 /// Whether a table is the one that was found.
@@ -145,8 +132,5 @@ pub fn is_shown(
 ) -> bool
     ensures { result ≡ is_shown schema.now.tables classes.now line.now table name.now }
 {
-    match owner_of(schema, classes, root_in(line), table, name) {
-        Some(owner) => has_class(line, owner),
-        None => true,
-    }
+    is_above(owner_of(schema, classes, root_in(line), table, name), line)
 }

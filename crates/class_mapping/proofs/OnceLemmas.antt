@@ -15,7 +15,7 @@ use Rattle.class_types.specs.declared.mapped.Relation.{Relation}
 use Rattle.class_layouts.specs.declared.classes.Classes.{Classes}
 use Rattle.class_layouts.specs.declared.layout.Layout.{Layout}
 use Rattle.class_layouts.specs.Hierarchy.{has_class, line_of, relations_in}
-use Rattle.class_sides.specs.declared.side.Side.{Side}
+use Rattle.class_blocks.specs.declared.side.Side.{Side}
 use Rattle.class_sides.specs.Sides.{side_of, sides_at}
 use Rattle.class_sides.specs.Pairs.{differs, is_class, is_target_in, same_side}
 use Rattle.class_sides.specs.Linking as linking

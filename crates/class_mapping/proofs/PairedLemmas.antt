@@ -14,7 +14,7 @@ use Rattle.class_layouts.specs.declared.classes.Classes.{Classes}
 use Rattle.class_layouts.specs.Columns.{layouts_of}
 use Rattle.class_layouts.specs.Faults.{is_bad_cascade}
 use Rattle.class_layouts.specs.Hierarchy.{has_class, line_of, root_in}
-use Rattle.class_sides.specs.declared.side.Side.{Side}
+use Rattle.class_blocks.specs.declared.side.Side.{Side}
 use Rattle.class_sides.specs.Keys.{same_key}
 use Rattle.class_sides.specs.Pairs.{differ, is_plain, is_target_in}
 use Rattle.class_sides.specs.Linking as linking

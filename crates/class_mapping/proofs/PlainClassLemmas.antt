@@ -27,7 +27,7 @@ use Rattle.class_layouts.specs.Columns.{layouts_of, named_table, own_table, tabl
 use Rattle.class_layouts.specs.Declaring.{declared_unless}
 use Rattle.class_layouts.specs.Faults.{class_fault, first_fault, is_declared, maps_name, misses_declaration, names_on}
 use Rattle.class_layouts.specs.Hierarchy.{line_of, line_or_none, new_line, no_class, root_in, with_class}
-use Rattle.class_sides.specs.declared.side.Side.{Side}
+use Rattle.class_blocks.specs.declared.side.Side.{Side}
 use Rattle.class_sides.specs.Sides.{side_of, sides_at}
 use Rattle.class_sides.specs.Linking as linking
 use Rattle.class_mapping.specs.Mapped.{IsClass, Mapped, before_last, class_or, list_or_none, relations_of, root_of, root_table, table_or_none}

@@ -19,7 +19,7 @@ use Rattle.class_layouts.specs.declared.layout.Layout.{Layout}
 use Rattle.class_layouts.specs.Columns.{columns_in, is_table, named_table}
 use Rattle.class_layouts.specs.Faults.{cascade_or_default, foreigns_in, is_bad_cascade, maps_name}
 use Rattle.class_layouts.specs.Hierarchy.{has_class, line_of}
-use Rattle.class_sides.specs.declared.side.Side.{Side}
+use Rattle.class_blocks.specs.declared.side.Side.{Side}
 use Rattle.class_sides.specs.Keys.{TableKey}
 use Rattle.class_sides.specs.Sides.{Ends, ends_in, is_all_keys, layout_at, target_of}
 use Rattle.class_sides.specs.Pairs.{is_partner, is_plain, join_of, same_secondary, same_side}

@@ -18,7 +18,7 @@ use Rattle.class_layouts.specs.declared.classes.Classes.{Classes}
 use Rattle.class_layouts.specs.declared.layout.Layout.{Layout}
 use Rattle.class_layouts.specs.Columns.{layout_of as layout_on, layouts_of}
 use Rattle.class_layouts.specs.Hierarchy.{has_class, line_of, line_or_none, no_class, place_of, relations_at, relations_in}
-use Rattle.class_sides.specs.declared.side.Side.{Side}
+use Rattle.class_blocks.specs.declared.side.Side.{Side}
 use Rattle.class_sides.specs.Sides.{layout_at, side_of, sides_at, sides_of}
 use Rattle.class_sides.specs.Pairs.{differs, gives_name, is_class, is_opposite, is_partner, is_taken_in, is_target_in, same_secondary, same_side}
 use Rattle.class_sides.specs.Linking as linking

@@ -20,7 +20,7 @@ use Rattle.class_layouts.specs.Columns.{is_table, layouts_of, named_table}
 use Rattle.class_layouts.specs.Faults.{is_bad_cascade}
 use Rattle.class_layouts.specs.declared.layout.Layout.{Layout}
 use Rattle.class_layouts.specs.Hierarchy.{has_class, line_of}
-use Rattle.class_sides.specs.declared.side.Side.{Side}
+use Rattle.class_blocks.specs.declared.side.Side.{Side}
 use Rattle.class_sides.specs.Keys.{TableKey, allows, names_of, same_key}
 use Rattle.class_sides.specs.Sides.{Ends, candidates, layout_at}
 use Rattle.class_sides.specs.Pairs.{differ, fits, fits_mutual, is_of_target, is_partner, is_plain, is_served_by, join_of, leads_to, mutual_of, names_each_other, overlaps, same_secondary, shares}

@@ -20,7 +20,7 @@ use Rattle.class_layouts.specs.declared.layout.Layout.{Layout}
 use Rattle.class_layouts.specs.Hierarchy.{line_of}
 use Rattle.class_layouts.specs.Columns.{columns_in, is_table, named_table}
 use Rattle.class_layouts.specs.Faults.{foreigns_in, is_bad_cascade, maps_name}
-use Rattle.class_sides.specs.declared.side.Side.{Side}
+use Rattle.class_blocks.specs.declared.side.Side.{Side}
 use Rattle.class_sides.specs.Keys.{allows, columns_at, is_inherited, is_tied, refers_into}
 use Rattle.class_sides.specs.Sides.{Ends, candidates, ends_among, ends_by, ends_in, has_attribute, is_all_keys, key_at, layout_at, serves, side_of, sides_at, sides_of, table_candidates, target_of}
 use Rattle.class_sides.specs.Pairs.{differs, fits, is_partner, is_plain, is_taken_in, join_of, lacks_join}

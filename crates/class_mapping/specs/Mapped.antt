@@ -12,6 +12,7 @@ use Rattle.schema_core.specs.Catalog.{Catalog, same_name, spec_of}
 use Rattle.class_types.specs.declared.declared.ClassSpec.{ClassSpec}
 use Rattle.class_types.specs.declared.mapped.Attribute.{Attribute}
 use Rattle.class_types.specs.declared.mapped.Relation.{Relation}
+use Rattle.class_blocks.specs.Validators as blocks
 use Rattle.class_layouts.specs.declared.classes.Classes.{Classes}
 use Rattle.class_layouts.specs.declared.layout.Layout.{Layout}
 use Rattle.class_layouts.specs.Hierarchy as hierarchy
@@ -125,20 +126,8 @@ relations_of mapped class = list_or_none (slice_get (linking.relations_of mapped
 abbrev pub partner_of : Mapped → Relation → Option Relation
 partner_of mapped relation = slice_get (relations_of mapped relation.target) relation.partner.0
 
-abbrev pub validators_in : Option ClassSpec → List (List ℕ × List ℕ)
-validators_in None = []
-validators_in (Some spec) = spec.validators
-
--- the validators of a class's own block: attributes, each with the name of its validator
-abbrev pub validators_at : Classes → ℕ → List (List ℕ × List ℕ)
-validators_at classes class = validators_in (slice_get classes.specs class)
-
--- those of the class of a line, from its root's on and in order of declaration
-abbrev pub validators_on : Classes → List ClassId → List (List ℕ × List ℕ)
-validators_on classes line = flat_map (λ class. validators_at classes class.0) line
-
 abbrev pub all_validators : Classes → List (List (List ℕ × List ℕ))
-all_validators classes = map (validators_on classes) classes.lines
+all_validators classes = blocks.all_validators classes.specs classes.lines
 
 abbrev pub validators_or_none : Option (List (List ℕ × List ℕ)) → List (List ℕ × List ℕ)
 validators_or_none None = []

@@ -1,28 +1,14 @@
--- Root classes over a table, without a discriminator and without lines.
-use Rattle.std.specs.Prelude.{ℕ, Bool, true, false, ◌&&◌, ◌||◌, List, [], ◌∷◌, map, filter, Option, None, Some, is_some, is_none, if◌then◌else◌}
-use Rattle.std.specs.List.{enumerate_from, list_all}
+-- Root classes over a table, without a discriminator and without lines: what such a class has.
+use Rattle.std.specs.Prelude.{ℕ, Bool, ◌||◌, List, [], ◌∷◌, map, filter, is_some, is_none}
+use Rattle.std.specs.List.{enumerate_from}
 use Rattle.base_core.specs.declared.ids.AttrNo.{AttrNo}
 use Rattle.base_core.specs.declared.ids.ClassId.{ClassId}
-use Rattle.base_core.specs.declared.ids.TableId.{TableId}
-use Rattle.base_core.specs.declared.refusal.ArgumentKind.{ArgumentKind}
-use Rattle.base_core.specs.declared.refusal.ArgumentKind.TheVariants.{DuplicateName, BadClass}
 use Rattle.schema_core.specs.declared.table.ColumnSpec.{ColumnSpec}
 use Rattle.schema_core.specs.declared.table.TableSpec.{TableSpec}
-use Rattle.schema_core.specs.Catalog.{same_name}
-use Rattle.schema_core.specs.Declaration.{some_two}
 use Rattle.class_types.specs.declared.declared.ClassSpec.{ClassSpec}
-use Rattle.class_layouts.specs.Columns.{columns_in, named_table}
-use Rattle.class_layouts.specs.Faults.{is_declared, maps_name}
-
-abbrev pub is_empty : {A : Type 0} → List A → Bool
-is_empty [] = true
-is_empty (x ∷ xs) = false
-
--- the declaration is a root class over a table, without a discriminator and without lines
-abbrev pub is_plain_root : ClassSpec → Bool
-is_plain_root spec =
-    is_none spec.base && is_some spec.table && is_none spec.discriminator && is_none spec.identity
-    && is_empty spec.owned && is_empty spec.relations && is_empty spec.validators
+use Rattle.class_blocks.specs.Tables.{named_table}
+pub use Rattle.class_blocks.specs.Plain.{is_empty, is_plain_root, repeats_column, repeats_in}
+unfoldable pub use Rattle.class_blocks.specs.Plain.{early_fault, plain_fault}
 
 -- the line of such a class is the class alone
 abbrev pub alone : ℕ × ClassSpec → List ClassId
@@ -41,24 +27,3 @@ attr_at placed = record { 0 = placed.0 }
 -- which columns of a table are those of its key, in order
 abbrev pub key_places : List ColumnSpec → List AttrNo
 key_places columns = map attr_at (filter (λ placed. placed.1.key) (enumerate_from 0 columns))
-
--- ---- why such a class is not taken
-
--- two of the columns have one name
-abbrev pub repeats_column : List ColumnSpec → Bool
-repeats_column columns = some_two (λ one other. same_name one.name other.name) columns
-
-abbrev pub repeats_in : List TableSpec → Option TableId → Bool
-repeats_in tables None = false
-repeats_in tables (Some table) = repeats_column (columns_in tables table)
-
--- why such a class is not taken beside other such classes
-unfoldable pub plain_fault : List TableSpec → List ClassSpec → ClassSpec → Option ArgumentKind
-plain_fault tables specs spec =
-    if is_declared specs spec.name || repeats_in tables (named_table tables spec.table) then Some DuplicateName
-    else if is_none (named_table tables spec.table) || maps_name specs spec.table then Some BadClass
-    else None
-
--- what is told before memory is taken: the fault of such a class beside other such classes
-unfoldable pub early_fault : List TableSpec → List ClassSpec → ClassSpec → Option ArgumentKind
-early_fault tables specs spec = if list_all is_plain_root specs && is_plain_root spec then plain_fault tables specs spec else None

@@ -11,7 +11,7 @@ use Rattle.class_layouts.specs.declared.layout.Layout.{Layout}
 use Rattle.class_layouts.specs.Hierarchy.{line_of}
 use Rattle.class_layouts.specs.Columns.{columns_in, is_table, named_table}
 use Rattle.class_layouts.specs.Faults.{foreigns_in, is_bad_cascade}
-use Rattle.class_sides.specs.declared.side.Side.{Side}
+use Rattle.class_blocks.specs.declared.side.Side.{Side}
 use Rattle.class_sides.specs.Keys.{TableKey, foreign_at, is_tied, names_of, refers_into}
 use Rattle.class_sides.specs.Sides.{Ends, has_attribute, is_all_keys, layout_at}
 use Rattle.class_sides.specs.Pairs.{differs, is_partner, is_plain, join_of, overlaps}

@@ -3,9 +3,7 @@
 
 mod lookup;
 mod mapping;
-mod plain;
-mod validators;
 
+pub use class_blocks::is_plain_root;
 pub use class_types::{Attribute, Cascade, ClassSpec, Relation, RelationSpec};
 pub use mapping::Mapping;
-pub use plain::is_plain_root;

@@ -21,9 +21,8 @@ ghost use Rattle.class_mapping.specs.Related.{AreRelated};
 ghost use Rattle.class_mapping.specs.Declaring.{configured_mapping, configure, declare_class, declare_table, with_class, with_table};
 
 use crate::lookup::{before_last, class_or, table_or_none};
-use crate::plain::early_fault;
-use crate::validators::all_validators;
 use base_core::{ArgumentKind, AttrNo, ClassId, ListOf, Name, Refusal, TableId};
+use class_blocks::{all_validators, early_fault};
 use class_faults::fault_among;
 use class_layouts::{Classes, Layout, declare, layouts_of, line_of, own_table, place_of, root_in};
 use class_sides::{relations_by, sides_of};
@@ -95,7 +94,7 @@ fn check_all(alloc: Global, schema: &Schema, classes: &Classes) -> Result<Findin
     let layouts = layouts_of(alloc, schema, classes)?;
     let sides = sides_of(alloc, schema, classes, layouts.as_slice())?;
     let relations = relations_by(alloc, schema, classes, sides.as_slice())?;
-    let validators = all_validators(alloc, classes)?;
+    let validators = all_validators(alloc, classes.specs.as_slice(), classes.lines.as_slice())?;
     let fault = fault_among(schema, classes, layouts.as_slice(), sides.as_slice());
     Ok(Findings {
         fault,

@@ -1,12 +1,13 @@
 -- The foreign keys of tables, and which of them tie the tables of one hierarchy.
 use Rattle.std.specs.Prelude.{ℕ, zero, suc, Bool, true, false, ◌&&◌, ◌||◌, List, [], ◌∷◌, filter, slice_get, ◌==◌, Option, None, Some}
-use Rattle.std.specs.List.{list_all, list_any}
+use Rattle.std.specs.List.{list_any}
 use Rattle.std.specs.Cmp.Lexicographic.{pointwise}
 use Rattle.base_core.specs.declared.ids.TableId.{TableId}
 use Rattle.schema_core.specs.declared.table.ColumnSpec.{ColumnSpec}
 use Rattle.schema_core.specs.declared.table.ForeignSpec.{ForeignSpec}
 use Rattle.schema_core.specs.declared.table.TableSpec.{TableSpec}
-use Rattle.schema_core.specs.Catalog.{find_table, has_name, same_name}
+use Rattle.schema_core.specs.Catalog.{find_table, same_name}
+pub use Rattle.class_blocks.specs.Names.{allows, same_names}
 use Rattle.class_layouts.specs.Columns.{columns_in, is_table}
 use Rattle.class_layouts.specs.Faults.{foreigns_in}
 
@@ -44,14 +45,6 @@ is_whole_key columns names = pointwise (λ name column. same_name name column.na
 -- a foreign key of this table ties it to the parent's: its columns are the table's key
 abbrev pub ties : List TableSpec → TableId → TableId → ForeignSpec → Bool
 ties tables parent table foreign = is_whole_key (columns_in tables table) foreign.columns && refers_to tables foreign parent
-
-abbrev pub same_names : List (List ℕ) → List (List ℕ) → Bool
-same_names one other = list_all (has_name other) one && list_all (has_name one) other
-
--- the names are left open, or are these in any order
-abbrev pub allows : List (List ℕ) → List (List ℕ) → Bool
-allows [] names = true
-allows (first ∷ more) names = same_names (first ∷ more) names
 
 -- the table before a rank
 abbrev pub before_rank : List TableId → ℕ → Option TableId

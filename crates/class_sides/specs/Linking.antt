@@ -10,27 +10,13 @@ use Rattle.class_types.specs.declared.mapped.Relation.{Relation}
 use Rattle.class_layouts.specs.declared.classes.Classes.{Classes}
 use Rattle.class_layouts.specs.Columns.{layouts_of}
 use Rattle.class_layouts.specs.Faults.{cascade_or_default, default_cascade}
-use Rattle.class_sides.specs.declared.side.Side.{Side}
+use Rattle.class_blocks.specs.declared.side.Side.{Side}
+pub use Rattle.class_blocks.specs.Sides.{is_own, makes_back, names_at, names_on}
 use Rattle.class_sides.specs.Keys.{TableKey}
 use Rattle.class_sides.specs.Sides.{Ends, sides_of}
 use Rattle.class_sides.specs.Pairs.{is_class, is_partner, is_plain, join_of, same_side}
 
 -- ---- the names of a class's relationships, which tell a partner's place
-
--- the relationships of a class's own block
-abbrev pub is_own : ClassId → Side → Bool
-is_own class side = side.class.0 == class.0
-
--- the declarations that make a backref at a class
-abbrev pub makes_back : ClassId → Side → Bool
-makes_back class side = side.spec.backref && is_class side.target class
-
-abbrev pub names_at : List Side → ClassId → List (List ℕ)
-names_at sides class = map (λ side. side.spec.name) (filter (is_own class) sides) ++ map (λ side. side.spec.partner) (filter (makes_back class) sides)
-
--- the names of the relationships of the class of a line: of each class its own, and then its backrefs
-abbrev pub names_on : List Side → List ClassId → List (List ℕ)
-names_on sides line = flat_map (names_at sides) line
 
 abbrev pub all_names : Classes → List Side → List (List (List ℕ))
 all_names classes sides = map (names_on sides) classes.lines

@@ -9,7 +9,9 @@ use Rattle.class_layouts.specs.declared.classes.Classes.{Classes}
 use Rattle.class_layouts.specs.declared.layout.Layout.{Layout}
 use Rattle.class_layouts.specs.Hierarchy.{has_class, line_of}
 use Rattle.class_layouts.specs.Faults.{cascade_or_default, default_cascade}
-use Rattle.class_sides.specs.declared.side.Side.{Side}
+use Rattle.class_blocks.specs.declared.side.Side.{Side}
+use Rattle.class_blocks.specs.Sides as blocks
+pub use Rattle.class_blocks.specs.Sides.{is_class}
 use Rattle.class_sides.specs.Keys.{TableKey, allows, names_of, same_key}
 
 -- a side has no secondary table
@@ -20,16 +22,14 @@ is_plain side = is_none side.spec.secondary
 
 -- the class stands in the line of the target
 abbrev pub is_of_target : Classes → Option ClassId → ClassId → Bool
-is_of_target classes None class = false
-is_of_target classes (Some target) class = has_class (line_of classes target.0) class.0
+is_of_target classes target class = blocks.is_of_target classes.lines target class
 
 -- the partner that the one names is the other
 abbrev pub leads_to : Classes → Side → Side → Bool
-leads_to classes one other = is_of_target classes one.target other.class && same_name other.spec.name one.spec.partner
+leads_to classes one other = blocks.leads_to classes.lines one other
 
 abbrev pub names_each_other : Classes → Side → Side → Bool
-names_each_other classes one other =
-    not one.spec.backref && not other.spec.backref && leads_to classes one other && leads_to classes other one
+names_each_other classes one other = blocks.names_each_other classes.lines one other
 
 -- the declared relationship that a side and it name each other
 abbrev pub mutual_of : Classes → List Side → Side → Option Side
@@ -75,10 +75,6 @@ abbrev pub overlaps : List TableSpec → Classes → List Side → Side → Side
 overlaps tables classes sides later one = not (names_each_other classes one later) && shares tables classes sides one later
 
 -- ---- PartnerDiffers
-
-abbrev pub is_class : Option ClassId → ClassId → Bool
-is_class None class = false
-is_class (Some found) class = found.0 == class.0
 
 abbrev pub differ : Bool → Bool → Bool
 differ true other = not other

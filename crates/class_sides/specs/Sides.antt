@@ -16,7 +16,7 @@ use Rattle.class_layouts.specs.declared.layout.Layout.{Layout}
 use Rattle.class_layouts.specs.Hierarchy.{place_of}
 use Rattle.class_layouts.specs.Columns.{columns_in, named_table}
 use Rattle.class_layouts.specs.Faults.{foreigns_in, maps_name}
-use Rattle.class_sides.specs.declared.side.Side.{Side}
+use Rattle.class_blocks.specs.declared.side.Side.{Side}
 use Rattle.class_sides.specs.Keys.{TableKey, allows, is_inherited, refers_into}
 
 -- the class to which a relationship leads

@@ -7,8 +7,9 @@ ghost use Rattle.schema_core.specs.Catalog.{same_name};
 ghost use Rattle.base_core.specs.declared.refusal.Refusal.TheVariants.{Memory};
 ghost use Rattle.class_sides.specs.Sides.{candidates, candidates_of, has_attribute, layout_at, serves, table_candidates};
 
-use crate::keys::{TableKey, allows, is_inherited, refers_into};
+use crate::keys::{is_inherited, refers_into};
 use base_core::{ClassId, ListOf, Name, Refusal, TableId};
+use class_blocks::{TableKey, allows};
 use class_layouts::{Layout, foreigns_of, number_of};
 use class_types::{Attribute, RelationSpec};
 use schema_core::{ForeignSpec, Schema};

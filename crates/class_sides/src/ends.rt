@@ -6,14 +6,12 @@ ghost use Rattle.schema_core.specs.Catalog.{has_name};
 ghost use Rattle.class_sides.specs.Sides.{ends_among, ends_by, ends_in, ends_of, is_all_keys, layout_at};
 
 use crate::candidates::layout_at;
-use crate::keys::{TableKey, has_name, refers_into};
+use crate::keys::refers_into;
 use base_core::{ClassId, Name, TableId};
+use class_blocks::{Ends, has_name};
 use class_layouts::{Layout, columns_of, foreigns_of, maps_name, named_table};
 use class_types::ClassSpec;
 use schema_core::{ColumnSpec, ForeignSpec, Schema};
-
-/// A secondary table's key to the near side, and its key to the far side.
-pub type Ends = (TableKey, TableKey);
 
 /// Whether a foreign key has the column.
 fn some_foreign_has(foreigns: &[ForeignSpec], name: &Name) -> bool

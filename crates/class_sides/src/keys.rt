@@ -1,17 +1,15 @@
 //! The foreign keys of tables.
 
 ghost use Rattle.std.specs.Prelude.{◌≡◌, ◌&&◌, filter};
-ghost use Rattle.std.specs.List.{list_all, list_any};
+ghost use Rattle.std.specs.List.{list_any};
 ghost use Rattle.std.specs.Cmp.Lexicographic.{pointwise};
-ghost use Rattle.schema_core.specs.Catalog.{has_name, same_name};
-ghost use Rattle.class_sides.specs.Keys.{allows, before_rank, is_inherited, is_tied, is_whole_key, names_of, refers_into, refers_to, same_key, same_names, ties, ties_to};
+ghost use Rattle.schema_core.specs.Catalog.{same_name};
+ghost use Rattle.class_sides.specs.Keys.{before_rank, is_inherited, is_tied, is_whole_key, names_of, refers_into, refers_to, same_key, ties, ties_to};
 
 use base_core::{Name, TableId};
+use class_blocks::TableKey;
 use class_layouts::{columns_of, foreigns_of, is_table};
 use schema_core::{ColumnSpec, ForeignSpec, Schema};
-
-/// A foreign key: its table, and its number there.
-pub type TableKey = (TableId, u32);
 
 pub fn same_key(one: TableKey, other: TableKey) -> bool
     ensures { result ≡ same_key one other }
@@ -112,25 +110,4 @@ pub fn is_tied(schema: &Schema, found: &[TableId], rank: usize, table: TableId) 
     ensures { result ≡ is_tied schema.now.tables found.now (rank, table) }
 {
     rank == 0 || some_inherited(schema, found, rank, table, foreigns_of(schema, table))
-}
-
-/// Whether a name is in the list.
-pub fn has_name(names: &[Name], name: &Name) -> bool
-    ensures { result ≡ has_name names.now name.now }
-{
-    names.iter().any(|other| *other == *name)
-}
-
-/// Whether each name of one list is in the other.
-fn all_in(names: &[Name], others: &[Name]) -> bool
-    ensures { result ≡ list_all (has_name others.now) names.now }
-{
-    names.iter().all(|name| has_name(others, name))
-}
-
-/// Whether the names are left open, or are these in any order.
-pub fn allows(named: &[Name], names: &[Name]) -> bool
-    ensures { result ≡ allows named.now names.now }
-{
-    named.is_empty() || (all_in(named, names) && all_in(names, named))
 }

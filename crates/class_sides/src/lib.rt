@@ -10,8 +10,9 @@ mod pairs;
 mod partners;
 mod side;
 
-pub use keys::{TableKey, has_name, is_tied, names_of};
+pub use class_blocks::{Side, TableKey, has_name};
+pub use keys::{is_tied, names_of};
 pub use linking::relations_by;
 pub use pairs::{has_two_joins, is_plain, join_of, lacks_join, some_overlap};
 pub use partners::{differs, many_cascade};
-pub use side::{Side, sides_of};
+pub use side::sides_of;

@@ -5,87 +5,20 @@ ghost use Rattle.std.specs.Option.{option_copied};
 ghost use Rattle.std.specs.List.{flat_map, position};
 ghost use Rattle.schema_core.specs.Catalog.{same_name};
 ghost use Rattle.base_core.specs.declared.refusal.Refusal.TheVariants.{Memory};
+ghost use Rattle.class_blocks.specs.Sides.{is_own, makes_back, names_on};
 ghost use Rattle.class_sides.specs.Pairs.{is_plain};
-ghost use Rattle.class_sides.specs.Linking.{all_names, back_relation, class_or, ends_from, ends_on, far_key, far_or, is_own, is_same_pair, key_or_none, makes_back, names_at, names_on, near_key, near_or, own_relation, place_in, place_or_none, relations_at, relations_by, relations_on, swapped_ends};
+ghost use Rattle.class_sides.specs.Linking.{all_names, back_relation, class_or, ends_from, ends_on, far_key, far_or, is_same_pair, key_or_none, near_key, near_or, own_relation, place_in, place_or_none, relations_at, relations_by, relations_on, swapped_ends};
 
-use crate::Side;
-use crate::ends::Ends;
-use crate::keys::TableKey;
 use crate::pairs::{is_plain, join_of};
-use crate::partners::{is_class, is_partner, same_side};
+use crate::partners::{is_partner, same_side};
 use base_core::{ClassId, Copied, ListOf, Name, Refusal, RelNo, TableId};
-use class_layouts::{Classes, cascade_or_default, number_of};
+use class_blocks::{Ends, Side, TableKey, cascade_or_default, is_own, makes_back, names_on};
+use class_layouts::{Classes, number_of};
 use class_types::Relation;
 use schema_core::Schema;
 use std::alloc::Global;
 
 // ---- the names of a class's relationships
-
-/// Whether a relationship is of a class's own block.
-fn is_own(class: ClassId, side: &Side) -> bool
-    ensures { result ≡ is_own class side.now }
-{
-    side.class.0 == class.0
-}
-
-/// Whether a declaration makes a backref at a class.
-fn makes_back(class: ClassId, side: &Side) -> bool
-    ensures { result ≡ makes_back class side.now }
-{
-    side.spec.backref && is_class(side.target, class)
-}
-
-#[tactic(auto, using(class_layouts::proofs::Steps::steps))]
-/// The names of a class's own relationships go behind others.
-fn push_own_names(names: &mut ListOf<Name>, sides: &[Side], class: ClassId) -> Result<(), Refusal>
-    ensures ok { OnOk result (names.new
-        ≡ names.old ++ map (λ side. side.spec.name) (filter (is_own class) sides.now)) }
-    ensures err { IfErr result (λ e. e ≡ Memory) }
-{
-    for side in sides {
-        if is_own(class, side) {
-            names.push(side.spec.name.copied()?)?;
-        }
-    }
-    Ok(())
-}
-
-#[tactic(auto, using(class_layouts::proofs::Steps::steps))]
-/// The names of a class's backrefs go behind others.
-fn push_back_names(names: &mut ListOf<Name>, sides: &[Side], class: ClassId) -> Result<(), Refusal>
-    ensures ok { OnOk result (names.new
-        ≡ names.old ++ map (λ side. side.spec.partner) (filter (makes_back class) sides.now)) }
-    ensures err { IfErr result (λ e. e ≡ Memory) }
-{
-    for side in sides {
-        if makes_back(class, side) {
-            names.push(side.spec.partner.copied()?)?;
-        }
-    }
-    Ok(())
-}
-
-/// The names of the relationships of a class's own block, and then of its backrefs, go behind others.
-fn push_names(names: &mut ListOf<Name>, sides: &[Side], class: ClassId) -> Result<(), Refusal>
-    ensures ok { OnOk result (names.new ≡ names.old ++ names_at sides.now class) }
-    ensures err { IfErr result (λ e. e ≡ Memory) }
-{
-    push_own_names(names, sides, class)?;
-    push_back_names(names, sides, class)
-}
-
-#[tactic(auto, using(class_layouts::proofs::Steps::steps))]
-/// The names of the relationships of the class of a line.
-fn names_on(alloc: Global, sides: &[Side], line: &[ClassId]) -> Result<ListOf<Name>, Refusal>
-    ensures ok { IfOk result (λ names. names ≡ names_on sides.now line.now) }
-    ensures err { IfErr result (λ e. e ≡ Memory) }
-{
-    let mut names = ListOf::new(alloc);
-    for class in line {
-        push_names(&mut names, sides, *class)?;
-    }
-    Ok(names)
-}
 
 /// The names of the relationships of each class.
 fn all_names(

@@ -5,12 +5,12 @@ ghost use Rattle.std.specs.Option.{option_copied};
 ghost use Rattle.std.specs.List.{list_any};
 ghost use Rattle.schema_core.specs.Declaration.{some_two};
 ghost use Rattle.class_sides.specs.Keys.{same_key};
-ghost use Rattle.class_sides.specs.Pairs.{fits, has_two_joins, is_of_target, is_plain, is_served_by, join_of, lacks_join, leads_to, mutual_of, names_each_other, overlaps, same_secondary, shares};
+ghost use Rattle.class_sides.specs.Pairs.{fits, has_two_joins, is_plain, is_served_by, join_of, lacks_join, mutual_of, names_each_other, overlaps, same_secondary, shares};
 
-use crate::Side;
-use crate::keys::{TableKey, allows, names_of, same_key};
-use base_core::{ClassId, Name};
-use class_layouts::{Classes, has_class, line_of};
+use crate::keys::{names_of, same_key};
+use base_core::Name;
+use class_blocks::{Side, TableKey, allows, names_each_other};
+use class_layouts::Classes;
 use schema_core::Schema;
 
 /// Whether a side has no secondary table.
@@ -20,40 +20,18 @@ pub fn is_plain(side: &Side) -> bool
     side.spec.secondary.is_none()
 }
 
-/// Whether a class stands in the line of the target.
-fn is_of_target(classes: &Classes, target: Option<ClassId>, class: ClassId) -> bool
-    ensures { result ≡ is_of_target classes.now target class }
-{
-    match target {
-        Some(target) => has_class(line_of(classes, target.0 as usize), class.0 as usize),
-        None => false,
-    }
-}
-
-/// Whether the partner that the one names is the other.
-fn leads_to(classes: &Classes, one: &Side, other: &Side) -> bool
-    ensures { result ≡ leads_to classes.now one.now other.now }
-{
-    is_of_target(classes, one.target, other.class) && other.spec.name == one.spec.partner
-}
-
 /// Whether two declared relationships name each other.
-fn names_each_other(classes: &Classes, one: &Side, other: &Side) -> bool
+fn are_mutual(classes: &Classes, one: &Side, other: &Side) -> bool
     ensures { result ≡ names_each_other classes.now one.now other.now }
 {
-    !one.spec.backref
-        && !other.spec.backref
-        && leads_to(classes, one, other)
-        && leads_to(classes, other, one)
+    names_each_other(classes.lines.as_slice(), one, other)
 }
 
 /// The declared relationship that a side and it name each other.
 fn mutual_of<'a>(classes: &Classes, sides: &'a [Side], side: &Side) -> Option<&'a Side>
     ensures { option_copied result ≡ mutual_of classes.now sides.now side.now }
 {
-    sides
-        .iter()
-        .find(|other| names_each_other(classes, side, *other))
+    sides.iter().find(|other| are_mutual(classes, side, *other))
 }
 
 /// Whether a foreign key that can serve the side is the one that its partner names too.
@@ -195,7 +173,7 @@ fn overlaps(
     requires { join ≡ join_of schema.now.tables classes.now sides.now one.now }
     ensures { result ≡ overlaps schema.now.tables classes.now sides.now later.now one.now }
 {
-    !names_each_other(classes, one, later) && shares(schema, classes, sides, one, join, later)
+    !are_mutual(classes, one, later) && shares(schema, classes, sides, one, join, later)
 }
 
 /// Whether a side overlaps with one behind it.

@@ -4,22 +4,13 @@ ghost use Rattle.std.specs.Prelude.{◌≡◌, ◌&&◌, ◌||◌, find};
 ghost use Rattle.std.specs.Option.{option_copied};
 ghost use Rattle.std.specs.List.{enumerate_from, list_any};
 ghost use Rattle.schema_core.specs.Catalog.{same_name};
-ghost use Rattle.class_sides.specs.Pairs.{differ, differs, gives_name, is_class, is_opposite, is_partner, is_taken_in, is_target_in, many_cascade, same_side};
+ghost use Rattle.class_sides.specs.Pairs.{differ, differs, gives_name, is_opposite, is_partner, is_taken_in, is_target_in, many_cascade, same_side};
 
-use crate::Side;
 use crate::pairs::{is_plain, same_secondary};
 use base_core::{ClassId, Name};
-use class_layouts::{Classes, Layout, cascade_or_default, has_class, line_of};
+use class_blocks::{Side, cascade_or_default, has_class, is_class};
+use class_layouts::{Classes, Layout, line_of};
 use class_types::{Attribute, Cascade};
-
-pub(crate) fn is_class(found: Option<ClassId>, class: ClassId) -> bool
-    ensures { result ≡ is_class found class }
-{
-    match found {
-        Some(found) => found.0 == class.0,
-        None => false,
-    }
-}
 
 fn differ(one: bool, other: bool) -> bool
     ensures { result ≡ differ one other }

@@ -5,27 +5,13 @@ ghost use Rattle.base_core.specs.declared.refusal.Refusal.TheVariants.{Memory};
 ghost use Rattle.class_sides.specs.Sides.{side_of, sides_at, sides_of, target_of};
 
 use crate::candidates::candidates_of;
-use crate::ends::{Ends, ends_of};
-use crate::keys::TableKey;
+use crate::ends::ends_of;
 use base_core::{ClassId, Copied, ListOf, Refusal};
+use class_blocks::Side;
 use class_layouts::{Classes, Layout, number_of, place_of};
 use class_types::{ClassSpec, RelationSpec};
 use schema_core::Schema;
 use std::alloc::Global;
-
-/// A declared relationship, where it leads, and which keys can serve it.
-#[derive(Drop)]
-pub struct Side {
-    /// The class that declares it.
-    pub class: ClassId,
-    pub spec: RelationSpec,
-    /// The class to which it leads, if it is declared.
-    pub target: Option<ClassId>,
-    /// Without a secondary table: the foreign keys that can serve it.
-    pub candidates: ListOf<TableKey>,
-    /// With a secondary table: its two keys.
-    pub ends: Option<Ends>,
-}
 
 /// The class to which a relationship leads, if it is declared.
 fn target_of(specs: &[ClassSpec], relation: &RelationSpec) -> Result<Option<ClassId>, Refusal>

@@ -21,7 +21,7 @@ use Rattle.class_layouts.specs.declared.layout.Layout.{Layout}
 use Rattle.class_layouts.specs.Hierarchy.{line_of}
 use Rattle.class_layouts.specs.Columns.{columns_in}
 use Rattle.class_layouts.specs.Faults.{foreigns_in, foreigns_of}
-use Rattle.class_sides.specs.declared.side.Side.{Side}
+use Rattle.class_blocks.specs.declared.side.Side.{Side}
 use Rattle.class_sides.specs.Keys.{TableKey, columns_at}
 use Rattle.class_sides.specs.Linking.{ends_on, key_or_none, near_key, near_or}
 use Rattle.class_sides.specs.Pairs.{is_plain, join_of}

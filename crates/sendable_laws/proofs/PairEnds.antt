@@ -16,7 +16,7 @@ use Rattle.class_layouts.specs.declared.layout.Layout.{Layout}
 use Rattle.class_layouts.specs.Columns.{columns_in, layouts_of, named_table}
 use Rattle.class_layouts.specs.Faults.{foreigns_in, maps_name}
 use Rattle.class_layouts.specs.Hierarchy.{has_class, line_of, line_or_none}
-use Rattle.class_sides.specs.declared.side.Side.{Side}
+use Rattle.class_blocks.specs.declared.side.Side.{Side}
 use Rattle.class_sides.specs.Keys.{TableKey, refers_into}
 use Rattle.class_sides.specs.Linking as linking
 use Rattle.class_sides.specs.Linking.{back_relation, ends_from, ends_on, far_key, far_or, is_own, is_same_pair, key_or_none, makes_back, near_key, near_or, own_relation, swapped_ends}

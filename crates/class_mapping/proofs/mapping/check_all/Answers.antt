@@ -1,6 +1,6 @@
 use Rattle.std.proofs.Common.{◌∙◌, List, ap}
 use Rattle.class_layouts.specs.declared.layout.Layout.{Layout}
-use Rattle.class_sides.specs.declared.side.Side.{Side}
+use Rattle.class_blocks.specs.declared.side.Side.{Side}
 use Rattle.class_sides.specs.Sides.{sides_of}
 use Rattle.class_sides.specs.Linking.{relations_by}
 use Rattle.class_mapping.proofs.mapping.check_all.Goals as goal
