@@ -1,103 +1,21 @@
 //! A statement on rows, done on tables that are lists.
 
 ghost use Rattle.std.specs.Prelude.{◌≡◌, ◌+ℤ◌, pos, if◌then◌else◌, [], ◌∷◌, IfOk};
-ghost use Rattle.std.specs.Option.{option_copied};
-ghost use Rattle.schema_core.specs.Tables.{row_under, rows_in, with_row, with_rows};
 ghost use Rattle.std.specs.List.{list_any};
 ghost use Rattle.std.specs.Ordering.{int_eq};
 ghost use Rattle.schema_core.specs.Apply.{apply, delete_row, entries_of, entry_of, insert_rows, is_demanded, key_after, keys_of_entries, next_key, table_of, update_row, wants_key, with_own_key};
 ghost use Rattle.schema_core.specs.Catalog.{spec_of, IsTable};
-ghost use Rattle.schema_core.specs.Judged.{change_all, lacks_value, remove_all, with_all, without_all, write_all};
+ghost use Rattle.schema_core.specs.Judged.{change_all, lacks_value, remove_all, write_all};
 ghost use Rattle.schema_core.specs.Told.{Told};
 
-use crate::cells::{has_null, key_of, lacks_value, some_lacks, with_cells, with_key};
-use crate::entries::{copy_of, value_of, with_entry, without_entry};
 use crate::judging::{some_loses_row, some_repeats, some_written_dangles};
 use base_core::{ColumnNo, Copied, Key, KeyList, ListOf, RowValues, TableId, Value};
+use plain_rows::{
+    PlainRows, PlainTables, has_null, key_of, lacks_value, row_under, rows_in, some_lacks,
+    with_all, with_cells, with_first, with_key, with_row, with_rows, without_all,
+};
 use schema_core::{ColumnSpec, RowStmt, Schema, Unwritten, Violation};
 use std::alloc::{AllocError, Global};
-
-/// The rows of a table, each with its key before it, ascending by key.
-pub type PlainRows = ListOf<(Key, RowValues)>;
-
-/// Each created table with its rows, ascending by number.
-pub type PlainTables = ListOf<(TableId, PlainRows)>;
-
-/// The rows of a table, where it is created.
-pub fn rows_in<'a>(tables: &'a [(TableId, PlainRows)], table: TableId) -> Option<&'a PlainRows>
-    ensures { option_copied result ≡ rows_in tables.now table }
-{
-    value_of(tables, &table)
-}
-
-/// The tables with these rows in one of them.
-fn with_rows(
-    alloc: Global,
-    tables: &PlainTables,
-    table: TableId,
-    rows: &PlainRows,
-) -> Result<PlainTables, AllocError>
-    ensures { IfOk result (λ changed. changed ≡ with_rows tables.now table rows.now) }
-{
-    with_entry(alloc, tables.as_slice(), &table, rows)
-}
-
-/// The row of a key.
-fn row_under<'a>(rows: &'a PlainRows, key: &Key) -> Option<&'a RowValues>
-    ensures { option_copied result ≡ row_under rows.now key.now }
-{
-    value_of(rows.as_slice(), key)
-}
-
-/// The rows with a copy of one more, or of another under its key.
-fn with_row(
-    alloc: Global,
-    rows: &PlainRows,
-    entry: &(Key, RowValues),
-) -> Result<PlainRows, AllocError>
-    ensures { IfOk result (λ changed. changed ≡ with_row rows.now entry.now.0 entry.now.1) }
-{
-    with_entry(alloc, rows.as_slice(), &entry.0, &entry.1)
-}
-
-/// The rows with one before them.
-fn with_first(entry: (Key, RowValues), entries: PlainRows) -> Result<PlainRows, AllocError>
-    ensures { IfOk result (λ all. all ≡ entry ∷ entries) }
-{
-    let mut entries = entries.into_vec();
-    entries.insert(0, entry)?;
-    Ok(ListOf::from_vec(entries))
-}
-
-/// The rows with these written, each under its key.
-fn with_all(
-    alloc: Global,
-    rows: &[(Key, RowValues)],
-    entries: &[(Key, RowValues)],
-) -> Result<PlainRows, AllocError>
-    ensures { IfOk result (λ left. left ≡ with_all rows.now entries.now) }
-{
-    let Some((entry, entries)) = entries.split_first() else {
-        return copy_of(alloc, rows);
-    };
-    let rows = with_entry(alloc, rows, &entry.0, &entry.1)?;
-    with_all(alloc, rows.as_slice(), entries)
-}
-
-/// The rows without those of these keys.
-fn without_all(
-    alloc: Global,
-    rows: &[(Key, RowValues)],
-    keys: &[Key],
-) -> Result<PlainRows, AllocError>
-    ensures { IfOk result (λ left. left ≡ without_all rows.now keys.now) }
-{
-    let Some((key, keys)) = keys.split_first() else {
-        return copy_of(alloc, rows);
-    };
-    let rows = without_entry(alloc, rows, key)?;
-    without_all(alloc, rows.as_slice(), keys)
-}
 
 /// The keys of rows.
 fn keys_of_entries(alloc: Global, entries: &[(Key, RowValues)]) -> Result<KeyList, AllocError>

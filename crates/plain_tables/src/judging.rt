@@ -6,9 +6,8 @@ ghost use Rattle.schema_core.specs.Catalog.{spec_of};
 ghost use Rattle.schema_core.specs.Judged.{loses_row, some_loses_row, some_repeats, some_written_dangles};
 ghost use Rattle.schema_core.specs.Tables.{cell_of, cells_of, collide, dangles, names_row, repeats_unique, row_under, same_values};
 
-use crate::applying::{PlainRows, rows_in};
-use crate::cells::{are_cells, has_null_in, same_cells};
 use base_core::{Key, Name, RowValues, TableId, Value};
+use plain_rows::{PlainRows, are_cells, has_null_in, rows_in, same_cells};
 use schema_core::{ColumnSpec, ForeignSpec, Schema, TableSpec};
 
 /// Whether two rows have the same value, without a NULL, in the columns of a unique constraint.

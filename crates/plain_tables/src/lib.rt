@@ -3,8 +3,7 @@
 #![tactic(auto)]
 
 mod applying;
-mod cells;
-mod entries;
 mod judging;
 
-pub use applying::{PlainRows, PlainTables, apply};
+pub use applying::apply;
+pub use plain_rows::{PlainRows, PlainTables};
