@@ -1,5 +1,5 @@
-"""Asks SQLite, PostgreSQL and MariaDB whether they take the texts of crates/statement_tests/stdout, and what the selects among
-them answer over small tables.
+"""Asks SQLite, PostgreSQL and MariaDB whether they take the texts that cases of scripts/ over the tables of written.sqla answer, and what
+the selects among them answer over small tables.
 
     python3 tools/ask_servers.py sqlite
     python3 tools/ask_servers.py postgresql "psql -h DIR -U USER DATABASE"
@@ -9,15 +9,15 @@ The server's database must be empty. Each refused text is written with the serve
 rows, in any order, are not those of SQLite. A text that is refused for the rows that it would leave is only counted: the
 server took it as a text.
 """
-import os
 import re
 import shlex
 import sqlite3
 import subprocess
 import sys
 
-HERE = os.path.dirname(os.path.abspath(__file__))
-TABLE = os.path.join(HERE, '..', 'crates', 'statement_tests', 'stdout')
+from script_cases import cases, statements
+
+FILES = ['compiled_%s.txt' % name for name in ('conditions', 'negations', 'sums', 'clauses', 'tables', 'writes')]
 ROWS = [
     ('users', [(1, 'ann', 3, True, None, 'x'), (2, 'bob', None, False, b'ab', None),
                (3, "it's", 9, None, None, 'aQ')]),
@@ -29,24 +29,22 @@ ROWS = [
 OF_ROWS = ('constraint', 'Duplicate entry', 'cannot be null', "doesn't have a default value")
 
 
+def echoed(case):
+    """The dialect in which a case has statements echoed, none where it has not."""
+    words = case.words[0] if case.words else []
+    if '--echo' not in words:
+        return None
+    return words[words.index('--dialect') + 1] if '--dialect' in words else 'sqlite'
+
+
 def entries(dialect):
-    """The texts of a dialect, each with the shown values of its marks."""
+    """The texts of a dialect, each with the shown values of its marks: what is compiled for it, and what is echoed in it."""
     found = []
-    mine = False
-    for line in open(TABLE, encoding='utf-8').read().split('\n'):
-        if line.startswith('  '):
-            if mine:
-                found[-1][1] = split_values(line[line.index('(') + 1:-1])
-        elif '> ' in line:
-            name, text = line.split('> ', 1)
-            mine = name == dialect
-            if mine:
-                found.append([text, []])
-    return [e for e in found if not e[0].startswith('CompileError')]
-
-
-def split_values(shown):
-    return re.findall(r"x'[0-9a-f]*'|'(?:[^']|'')*'|[^,\s]+", shown)
+    for case in cases(*FILES):
+        for line, answers in case.lines:
+            if line.startswith('compile %s ' % dialect) or echoed(case) == dialect:
+                found += statements(answers)
+    return found
 
 
 def marks(dialect, text):

@@ -18,13 +18,14 @@ which is told with its line. Behind all scripts the differences are counted by t
 import argparse
 import collections
 import itertools
-import os
+import pathlib
 import re
 import subprocess
 import warnings
 
 import sqlalchemy as sa
 from mapped_classes import NULL, ClassBlock, Mapped, NotAsked, Refused, TableBlock, Words, is_value, plain, quoted, value
+from script_cases import cases_of
 from sqlalchemy import event, exc, orm
 from sqlalchemy.orm import exc as orm_exc
 from sqlalchemy.pool import StaticPool
@@ -536,20 +537,10 @@ def differences(program, url, script):
 
 def scripts_of(path):
     """The scripts of a file, each with what it is called: of a file of cases those of its cases, else the file itself."""
-    with open(path, encoding="utf-8") as file:
-        text = file.read()
     if not path.endswith(".txt"):
-        return [(path, text)]
-    found, folder = [], os.path.dirname(path)
-    for line in text.split("\n"):
-        if line.startswith("== "):
-            found.append(["%s (%s)" % (path, line[3:]), ""])
-        elif line.startswith("< "):
-            with open(os.path.join(folder, line[2:] + ".sqla"), encoding="utf-8") as part:
-                found[-1][1] += part.read()
-        elif line.startswith(">"):
-            found[-1][1] += line[2:] + "\n"
-    return found
+        with open(path, encoding="utf-8") as file:
+            return [(path, file.read())]
+    return [("%s (%s)" % (path, case.name), "".join(line + "\n" for line, _ in case.lines)) for case in cases_of(pathlib.Path(path))]
 
 
 def main():

@@ -1,5 +1,5 @@
 -- The closures of an object: to which objects a call goes on along relationships that have its flag.
-use Rattle.std.specs.Prelude.{◌≡◌, Bool, true, false, not, ◌&&◌, ◌||◌, List, [], ◌∷◌, ◌++◌, length, map, ◌==◌, Option, None, Some}
+use Rattle.std.specs.Prelude.{◌≡◌, Bool, true, false, not, ◌&&◌, ◌||◌, List, [], ◌∷◌, ◌++◌, length, map, ◌==◌}
 use Rattle.std.specs.List.{All, filter, list_all, list_any, range_with_len}
 use Rattle.base_core.specs.declared.ids.ObjId.{ObjId}
 use Rattle.base_core.specs.Ascending.{IsAscending}
@@ -7,9 +7,9 @@ use Rattle.class_types.specs.declared.declared.Cascade.{Cascade}
 use Rattle.class_types.specs.declared.mapped.Relation.{Relation}
 use Rattle.class_mapping.specs.Mapped.{Mapped, relations_of}
 use Rattle.object_arena.specs.declared.object.Link.{Link}
-use Rattle.object_arena.specs.declared.object.Link.TheVariants.{Unset, Unloaded, One, Many}
 use Rattle.object_arena.specs.Graph.{Graph, IsObject, object_at}
 use Rattle.object_arena.specs.Identity.{id_of_place}
+pub use Rattle.object_parts.specs.Ends.{end_of, ends_of, ends_with}
 use Rattle.cascades.specs.declared.closures.Flag.{Flag}
 use Rattle.cascades.specs.declared.closures.Flag.TheVariants.{SaveUpdate, RefreshExpire, Expunge, Delete}
 
@@ -19,21 +19,6 @@ has_flag SaveUpdate cascade = cascade.save_update
 has_flag RefreshExpire cascade = cascade.refresh_expire
 has_flag Expunge cascade = cascade.expunge
 has_flag Delete cascade = cascade.delete
-
-abbrev pub end_of : Option ObjId → List ObjId
-end_of None = []
-end_of (Some end) = end ∷ []
-
--- the objects that a link holds: those that are loaded, and of an unloaded collection the kept adds
-abbrev pub ends_of : Link → List ObjId
-ends_of Unset = []
-ends_of (Unloaded added removed) = added
-ends_of (One end changed) = end_of end
-ends_of (Many members base) = members
-
-abbrev pub ends_with : Bool → Link → List ObjId
-ends_with true link = ends_of link
-ends_with false link = []
 
 -- what the links hold whose relationships have the flag
 abbrev pub ends_along : Flag → List Relation → List Link → List ObjId

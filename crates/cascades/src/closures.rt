@@ -12,6 +12,7 @@ use crate::walk::Walk;
 use base_core::{ListOf, ObjId, ObjList, ObjSet, Refusal};
 use class_mapping::{Cascade, Mapping, Relation};
 use object_arena::{Arena, Link};
+use object_parts::add_ends;
 use std::alloc::Global;
 
 /// In a graph of so many objects a walk has a mark for each.
@@ -210,31 +211,4 @@ fn has_flag(flag: Flag, cascade: &Cascade) -> bool
         Flag::Expunge => cascade.expunge,
         Flag::Delete => cascade.delete,
     }
-}
-
-/// What a link holds goes to the end, where calls go on along it.
-fn add_ends(ends: &mut ObjList, goes_on: bool, link: &Link) -> Result<(), Refusal>
-    ensures ok { OnOk result (ends.new ≡ ends.old ++ spec.ends_with goes_on link.now) }
-    ensures cause { IfErr result (λ e. e ≡ Memory) }
-{
-    if !goes_on {
-        return Ok(());
-    }
-    match link {
-        Link::Unset | Link::One { end: None, .. } => Ok(()),
-        Link::One { end: Some(end), .. } => ends.push(*end),
-        Link::Unloaded { added, .. } => add_all(ends, added.as_slice()),
-        Link::Many { members, .. } => add_all(ends, members.as_slice()),
-    }
-}
-
-/// Objects go to the end.
-fn add_all(ends: &mut ObjList, objects: &[ObjId]) -> Result<(), Refusal>
-    ensures ok { OnOk result (ends.new ≡ ends.old ++ objects.now) }
-    ensures cause { IfErr result (λ e. e ≡ Memory) }
-{
-    for object in objects {
-        ends.push(*object)?;
-    }
-    Ok(())
 }

@@ -29,16 +29,21 @@ pub(crate) fn layout_at(layouts: &[Layout], class: Option<ClassId>) -> Option<&L
 fn has_attribute(attributes: &[Attribute], table: TableId, name: &Name) -> bool
     ensures { result ≡ has_attribute attributes.now table name.now }
 {
-    attributes.iter().any(|attribute| attribute.table.0 == table.0 && attribute.name == *name)
+    let Some((attribute, attributes)) = attributes.split_first() else {
+        return false;
+    };
+    (attribute.table.0 == table.0 && attribute.name == *name)
+        || has_attribute(attributes, table, name)
 }
 
 /// Whether the columns of a table are attributes.
 fn has_attributes(attributes: &[Attribute], table: TableId, names: &[Name]) -> bool
     ensures { result ≡ list_all (has_attribute attributes.now table) names.now }
 {
-    names
-        .iter()
-        .all(|name| has_attribute(attributes, table, name))
+    let Some((name, names)) = names.split_first() else {
+        return true;
+    };
+    has_attribute(attributes, table, name) && has_attributes(attributes, table, names)
 }
 
 /// Whether a foreign key of a table of the many side can serve.

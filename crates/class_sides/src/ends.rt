@@ -17,16 +17,20 @@ use schema_core::{ColumnSpec, ForeignSpec, Schema};
 fn some_foreign_has(foreigns: &[ForeignSpec], name: &Name) -> bool
     ensures { result ≡ list_any (λ foreign. has_name foreign.columns name.now) foreigns.now }
 {
-    foreigns
-        .iter()
-        .any(|foreign| has_name(foreign.columns.as_slice(), name))
+    let Some((foreign, foreigns)) = foreigns.split_first() else {
+        return false;
+    };
+    has_name(foreign.columns.as_slice(), name) || some_foreign_has(foreigns, name)
 }
 
 /// Whether each column of a table is of its key and of one of its foreign keys.
 fn is_all_keys(columns: &[ColumnSpec], foreigns: &[ForeignSpec]) -> bool
     ensures { result ≡ is_all_keys columns.now foreigns.now }
 {
-    columns.iter().all(|column| column.key && some_foreign_has(foreigns, &column.name))
+    let Some((column, columns)) = columns.split_first() else {
+        return true;
+    };
+    column.key && some_foreign_has(foreigns, &column.name) && is_all_keys(columns, foreigns)
 }
 
 /// Which of two foreign keys refers to which side; the first to the near one, where both ways fit.
@@ -79,9 +83,10 @@ fn ends_in(
     ensures { result ≡ ends_in schema.now.tables table (layout_at layouts.now near)
         (layout_at layouts.now far) }
 {
-    let table = table?;
-    let near = layout_at(layouts, near)?;
-    let far = layout_at(layouts, far)?;
+    let near = layout_at(layouts, near);
+    let (Some(table), Some(near), Some(far)) = (table, near, layout_at(layouts, far)) else {
+        return None;
+    };
     ends_among(
         schema,
         table,

@@ -38,7 +38,10 @@ pub fn refers_to(schema: &Schema, foreign: &ForeignSpec, table: TableId) -> bool
 pub fn refers_into(schema: &Schema, foreign: &ForeignSpec, found: &[TableId]) -> bool
     ensures { result ≡ refers_into schema.now.tables foreign.now found.now }
 {
-    found.iter().any(|table| refers_to(schema, foreign, *table))
+    let Some((table, found)) = found.split_first() else {
+        return false;
+    };
+    refers_to(schema, foreign, *table) || refers_into(schema, foreign, found)
 }
 
 #[tactic(auto, using(schema_core::proofs::Steps::key_steps))]
@@ -102,7 +105,11 @@ fn some_inherited(
 ) -> bool
     ensures { result ≡ list_any (is_inherited schema.now.tables found.now rank table) foreigns.now }
 {
-    foreigns.iter().any(|foreign| is_inherited(schema, found, rank, table, foreign))
+    let Some((foreign, foreigns)) = foreigns.split_first() else {
+        return false;
+    };
+    is_inherited(schema, found, rank, table, foreign)
+        || some_inherited(schema, found, rank, table, foreigns)
 }
 
 /// Whether the table at a rank among a class's tables is the root's, or has a foreign key that ties it to the one before.

@@ -1,6 +1,6 @@
 //! The relationships of each class of a configured mapping.
 
-ghost use Rattle.std.specs.Prelude.{◌≡◌, ◌&&◌, ◌||◌, ◌++◌, IfErr, IfOk, OnOk, filter, find, map, not};
+ghost use Rattle.std.specs.Prelude.{◌≡◌, ◌&&◌, ◌||◌, ◌++◌, [], ◌∷◌, IfErr, IfOk, OnOk, filter, find, map, not};
 ghost use Rattle.std.specs.Option.{option_copied};
 ghost use Rattle.std.specs.List.{flat_map, position};
 ghost use Rattle.schema_core.specs.Catalog.{same_name};
@@ -96,7 +96,13 @@ fn is_same_pair(side: &Side, other: &Side) -> bool
 fn first_of<'a>(sides: &'a [Side], side: &Side) -> Option<&'a Side>
     ensures { option_copied result ≡ find (is_same_pair side.now) sides.now }
 {
-    sides.iter().find(|other| is_same_pair(side, *other))
+    let Some((other, sides)) = sides.split_first() else {
+        return None;
+    };
+    if is_same_pair(side, other) {
+        return Some(other);
+    }
+    first_of(sides, side)
 }
 
 /// The keys of the secondary table of a side, as the side of its pair that is declared first finds them.
@@ -157,23 +163,24 @@ fn class_or(found: Option<ClassId>, class: ClassId) -> ClassId
 
 // ---- the relationships
 
-/// A declared relationship.
-fn own_relation(
+/// A declared relationship goes behind others.
+fn push_own_relation(
+    all: &mut ListOf<Relation>,
     schema: &Schema,
     classes: &Classes,
     sides: &[Side],
     names: &[ListOf<Name>],
     side: &Side,
-) -> Result<Relation, Refusal>
-    ensures ok { IfOk result (λ relation. relation
-        ≡ own_relation schema.now.tables classes.now sides.now names.now side.now) }
+) -> Result<(), Refusal>
+    ensures ok { OnOk result (all.new ≡ all.old
+        ++ own_relation schema.now.tables classes.now sides.now names.now side.now ∷ []) }
     ensures err { IfErr result (λ e. e ≡ Memory) }
 {
     let target = class_or(side.target, side.class);
     let ends = ends_on(sides, side);
     let partner = place_in(names, target, &side.spec.partner)?;
     let name = side.spec.name.copied()?;
-    Ok(Relation {
+    all.push(Relation {
         name,
         class: side.class,
         target,
@@ -186,22 +193,23 @@ fn own_relation(
     })
 }
 
-/// The backref that a declaration makes: the opposite form, with the default cascade.
-fn back_relation(
+/// The backref that a declaration makes, of the opposite form and with the default cascade, goes behind others.
+fn push_back_relation(
+    all: &mut ListOf<Relation>,
     schema: &Schema,
     classes: &Classes,
     sides: &[Side],
     names: &[ListOf<Name>],
     side: &Side,
-) -> Result<Relation, Refusal>
-    ensures ok { IfOk result (λ relation. relation
-        ≡ back_relation schema.now.tables classes.now sides.now names.now side.now) }
+) -> Result<(), Refusal>
+    ensures ok { OnOk result (all.new ≡ all.old
+        ++ back_relation schema.now.tables classes.now sides.now names.now side.now ∷ []) }
     ensures err { IfErr result (λ e. e ≡ Memory) }
 {
     let ends = ends_on(sides, side);
     let partner = place_in(names, side.class, &side.spec.name)?;
     let name = side.spec.partner.copied()?;
-    Ok(Relation {
+    all.push(Relation {
         name,
         class: class_or(side.target, side.class),
         target: side.class,
@@ -231,7 +239,7 @@ fn push_own(
 {
     for side in sides {
         if is_own(class, side) {
-            all.push(own_relation(schema, classes, sides, names, side)?)?;
+            push_own_relation(all, schema, classes, sides, names, side)?;
         }
     }
     Ok(())
@@ -254,32 +262,34 @@ fn push_back(
 {
     for side in sides {
         if makes_back(class, side) {
-            all.push(back_relation(schema, classes, sides, names, side)?)?;
+            push_back_relation(all, schema, classes, sides, names, side)?;
         }
     }
     Ok(())
 }
 
 #[tactic(auto, using(class_layouts::proofs::Steps::steps))]
-/// The relationships of the class of a line: of each class its own, and then its backrefs, in order of declaration.
-fn relations_on(
+/// The relationships of the class of a line go behind those of others: of each class its own, and then its backrefs, in order of
+/// declaration.
+fn push_relations_on(
+    all: &mut ListOf<ListOf<Relation>>,
     alloc: Global,
     schema: &Schema,
     classes: &Classes,
     sides: &[Side],
     names: &[ListOf<Name>],
     line: &[ClassId],
-) -> Result<ListOf<Relation>, Refusal>
-    ensures ok { IfOk result (λ all. all
-        ≡ relations_on schema.now.tables classes.now sides.now names.now line.now) }
+) -> Result<(), Refusal>
+    ensures ok { OnOk result (all.new ≡ all.old
+        ++ relations_on schema.now.tables classes.now sides.now names.now line.now ∷ []) }
     ensures err { IfErr result (λ e. e ≡ Memory) }
 {
-    let mut all = ListOf::new(alloc);
+    let mut relations = ListOf::new(alloc);
     for class in line {
-        push_own(&mut all, schema, classes, sides, names, *class)?;
-        push_back(&mut all, schema, classes, sides, names, *class)?;
+        push_own(&mut relations, schema, classes, sides, names, *class)?;
+        push_back(&mut relations, schema, classes, sides, names, *class)?;
     }
-    Ok(all)
+    all.push(relations)
 }
 
 /// The relationships of each class, where the declared relationships are known.
@@ -295,14 +305,15 @@ pub fn relations_by(
     let names = all_names(alloc, classes, sides)?;
     let mut all = ListOf::new(alloc);
     for line in classes.lines.as_slice() {
-        all.push(relations_on(
+        push_relations_on(
+            &mut all,
             alloc,
             schema,
             classes,
             sides,
             names.as_slice(),
             line.as_slice(),
-        )?)?;
+        )?;
     }
     Ok(all)
 }

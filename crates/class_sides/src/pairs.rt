@@ -31,7 +31,13 @@ fn are_mutual(classes: &Classes, one: &Side, other: &Side) -> bool
 fn mutual_of<'a>(classes: &Classes, sides: &'a [Side], side: &Side) -> Option<&'a Side>
     ensures { option_copied result ≡ mutual_of classes.now sides.now side.now }
 {
-    sides.iter().find(|other| are_mutual(classes, side, *other))
+    let Some((other, sides)) = sides.split_first() else {
+        return None;
+    };
+    if are_mutual(classes, side, other) {
+        return Some(other);
+    }
+    mutual_of(classes, sides, side)
 }
 
 /// Whether a foreign key that can serve the side is the one that its partner names too.
@@ -45,49 +51,37 @@ fn fits(schema: &Schema, classes: &Classes, sides: &[Side], side: &Side, key: Ta
 }
 
 /// The first foreign key that fits.
-fn first_fit<'a>(
+fn first_fit(
     schema: &Schema,
     classes: &Classes,
     sides: &[Side],
     side: &Side,
-    keys: &'a [TableKey],
-) -> Option<&'a TableKey>
-    ensures { option_copied result
-        ≡ find (fits schema.now.tables classes.now sides.now side.now) keys.now }
+    keys: &[TableKey],
+) -> Option<TableKey>
+    ensures { result ≡ find (fits schema.now.tables classes.now sides.now side.now) keys.now }
 {
-    keys.iter()
-        .find(|key| fits(schema, classes, sides, side, **key))
+    let Some((key, keys)) = keys.split_first() else {
+        return None;
+    };
+    if fits(schema, classes, sides, side, *key) {
+        return Some(*key);
+    }
+    first_fit(schema, classes, sides, side, keys)
 }
 
 /// The foreign key behind a side without a secondary table.
 pub fn join_of(schema: &Schema, classes: &Classes, sides: &[Side], side: &Side) -> Option<TableKey>
     ensures { result ≡ join_of schema.now.tables classes.now sides.now side.now }
 {
-    match first_fit(schema, classes, sides, side, side.candidates.as_slice()) {
-        Some(key) => Some(*key),
-        None => None,
-    }
+    first_fit(schema, classes, sides, side, side.candidates.as_slice())
 }
 
-/// Whether a foreign key fits.
-fn some_fits(
-    schema: &Schema,
-    classes: &Classes,
-    sides: &[Side],
-    side: &Side,
-    keys: &[TableKey],
-) -> bool
-    ensures { result ≡ list_any (fits schema.now.tables classes.now sides.now side.now) keys.now }
-{
-    keys.iter()
-        .any(|key| fits(schema, classes, sides, side, *key))
-}
-
+#[tactic(auto, using(crate::proofs::Found::none_found))]
 /// Whether no foreign key is found for a side without a secondary table.
 pub fn lacks_join(schema: &Schema, classes: &Classes, sides: &[Side], side: &Side) -> bool
     ensures { result ≡ lacks_join schema.now.tables classes.now sides.now side.now }
 {
-    is_plain(side) && !some_fits(schema, classes, sides, side, side.candidates.as_slice())
+    is_plain(side) && join_of(schema, classes, sides, side).is_none()
 }
 
 /// How many foreign keys are found for a side.
@@ -109,13 +103,23 @@ pub fn has_two_joins(schema: &Schema, classes: &Classes, sides: &[Side], side: &
     is_plain(side) && 1 < count_joins(schema, classes, sides, side)
 }
 
-/// Whether a foreign key serves a side.
-fn is_served(schema: &Schema, classes: &Classes, sides: &[Side], key: TableKey, side: &Side) -> bool
+/// Whether a foreign key is one of these, and serves a side.
+fn is_served(
+    schema: &Schema,
+    classes: &Classes,
+    sides: &[Side],
+    key: TableKey,
+    side: &Side,
+    keys: &[TableKey],
+) -> bool
     ensures { result ≡ list_any (λ found. same_key found key
-        && fits schema.now.tables classes.now sides.now side.now found) side.now.candidates }
+        && fits schema.now.tables classes.now sides.now side.now found) keys.now }
 {
-    side.candidates.as_slice().iter().any(|found| same_key(*found, key)
-        && fits(schema, classes, sides, side, *found))
+    let Some((found, keys)) = keys.split_first() else {
+        return false;
+    };
+    (same_key(*found, key) && fits(schema, classes, sides, side, *found))
+        || is_served(schema, classes, sides, key, side, keys)
 }
 
 /// Whether the foreign key that was found serves a side.
@@ -129,7 +133,10 @@ fn is_served_by(
     ensures { result ≡ is_served_by schema.now.tables classes.now sides.now key side.now }
 {
     match key {
-        Some(key) => is_served(schema, classes, sides, key, side),
+        Some(key) => {
+            let keys = side.candidates.as_slice();
+            is_served(schema, classes, sides, key, side, keys)
+        }
         None => false,
     }
 }
@@ -176,6 +183,26 @@ fn overlaps(
     !are_mutual(classes, one, later) && shares(schema, classes, sides, one, join, later)
 }
 
+/// Whether a side, of which the foreign key is given, overlaps with one of these.
+fn some_overlaps(
+    schema: &Schema,
+    classes: &Classes,
+    sides: &[Side],
+    one: &Side,
+    join: Option<TableKey>,
+    behind: &[Side],
+) -> bool
+    requires { join ≡ join_of schema.now.tables classes.now sides.now one.now }
+    ensures { result ≡ list_any
+        (λ later. overlaps schema.now.tables classes.now sides.now later one.now) behind.now }
+{
+    let Some((later, behind)) = behind.split_first() else {
+        return false;
+    };
+    overlaps(schema, classes, sides, one, join, later)
+        || some_overlaps(schema, classes, sides, one, join, behind)
+}
+
 /// Whether a side overlaps with one behind it.
 fn overlaps_one(
     schema: &Schema,
@@ -188,9 +215,7 @@ fn overlaps_one(
         (λ later. overlaps schema.now.tables classes.now sides.now later one.now) behind.now }
 {
     let join = join_of(schema, classes, sides, one);
-    behind
-        .iter()
-        .any(|later| overlaps(schema, classes, sides, one, join, later))
+    some_overlaps(schema, classes, sides, one, join, behind)
 }
 
 #[tactic(auto, using(schema_core::proofs::SomeTwo::some_two_steps))]

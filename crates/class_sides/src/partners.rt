@@ -46,7 +46,13 @@ pub(crate) fn is_partner(one: &Side, other: &Side) -> bool
 fn partner_of<'a>(sides: &'a [Side], side: &Side) -> Option<&'a Side>
     ensures { option_copied result ≡ find (is_partner side.now) sides.now }
 {
-    sides.iter().find(|other| is_partner(side, *other))
+    let Some((other, sides)) = sides.split_first() else {
+        return None;
+    };
+    if is_partner(side, other) {
+        return Some(other);
+    }
+    partner_of(sides, side)
 }
 
 pub(crate) fn same_side(one: &Side, other: &Side) -> bool
@@ -80,14 +86,20 @@ fn gives_name(line: &[ClassId], side: &Side, other: &Side) -> bool
 fn some_gives_name(line: &[ClassId], side: &Side, sides: &[Side]) -> bool
     ensures { result ≡ list_any (gives_name line.now side.now) sides.now }
 {
-    sides.iter().any(|other| gives_name(line, side, other))
+    let Some((other, sides)) = sides.split_first() else {
+        return false;
+    };
+    gives_name(line, side, other) || some_gives_name(line, side, sides)
 }
 
 /// Whether an attribute has the name.
 fn is_attribute_named(attributes: &[Attribute], name: &Name) -> bool
     ensures { result ≡ list_any (λ attribute. same_name attribute.name name.now) attributes.now }
 {
-    attributes.iter().any(|attribute| attribute.name == *name)
+    let Some((attribute, attributes)) = attributes.split_first() else {
+        return false;
+    };
+    attribute.name == *name || is_attribute_named(attributes, name)
 }
 
 /// Whether the name of a side's backref is taken in a class that is the target or extends it.
@@ -106,23 +118,21 @@ fn is_taken_in(
             || some_gives_name(line, side, sides))
 }
 
+#[tactic(auto, using(class_layouts::proofs::Steps::steps))]
 /// Whether the name of a side's backref is taken.
 fn is_taken(classes: &Classes, layouts: &[Layout], sides: &[Side], side: &Side) -> bool
     ensures { result ≡ list_any (is_taken_in classes.now sides.now side.now)
         (enumerate_from 0 layouts.now) }
 {
-    layouts.iter().enumerate().any(|(class, layout)| is_taken_in(
-        classes, sides, side, class, layout,
-    ))
+    for (class, layout) in layouts.iter().enumerate() {
+        if is_taken_in(classes, sides, side, class, layout) {
+            return true;
+        }
+    }
+    false
 }
 
-/// Whether a relationship is the partner that a side names.
-fn has_partner(sides: &[Side], side: &Side) -> bool
-    ensures { result ≡ list_any (is_partner side.now) sides.now }
-{
-    sides.iter().any(|other| is_partner(side, other))
-}
-
+#[tactic(auto, using(crate::proofs::Found::none_found))]
 /// Whether the name of a side's backref is taken, or no relationship is the partner that it names.
 pub fn differs(classes: &Classes, layouts: &[Layout], sides: &[Side], side: &Side) -> bool
     ensures { result ≡ differs classes.now layouts.now sides.now side.now }
@@ -130,7 +140,7 @@ pub fn differs(classes: &Classes, layouts: &[Layout], sides: &[Side], side: &Sid
     if side.spec.backref {
         return is_taken(classes, layouts, sides, side);
     }
-    !has_partner(sides, side)
+    partner_of(sides, side).is_none()
 }
 
 /// The flags of the many side of a pair; a backref has the default ones.

@@ -1,6 +1,6 @@
 //! The declared relationships: where each leads, and which keys can serve it.
 
-ghost use Rattle.std.specs.Prelude.{◌≡◌, ◌++◌, IfErr, IfOk, OnOk};
+ghost use Rattle.std.specs.Prelude.{◌≡◌, ◌++◌, [], ◌∷◌, IfErr, IfOk, OnOk};
 ghost use Rattle.base_core.specs.declared.refusal.Refusal.TheVariants.{Memory};
 ghost use Rattle.class_sides.specs.Sides.{side_of, sides_at, sides_of, target_of};
 
@@ -24,17 +24,18 @@ fn target_of(specs: &[ClassSpec], relation: &RelationSpec) -> Result<Option<Clas
     }
 }
 
-/// A relationship of the block of the class of a number.
-fn side_of(
+/// A relationship of the block of the class of a number goes behind others.
+fn push_side(
+    all: &mut ListOf<Side>,
     alloc: Global,
     schema: &Schema,
     classes: &Classes,
     layouts: &[Layout],
     class: usize,
     relation: &RelationSpec,
-) -> Result<Side, Refusal>
-    ensures ok { IfOk result (λ side. side
-        ≡ side_of schema.now.tables classes.now layouts.now class relation.now) }
+) -> Result<(), Refusal>
+    ensures ok { OnOk result (all.new ≡ all.old
+        ++ side_of schema.now.tables classes.now layouts.now class relation.now ∷ []) }
     ensures err { IfErr result (λ e. e ≡ Memory) }
 {
     let specs = classes.specs.as_slice();
@@ -42,7 +43,7 @@ fn side_of(
     let target = target_of(specs, relation)?;
     let candidates = candidates_of(alloc, schema, layouts, relation, Some(class), target)?;
     let spec = relation.copied()?;
-    Ok(Side {
+    all.push(Side {
         class,
         spec,
         target,
@@ -74,7 +75,7 @@ fn push_sides(
     ensures err { IfErr result (λ e. e ≡ Memory) }
 {
     for relation in spec.relations.as_slice() {
-        all.push(side_of(alloc, schema, classes, layouts, class, relation)?)?;
+        push_side(all, alloc, schema, classes, layouts, class, relation)?;
     }
     Ok(())
 }

@@ -10,7 +10,7 @@ ghost use Rattle.flush_order.specs.Refers.{gone_refers, new_refers};
 
 use crate::index::{Index, enter, push_referred};
 use crate::refers::{GoneRows, NewRows};
-use base_core::{Copied, ListOf, Refusal};
+use base_core::{ListOf, Refusal};
 use row_order::waiting_of;
 use schema_core::RowCell;
 use std::alloc::{AllocError, Global};
@@ -70,7 +70,7 @@ fn new_index(alloc: Global, new: &NewRows) -> Result<Index, Refusal>
     let mut index = BTreeMap::new(alloc);
     for place in 0..new.rows.len() as u32 {
         let row = new.at(place);
-        enter(&mut index, alloc, (row.table, row.key.copied()?), place)?;
+        enter(&mut index, alloc, row.table, &row.key, place)?;
     }
     Ok(index)
 }
@@ -143,12 +143,7 @@ fn gone_index(alloc: Global, gone: &GoneRows) -> Result<Index, Refusal>
     let mut index = BTreeMap::new(alloc);
     for place in 0..gone.rows.len() as u32 {
         let row = gone.at(place);
-        enter(
-            &mut index,
-            alloc,
-            (row.name.table, row.key.copied()?),
-            place,
-        )?;
+        enter(&mut index, alloc, row.name.table, &row.key, place)?;
     }
     Ok(index)
 }

@@ -22,7 +22,10 @@ use std::alloc::AllocError;
 fn has_name(names: &[Name], name: &Name) -> bool
     ensures { result ≡ has_name names.now name.now }
 {
-    names.iter().any(|other| *other == *name)
+    let Some((first, names)) = names.split_first() else {
+        return false;
+    };
+    *first == *name || has_name(names, name)
 }
 
 #[tactic(auto, using(crate::proofs::CellLemmas::get_none))]
@@ -40,16 +43,31 @@ fn is_in(schema: &Schema, table: TableId, name: &Name, post: &(TableId, u32)) ->
     }
 }
 
+/// Whether the column of a name is in one of these foreign keys.
+fn some_has(schema: &Schema, table: TableId, name: &Name, posts: &[(TableId, u32)]) -> bool
+    requires { IsTable schema.now table }
+    ensures { result ≡ list_any (is_in schema.now table name.now) posts.now }
+{
+    let Some((post, posts)) = posts.split_first() else {
+        return false;
+    };
+    is_in(schema, table, name, post) || some_has(schema, table, name, posts)
+}
+
 /// Whether the column of a name is in a foreign key that is written after all rows.
 pub fn is_late(schema: &Schema, changes: &RowChanges, table: TableId, name: &Name) -> bool
     requires { IsTable schema.now table }
     ensures { result ≡ late_name schema.now changes.now table name.now }
 {
-    changes
-        .post
-        .as_slice()
-        .iter()
-        .any(|post| is_in(schema, table, name, post))
+    some_has(schema, table, name, changes.post.as_slice())
+}
+
+/// Puts a copy behind others.
+pub(crate) fn push_copy<T: Copied + Drop>(out: &mut Vec<T>, item: &T) -> Result<(), AllocError>
+    ensures { OnOk result (out.new.items ≡ out.old.items ++ item.now ∷ []) }
+{
+    out.push(item.copied()?)?;
+    Ok(())
 }
 
 /// Puts cells behind others, with another one in the columns that are written late.
@@ -74,7 +92,7 @@ pub fn push_cleared<T: Copied + Drop>(
     };
     let late = is_late(schema, changes, table, &column.name);
     let written = if late { none } else { cell };
-    out.push(written.copied()?)?;
+    push_copy(out, written)?;
     push_cleared(out, schema, changes, table, none, columns, cells)
 }
 
@@ -83,8 +101,12 @@ pub fn part_of<'a>(columns: &[ColumnSpec], cells: &'a [RowCell], part: u32) -> O
     ensures { held_cell (option_copied result)
         ≡ slice_index_or (key_parts columns.now cells.now) part (Given Null) }
 {
-    let (column, columns) = columns.split_first()?;
-    let (cell, cells) = cells.split_first()?;
+    let (Some((column, columns)), Some((cell, cells))) = (
+        columns.split_first(),
+        cells.split_first(),
+    ) else {
+        return None;
+    };
     if !column.key {
         return part_of(columns, cells, part);
     }
@@ -108,15 +130,20 @@ fn comes_from(place: u32, cell: &RowCell) -> bool
 pub fn some_comes_from(place: u32, cells: &[RowCell]) -> bool
     ensures { result ≡ list_any (comes_from place) cells.now }
 {
-    cells.iter().any(|cell| comes_from(place, cell))
+    let Some((cell, cells)) = cells.split_first() else {
+        return false;
+    };
+    comes_from(place, cell) || some_comes_from(place, cells)
 }
 
 /// The cell in the column of a name; none where the row has none.
 pub fn cell_of<'a>(columns: &[ColumnSpec], row: &'a [Value], name: &Name) -> Option<&'a Value>
     ensures { value_or_null (option_copied result) ≡ cell_of columns.now row.now name.now }
 {
-    let (column, columns) = columns.split_first()?;
-    let (cell, row) = row.split_first()?;
+    let (Some((column, columns)), Some((cell, row))) = (columns.split_first(), row.split_first())
+    else {
+        return None;
+    };
     if column.name == *name {
         return Some(cell);
     }
@@ -127,11 +154,10 @@ pub fn cell_of<'a>(columns: &[ColumnSpec], row: &'a [Value], name: &Name) -> Opt
 pub(crate) fn push_value(out: &mut Vec<Value>, value: Option<&Value>) -> Result<(), AllocError>
     ensures { OnOk result (out.new.items ≡ out.old.items ++ value_or_null (option_copied value.entry) ∷ []) }
 {
-    let value = match value {
-        Some(value) => value.copied()?,
-        None => Value::Null,
-    };
-    Ok(out.push(value)?)
+    match value {
+        Some(value) => push_copy(out, value),
+        None => push_copy(out, &Value::Null),
+    }
 }
 
 fn is_null(value: Option<&Value>) -> bool

@@ -31,14 +31,16 @@ fn rows_found(alloc: Global, found: Option<ListOf<u32>>) -> ListOf<u32>
 pub(crate) fn enter(
     index: &mut Index,
     alloc: Global,
-    place: (TableId, Key),
+    table: TableId,
+    key: &Key,
     row: u32,
 ) -> Result<(), Refusal>
     ensures entered { OnOk result ((wanted : Place)
         → rows_under index.new wanted ≡ rows_under index.old wanted
-        ++ (if same_place place wanted then row ∷ [] else [])) }
+        ++ (if same_place (table, key.now) wanted then row ∷ [] else [])) }
     ensures cause { IfErr result (λ e. e ≡ Memory) }
 {
+    let place = (table, key.copied()?);
     let mut rows = rows_found(alloc, index.remove(&place));
     rows.push(row)?;
     index.insert(place, rows)?;

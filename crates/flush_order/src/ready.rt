@@ -10,7 +10,7 @@ ghost use Rattle.flush_order.specs.Ready.{AreFirst, AreInRange, AreReady, ready_
 ghost use Rattle.flush_order.specs.Told.{held_cell};
 
 use crate::ReadyRow;
-use crate::cells::{part_of, push_cleared, push_value};
+use crate::cells::{part_of, push_cleared, push_copy, push_value};
 use base_core::{Copied, ListOf, Refusal, Value};
 use schema_core::{ColumnSpec, RowCell, RowChanges, Schema};
 use std::alloc::{AllocError, Global};
@@ -147,7 +147,7 @@ pub fn push_key(
         return Ok(());
     };
     if column.key {
-        out.push(cell.copied()?)?;
+        push_copy(out, cell)?;
     }
     push_key(out, columns, row)
 }

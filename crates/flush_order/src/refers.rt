@@ -42,6 +42,25 @@ fn names(
         && are_cells(columns, row, foreign.columns.as_slice(), key)
 }
 
+/// Whether one of these foreign keys of a row does.
+fn some_names(
+    schema: &Schema,
+    row: &[Value],
+    table: TableId,
+    target: TableId,
+    key: &[Value],
+    foreigns: &[ForeignSpec],
+) -> bool
+    requires { IsTable schema.now table }
+    ensures { result ≡ list_any (names schema.now row.now table target key.now) foreigns.now }
+{
+    let Some((foreign, foreigns)) = foreigns.split_first() else {
+        return false;
+    };
+    names(schema, row, table, target, key, foreign)
+        || some_names(schema, row, table, target, key, foreigns)
+}
+
 /// Whether some foreign key of a row does.
 pub fn refers_to(
     schema: &Schema,
@@ -53,12 +72,8 @@ pub fn refers_to(
     requires { IsTable schema.now table }
     ensures { result ≡ refers_to schema.now row.now table target key.now }
 {
-    schema
-        .spec(table)
-        .foreigns
-        .as_slice()
-        .iter()
-        .any(|foreign| names(schema, row, table, target, key, foreign))
+    let foreigns = schema.spec(table).foreigns.as_slice();
+    some_names(schema, row, table, target, key, foreigns)
 }
 
 /// A new row made ready: the cells that its INSERT writes, and the row and its key as far as they are known.

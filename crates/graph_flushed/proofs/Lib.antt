@@ -4,3 +4,4 @@ mod HolderSteps
 mod KeySteps
 pub mod ObjectSteps
 pub mod SettledSteps
+pub mod Flushes

@@ -21,8 +21,8 @@ use Rattle.programs.proofs.Sequence.{done, reaches_start, then_err, then_ok}
 use Rattle.load_filling.specs.Growing.{Grows}
 use Rattle.load_rows.specs.Loading.{Loading, take_row}
 use Rattle.load_collections.proofs.RowsLemmas.{object_of}
-use Rattle.joined_parts.specs.declared.parts.Part.{Part}
-use Rattle.joined_parts.specs.Parts.{values_from}
+use Rattle.joined_rows.specs.declared.parts.Part.{Part}
+use Rattle.joined_rows.specs.Parts.{values_from}
 use Rattle.joined_rows.specs.Taking.{AreMembers, IsMember, IsOneMore, has_target, member_at, member_if, take_member, take_members, take_next}
 
 abbrev Member : Type 0

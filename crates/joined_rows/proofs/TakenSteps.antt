@@ -17,9 +17,9 @@ use Rattle.programs.proofs.Sequence.{done, reaches_start, then_err, then_ok}
 use Rattle.load_filling.specs.Growing.{Grows}
 use Rattle.load_rows.specs.Loading.{Loading, take_row}
 use Rattle.load_collections.proofs.RowsLemmas.{object_of}
-use Rattle.joined_parts.specs.declared.parts.Part.{Part}
-use Rattle.joined_parts.specs.Parts.{own_values}
-use Rattle.joined_rows.specs.declared.taking.Taken.{Taken}
+use Rattle.joined_rows.specs.declared.parts.Part.{Part}
+use Rattle.joined_rows.specs.Parts.{own_values}
+use Rattle.object_parts.specs.declared.answers.Taken.{Taken}
 use Rattle.joined_rows.specs.Taking.{AreMembers, IsTaken, member_at, take_joined, take_members, take_one, take_owner, taken_with}
 use Rattle.joined_rows.proofs.MemberLemmas.{goes_on, member_goes_on}
 

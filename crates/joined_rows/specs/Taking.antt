@@ -11,9 +11,9 @@ use Rattle.programs.specs.Programs.{Run, ◌>>=◌, each, give}
 use Rattle.object_arena.specs.Fit.{end_fits, is_of_root}
 use Rattle.load_filling.specs.Rows.{row_key}
 use Rattle.load_rows.specs.Loading.{Loading, take_row}
-use Rattle.joined_parts.specs.declared.parts.Part.{Part}
-use Rattle.joined_parts.specs.Parts.{own_values, values_from}
-use Rattle.joined_rows.specs.declared.taking.Taken.{Taken}
+use Rattle.joined_rows.specs.declared.parts.Part.{Part}
+use Rattle.joined_rows.specs.Parts.{own_values, values_from}
+use Rattle.object_parts.specs.declared.answers.Taken.{Taken}
 
 -- ---- the object of an option's part
 

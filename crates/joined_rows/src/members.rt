@@ -11,13 +11,13 @@ ghost use Rattle.load_filling.specs.Growing.{Grows};
 ghost use Rattle.load_rows.specs.Loading.{loading};
 ghost use Rattle.load_rows.specs.Reading.{AreOfKinds};
 ghost use Rattle.load_collections.specs.Refusals.{CanRefuseRow};
-ghost use Rattle.joined_parts.specs.Parts.{values_from};
+ghost use Rattle.joined_rows.specs.Parts.{values_from};
 ghost use Rattle.joined_rows.specs.Taking as spec;
 
+use crate::Part;
 use crate::parting::{has_target, values_from};
 use base_core::{ListOf, ObjId, Refusal, Value};
 use class_mapping::Mapping;
-use joined_parts::Part;
 use keeper_core::Notes;
 use load_rows::take_row;
 use mapping_laws::has_hierarchies;

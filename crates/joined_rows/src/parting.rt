@@ -5,12 +5,12 @@ ghost use Rattle.std.specs.List.{list_all};
 ghost use Rattle.base_core.specs.declared.refusal.Refusal.TheVariants.{Memory};
 ghost use Rattle.schema_core.specs.Tables.{is_null};
 ghost use Rattle.class_mapping.specs.Mapped.{IsClass};
-ghost use Rattle.joined_parts.specs.Parts.{own_values, values_from};
+ghost use Rattle.joined_rows.specs.Parts.{own_values, values_from};
 ghost use Rattle.joined_rows.specs.Taking as spec;
 
+use crate::Part;
 use base_core::{ClassId, Refusal, Value};
 use class_mapping::Mapping;
-use joined_parts::Part;
 use load_filling::row_key;
 use std::alloc::Global;
 

@@ -9,25 +9,19 @@ ghost use Rattle.programs.specs.Moment.{Runs};
 ghost use Rattle.load_filling.specs.Growing.{Grows};
 ghost use Rattle.load_rows.specs.Loading.{loading};
 ghost use Rattle.load_collections.specs.Refusals.{CanRefuseRow};
-ghost use Rattle.joined_parts.specs.Parts.{IsJoinedRow};
+ghost use Rattle.joined_rows.specs.Parts.{IsJoinedRow};
 ghost use Rattle.joined_rows.specs.Taking as spec;
 
+use crate::Part;
 use crate::members::take_members;
 use crate::parting::own_values;
 use base_core::{ClassId, ListOf, ObjId, Refusal, RowValues, Value};
 use class_mapping::Mapping;
-use joined_parts::Part;
 use keeper_core::Notes;
 use load_rows::take_row;
 use object_arena::Arena;
+use object_parts::Taken;
 use std::alloc::Global;
-
-/// The object of a row, and for each joined option the object of the row's part, if it has one.
-#[derive(Drop)]
-pub struct Taken {
-    pub owner: ObjId,
-    pub members: ListOf<Option<ObjId>>,
-}
 
 /// The object of a row, with those of its parts.
 fn take_owner(

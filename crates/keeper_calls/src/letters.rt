@@ -4,11 +4,11 @@ use base_core::{Key, KeyList, RowList, Value};
 use keeper_core::{KeeperStop, QueryRefusal, WriteRefusal};
 
 /// The last digit of a number.
-pub fn digit(n: u64) -> char {
+pub(crate) fn digit(n: u64) -> char {
     (b'0' + (n % 10) as u8) as char
 }
 
-fn stopped(stop: KeeperStop) -> char {
+pub(crate) fn stopped(stop: KeeperStop) -> char {
     match stop {
         KeeperStop::Fault => '!',
         KeeperStop::Memory => '-',
@@ -41,7 +41,7 @@ pub(crate) fn scanned(answer: Result<Option<RowList>, KeeperStop>) -> char {
 }
 
 /// A letter for what refuses a statement.
-pub fn refused(refusal: WriteRefusal) -> char {
+fn refused(refusal: WriteRefusal) -> char {
     match refusal {
         WriteRefusal::NoTable(_) => 'T',
         WriteRefusal::Missing => 'M',
@@ -68,7 +68,7 @@ fn last_digit(keys: &[Key]) -> char {
 }
 
 /// The last digit of the last key, or a letter for what refuses a statement on rows.
-pub fn written(answer: Result<KeyList, WriteRefusal>) -> char {
+pub(crate) fn written(answer: Result<KeyList, WriteRefusal>) -> char {
     match answer {
         Ok(keys) => last_digit(keys.as_slice()),
         Err(refusal) => refused(refusal),

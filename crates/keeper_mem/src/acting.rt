@@ -13,7 +13,7 @@ ghost use Rattle.keeper_core.specs.Calls.{query_refusal, stop_refusal, write_ref
 ghost use Rattle.keeper_core.specs.Keeping as keeping;
 ghost use Rattle.keeper_core.specs.Keeping.{AreRowsOf, HoldsLegalRows, HoldsRows, IsAttached};
 ghost use Rattle.table_log.specs.Marks.{log_cut, no_marks, place_added, place_dropped};
-ghost use Rattle.table_store.specs.Held.{rows_changed};
+ghost use Rattle.row_statements.specs.Held.{rows_changed};
 ghost use Rattle.keeper_mem.specs.Kept.{IsCounted, IsMarked, IsNumbered, coherent, is_failing, is_faulted, is_file, moment_of};
 
 use crate::MemKeeper;

@@ -21,7 +21,7 @@ ghost use Rattle.keeper_core.specs.Keeping.{RefusesBulk, RefusesRow, RefusesSele
 ghost use Rattle.statement_log.specs.Logged.{start_of};
 ghost use Rattle.table_log.specs.Marks.{log_cut, no_marks, place_added, place_dropped};
 ghost use Rattle.table_log.specs.Undone.{AreMarks};
-ghost use Rattle.table_store.specs.Held.{rows_changed};
+ghost use Rattle.row_statements.specs.Held.{rows_changed};
 ghost use Rattle.table_store.specs.Written.{given_up};
 ghost use Rattle.keeper_mem.specs.Kept.{Does, one_call_more, depth_by, call_ended, call_failed, is_failing, is_listed, is_taken, new_keeper, sent_by, taken_by, untaken_by};
 

@@ -3,42 +3,44 @@
 ghost use Rattle.std.specs.Prelude.{◌≡◌, None};
 ghost use Rattle.keeper_mem.specs.Kept.{moment_of};
 
-use crate::asked::put_asked;
-use crate::random::put_played;
-use crate::show::{put_log, put_rows};
-use base_core::{ListOf, TableId};
-use keeper_calls::{digit, done, said, two_tables};
-use keeper_core::{Keeper, Target};
-use keeper_mem::{MemKeeper, OverMemory, over_new};
+use base_core::ListOf;
+use keeper_calls::{Beside, play};
+use keeper_core::Target;
+use keeper_mem::{LogEntry, MemKeeper, OverMemory, over_new};
 use notations::{Page, number, parted};
 use schema_core::Schema;
 
-/// What a call answers; `?` where the keeper took no target, which may be asked for its depth alone.
-pub(crate) fn call(schema: &Schema, keeper: &mut MemKeeper, line: &str, page: &mut Page) -> char {
-    if line == "depth" {
-        return digit(keeper.depth() as u64);
+/// No keeper is beside one in memory.
+struct Alone;
+
+impl Beside for Alone {
+    fn answer(&self, _target: Target) -> char {
+        '?'
     }
-    if !keeper.is_attached() {
-        return '?';
-    }
-    said(schema, keeper, line, page)
 }
 
-/// What is written for a line.
-fn tell(schema: &Schema, keeper: &mut MemKeeper, line: &str, page: &mut Page) {
-    let (word, rest) = parted(line, ' ');
-    match word {
-        "#" => page.put(line),
-        "log" => put_log(page, keeper.log(), keeper.log_places()),
-        "rows" => put_rows(page, schema, keeper, TableId(number(rest))),
-        "sent" => page.push(digit(keeper.statements().len() as u64)),
-        "selects" => put_asked(page, schema, keeper),
-        "random" => put_played(page, schema, rest),
-        _ => {
-            let letter = call(schema, keeper, line, page);
-            page.push(letter);
+/// The log, and the places of the scopes in it.
+fn put_log(page: &mut Page, log: &[LogEntry], places: &[u64]) {
+    page.put("log");
+    for entry in log {
+        page.put_number(" ", u64::from(entry.table.0));
+        page.put_row(" ", &entry.key);
+        match &entry.before {
+            Some(row) => page.put_row(" ", row),
+            None => page.put(" none"),
         }
+        page.put(";");
     }
+    page.put(" places");
+    for place in places {
+        page.put_number(" ", *place);
+    }
+}
+
+/// What a keeper shows of itself alone: its log, and how many statements were sent.
+fn put_shown(page: &mut Page, keeper: &MemKeeper) {
+    put_log(page, keeper.log(), keeper.log_places());
+    page.put_number(" sent ", keeper.statements().len() as u64);
     page.push('\n');
 }
 
@@ -47,23 +49,22 @@ fn tell(schema: &Schema, keeper: &mut MemKeeper, line: &str, page: &mut Page) {
 struct Part<'x> {
     schema: &'x Schema,
     lines: &'x str,
+    is_shown: bool,
     page: Page,
-}
-
-/// What a new keeper answers that is given memory as its target.
-fn attached(keeper: &mut MemKeeper, page: &mut Page)
-    requires { (moment_of keeper.old).target ≡ None }
-{
-    let answer = done(keeper.attach(page.alloc(), Target::Memory));
-    page.push(answer);
-    page.push('\n');
 }
 
 impl OverMemory for Part<'_> {
     fn run(&mut self, keeper: &mut MemKeeper) {
-        attached(keeper, &mut self.page);
-        for line in self.lines.lines() {
-            tell(self.schema, keeper, line, &mut self.page);
+        play(
+            self.schema,
+            keeper,
+            &Alone,
+            Target::Memory,
+            self.lines,
+            &mut self.page,
+        );
+        if self.is_shown {
+            put_shown(&mut self.page, keeper);
         }
     }
 }
@@ -84,21 +85,21 @@ fn play_part(schema: &Schema, part: &str, page: &mut Page) {
     let mut part = Part {
         schema,
         lines,
+        is_shown: words.ends_with("shown"),
         page: Page::new(page.alloc()),
     };
     let done = over_new(page.alloc(), failing.as_slice(), &mut part);
-    page.note(done);
+    page.note_done(done);
     page.put(part.page.text());
     page.lack_of(&part.page);
 }
 
 /// Writes what lines come to. Those before the first keeper stand as they are.
-pub(crate) fn play_in_memory(text: &str, page: &mut Page) {
-    let schema = two_tables(page);
+pub(crate) fn play_in_memory(schema: &Schema, text: &str, page: &mut Page) {
     let (head, parts) = text.split_once("\nkeeper").unwrap_or((text, ""));
     page.put(head);
     page.push('\n');
     for part in parts.split("\nkeeper") {
-        play_part(&schema, part, page);
+        play_part(schema, part, page);
     }
 }

@@ -28,9 +28,9 @@ use Rattle.programs.proofs.Sequence.{done, reaches_start, then_err, then_ok}
 use Rattle.keeper_core.specs.declared.notes.Note.{Note}
 use Rattle.collection_selects.specs.Collections.{batch_select}
 use Rattle.load_rows.specs.Loading.{Loading, loading}
-use Rattle.pair_laws.specs.Members.{IsMemberRow}
-use Rattle.pair_laws.proofs.Plainness.{batch_is_plain}
-use Rattle.pair_laws.proofs.Rows.{batch_rows_are_members}
+use Rattle.load_laws.specs.Pairs.{IsMemberRow}
+use Rattle.load_laws.proofs.Pairs.Plainness.{batch_is_plain}
+use Rattle.load_laws.proofs.Pairs.Rows.{batch_rows_are_members}
 use Rattle.load_calls.specs.Reading.{World, read}
 use Rattle.load_batches.specs.Batches.{IsKeyed, batch_at, batch_starts, fill_batch, fill_owners, filled_by_batch, keys_of, load_batch, load_batches, load_each, load_from, load_members, read_batch, take_members, unloaded_owners}
 use Rattle.load_batches.specs.declared.members.Member.{Member}

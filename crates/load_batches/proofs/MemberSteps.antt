@@ -21,7 +21,7 @@ use Rattle.programs.specs.Programs.{each, give}
 use Rattle.programs.proofs.AloneLemmas.{change_ok, lost_alone, quietly_alone}
 use Rattle.programs.proofs.Sequence.{done, reaches_start, then_err, then_ok}
 use Rattle.load_rows.specs.Loading.{Loading, take_row}
-use Rattle.pair_laws.specs.Members.{owner_width}
+use Rattle.load_laws.specs.Pairs.{owner_width}
 use Rattle.load_links.specs.Links.{collection_filled}
 use Rattle.load_batches.specs.Batches.{fill_owner, fill_owners, member_of, members_under, objects_in, owner_key_in, take_member, take_members, target_values}
 use Rattle.load_batches.specs.declared.members.Member.{Member}

@@ -1,5 +1,5 @@
 -- The reading of the collections of several owners, by one select for each batch of keys.
-use Rattle.std.specs.Prelude.{◌≡◌, ℕ, ◌+◌, ◌*◌, ◌/◌, ◌<◌, Bool, true, false, List, [], ◌∷◌, ◌++◌, drop, filter, length, map, take, Option, None, Some, if◌then◌else◌}
+use Rattle.std.specs.Prelude.{◌≡◌, ℕ, ◌<◌, true, List, [], ◌∷◌, ◌++◌, drop, filter, length, map, take, Option, None, Some, if◌then◌else◌}
 use Rattle.std.specs.BTreeMap.{BTreeMap, get}
 use Rattle.std.specs.List.{flat_map, range_with_len}
 use Rattle.std.specs.Option.{unwrap_or}
@@ -15,16 +15,16 @@ use Rattle.class_sides.specs.Keys.{TableKey}
 use Rattle.class_mapping.specs.Mapped.{Mapped, relations_of, root_spec}
 use Rattle.programs.specs.Programs.{Run, ◌>>=◌, change, each, give}
 use Rattle.programs.specs.Beside.{by_own, on_own}
-use Rattle.object_arena.specs.declared.object.Link.{Link}
-use Rattle.object_arena.specs.declared.object.Link.TheVariants.{Unloaded}
 use Rattle.object_arena.specs.declared.object.State.TheVariants.{Persistent}
 use Rattle.object_arena.specs.Fit.{relation_of}
 use Rattle.object_arena.specs.Graph.{Graph, IsObject, object_at}
+pub use Rattle.object_parts.specs.Links.{is_unloaded}
+pub use Rattle.object_parts.specs.Lists.{batch_size, batch_starts}
 use Rattle.collection_selects.specs.Collections.{batch_select}
 use Rattle.load_filling.specs.Rows.{value_in}
 use Rattle.load_rows.specs.Loading.{Loading, take_row}
 use Rattle.load_rows.specs.Reading.{identity_key}
-use Rattle.pair_laws.specs.Members.{owner_width}
+use Rattle.load_laws.specs.Pairs.{owner_width}
 use Rattle.load_links.specs.Links.{collection_filled, link_at}
 use Rattle.load_calls.specs.Reading.{World, read}
 use Rattle.load_targets.specs.ForeignKeys.{foreign_attrs}
@@ -36,10 +36,6 @@ use Rattle.load_batches.specs.declared.members.Member.{Member}
 -- an owner with the key of its row
 abbrev pub with_key : Graph → ObjId → Owner
 with_key graph owner = record { object = owner; key = identity_key graph owner }
-
-abbrev pub is_unloaded : Link → Bool
-is_unloaded (Unloaded added removed) = true
-is_unloaded link = false
 
 abbrev pub unloaded_owner : Graph → RelNo → ObjId → List Owner
 unloaded_owner graph place owner = if is_unloaded (link_at graph owner place) then with_key graph owner ∷ [] else []
@@ -146,14 +142,6 @@ filled_by_batch mapped relation place owners = read_batch mapped relation owners
 unfoldable pub load_batch : Mapped → Relation → RelNo → List Owner → World → Run World (Unit {0})
 load_batch mapped relation place [] = give tt
 load_batch mapped relation place (first ∷ more) = filled_by_batch mapped relation place (first ∷ more)
-
--- how many keys one select has at most
-abbrev pub batch_size : ℕ
-batch_size = 500
-
--- where the batches of so many begin
-abbrev pub batch_starts : ℕ → List ℕ
-batch_starts count = map (λ number. batch_size * number) (range_with_len 0 ((count + 499) / batch_size))
 
 -- the batch that begins at a place
 abbrev pub batch_at : {A : Type 0} → List A → ℕ → List A

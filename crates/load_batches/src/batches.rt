@@ -13,12 +13,12 @@ ghost use Rattle.mapping_laws.specs.Hierarchies.{HasHierarchies};
 ghost use Rattle.collection_selects.specs.Collections.{batch_select};
 ghost use Rattle.load_filling.specs.Growing.{Grows};
 ghost use Rattle.load_rows.specs.Loading.{loading};
-ghost use Rattle.pair_laws.specs.Members.{IsMemberRow};
+ghost use Rattle.load_laws.specs.Pairs.{IsMemberRow};
 ghost use Rattle.load_calls.specs.Reading.{IsReady, StaysReady};
 ghost use Rattle.load_collections.specs.Refusals.{CanRefuseRows};
 ghost use Rattle.load_batches.specs.Batches as spec;
 
-use crate::cuts::{batch_at, batch_starts};
+use crate::cuts::batch_at;
 use crate::filling::fill_owners;
 use crate::members::take_members;
 use crate::owners::{Owner, keys_of, unloaded_owners};
@@ -30,6 +30,7 @@ use keeper_core::{Keeper, Notes};
 use load_calls::read;
 use mapping_laws::has_hierarchies;
 use object_arena::Arena;
+use object_parts::batch_starts;
 use std::alloc::Global;
 use std::mem::drop;
 

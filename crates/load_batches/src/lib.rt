@@ -10,6 +10,6 @@ mod members;
 mod owners;
 
 pub use batches::load_members;
-pub use cuts::{batch_at, batch_starts};
+pub use cuts::batch_at;
 pub use members::Member;
 pub use owners::{Owner, is_unloaded};

@@ -11,7 +11,7 @@ ghost use Rattle.load_filling.specs.Growing.{Grows};
 ghost use Rattle.load_filling.specs.Rows.{value_in};
 ghost use Rattle.load_rows.specs.Loading.{loading};
 ghost use Rattle.load_collections.specs.Refusals.{CanRefuseRow};
-ghost use Rattle.pair_laws.specs.Members as member_rows;
+ghost use Rattle.load_laws.specs.Pairs as member_rows;
 ghost use Rattle.load_batches.specs.Batches as spec;
 
 use crate::cuts::rest_from;

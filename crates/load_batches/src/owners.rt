@@ -13,7 +13,7 @@ use base_core::{Copied, Key, KeyList, ListOf, ObjId, Refusal, RelNo};
 use class_mapping::{Mapping, Relation};
 use load_links::identity_key;
 use mapping_laws::has_hierarchies;
-use object_arena::{Arena, Link};
+use object_arena::Arena;
 use std::alloc::Global;
 
 /// An owner of a collection, and the key of its row.
@@ -31,10 +31,7 @@ pub fn is_unloaded(arena: &Arena, mapping: &Mapping, object: ObjId, place: RelNo
     ensures { result ≡ spec.is_unloaded (link_at arena.now object place) }
 {
     let _ = mapping.is_configured();
-    match arena.object(object).links.at(place.0 as usize) {
-        Link::Unloaded { .. } => true,
-        Link::Unset | Link::One { .. } | Link::Many { .. } => false,
-    }
+    object_parts::is_unloaded(arena.object(object).links.at(place.0 as usize))
 }
 
 /// A persistent owner with the key of its row.

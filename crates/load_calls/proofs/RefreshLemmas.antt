@@ -38,13 +38,13 @@ use Rattle.sql_semantics.specs.Shapes.{AreOfItems}
 use Rattle.mapping_laws.specs.Hierarchies.{HasHierarchies}
 use Rattle.mapping_laws.proofs.Ties.{class_tables}
 use Rattle.load_laws.proofs.ClassLemmas.{cells_are_plain}
-use Rattle.key_laws.proofs.KeyKinds.{keys_alike}
-use Rattle.row_laws.proofs.RowKeys.{are_cells}
+use Rattle.mapping_laws.proofs.KeyKinds.{keys_alike}
+use Rattle.load_laws.proofs.Rows.{are_cells}
 use Rattle.load_selects.specs.Selects.{cells_select}
 use Rattle.load_filling.specs.Filled.{AreFoundFor, value_found, value_or_none}
 use Rattle.load_rows.specs.Loading.{Loading, filled, loading}
 use Rattle.load_rows.specs.Reading.{identity_key}
-use Rattle.row_laws.specs.Cells.{AreCellsOf}
+use Rattle.load_laws.specs.Rows.{AreCellsOf}
 use Rattle.load_calls.specs.Reading.{read}
 use Rattle.load_calls.proofs.ReadLemmas.{passed_refusal}
 use Rattle.keeper_core.specs.Keeping.{RefusesSelect}

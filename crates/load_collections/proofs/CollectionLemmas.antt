@@ -41,8 +41,8 @@ use Rattle.mapping_laws.proofs.Ties.{class_tables}
 use Rattle.collection_selects.specs.Collections.{members_by, members_select, owner_columns, pair_columns}
 use Rattle.load_columns.specs.Conditions.{has_values}
 use Rattle.load_laws.proofs.PairLemmas.{members_are_plain, pairs_sources, second}
-use Rattle.key_laws.proofs.KeyKinds.{keys_alike}
-use Rattle.row_laws.proofs.RowKeys.{ReadsClass, are_read, reads_rows}
+use Rattle.mapping_laws.proofs.KeyKinds.{keys_alike}
+use Rattle.load_laws.proofs.Rows.{ReadsClass, are_read, reads_rows}
 use Rattle.load_rows.specs.Loading.{Loading, loading}
 use Rattle.load_rows.specs.Reading.{IsRowOf, identity_key}
 use Rattle.load_calls.specs.Reading.{read}

@@ -27,12 +27,13 @@ use base_core::{ClassId, Key, ObjId, Refusal, RelNo, RowList, RowValues};
 use class_mapping::{Mapping, Relation};
 use expr_types::Select;
 use keeper_core::{Keeper, Notes};
-use load_batches::{batch_at, batch_starts};
+use load_batches::batch_at;
 use load_calls::read;
 use load_collections::take_rows;
 use load_selects::targets_select;
 use mapping_laws::has_hierarchies;
 use object_arena::Arena;
+use object_parts::batch_starts;
 use std::alloc::Global;
 
 /// The select of the rows of a class under keys.

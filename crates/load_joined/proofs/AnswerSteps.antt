@@ -25,12 +25,12 @@ use Rattle.programs.proofs.Sequence.{done, then_err, then_ok}
 use Rattle.keeper_core.specs.declared.notes.Note.{Note}
 use Rattle.load_rows.specs.Loading.{Loading, loading}
 use Rattle.main_selects.specs.MainSelect.{main_select}
-use Rattle.joined_parts.specs.declared.parts.Part.{Part}
-use Rattle.joined_parts.specs.Parts.{IsJoinedRow, part_at, parts_from, parts_of, width_of}
+use Rattle.joined_rows.specs.declared.parts.Part.{Part}
+use Rattle.joined_rows.specs.Parts.{IsJoinedRow, part_at, parts_from, parts_of, width_of}
 use Rattle.load_calls.specs.Reading.{read}
 use Rattle.load_queries.specs.Queries.{firsts}
 use Rattle.load_queries.proofs.FirstSteps.{firsts_all}
-use Rattle.joined_rows.specs.declared.taking.Taken.{Taken}
+use Rattle.object_parts.specs.declared.answers.Taken.{Taken}
 use Rattle.joined_rows.specs.Taking.{IsTaken, take_joined}
 use Rattle.load_joined.specs.Joined.{IsPartOf, answered, fill_owners, fill_taken, load_joined, take_answers}
 

@@ -29,9 +29,9 @@ use Rattle.load_filling.proofs.LoadedLemmas.{grows_same}
 use Rattle.load_rows.specs.Loading.{Loading}
 use Rattle.load_rows.proofs.TakenLemmas.{grows_filled}
 use Rattle.load_links.specs.Links.{collection_filled, end_filled}
-use Rattle.joined_parts.specs.declared.parts.Part.{Part}
+use Rattle.joined_rows.specs.declared.parts.Part.{Part}
 use Rattle.load_collections.proofs.CollectionLemmas.{class_there, owner_there}
-use Rattle.joined_rows.specs.declared.taking.Taken.{Taken}
+use Rattle.object_parts.specs.declared.answers.Taken.{Taken}
 use Rattle.joined_rows.specs.Taking.{IsTaken}
 use Rattle.load_joined.specs.Joined.{GiveMembers, IsOwner, fill_option, fill_options, fill_owner, fill_owners, given_to, is_many, link_filled, owners_among}
 

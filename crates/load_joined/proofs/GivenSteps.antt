@@ -12,8 +12,8 @@ use Rattle.base_core.specs.declared.ids.ClassId.{ClassId}
 use Rattle.base_core.specs.declared.ids.ObjId.{ObjId}
 use Rattle.class_mapping.specs.Mapped.{Mapped, root_of}
 use Rattle.object_arena.specs.Fit.{end_fits, is_of_root}
-use Rattle.joined_parts.specs.declared.parts.Part.{Part}
-use Rattle.joined_rows.specs.declared.taking.Taken.{Taken}
+use Rattle.joined_rows.specs.declared.parts.Part.{Part}
+use Rattle.object_parts.specs.declared.answers.Taken.{Taken}
 use Rattle.joined_rows.specs.Taking.{IsMember, member_at}
 use Rattle.load_joined.specs.Joined.{GiveMembers, given_by, given_to, objects_at}
 

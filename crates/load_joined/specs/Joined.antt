@@ -1,5 +1,5 @@
 -- The reading of the objects of a query with its joined options, as a program: one select, whose rows give the objects and what hangs on them.
-use Rattle.std.specs.Prelude.{◌≡◌, ℕ, ◌<◌, ◌==◌, Bool, true, false, List, [], filter, filter_map, length, map, slice_get, Option, None, if◌then◌else◌}
+use Rattle.std.specs.Prelude.{◌≡◌, ℕ, ◌<◌, ◌==◌, Bool, true, false, List, [], filter, filter_map, length, slice_get, Option, None, if◌then◌else◌}
 use Rattle.std.specs.BTreeMap.{BTreeMap, get}
 use Rattle.std.specs.List.{All, enumerate_from}
 use Rattle.std.specs.Option.{unwrap_or}
@@ -18,12 +18,12 @@ use Rattle.relations.specs.Mirror.{is_of}
 use Rattle.load_rows.specs.Loading.{Loading}
 use Rattle.load_links.specs.Links.{collection_filled, end_filled}
 use Rattle.main_selects.specs.MainSelect.{main_select}
-use Rattle.joined_parts.specs.declared.parts.Part.{Part}
-use Rattle.joined_parts.specs.Parts.{parts_of}
+use Rattle.joined_rows.specs.declared.parts.Part.{Part}
+use Rattle.joined_rows.specs.Parts.{parts_of}
 use Rattle.load_calls.specs.Reading.{World, read}
-use Rattle.joined_rows.specs.declared.taking.Taken.{Taken}
+use Rattle.object_parts.specs.declared.answers.Taken.{Taken}
+pub use Rattle.object_parts.specs.Answers.{answered}
 use Rattle.joined_rows.specs.Taking.{IsMember, member_at, take_joined}
-use Rattle.load_queries.specs.Queries.{firsts}
 
 -- ---- what an owner is given
 
@@ -75,10 +75,6 @@ unfoldable pub fill_options : Mapped → ClassId → List Part → List Taken �
 fill_options mapped class parts taken owners = each (fill_option mapped class taken owners) tt (enumerate_from 0 parts)
 
 -- ---- the query
-
--- the objects that rows give, each where it comes first
-abbrev pub answered : List Taken → List ObjId
-answered taken = firsts (map (λ one. one.owner) taken)
 
 -- those of a class at or under another: what stands under a key of the hierarchy may be of another branch
 abbrev pub owners_among : Mapped → ClassId → Graph → List ObjId → List ObjId

@@ -16,12 +16,12 @@ use crate::given::{Given, given_by_rows, objects_at};
 use crate::owners::owners_among;
 use base_core::{ClassId, ObjId, Refusal, RelNo};
 use class_mapping::Mapping;
-use joined_parts::Part;
-use joined_rows::Taken;
+use joined_rows::Part;
 use keeper_core::Notes;
 use load_links::{fill_collection, fill_end, relation_at};
 use mapping_laws::has_hierarchies;
 use object_arena::Arena;
+use object_parts::Taken;
 use std::alloc::Global;
 
 /// The first of what was given.

@@ -8,7 +8,7 @@ ghost use Rattle.joined_rows.specs.Taking.{member_at};
 ghost use Rattle.load_joined.specs.Joined as spec;
 
 use base_core::{ListOf, ObjId, ObjList, Refusal};
-use joined_rows::Taken;
+use object_parts::Taken;
 use std::alloc::Global;
 use std::collections::BTreeMap;
 

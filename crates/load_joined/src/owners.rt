@@ -1,6 +1,6 @@
-//! The objects that rows give, and the owners among them.
+//! The owners among objects.
 
-ghost use Rattle.std.specs.Prelude.{◌≡◌, map, IfErr, IfOk};
+ghost use Rattle.std.specs.Prelude.{◌≡◌, IfErr, IfOk};
 ghost use Rattle.std.specs.List.{All};
 ghost use Rattle.base_core.specs.declared.refusal.Refusal.TheVariants.{Memory};
 ghost use Rattle.object_arena.specs.Graph.{IsObject};
@@ -10,31 +10,8 @@ ghost use Rattle.load_joined.specs.Joined as spec;
 use base_core::{ClassId, ListOf, ObjId, ObjList, Refusal};
 use class_layouts::has_class;
 use class_mapping::Mapping;
-use joined_rows::Taken;
-use load_queries::firsts;
 use object_arena::Arena;
 use std::alloc::Global;
-
-/// The object of each row.
-fn objects_of(alloc: Global, taken: &[Taken]) -> Result<ObjList, Refusal>
-    ensures objects { IfOk result (λ objects. objects ≡ map (λ one. one.owner) taken.now) }
-    ensures cause { IfErr result (λ e. e ≡ Memory) }
-{
-    let mut objects = ListOf::new(alloc);
-    for one in taken {
-        objects.push(one.owner)?;
-    }
-    Ok(objects)
-}
-
-/// The objects that rows give, each where it comes first.
-pub(crate) fn answered(alloc: Global, taken: &[Taken]) -> Result<ObjList, Refusal>
-    ensures objects { IfOk result (λ objects. objects ≡ spec.answered taken.now) }
-    ensures cause { IfErr result (λ e. e ≡ Memory) }
-{
-    let objects = objects_of(alloc, taken)?;
-    firsts(alloc, objects.as_slice())
-}
 
 /// Whether an object is of a class at or under another.
 fn is_owner(arena: &Arena, mapping: &Mapping, class: ClassId, object: ObjId) -> bool

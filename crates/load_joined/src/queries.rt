@@ -14,7 +14,7 @@ ghost use Rattle.sql_semantics.specs.Plain.{IsPlainSelect};
 ghost use Rattle.load_filling.specs.Growing.{Grows};
 ghost use Rattle.load_rows.specs.Loading.{loading};
 ghost use Rattle.main_selects.specs.MainSelect.{main_select};
-ghost use Rattle.joined_parts.specs.Parts.{IsJoinedRow, parts_of};
+ghost use Rattle.joined_rows.specs.Parts.{IsJoinedRow, parts_of};
 ghost use Rattle.load_calls.specs.Reading.{IsReady, StaysReady, read};
 ghost use Rattle.load_collections.specs.Refusals.{CanRefuseRow, CanRefuseRows};
 ghost use Rattle.joined_rows.specs.Taking.{IsTaken};
@@ -22,17 +22,16 @@ ghost use Rattle.load_queries.specs.Queries.{ReadsObjects};
 ghost use Rattle.load_joined.specs.Joined as spec;
 
 use crate::filling::fill_owners;
-use crate::owners::answered;
 use base_core::{ClassId, ListOf, ObjList, Refusal, RowList, RowValues};
 use class_mapping::Mapping;
 use expr_types::ObjectQuery;
-use joined_parts::{Part, parts_of, rows_have_parts};
-use joined_rows::{Taken, take_joined};
+use joined_rows::{Part, parts_of, rows_have_parts, take_joined};
 use keeper_core::{Keeper, Notes};
 use load_calls::read;
 use main_selects::main_select;
 use mapping_laws::has_hierarchies;
 use object_arena::Arena;
+use object_parts::{Taken, answered};
 use std::alloc::Global;
 
 /// Where the joined options of a query stand in its rows.

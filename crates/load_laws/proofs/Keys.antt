@@ -22,7 +22,7 @@ use Rattle.class_mapping.proofs.Having.{Has, all_from, from_filter, has_filter, 
 use Rattle.load_columns.specs.Placing.{columns_at, key_numbers, number_at}
 use Rattle.mapping_laws.specs.Hierarchies.{kinds_of}
 use Rattle.mapping_laws.proofs.Attributes.{numbered_there}
-use Rattle.key_laws.proofs.KeyColumns.{keys_placed, kinds_at, kinds_placed}
+use Rattle.mapping_laws.proofs.KeyColumns.{keys_placed, kinds_at, kinds_placed}
 use Rattle.load_laws.proofs.Standing.{IsThere, is_of}
 use Rattle.load_laws.proofs.Typed.{AreTyped, fit_kinds, typed_long}
 

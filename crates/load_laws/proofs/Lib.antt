@@ -6,3 +6,5 @@ pub mod Placed
 pub mod ClassLemmas
 pub mod MemberLemmas
 pub mod PairLemmas
+pub mod Rows
+pub mod Pairs

@@ -3,64 +3,52 @@
 use base_core::Refusal;
 use class_mapping::Mapping;
 use class_types::Hooks;
+use notations::parted;
 use script_read::read_line;
 use script_types::Inside;
-use shell_parts::Declared;
+use shell_parts::Block;
 use std::alloc::Global;
 
-/// Declares what a block says.
-fn declare(mapping: &mut Mapping, hooks: &Hooks, block: Declared) -> Result<(), Refusal> {
-    if mapping.count() == u32::MAX || mapping.schema().count() == u32::MAX {
-        return Err(Refusal::Memory);
-    }
-    match block {
-        Declared::Table(spec) => {
-            let _table = mapping.declare_table(spec)?;
-        }
-        Declared::Class(spec) => {
-            let _class = mapping.declare_class(spec, hooks)?;
+/// A block takes its lines.
+fn take_all(alloc: Global, block: &mut Block, lines: &str) -> Result<(), Refusal> {
+    for line in lines.split(';') {
+        if !line.is_empty() {
+            let line = read_line(alloc, line.as_bytes(), 1, block.inside())?;
+            block.take(line)?;
         }
     }
     Ok(())
 }
 
-/// Takes a line of declarations, where a block may be open, and answers the block that is open then.
-fn with_line(
+/// Declares what the lines of a block say.
+fn declare(
     alloc: Global,
     hooks: &Hooks,
     mapping: &mut Mapping,
-    open: Option<Declared>,
-    line: &str,
-) -> Result<Option<Declared>, Refusal> {
-    match open {
-        None => {
-            let head = read_line(alloc, line.as_bytes(), 1, Inside::Top)?;
-            Ok(Some(Declared::of_head(alloc, head)?))
-        }
-        Some(block) => {
-            if line == "end" {
-                declare(mapping, hooks, block)?;
-                return Ok(None);
-            }
-            let mut block = block;
-            let inside = block.inside();
-            block.take(read_line(alloc, line.as_bytes(), 1, inside)?)?;
-            Ok(Some(block))
-        }
-    }
+    lines: &str,
+) -> Result<(), Refusal> {
+    let (head, lines) = parted(lines, ';');
+    let head = read_line(alloc, head.as_bytes(), 1, Inside::Top)?;
+    let mut block = Block::of_head(alloc, head, 1)?;
+    take_all(alloc, &mut block, lines)?;
+    block.declare(hooks, mapping)
 }
 
-/// Declares what lines with `;` behind each say, and configures the mapping.
+/// Declares what blocks of lines with `;` between them say, and configures the mapping. The last line of each block is `end`.
 pub fn declare_all(
     alloc: Global,
     hooks: &Hooks,
     mapping: &mut Mapping,
     lines: &str,
 ) -> Result<(), Refusal> {
-    let mut open = None;
-    for line in lines.split(';') {
-        if !line.is_empty() {
-            open = with_line(alloc, hooks, mapping, open, line)?;
+    for block in lines.split(";end") {
+        if !block.is_empty() {
+            declare(
+                alloc,
+                hooks,
+                mapping,
+                block.strip_prefix(';').unwrap_or(block),
+            )?;
         }
     }
     mapping.configure()

@@ -8,14 +8,8 @@ use base_core::{AttrNo, ClassId, ListOf, ObjId, ObjList, Refusal, RelNo};
 use class_mapping::Mapping;
 use graph_fits::{cell_fits, key_fits, link_fits};
 use load_filling::load_object;
-use notations::{Page, number};
+use notations::{Page, number, parted};
 use object_arena::{Arena, Cell, Link};
-use std::alloc::Global;
-
-/// What stands before the first blank, and behind it.
-pub fn first_word(words: &str) -> (&str, &str) {
-    words.split_once(' ').unwrap_or((words, ""))
-}
 
 /// Whether an object has been made.
 pub fn is_made(arena: &Arena, object: ObjId) -> bool
@@ -30,10 +24,13 @@ fn hold(page: &mut Page, mapping: &Mapping, arena: &mut Arena, words: &str) -> R
     requires fit { IsFit mapping.now arena.old }
     ensures { IsFit mapping.now arena.new }
 {
-    let (class, key) = first_word(words);
+    let (class, key) = parted(words, ' ');
     let class = ClassId(number(class));
+    if class.0 >= mapping.count() {
+        return Err(Refusal::NotBuilt);
+    }
     let key = page.row(key);
-    if class.0 >= mapping.count() || !key_fits(mapping, class, &key) {
+    if !key_fits(mapping, class, &key) {
         return Err(Refusal::NotBuilt);
     }
     if arena.find_identity(mapping.root_of(class), &key).is_some() {
@@ -67,58 +64,65 @@ fn set(
     requires fit { IsFit mapping.now arena.old }
     ensures { IsFit mapping.now arena.new }
 {
-    let (object, words) = first_word(words);
-    let (attr, words) = first_word(words);
+    let (object, words) = parted(words, ' ');
+    let (attr, words) = parted(words, ' ');
     let object = ObjId(number(object));
     let attr = AttrNo(number(attr));
-    let cell = cell_of(page, words, is_written);
     if !is_made(arena, object) {
         return Err(Refusal::NotBuilt);
     }
     let attributes = mapping.attributes(arena.object(object).class);
-    if attr.0 as usize >= attributes.len() || !cell_fits(&attributes[attr.0 as usize], &cell) {
+    let at = attr.0 as usize;
+    if at >= attributes.len() {
+        return Err(Refusal::NotBuilt);
+    }
+    let cell = cell_of(page, words, is_written);
+    if !cell_fits(&attributes[at], &cell) {
         return Err(Refusal::NotBuilt);
     }
     arena.put_cell(object, attr, cell)
 }
 
 /// Objects with commas between them; there may be none.
-pub fn objects_of(alloc: Global, words: &str) -> Result<ObjList, Refusal> {
-    let mut objects = ListOf::new(alloc);
+pub fn objects_of(page: &mut Page, words: &str) -> ObjList {
+    let mut objects = ListOf::new(page.alloc());
     for word in words.split(',') {
         if !word.is_empty() {
-            objects.push(ObjId(number(word)))?;
+            page.add(&mut objects, ObjId(number(word)));
         }
     }
-    Ok(objects)
+    objects
 }
 
 /// An unloaded link with the kept adds and removes.
-fn link_of(alloc: Global, words: &str) -> Result<Link, Refusal> {
-    let (added, removed) = words.split_once('/').unwrap_or((words, ""));
-    Ok(Link::Unloaded {
-        added: objects_of(alloc, added)?,
-        removed: objects_of(alloc, removed)?,
-    })
+fn link_of(page: &mut Page, words: &str) -> Link {
+    let (added, removed) = parted(words, '/');
+    Link::Unloaded {
+        added: objects_of(page, added),
+        removed: objects_of(page, removed),
+    }
 }
 
 /// An unloaded collection of an object keeps changes.
-fn keep(alloc: Global, mapping: &Mapping, arena: &mut Arena, words: &str) -> Result<(), Refusal>
+fn keep(page: &mut Page, mapping: &Mapping, arena: &mut Arena, words: &str) -> Result<(), Refusal>
     requires configured { mapping.now.configured ≡ true }
     requires fit { IsFit mapping.now arena.old }
     ensures { IsFit mapping.now arena.new }
 {
-    let (object, words) = first_word(words);
-    let (place, words) = first_word(words);
+    let (object, words) = parted(words, ' ');
+    let (place, words) = parted(words, ' ');
     let object = ObjId(number(object));
     let place = RelNo(number(place));
-    let link = link_of(alloc, words)?;
     if !is_made(arena, object) {
         return Err(Refusal::NotBuilt);
     }
     let relations = mapping.relations(arena.object(object).class);
     let at = place.0 as usize;
-    if at >= relations.len() || !link_fits(arena, mapping, &relations[at], &link) {
+    if at >= relations.len() {
+        return Err(Refusal::NotBuilt);
+    }
+    let link = link_of(page, words);
+    if !link_fits(arena, mapping, &relations[at], &link) {
         return Err(Refusal::NotBuilt);
     }
     arena.put_link(object, place, link)
@@ -138,7 +142,7 @@ pub fn put(
 {
     match letter {
         "h" => hold(page, mapping, arena, words),
-        "k" => keep(page.alloc(), mapping, arena, words),
+        "k" => keep(page, mapping, arena, words),
         _ => set(page, mapping, arena, words, letter == "s"),
     }
 }

@@ -8,6 +8,6 @@ mod store;
 mod told;
 
 pub use declared::declare_all;
-pub use graph::{first_word, is_made, objects_of, put};
+pub use graph::{is_made, objects_of, put};
 pub use store::fill;
 pub use told::{tell_load, tell_objects};

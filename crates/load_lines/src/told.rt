@@ -2,13 +2,12 @@
 
 use base_core::{ObjId, ObjList, Refusal, RequestKind};
 use class_mapping::Mapping;
-use dialect_sqlite::compile;
+use dialects::sqlite::compile;
 use expr_types::{CopiedIn, Select, Statement};
 use keeper_core::{Note, Notes, Sent};
 use notations::Page;
 use object_arena::{Arena, Cell, Link, Object};
 use sql_statements::has_cuts;
-use std::alloc::Global;
 use std::mem::drop;
 
 fn word_of(refusal: &Refusal) -> &'static str {
@@ -33,18 +32,12 @@ fn say_answer(answer: &Result<ObjList, Refusal>, page: &mut Page) {
     page.push('\n');
 }
 
-/// A select's text in SQLite, with its values.
-fn say_text(
-    alloc: Global,
-    mapping: &Mapping,
-    select: &Select,
-    page: &mut Page,
-) -> Result<(), Refusal> {
-    let statement = Statement::Select(select.copied_in(alloc)?);
-    if !has_cuts(&statement) {
+/// A statement's text in SQLite, with its values.
+fn say_statement(mapping: &Mapping, statement: &Statement, page: &mut Page) -> Result<(), Refusal> {
+    if !has_cuts(statement) {
         return Ok(());
     }
-    let compiled = compile(alloc, mapping.schema(), &statement)?;
+    let compiled = compile(page.alloc(), mapping.schema(), statement)?;
     page.put("  ");
     page.put(compiled.text.get());
     page.put_row(" ", &compiled.values);
@@ -52,11 +45,17 @@ fn say_text(
     Ok(())
 }
 
+/// A select's text in SQLite, with its values.
+fn say_select(mapping: &Mapping, select: &Select, page: &mut Page) -> Result<(), Refusal> {
+    let statement = Statement::Select(select.copied_in(page.alloc())?);
+    say_statement(mapping, &statement, page)
+}
+
 fn say_note(mapping: &Mapping, note: &Note, page: &mut Page) {
     match note {
         Note::Sent(Sent::Query(select)) => {
-            let done = say_text(page.alloc(), mapping, select, page);
-            page.note(done);
+            let done = say_select(mapping, select, page);
+            page.note_done(done);
         }
         Note::Filled(object) => {
             page.put_number("  filled ", u64::from(object.0));

@@ -22,7 +22,7 @@ use Rattle.programs.proofs.Sequence.{done, then_err, then_ok}
 use Rattle.mapping_laws.proofs.Ties.{class_tables}
 use Rattle.load_selects.specs.Selects.{class_rows}
 use Rattle.load_laws.proofs.ClassLemmas.{rows_plain}
-use Rattle.row_laws.proofs.RowKeys.{are_read, reads_rows}
+use Rattle.load_laws.proofs.Rows.{are_read, reads_rows}
 use Rattle.load_rows.specs.Loading.{Loading}
 use Rattle.load_rows.specs.Reading.{IsRowOf}
 use Rattle.load_calls.specs.Reading.{read}

@@ -1,7 +1,5 @@
 -- The reading of the objects of a query, as a program.
-use Rattle.std.specs.Prelude.{◌≡◌, ℕ, List, [], ◌∷◌, ◌++◌, fold, map, if◌then◌else◌}
-use Rattle.std.specs.BTreeSet.{BTreeSet, contains}
-use Rattle.std.specs.Ordering.{nat_cmp}
+use Rattle.std.specs.Prelude.{◌≡◌, List, [], ◌++◌, map}
 use Rattle.base_core.specs.declared.ids.ClassId.{ClassId}
 use Rattle.base_core.specs.declared.ids.ObjId.{ObjId}
 use Rattle.base_core.specs.declared.ids.RelNo.{RelNo}
@@ -13,26 +11,12 @@ use Rattle.sql_semantics.specs.Plain.{sources_of}
 use Rattle.class_mapping.specs.Mapped.{Mapped, tables_of}
 use Rattle.programs.specs.Programs.{Run, ◌>>=◌, give}
 use Rattle.programs.specs.Beside.{on_own}
-use Rattle.object_arena.specs.Graph.{is_among}
+pub use Rattle.object_parts.specs.Lists.{firsts, with_first}
 use Rattle.load_columns.specs.Placing.{attribute_columns, from_root}
 use Rattle.load_selects.specs.Selects.{class_rows, item_of, origin_of}
 use Rattle.load_rows.specs.Loading.{Loading}
 use Rattle.load_calls.specs.Reading.{World, read}
 use Rattle.load_collections.specs.Collections.{take_rows}
-
--- ---- each object once
-
--- an object goes behind others, unless it is among them
-abbrev pub with_first : List ObjId → ObjId → List ObjId
-with_first kept object = if is_among kept object then kept else kept ++ object ∷ []
-
--- objects where each comes first
-unfoldable pub firsts : List ObjId → List ObjId
-firsts objects = fold with_first [] objects
-
--- a set has the numbers of these objects
-pub record HasSeen (seen : BTreeSet ℕ) (kept : List ObjId) : Type 0 where
-  pub same : (object : ObjId) → contains nat_cmp seen object.0 ≡ is_among kept object
 
 -- ---- the query
 

@@ -2,9 +2,7 @@
 #![tactic(auto)]
 
 mod every;
-mod once;
 mod queries;
 
 pub use every::{every_object, has_plain_select, let_go};
-pub use once::firsts;
 pub use queries::load_select;

@@ -16,7 +16,6 @@ ghost use Rattle.load_calls.specs.Reading.{IsReady, StaysReady, read};
 ghost use Rattle.load_collections.specs.Refusals.{CanRefuseRow, CanRefuseRows};
 ghost use Rattle.load_queries.specs.Queries as spec;
 
-use crate::once::firsts;
 use base_core::{ClassId, ObjList, Refusal, RowList, RowValues};
 use class_mapping::Mapping;
 use expr_types::ObjectQuery;
@@ -25,6 +24,7 @@ use load_calls::read;
 use load_collections::take_rows;
 use mapping_laws::has_hierarchies;
 use object_arena::Arena;
+use object_parts::firsts;
 use std::alloc::Global;
 
 /// The rows of a query.

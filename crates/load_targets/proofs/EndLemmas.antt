@@ -32,8 +32,8 @@ use Rattle.load_columns.specs.Conditions.{has_values}
 use Rattle.load_columns.specs.Placing.{from_root, root_key}
 use Rattle.load_selects.specs.Selects.{key_select}
 use Rattle.load_laws.proofs.ClassLemmas.{key_is_plain}
-use Rattle.key_laws.proofs.KeyKinds.{keys_alike}
-use Rattle.row_laws.proofs.RowKeys.{are_rows}
+use Rattle.mapping_laws.proofs.KeyKinds.{keys_alike}
+use Rattle.load_laws.proofs.Rows.{are_rows}
 use Rattle.load_rows.specs.Loading.{Loading, loading, take_row}
 use Rattle.load_rows.specs.Reading.{IsRowOf}
 use Rattle.load_calls.specs.Reading.{World, read}

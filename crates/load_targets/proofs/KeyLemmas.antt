@@ -46,7 +46,7 @@ use Rattle.load_laws.proofs.Keys.{turned_kind}
 use Rattle.load_laws.proofs.MemberLemmas.{among_has, foreign_kinds, kinds_along, place_in, referred}
 use Rattle.load_laws.proofs.Standing.{is_of}
 use Rattle.load_laws.proofs.Typed.{fit_kinds}
-use Rattle.key_laws.proofs.KeyKinds.{keys_alike}
+use Rattle.mapping_laws.proofs.KeyKinds.{keys_alike}
 use Rattle.load_links.proofs.LinkLemmas.{pointwise_at}
 use Rattle.load_targets.specs.ForeignKeys.{attr_named, foreign_attrs, foreign_key, value_at}
 

@@ -1,7 +1,7 @@
 //! Loads objects over a keeper in memory, as lines of the standard input say, and writes what each load sent, noted and answered, and
 //! the objects at the end.
 //!
-//! A line that begins with `=` has declarations, each of their lines with `;` behind it; they hold for the lines below it. Every other
+//! A line that begins with `=` has declarations, with `;` between their lines; they hold for the lines below it. Every other
 //! line has rows, then `#`, and acts, with `;` between. A row is the name of its table, a blank, and its values. An act is a
 //! letter with its words: `h CLASS KEY` makes a persistent object of which nothing is known; `s OBJECT ATTRIBUTE VALUE` lets a
 //! cell hold a value, and `c` one that is unwritten; `k OBJECT RELATIONSHIP ADDED/REMOVED` keeps changes of an unloaded
@@ -27,23 +27,23 @@ mod owners;
 mod player;
 mod queries;
 
-use notations::{Page, play_all};
-use player::Player;
+use notations::Page;
+use player::play;
 use std::alloc::{AllocError, Global};
 use std::io;
 
 fn played(alloc: Global, text: &str) -> Result<String, AllocError> {
-    let mut player = Player::new(alloc)?;
     let mut page = Page::new(alloc);
-    play_all(&mut player, text, &mut page);
+    for lines in text.split("\n=") {
+        play(lines.strip_prefix('=').unwrap_or(lines), &mut page);
+    }
     page.into_text()
 }
 
 fn main(rt: HostRuntime) -> io::Result<()> {
-    let alloc = rt.alloc();
-    let text = io::read_to_string(alloc, rt.reader())?;
-    match played(alloc, &text) {
+    let text = io::read_to_string(rt.alloc(), rt.reader())?;
+    match played(rt.alloc(), &text) {
         Ok(shown) => rt.print(shown),
-        Err(_) => rt.println("out of memory"),
+        Err(_) => rt.println("refused"),
     }
 }

@@ -15,21 +15,12 @@ use class_types::Hooks;
 use keeper_core::{Keeper, Notes, calls};
 use keeper_mem::{OverKeepers, over_memory};
 use load_calls::refresh;
-use load_lines::{
-    declare_all, fill, first_word, is_made, objects_of, put, tell_load, tell_objects,
-};
+use load_lines::{declare_all, fill, is_made, objects_of, put, tell_load, tell_objects};
 use load_selectin::load_selectin;
 use load_targets::load_lazy;
-use notations::{Page, Plays, number, parted};
+use notations::{Page, number, parted};
 use object_arena::Arena;
-use std::alloc::{AllocError, Global};
-use std::mem::{self, drop};
-
-/// The mapping that was declared last.
-#[derive(Drop)]
-pub(crate) struct Player {
-    mapping: Box<Mapping>,
-}
+use std::alloc::Global;
 
 /// Loads the link of an object at a place.
 fn load_link<K: Keeper>(
@@ -58,7 +49,7 @@ fn load_link<K: Keeper>(
 
 /// Loads the links of objects of a class at a place.
 fn load_together<K: Keeper>(
-    alloc: Global,
+    page: &mut Page,
     arena: &mut Arena,
     mapping: &Mapping,
     keeper: &mut K,
@@ -71,24 +62,24 @@ fn load_together<K: Keeper>(
     ensures stays { StaysReady mapping.now.schema result (K.moment keeper.new) }
     ensures fits { IsFit mapping.now arena.new }
 {
-    let (class, words) = first_word(words);
-    let (place, words) = first_word(words);
+    let (class, words) = parted(words, ' ');
+    let (place, words) = parted(words, ' ');
     let class = ClassId(number(class));
     let place = RelNo(number(place));
-    let owners = objects_of(alloc, words)?;
-    let owners = owners.as_slice();
     if class.0 >= mapping.count() || place.0 as usize >= mapping.relations(class).len() {
         return Err(Refusal::NotBuilt);
     }
+    let owners = objects_of(page, words);
+    let owners = owners.as_slice();
     if !are_owners(&*arena, mapping, class, owners) {
         return Err(Refusal::NotBuilt);
     }
-    load_selectin(alloc, arena, mapping, keeper, owners, place, notes)
+    load_selectin(page.alloc(), arena, mapping, keeper, owners, place, notes)
 }
 
 /// Loads the links that an act names, or refreshes its object.
 fn load_links<K: Keeper>(
-    alloc: Global,
+    page: &mut Page,
     arena: &mut Arena,
     mapping: &Mapping,
     keeper: &mut K,
@@ -103,23 +94,23 @@ fn load_links<K: Keeper>(
     ensures fits { IsFit mapping.now arena.new }
 {
     if letter == "b" {
-        return load_together(alloc, arena, mapping, keeper, words, notes);
+        return load_together(page, arena, mapping, keeper, words, notes);
     }
-    let (object, place) = first_word(words);
+    let (object, place) = parted(words, ' ');
     let object = ObjId(number(object));
     if !is_made(arena, object) || !is_persistent(arena, object) {
         return Err(Refusal::NotBuilt);
     }
     if letter == "r" {
-        return refresh(alloc, arena, mapping, keeper, object, notes);
+        return refresh(page.alloc(), arena, mapping, keeper, object, notes);
     }
     let place = RelNo(number(place));
-    load_link(alloc, object, place, arena, mapping, keeper, notes)
+    load_link(page.alloc(), object, place, arena, mapping, keeper, notes)
 }
 
 /// Loads what an act asks for, and answers the objects of its query.
 fn load<K: Keeper>(
-    alloc: Global,
+    page: &mut Page,
     arena: &mut Arena,
     mapping: &Mapping,
     keeper: &mut K,
@@ -132,12 +123,12 @@ fn load<K: Keeper>(
     ensures stays { StaysReady mapping.now.schema result (K.moment keeper.new) }
     ensures fits { IsFit mapping.now arena.new }
 {
-    let (letter, words) = first_word(act);
+    let (letter, words) = parted(act, ' ');
     if letter == "q" || letter == "j" {
-        return load_class(alloc, arena, mapping, keeper, letter, words, notes);
+        return load_class(page.alloc(), arena, mapping, keeper, letter, words, notes);
     }
-    match load_links(alloc, arena, mapping, keeper, letter, words, notes) {
-        Ok(()) => Ok(ListOf::new(alloc)),
+    match load_links(page, arena, mapping, keeper, letter, words, notes) {
+        Ok(()) => Ok(ListOf::new(page.alloc())),
         Err(refusal) => Err(refusal),
     }
 }
@@ -165,9 +156,8 @@ fn tell<K: Keeper>(
     ensures stays { OnOk result (IsReady mapping.now.schema (K.moment keeper.new)) }
     ensures fits { IsFit mapping.now arena.new }
 {
-    let alloc = page.alloc();
-    let mut notes = ListOf::new(alloc);
-    let answer = load(alloc, arena, mapping, keeper, act, &mut notes);
+    let mut notes = ListOf::new(page.alloc());
+    let answer = load(page, arena, mapping, keeper, act, &mut notes);
     let has_ended = is_ended(&answer);
     tell_load(mapping, act, answer, notes, page);
     if has_ended {
@@ -190,25 +180,27 @@ fn step<K: Keeper>(
     ensures stays { OnOk result (IsReady mapping.now.schema (K.moment keeper.new)) }
     ensures fits { IsFit mapping.now arena.new }
 {
-    let (letter, words) = first_word(act);
+    let (letter, words) = parted(act, ' ');
     match letter {
         "h" | "k" | "s" | "c" => put(page, mapping, arena, letter, words),
         _ => tell(arena, mapping, keeper, act, page),
     }
 }
 
-/// Does the acts of a line one after the other, and tells the objects then.
-fn play<K: Keeper>(
+/// Does the acts of a line one after the other, over a keeper that has its rows, and tells the objects then.
+fn play_acts<K: Keeper>(
     mapping: &Mapping,
     arena: &mut Arena,
     keeper: &mut K,
-    acts: &str,
+    line: &str,
     page: &mut Page,
 ) -> Result<(), Refusal>
     requires configured { mapping.now.configured ≡ true }
     requires fit { IsFit mapping.now arena.old }
-    requires ready { IsReady mapping.now.schema (K.moment keeper.old) }
+    requires fresh { (K.moment keeper.old).target ≡ None }
 {
+    let (rows, acts) = parted(line, '#');
+    fill(page, keeper, mapping.schema(), rows)?;
     for act in acts.split(';') {
         step(arena, mapping, keeper, act, page)?;
     }
@@ -216,84 +208,55 @@ fn play<K: Keeper>(
     Ok(())
 }
 
-/// Plays the acts of a line over a keeper that has its rows.
-fn play_over<K: Keeper>(
-    mapping: &Mapping,
-    keeper: &mut K,
-    line: &str,
-    page: &mut Page,
-) -> Result<(), Refusal>
+/// Plays a line over a keeper that was given no target.
+fn play_over<K: Keeper>(mapping: &Mapping, keeper: &mut K, line: &str, page: &mut Page)
     requires configured { mapping.now.configured ≡ true }
     requires fresh { (K.moment keeper.old).target ≡ None }
 {
-    let (rows, acts) = parted(line, '#');
-    fill(page, keeper, mapping.schema(), rows)?;
     let mut arena = Arena::new(page.alloc());
-    play(mapping, &mut arena, keeper, acts, page)
+    let done = play_acts(mapping, &mut arena, keeper, line, page);
+    page.note_done(done);
 }
 
-/// A line over a mapping, what it has told when it was played, and whether it was refused.
+/// A line over a mapping, and what it has told when it was played.
 #[derive(Drop)]
 struct Line<'x> {
     mapping: &'x Mapping,
     line: &'x str,
     page: Page,
-    refused: bool,
 }
 
 impl OverKeepers for Line<'_> {
     fn run<K: Keeper>(&mut self, keeper: &mut K) {
-        self.refused = !self.mapping.is_configured()
-            || play_over(self.mapping, keeper, self.line, &mut self.page).is_err();
+        if self.mapping.is_configured() {
+            play_over(self.mapping, keeper, self.line, &mut self.page);
+        }
     }
 }
 
 /// Plays a line over a keeper in memory.
 fn play_line(mapping: &Mapping, line: &str, page: &mut Page) {
-    let alloc = page.alloc();
     let mut played = Line {
         mapping,
         line,
-        page: Page::new(alloc),
-        refused: false,
+        page: Page::new(page.alloc()),
     };
-    let done = over_memory(alloc, &[], &mut played);
-    page.note(done);
+    let done = over_memory(page.alloc(), &[], &mut played);
+    page.note_done(done);
+    page.put(played.page.text());
     page.lack_of(&played.page);
-    if played.refused {
-        page.put("refused");
-    } else {
-        page.put(played.page.text());
-    }
     page.push('\n');
 }
 
-impl Player {
-    /// Nothing is declared.
-    pub(crate) fn new(alloc: Global) -> Result<Player, AllocError> {
-        Ok(Player {
-            mapping: Box::new(alloc, Mapping::new(alloc))?,
-        })
-    }
-
-    /// Declares what lines say, in the place of what was declared.
-    fn declare(&mut self, alloc: Global, lines: &str) -> Result<(), Refusal> {
-        let mapping = Box::new(alloc, Mapping::new(alloc))?;
-        drop(mem::replace(&mut self.mapping, mapping));
-        let hooks = Hooks::new(alloc);
-        declare_all(alloc, &hooks, &mut *self.mapping, lines)
-    }
-}
-
-impl Plays for Player {
-    fn play(&mut self, line: &str, page: &mut Page) {
-        match line.strip_prefix('=') {
-            Some(lines) => {
-                if self.declare(page.alloc(), lines).is_err() {
-                    page.put("refused\n");
-                }
-            }
-            None => play_line(&*self.mapping, line, page),
-        }
+/// Declares what the first line says, and plays the others.
+pub(crate) fn play(lines: &str, page: &mut Page) {
+    let (declarations, lines) = parted(lines, '\n');
+    let alloc = page.alloc();
+    let hooks = Hooks::new(alloc);
+    let mut mapping = Mapping::new(alloc);
+    let done = declare_all(alloc, &hooks, &mut mapping, declarations);
+    page.note_done(done);
+    for line in lines.lines() {
+        play_line(&mapping, line, page);
     }
 }

@@ -14,10 +14,9 @@ use class_mapping::Mapping;
 use expr_types::ObjectQuery;
 use keeper_core::{Keeper, Notes};
 use load_joined::load_joined;
-use load_lines::first_word;
 use load_queries::{every_object, has_plain_select, let_go};
 use load_selectin::load_objects;
-use notations::number;
+use notations::{number, parted};
 use object_arena::Arena;
 use std::alloc::Global;
 
@@ -109,7 +108,7 @@ pub(crate) fn load_class<K: Keeper>(
     ensures stays { StaysReady mapping.now.schema result (K.moment keeper.new) }
     ensures fits { IsFit mapping.now arena.new }
 {
-    let (class, places) = first_word(words);
+    let (class, places) = parted(words, ' ');
     let class = ClassId(number(class));
     if class.0 >= mapping.count() {
         return Err(Refusal::NotBuilt);

@@ -1,4 +1,9 @@
-pub mod Loadable
-pub mod First
-pub mod Whole
+pub mod Answers
+pub mod Wide
+pub mod Members
+pub mod TiedRows
+pub mod ToOne
 pub mod Strategies
+pub mod Joined
+pub mod Loaders
+pub mod Loading

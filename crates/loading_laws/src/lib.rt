@@ -1,34 +1,40 @@
-//! Lazy, joined and select-in loading answer the same objects and fill the same links. Each of these functions does nothing when it runs.
+//! Laws of what loads read and fill: what is answered to their selects and to main selects with joined options; and that lazy, joined
+//! and select-in loads answer the same objects and fill the same links, those that are related. Each of these functions does nothing
+//! when it runs.
 #![tactic(auto)]
 
-ghost use Rattle.loading_laws.specs.First.{OwnSelectsLeaveReady};
-ghost use Rattle.loading_laws.specs.Strategies.{StrategiesAgree};
-ghost use Rattle.loading_laws.specs.Whole.{LinksAgree, LoadsAnswerAlike};
+mod agreement;
+mod answer_laws;
+mod joined_load_laws;
+mod loader_laws;
+mod member_laws;
+mod plain_loads;
+mod plain_selects;
+mod strategy_laws;
+mod tied_row_laws;
+mod to_one_laws;
+mod wide_laws;
 
-/// A query's own select leaves an arena's objects that fit the mapping, over the same tables. Each object that it answers is persistent;
-/// and where it is of the query's class, it has the class's relationships and holds the foreign keys of the many-to-one ones.
-pub fn own_selects_leave_ready()
-    ensures { OwnSelectsLeaveReady }
-{}
-
-/// The objects of a query that are read by its own select, and those that are read with its joined options by its main select, are of the
-/// same identities, in the same order and each once.
-pub fn loads_answer_alike()
-    ensures { LoadsAnswerAlike }
-{}
-
-/// A lazy load of the link of one of them, at the place of one of the options and of whatever kind, fills it with objects of the same
-/// identities as the joined load did, in the same order, and puts the same kept changes to them.
-pub fn links_agree()
-    ensures { LinksAgree }
-{}
-
-/// The objects of a query that are read by its own select, by its main select with its joined options, and by its own select with further
-/// selects for its select-in options, are of the same identities, in the same order and each once. The link of each of them at the place
-/// of an option, read lazily behind the own select, filled by the joined load, or filled by the select-in load, holds in the end the
-/// persistent objects of the rows that are related to it, in the order of their keys and each once, and the kept changes. Nothing was left
-/// to flush, the link was unloaded, and behind the loads each persistent object whose row is there is of the class that the row names and
-/// has of its hierarchy's tables a row in just those of its class.
-pub fn strategies_agree()
-    ensures { StrategiesAgree }
-{}
+pub use agreement::{links_agree, loads_answer_alike, own_selects_leave_ready, strategies_agree};
+pub use answer_laws::{keyed_rows_are_filters, rows_of_keys_are_filters};
+pub use joined_load_laws::{
+    joined_collections_agree, joined_ends_agree, joined_loads_answer_the_same_objects,
+    joined_loads_fill_what_is_related, joined_loads_lead_to_targets, joined_pairs_agree,
+};
+pub use loader_laws::{
+    identity_map_agrees_with_rows, lazy_loads_fill_links, lazy_loads_leave_the_rest,
+    lazy_loads_read_keys_first, links_read_lazily, loaders_agree, options_fill_links,
+    selectin_loads_ask_in_batches, selectin_loads_fill_links, selectin_loads_leave_the_rest,
+    selectin_loads_leave_the_rest_always,
+};
+pub use member_laws::{batch_is_paired, members_are_paired};
+pub use plain_loads::{loads_are_plain, main_selects_stay};
+pub use plain_selects::main_selects_are_plain;
+pub use strategy_laws::{
+    lazy_loads_fill_pairs, lazy_loads_fill_what_is_related, lazy_loads_lead_to_targets,
+    selectin_loads_fill_pairs, selectin_loads_fill_what_is_related, selectin_loads_lead_to_targets,
+    strategies_fill_alike, strategies_lead_alike, strategies_pair_alike,
+};
+pub use tied_row_laws::options_give_tied;
+pub use to_one_laws::{legal_tables_are_in_key_order, to_one_options_put_one};
+pub use wide_laws::{main_selects_answer_blocks, main_selects_multiply};

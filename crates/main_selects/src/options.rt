@@ -1,15 +1,19 @@
 //! What a joined option adds to a select: its sources, and what it reads of them. The only refusal is `Memory`.
 
-ghost use Rattle.std.specs.Prelude.{◌≡◌, ◌++◌, true, length, suc, map, fold, IfOk, IfErr, OnOk};
+ghost use Rattle.std.specs.Prelude.{◌≡◌, ◌==◌, ◌++◌, true, length, suc, map, fold, IfOk, IfErr, OnOk, if◌then◌else◌};
 ghost use Rattle.base_core.specs.declared.refusal.Refusal.TheVariants.{Memory};
-ghost use Rattle.class_mapping.specs.Mapped.{IsClass};
+ghost use Rattle.schema_core.specs.Catalog.{spec_of};
+ghost use Rattle.class_mapping.specs.Mapped.{IsClass, root_table};
+ghost use Rattle.alias_names.specs.Names.{free_alias, taken_names};
+ghost use Rattle.load_selects.specs.Branches.{is_of_branch};
+ghost use Rattle.load_selects.specs.Sources.{target_placement};
 ghost use Rattle.main_selects.specs.MainSelect as spec;
 
 use alias_names::{free_alias, table_name, taken_names};
-use base_core::{ClassId, ListOf, Refusal};
+use base_core::{ClassId, ListOf, Name, Refusal, TableId};
 use class_layouts::number_of;
 use class_mapping::{Mapping, Relation};
-use expr_types::{CopiedIn, Joined, Origin, Select};
+use expr_types::{CopiedIn, ExprList, Joined, Origin, Select};
 use load_columns::{
     Placement, SourceColumn, attribute_columns, conjoined, from_root, key_at_rank, push_columns,
 };
@@ -17,6 +21,23 @@ use load_selects::{
     Further, is_of_branch, push_items as push_columns_as_items, related_sources, target_placement,
 };
 use std::alloc::Global;
+
+/// An alias for a table that no table and no source of a select has.
+fn alias_for(
+    alloc: Global,
+    mapping: &Mapping,
+    select: &Select,
+    table: TableId,
+) -> Result<Name, Refusal>
+    ensures alias { IfOk result (λ alias. alias
+        ≡ free_alias (taken_names mapping.now.schema select.now)
+        (spec_of mapping.now.schema table).name) }
+    ensures cause { IfErr result (λ e. e ≡ Memory) }
+{
+    let taken = taken_names(alloc, mapping, select)?;
+    let name = table_name(alloc, mapping, table)?;
+    free_alias(alloc, taken.as_slice(), &name)
+}
 
 /// A source that is left-joined to a select under an alias of its own.
 fn left_joined(
@@ -30,9 +51,7 @@ fn left_joined(
     ensures cause { IfErr result (λ e. e ≡ Memory) }
 {
     let table = further.table;
-    let taken = taken_names(alloc, mapping, select)?;
-    let name = table_name(alloc, mapping, table)?;
-    let alias = free_alias(alloc, taken.as_slice(), &name)?;
+    let alias = alias_for(alloc, mapping, select, table)?;
     Ok(Joined {
         left: true,
         origin: Origin {
@@ -41,6 +60,29 @@ fn left_joined(
         },
         on: conjoined(alloc, further.on),
     })
+}
+
+/// That the rows are of a class's branch goes behind the conditions under which its root's table is joined.
+fn push_branch(
+    on: &mut ExprList,
+    alloc: Global,
+    mapping: &Mapping,
+    class: ClassId,
+    placement: Placement,
+    table: TableId,
+) -> Result<(), Refusal>
+    requires class { IsClass mapping.now class }
+    requires configured { mapping.now.configured ≡ true }
+    ensures on { OnOk result (on.new
+        ≡ (if table.0 == (root_table mapping.now class).0
+        then on.old ++ is_of_branch mapping.now class placement else on.old)) }
+    ensures cause { IfErr result (λ e. e ≡ Memory) }
+{
+    if table.0 != mapping.root_table(class).0 {
+        return Ok(());
+    }
+    let branch = is_of_branch(alloc, mapping, class, placement)?;
+    Ok(on.append(branch)?)
 }
 
 /// The table of the target's root is joined by the rows of its branch alone.
@@ -57,14 +99,10 @@ fn within_branch(
         (λ new. new ≡ spec.within_branch mapping.now class placement further.now) }
     ensures cause { IfErr result (λ e. e ≡ Memory) }
 {
+    let table = further.table;
     let mut on = further.on.copied_in(alloc)?;
-    if further.table.0 == mapping.root_table(class).0 {
-        on.append(is_of_branch(alloc, mapping, class, placement)?)?;
-    }
-    Ok(Further {
-        table: further.table,
-        on,
-    })
+    push_branch(&mut on, alloc, mapping, class, placement, table)?;
+    Ok(Further { table, on })
 }
 
 /// A source is left-joined to a select.
@@ -176,6 +214,38 @@ fn source_count(select: &Select) -> Result<u32, Refusal>
     number_of(further as usize + 1)
 }
 
+/// The sources of one joined option more, whose target has this placement.
+fn push_sources(
+    select: &mut Select,
+    alloc: Global,
+    mapping: &Mapping,
+    class: ClassId,
+    relation: &Relation,
+    sources: u32,
+    placement: Placement,
+) -> Result<(), Refusal>
+    requires class { IsClass mapping.now class }
+    requires target { IsClass mapping.now relation.now.target }
+    requires configured { mapping.now.configured ≡ true }
+    requires placement { placement ≡ target_placement mapping.now relation.now sources }
+    ensures sources { OnOk result (select.new
+        ≡ fold (spec.with_left_join mapping.now.schema) select.old
+        (spec.option_sources mapping.now class relation.now sources)) }
+    ensures cause { IfErr result (λ e. e ≡ Memory) }
+{
+    let root = from_root(0);
+    let further = related_sources(alloc, mapping, class, root, relation, sources)?;
+    let target = relation.target;
+    push_left_joins(
+        select,
+        alloc,
+        mapping,
+        target,
+        placement,
+        further.as_slice(),
+    )
+}
+
 /// The sources and columns of one joined option more.
 pub(crate) fn push_option(
     select: &mut Select,
@@ -194,16 +264,7 @@ pub(crate) fn push_option(
     let target = relation.target;
     let sources = source_count(&*select)?;
     let placement = target_placement(mapping, relation, sources)?;
-    let root = from_root(0);
-    let further = related_sources(alloc, mapping, class, root, relation, sources)?;
     let columns = option_columns(alloc, mapping, target, placement)?;
-    push_left_joins(
-        select,
-        alloc,
-        mapping,
-        target,
-        placement,
-        further.as_slice(),
-    )?;
+    push_sources(select, alloc, mapping, class, relation, sources, placement)?;
     push_items(select, columns.as_slice())
 }

@@ -9,7 +9,7 @@ ghost use Rattle.main_selects.specs.MainSelect as spec;
 
 use crate::options::push_option;
 use crate::shifted::{Shift, shifted_filter, shifted_order};
-use base_core::{ClassId, Refusal, RelNo};
+use base_core::{ClassId, Refusal, RelNo, both};
 use class_layouts::number_of;
 use class_mapping::{Mapping, Relation};
 use expr_types::{CopiedIn, ObjectQuery, Select};
@@ -98,14 +98,25 @@ fn shift_between(own: &Select, wide: &Select) -> Result<Shift, Refusal>
     })
 }
 
+/// A value gives way to another one.
+fn put<T: Drop>(place: &mut T, value: T)
+    ensures { place.new ≡ value }
+{
+    *place = value;
+}
+
 /// A wider select takes the condition and the order of a select.
 fn take_shifted(wide: &mut Select, alloc: Global, own: &Select) -> Result<(), Refusal>
     ensures shifted { OnOk result (wide.new ≡ spec.with_shifted own.now wide.old) }
     ensures cause { IfErr result (λ e. e ≡ Memory) }
 {
     let shift = shift_between(own, &*wide)?;
-    wide.filter = shifted_filter(alloc, shift, &own.filter)?;
-    wide.order = shifted_order(alloc, shift, own.order.as_slice())?;
+    let (filter, order) = both(
+        shifted_filter(alloc, shift, &own.filter),
+        shifted_order(alloc, shift, own.order.as_slice()),
+    )?;
+    put(&mut wide.filter, filter);
+    put(&mut wide.order, order);
     Ok(())
 }
 

@@ -1,15 +1,13 @@
-//! Expressions under more sources. The only refusal is `Memory`.
+//! Expressions under more sources. The only error is that memory ran out, or the numbers of sources.
 
-ghost use Rattle.std.specs.Prelude.{◌≡◌, map, IfOk, IfErr};
+ghost use Rattle.std.specs.Prelude.{◌≡◌, map, IfOk};
 ghost use Rattle.std.specs.Option.{option_map};
-ghost use Rattle.base_core.specs.declared.refusal.Refusal.TheVariants.{Memory};
 ghost use Rattle.main_selects.specs.Shifted as spec;
 
-use base_core::{Copied, ListOf, Refusal};
-use class_layouts::number_of;
+use base_core::{Copied, ListOf, both};
 use expr_types::{Expr, ExprList};
 use sqlite_items::{Boxed, Items};
-use std::alloc::Global;
+use std::alloc::{AllocError, Global};
 
 /// How many sources a select has of its own, and how many more there are.
 #[derive(Clone, Copy)]
@@ -18,29 +16,29 @@ pub(crate) struct Shift {
     pub(crate) more: u32,
 }
 
-fn shifted_place(shift: Shift, source: u32) -> Result<u32, Refusal>
+fn shifted_place(shift: Shift, source: u32) -> Result<u32, AllocError>
     ensures place { IfOk result
         (λ place. place ≡ spec.shifted_place shift.own shift.more source) }
-    ensures cause { IfErr result (λ e. e ≡ Memory) }
 {
     if source < shift.own {
         return Ok(source);
     }
-    number_of(source as usize + shift.more as usize)
+    match source.checked_add(shift.more) {
+        Some(place) => Ok(place),
+        None => Err(AllocError),
+    }
 }
 
 #[cycle(shifts)]
-fn boxed(alloc: Global, shift: Shift, e: &Boxed<Expr>) -> Result<Boxed<Expr>, Refusal>
+fn boxed(alloc: Global, shift: Shift, e: &Boxed<Expr>) -> Result<Boxed<Expr>, AllocError>
     ensures e { IfOk result (λ new. new ≡ spec.shifted shift.own shift.more e.now) }
-    ensures cause { IfErr result (λ e. e ≡ Memory) }
 {
-    Ok(Boxed::new(alloc, shifted(alloc, shift, e.get())?)?)
+    Boxed::new(alloc, shifted(alloc, shift, e.get())?)
 }
 
 #[cycle(shifts)]
-fn all_shifted(alloc: Global, shift: Shift, es: &ExprList) -> Result<ExprList, Refusal>
+fn all_shifted(alloc: Global, shift: Shift, es: &ExprList) -> Result<ExprList, AllocError>
     ensures es { IfOk result (λ new. new ≡ map (spec.shifted shift.own shift.more) es.now) }
-    ensures cause { IfErr result (λ e. e ≡ Memory) }
 {
     let mut out = Items::new(alloc);
     for e in es.as_slice() {
@@ -52,9 +50,8 @@ fn all_shifted(alloc: Global, shift: Shift, es: &ExprList) -> Result<ExprList, R
 /// An expression under more sources.
 #[tactic(auto, unfolding(crate::specs::Shifted::shifted), using(crate::proofs::Lists::shifted_lists))]
 #[cycle(shifts)]
-pub(crate) fn shifted(alloc: Global, shift: Shift, e: &Expr) -> Result<Expr, Refusal>
+pub(crate) fn shifted(alloc: Global, shift: Shift, e: &Expr) -> Result<Expr, AllocError>
     ensures e { IfOk result (λ new. new ≡ spec.shifted shift.own shift.more e.now) }
-    ensures cause { IfErr result (λ e. e ≡ Memory) }
 {
     match e {
         Expr::Column(source, column) => {
@@ -62,48 +59,48 @@ pub(crate) fn shifted(alloc: Global, shift: Shift, e: &Expr) -> Result<Expr, Ref
         }
         Expr::Lit(value) => Ok(Expr::Lit(value.copied()?)),
         Expr::Compare(op, a, b) => {
-            let a = boxed(alloc, shift, a)?;
-            Ok(Expr::Compare(*op, a, boxed(alloc, shift, b)?))
+            let (a, b) = both(boxed(alloc, shift, a), boxed(alloc, shift, b))?;
+            Ok(Expr::Compare(*op, a, b))
         }
         Expr::IsNull(negated, a) => Ok(Expr::IsNull(*negated, boxed(alloc, shift, a)?)),
         Expr::And(es) => Ok(Expr::And(all_shifted(alloc, shift, es)?)),
         Expr::Or(es) => Ok(Expr::Or(all_shifted(alloc, shift, es)?)),
         Expr::Not(a) => Ok(Expr::Not(boxed(alloc, shift, a)?)),
         Expr::Arith(op, a, b) => {
-            let a = boxed(alloc, shift, a)?;
-            Ok(Expr::Arith(*op, a, boxed(alloc, shift, b)?))
+            let (a, b) = both(boxed(alloc, shift, a), boxed(alloc, shift, b))?;
+            Ok(Expr::Arith(*op, a, b))
         }
         Expr::Neg(a) => Ok(Expr::Neg(boxed(alloc, shift, a)?)),
         Expr::Concat(a, b) => {
-            let a = boxed(alloc, shift, a)?;
-            Ok(Expr::Concat(a, boxed(alloc, shift, b)?))
+            let (a, b) = both(boxed(alloc, shift, a), boxed(alloc, shift, b))?;
+            Ok(Expr::Concat(a, b))
         }
         Expr::Like(negated, a, b) => {
-            let a = boxed(alloc, shift, a)?;
-            Ok(Expr::Like(*negated, a, boxed(alloc, shift, b)?))
+            let (a, b) = both(boxed(alloc, shift, a), boxed(alloc, shift, b))?;
+            Ok(Expr::Like(*negated, a, b))
         }
         Expr::Ilike(negated, a, b) => {
-            let a = boxed(alloc, shift, a)?;
-            Ok(Expr::Ilike(*negated, a, boxed(alloc, shift, b)?))
+            let (a, b) = both(boxed(alloc, shift, a), boxed(alloc, shift, b))?;
+            Ok(Expr::Ilike(*negated, a, b))
         }
         Expr::InList(negated, a, values) => {
-            let values = values.copied()?;
-            Ok(Expr::InList(*negated, boxed(alloc, shift, a)?, values))
+            let (a, values) = both(boxed(alloc, shift, a), values.copied())?;
+            Ok(Expr::InList(*negated, a, values))
         }
         Expr::Between(negated, a, low, high) => {
-            let a = boxed(alloc, shift, a)?;
-            let low = boxed(alloc, shift, low)?;
-            Ok(Expr::Between(*negated, a, low, boxed(alloc, shift, high)?))
+            let ends = both(boxed(alloc, shift, low), boxed(alloc, shift, high));
+            let (a, (low, high)) = both(boxed(alloc, shift, a), ends)?;
+            Ok(Expr::Between(*negated, a, low, high))
         }
         Expr::Distinct(negated, a, b) => {
-            let a = boxed(alloc, shift, a)?;
-            Ok(Expr::Distinct(*negated, a, boxed(alloc, shift, b)?))
+            let (a, b) = both(boxed(alloc, shift, a), boxed(alloc, shift, b))?;
+            Ok(Expr::Distinct(*negated, a, b))
         }
         Expr::Call(function, es) => Ok(Expr::Call(*function, all_shifted(alloc, shift, es)?)),
         Expr::CountAll => Ok(Expr::CountAll),
         Expr::Exists(negated, origin, a) => {
-            let origin = origin.copied()?;
-            Ok(Expr::Exists(*negated, origin, boxed(alloc, shift, a)?))
+            let (origin, a) = both(origin.copied(), boxed(alloc, shift, a))?;
+            Ok(Expr::Exists(*negated, origin, a))
         }
     }
 }
@@ -113,10 +110,9 @@ pub(crate) fn shifted_filter(
     alloc: Global,
     shift: Shift,
     filter: &Option<Expr>,
-) -> Result<Option<Expr>, Refusal>
+) -> Result<Option<Expr>, AllocError>
     ensures filter { IfOk result
         (λ new. new ≡ option_map (spec.shifted shift.own shift.more) filter.now) }
-    ensures cause { IfErr result (λ e. e ≡ Memory) }
 {
     match filter {
         Some(e) => Ok(Some(shifted(alloc, shift, e)?)),
@@ -129,14 +125,13 @@ pub(crate) fn shifted_order(
     alloc: Global,
     shift: Shift,
     order: &[(Expr, bool)],
-) -> Result<ListOf<(Expr, bool)>, Refusal>
+) -> Result<ListOf<(Expr, bool)>, AllocError>
     ensures order { IfOk result (λ new. new
         ≡ map (λ key. (spec.shifted shift.own shift.more key.0, key.1)) order.now) }
-    ensures cause { IfErr result (λ e. e ≡ Memory) }
 {
-    let mut out = ListOf::new(alloc);
+    let mut out = Vec::new(alloc);
     for key in order {
         out.push((shifted(alloc, shift, &key.0)?, key.1))?;
     }
-    Ok(out)
+    Ok(ListOf::from_vec(out))
 }

@@ -8,4 +8,4 @@ mod words;
 
 pub use lines::{Plays, play_all};
 pub use page::Page;
-pub use words::{name, named, number, parted, row, value};
+pub use words::{number, parted};

@@ -29,27 +29,20 @@ impl Page {
     }
 
     /// Notes whether there was memory.
-    pub fn note<E: Drop>(&mut self, done: Result<(), E>) {
+    pub fn note<T: Drop, E: Drop>(&mut self, done: Result<T, E>) {
         if done.is_err() {
             self.is_whole = false;
         }
     }
 
+    /// Notes whether it was done; the refusal is let go here.
+    pub fn note_done(&mut self, done: Result<(), Refusal>) {
+        self.note(done);
+    }
+
     /// Notes that there was no memory.
     pub fn lack(&mut self) {
         self.is_whole = false;
-    }
-
-    /// What was read, where there was memory for all.
-    ///
-    /// # Errors
-    /// Memory ran out.
-    pub fn given<T: Drop>(&self, read: T) -> Result<T, AllocError> {
-        if self.is_whole {
-            Ok(read)
-        } else {
-            Err(AllocError)
-        }
     }
 
     /// What is written, where there was memory for all.

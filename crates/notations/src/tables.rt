@@ -64,11 +64,11 @@ impl Page {
         spec
     }
 
-    /// Declares the table of a line, where fewer than 1000 are declared. What refuses it is written as `refused`.
+    /// Declares the table of a line, where fewer than 1000 are declared. The page notes where it is refused.
     pub fn declare(&mut self, schema: &mut Schema, line: &str) {
         let spec = self.table(line);
-        if schema.count() < 1000 && schema.declare_table(spec).is_err() {
-            self.put("refused\n");
+        if schema.count() < 1000 {
+            self.note(schema.declare_table(spec));
         }
     }
 

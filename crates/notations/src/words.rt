@@ -1,8 +1,7 @@
 //! Numbers, names and values as words.
 
 use crate::page::Page;
-use base_core::{Blob, ListOf, Name, Refusal, RowList, RowValues, Text, Value};
-use std::alloc::{AllocError, Global};
+use base_core::{Blob, ListOf, Name, RowList, RowValues, Text, Value};
 
 /// The number that a word says, 0 for any other word.
 pub fn number(word: &str) -> u32 {
@@ -26,7 +25,7 @@ impl Page {
     /// An item goes to the end of a list.
     pub fn add<T: Drop>(&mut self, list: &mut ListOf<T>, item: T) {
         let done = list.push(item);
-        self.note(done);
+        self.note_done(done);
     }
 
     fn string(&mut self, text: &str) -> String {
@@ -66,7 +65,7 @@ impl Page {
     }
 
     /// Names with commas between them.
-    pub fn names(&mut self, words: &str) -> ListOf<Name> {
+    pub(crate) fn names(&mut self, words: &str) -> ListOf<Name> {
         let mut names = ListOf::new(self.alloc());
         for word in words.split(',') {
             let name = self.name(word);
@@ -115,44 +114,4 @@ impl Page {
         }
         all
     }
-}
-
-/// The name that a word is, as `Page` reads it.
-///
-/// # Errors
-/// Memory ran out.
-pub fn name(alloc: Global, word: &str) -> Result<Name, AllocError> {
-    let mut page = Page::new(alloc);
-    let name = page.name(word);
-    page.given(name)
-}
-
-/// The name that a word is, none where it is empty.
-///
-/// # Errors
-/// Memory ran out.
-pub fn named(alloc: Global, word: &str) -> Result<Option<Name>, AllocError> {
-    let mut page = Page::new(alloc);
-    let name = page.named(word);
-    page.given(name)
-}
-
-/// The value that a word is, as `Page` reads it.
-///
-/// # Errors
-/// Memory ran out.
-pub fn value(alloc: Global, word: &str) -> Result<Value, AllocError> {
-    let mut page = Page::new(alloc);
-    let value = page.value(word);
-    page.given(value)
-}
-
-/// Values with commas or blanks between them.
-///
-/// # Errors
-/// `Memory` alone.
-pub fn row(alloc: Global, text: &str) -> Result<RowValues, Refusal> {
-    let mut page = Page::new(alloc);
-    let row = page.row(text);
-    Ok(page.given(row)?)
 }

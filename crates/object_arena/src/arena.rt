@@ -1,7 +1,7 @@
 //! The arena of objects.
 
-ghost use Rattle.std.specs.Prelude.{◌≡◌, ◌<◌, ◌≤◌, ◌≢◌, ◌+◌, [], List, None, Some, length, true, false, IsOk, IfOk, IfErr, OnOk, OnErr, Err, IfSome, is_some, ◌++◌, ◌∷◌};
-ghost use Rattle.std.specs.List.{position, zip};
+ghost use Rattle.std.specs.Prelude.{◌≡◌, ◌==◌, ◌<◌, ◌≤◌, ◌≢◌, ◌+◌, [], List, None, Some, length, true, false, IsOk, IfOk, IfErr, OnOk, OnErr, Err, IfSome, is_some, ◌++◌, ◌∷◌};
+ghost use Rattle.std.specs.List.{list_any, position, zip};
 ghost use Rattle.base_core.specs.Answers.{Takes};
 ghost use Rattle.base_core.specs.declared.ids.ClassId.{ClassId};
 ghost use Rattle.base_core.specs.declared.refusal.Refusal.TheVariants.{Memory};
@@ -442,7 +442,6 @@ impl Arena {
         Ok(())
     }
 
-    #[tactic(auto, using(crate::proofs::IndexLemmas::indexed_stated))]
     /// Replaces an object's state.
     fn write_state(&mut self, object: ObjId, state: State)
         requires object { IsObject self.old object }
@@ -618,16 +617,23 @@ fn kind_fault(wanted: Kind, found: Option<Kind>) -> Option<Refusal>
     }
 }
 
+/// Whether an attribute is among others.
+fn is_among(attributes: &[AttrNo], attr: AttrNo) -> bool
+    ensures { result ≡ list_any (λ key. key.0 == attr.0) attributes.now }
+{
+    let Some((first, attributes)) = attributes.split_first() else {
+        return false;
+    };
+    first.0 == attr.0 || is_among(attributes, attr)
+}
+
 /// Whether an attribute is a column of the key.
 fn is_key_attribute(mapping: &Mapping, class: ClassId, attr: AttrNo) -> bool
     requires declared { IsClass mapping.now class }
     requires configured { mapping.now.configured ≡ true }
     ensures { result ≡ is_key_attribute mapping.now class attr }
 {
-    mapping
-        .key_attributes(class)
-        .iter()
-        .any(|key| key.0 == attr.0)
+    is_among(mapping.key_attributes(class), attr)
 }
 
 /// Why the cell of an object's key is not set.

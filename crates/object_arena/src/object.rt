@@ -1,6 +1,6 @@
 //! What is kept of an object.
 
-use base_core::{ClassId, Copied, Key, ListOf, ObjId, ObjList, Value};
+use base_core::{ClassId, Copied, Key, ListOf, ObjId, ObjList, Value, both};
 use std::alloc::AllocError;
 
 /// Where an object stands between a script and the store.
@@ -26,7 +26,7 @@ pub enum CellRead<'a> {
 }
 
 /// A cell: its value, or none where it is expired, and the value as last read or written, or none where it is not known.
-#[derive(Clone, Drop, PartialEq, Eq)]
+#[derive(Drop)]
 pub struct Cell {
     pub value: Option<Value>,
     pub base: Option<Value>,
@@ -34,12 +34,13 @@ pub struct Cell {
 
 impl Copied for Cell {
     fn copied(&self) -> Result<Cell, AllocError> {
-        self.clone()
+        let (value, base) = both(Copied::copied(&self.value), Copied::copied(&self.base))?;
+        Ok(Cell { value, base })
     }
 }
 
 /// A link of an object along a relationship.
-#[derive(Clone, Drop, PartialEq, Eq)]
+#[derive(Drop)]
 pub enum Link {
     Unset,
     /// To be read from the store; a collection keeps the members added and removed meanwhile.
@@ -52,12 +53,26 @@ pub enum Link {
 
 impl Copied for Link {
     fn copied(&self) -> Result<Link, AllocError> {
-        self.clone()
+        match self {
+            Link::Unset => Ok(Link::Unset),
+            Link::Unloaded { added, removed } => {
+                let (added, removed) = both(added.copied(), removed.copied())?;
+                Ok(Link::Unloaded { added, removed })
+            }
+            Link::One { end, changed } => Ok(Link::One {
+                end: *end,
+                changed: *changed,
+            }),
+            Link::Many { members, base } => {
+                let (members, base) = both(members.copied(), base.copied())?;
+                Ok(Link::Many { members, base })
+            }
+        }
     }
 }
 
 /// An object's record.
-#[derive(Clone, Drop, PartialEq, Eq)]
+#[derive(Drop)]
 pub struct Object {
     pub class: ClassId,
     pub state: State,
@@ -77,6 +92,17 @@ pub struct Object {
 
 impl Copied for Object {
     fn copied(&self) -> Result<Object, AllocError> {
-        self.clone()
+        let lists = both(self.cells.copied(), self.links.copied());
+        let (identity, (cells, links)) = both(Copied::copied(&self.identity), lists)?;
+        Ok(Object {
+            class: self.class,
+            state: self.state,
+            identity,
+            added: self.added,
+            marked: self.marked,
+            orphan: self.orphan,
+            cells,
+            links,
+        })
     }
 }

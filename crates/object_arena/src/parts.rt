@@ -45,6 +45,8 @@ pub fn fresh_object(alloc: Global, mapping: &Mapping, class: ClassId) -> Result<
     ensures ok { IfOk result (λ object. object ≡ fresh_object mapping.now class) }
     ensures err { IfErr result (λ e. e ≡ Memory) }
 {
+    let cells = null_cells(alloc, mapping.attributes(class))?;
+    let links = unset_links(alloc, mapping.relations(class))?;
     Ok(Object {
         class,
         state: State::Transient,
@@ -52,8 +54,8 @@ pub fn fresh_object(alloc: Global, mapping: &Mapping, class: ClassId) -> Result<
         added: 0,
         marked: false,
         orphan: false,
-        cells: null_cells(alloc, mapping.attributes(class))?,
-        links: unset_links(alloc, mapping.relations(class))?,
+        cells,
+        links,
     })
 }
 

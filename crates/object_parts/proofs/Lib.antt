@@ -1,1 +1,4 @@
+pub mod Batches
 pub mod Expiries
+pub mod FirstSteps
+pub mod Judged

@@ -1,4 +1,9 @@
+pub mod Answers
 pub mod Cells
+pub mod Ends
 pub mod Expired
 pub mod Links
+pub mod Lists
 pub mod Members
+pub mod Sides
+pub mod Validators

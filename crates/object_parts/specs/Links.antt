@@ -1,8 +1,12 @@
--- What is changed and kept of a link.
+-- What is known, changed and kept of a link.
 use Rattle.std.specs.Prelude.{Bool, true, false, [], Option, None, Some}
 use Rattle.base_core.specs.declared.ids.ObjId.{ObjId}
 use Rattle.object_arena.specs.declared.object.Link.{Link}
 use Rattle.object_arena.specs.declared.object.Link.TheVariants.{Unset, Unloaded, One, Many}
+
+abbrev pub is_unloaded : Link → Bool
+is_unloaded (Unloaded added removed) = true
+is_unloaded link = false
 
 abbrev pub end_if : Bool → Option ObjId → Option (Option ObjId)
 end_if true end = Some end

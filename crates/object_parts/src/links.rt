@@ -1,4 +1,4 @@
-//! What is changed and kept of a link.
+//! What is known, changed and kept of a link.
 
 ghost use Rattle.std.specs.Prelude.{◌≡◌, IfErr, IfOk};
 ghost use Rattle.base_core.specs.declared.refusal.Refusal.TheVariants.{Memory};
@@ -7,6 +7,16 @@ ghost use Rattle.object_parts.specs.Links as spec;
 use base_core::{Copied, ListOf, ObjId, Refusal};
 use object_arena::Link;
 use std::alloc::Global;
+
+/// Whether a link is to be read.
+pub fn is_unloaded(link: &Link) -> bool
+    ensures { result ≡ spec.is_unloaded link.now }
+{
+    match link {
+        Link::Unloaded { .. } => true,
+        Link::Unset | Link::One { .. } | Link::Many { .. } => false,
+    }
+}
 
 /// The end of a many-to-one link that was changed.
 pub fn changed_end(link: &Link) -> Option<Option<ObjId>>

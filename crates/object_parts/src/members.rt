@@ -29,7 +29,7 @@ fn without(alloc: Global, others: &[ObjId], objects: &[ObjId]) -> Result<ObjList
 }
 
 /// Objects go behind others.
-fn push_objects(out: &mut ObjList, objects: &[ObjId]) -> Result<(), Refusal>
+pub(crate) fn push_objects(out: &mut ObjList, objects: &[ObjId]) -> Result<(), Refusal>
     ensures objects { OnOk result (out.new ≡ out.old ++ objects.now) }
     ensures cause { IfErr result (λ e. e ≡ Memory) }
 {

@@ -48,7 +48,12 @@ fn are_for(schema: &Schema, table: TableId, columns: &[ColumnNo], values: &[Valu
 fn has_column(columns: &[ColumnNo], column: ColumnNo) -> bool
     ensures { result ≡ plain.has_column columns.now column }
 {
-    columns.iter().any(|other| other.0 == column.0)
+    for other in columns {
+        if other.0 == column.0 {
+            return true;
+        }
+    }
+    false
 }
 
 /// Whether a column is named twice.
@@ -67,7 +72,12 @@ fn repeats(columns: &[ColumnNo]) -> bool
 fn has_cell(cells: &[(ColumnNo, Option<Expr>)], column: ColumnNo) -> bool
     ensures { result ≡ list_any (λ other. other.0.0 == column.0) cells.now }
 {
-    cells.iter().any(|other| other.0.0 == column.0)
+    for other in cells {
+        if other.0.0 == column.0 {
+            return true;
+        }
+    }
+    false
 }
 
 /// Whether a column is written twice.
@@ -88,18 +98,24 @@ fn all_there(schema: &Schema, table: TableId, cells: &[(ColumnNo, Option<Expr>)]
     ensures { result ≡ list_all
         (λ cell. is_some (kinds.column_in schema.now (table ∷ []) 0 cell.0)) cells.now }
 {
-    cells
-        .iter()
-        .all(|cell| column_in(schema, &[table], 0, cell.0).is_some())
+    for cell in cells {
+        if column_in(schema, &[table], 0, cell.0).is_none() {
+            return false;
+        }
+    }
+    true
 }
 
 /// Whether each cell's column is there and no part of the primary key.
 fn all_free(schema: &Schema, table: TableId, cells: &[(ColumnNo, Option<Expr>)]) -> bool
     ensures { result ≡ list_all (λ cell. plain.is_free_column schema.now table cell.0) cells.now }
 {
-    cells
-        .iter()
-        .all(|cell| is_free_column(schema, table, cell.0))
+    for cell in cells {
+        if !is_free_column(schema, table, cell.0) {
+            return false;
+        }
+    }
+    true
 }
 
 /// Whether the expression may be written into the column of the table, which alone is around it.

@@ -107,19 +107,34 @@ fn wants_key(table: &TableSpec, row: &RowValues) -> bool
 fn all_rows(table: &TableSpec, rows: &[RowValues]) -> bool
     ensures { result ≡ list_all (formed.is_row table.now) rows.now }
 {
-    rows.iter().all(|row| is_row(table, row))
+    for row in rows {
+        if !is_row(table, row) {
+            return false;
+        }
+    }
+    true
 }
 
 fn all_want(table: &TableSpec, rows: &[RowValues]) -> bool
     ensures { result ≡ list_all (apply.wants_key table.now) rows.now }
 {
-    rows.iter().all(|row| wants_key(table, row))
+    for row in rows {
+        if !wants_key(table, row) {
+            return false;
+        }
+    }
+    true
 }
 
 fn some_wants(table: &TableSpec, rows: &[RowValues]) -> bool
     ensures { result ≡ list_any (apply.wants_key table.now) rows.now }
 {
-    rows.iter().any(|row| wants_key(table, row))
+    for row in rows {
+        if wants_key(table, row) {
+            return true;
+        }
+    }
+    false
 }
 
 /// Whether all rows give their keys or all leave them open, and one row alone where a generated key is all that it has.

@@ -139,7 +139,12 @@ fn are_placed(
 fn some_gathers<B>(pairs: &[(Expr, B)]) -> bool
     ensures { result ≡ list_any (λ pair. level.has_aggregate pair.0) pairs.now }
 {
-    pairs.iter().any(|pair| has_aggregate(&pair.0))
+    for pair in pairs {
+        if has_aggregate(&pair.0) {
+            return true;
+        }
+    }
+    false
 }
 
 /// Whether the query has one row for each group.
@@ -167,7 +172,12 @@ fn pairs_settled<B>(query: &Grouping<'_>, pairs: &[(Expr, B)]) -> bool
     ensures { result ≡ list_all (λ pair. plain.is_well_grouped query.now.grouped query.now.groups.now
         query.now.own pair.0) pairs.now }
 {
-    pairs.iter().all(|pair| settled(query, &pair.0))
+    for pair in pairs {
+        if !settled(query, &pair.0) {
+            return false;
+        }
+    }
+    true
 }
 
 /// Whether what is evaluated for each row or group is settled.
@@ -200,7 +210,12 @@ pub fn is_settled_select(select: &Select) -> bool
 fn all_known(schema: &Schema, tables: &[TableId]) -> bool
     ensures { result ≡ list_all (scopes.is_known schema.now) tables.now }
 {
-    tables.iter().all(|table| is_known(schema, *table))
+    for table in tables {
+        if !is_known(schema, *table) {
+            return false;
+        }
+    }
+    true
 }
 
 fn is_limit(count: Option<u64>) -> bool

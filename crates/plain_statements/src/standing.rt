@@ -15,10 +15,18 @@ use std::alloc::{AllocError, Global};
 use std::mem::drop;
 
 /// The sources around an expression: their tables and their names, the innermost last.
-#[derive(Drop)]
 pub(crate) struct Sources {
     pub tables: Vec<TableId>,
     pub names: Vec<Name>,
+}
+
+impl Drop for Sources {
+    fn drop(self) {
+        let Sources {
+            tables: _,
+            names: _,
+        } = self;
+    }
 }
 
 impl Sources {

@@ -30,7 +30,7 @@ use Rattle.relations.specs.Keys.{IsEnd}
 use Rattle.relations.specs.Mirror.{end_fault, has_orphans, is_gone, is_of, join_change, joined_to, put_with_member, put_to_end, leads_elsewhere, put_without_member, left_behind, link_at, loaded_to, put_as_loaded, orphan_by, put_of, refused_or, remove_change, set_change}
 use Rattle.relations.specs.Parents.{IsMade, is_known_as}
 use Rattle.relations.specs.Places.{IsPutIn}
-use Rattle.relations.specs.Sides.{joined_by, left_by}
+use Rattle.object_parts.specs.Sides.{joined_by, left_by}
 use Rattle.relations.specs.declared.change.LinkPut.{LinkPut}
 use Rattle.relations.specs.declared.parents.OldParent.{OldParent}
 use Rattle.relations.specs.declared.parents.OldParent.TheVariants.{Known, NotKnown}

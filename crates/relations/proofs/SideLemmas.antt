@@ -10,7 +10,7 @@ use Rattle.object_arena.specs.declared.object.Link.{Link}
 use Rattle.object_arena.specs.declared.object.Link.TheVariants.{Unset, Unloaded, One, Many}
 use Rattle.object_arena.specs.Fit.{held_fit, is_empty, is_of_root}
 use Rattle.object_arena.specs.Graph.{is_among}
-use Rattle.relations.specs.Sides.{added_unless, joined_by, joined_unloaded, left_by, left_unloaded, without}
+use Rattle.object_parts.specs.Sides.{added_unless, joined_by, joined_unloaded, left_by, left_unloaded, without}
 
 one_kept : (p : ObjId → Bool) (kept : Bool) (object : ObjId) (objects : List ObjId) → p object ≡ true → list_all p objects ≡ true → list_all p (cond kept (object ∷ objects) objects) ≡ true
 one_kept p true object objects one rest = and_from (p object) (list_all p objects) one rest

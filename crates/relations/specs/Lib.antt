@@ -1,4 +1,3 @@
-pub mod Sides
 pub mod Parents
 pub mod Keys
 pub mod Mirror

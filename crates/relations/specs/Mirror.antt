@@ -18,7 +18,7 @@ use Rattle.object_arena.specs.Fit.{relation_of}
 use Rattle.object_arena.specs.Graph.{Graph, is_among, object_at, with_link, with_marks}
 use Rattle.relations.specs.Keys.{changes_key}
 use Rattle.relations.specs.Parents.{is_known_as, old_parent}
-use Rattle.relations.specs.Sides.{joined_by, left_by}
+use Rattle.object_parts.specs.Sides.{joined_by, left_by}
 use Rattle.relations.specs.declared.change.Change.{Change}
 use Rattle.relations.specs.declared.change.LinkPut.{LinkPut}
 use Rattle.relations.specs.declared.parents.OldParent.{OldParent}

@@ -22,7 +22,7 @@ use object_arena::{Arena, Link};
 use std::alloc::Global;
 
 /// What is asked of one link of an object.
-#[derive(Clone, Copy, PartialEq, Eq)]
+#[derive(Clone, Copy)]
 pub enum LinkCall {
     /// A many-to-one link is set to an object, or to none.
     Set(Option<ObjId>),

@@ -10,9 +10,9 @@ ghost use Rattle.relations.specs.Fits.{ChangeFits, PutFits};
 ghost use Rattle.relations.specs.Mirror as spec;
 ghost use Rattle.relations.specs.Places.{HasPlaces, IsPlaced, IsPutIn};
 
-use crate::sides::{joined, left};
 use base_core::{ObjId, Refusal, RelNo};
 use object_arena::{Arena, Link};
+use object_parts::{joined, left};
 use std::alloc::Global;
 
 /// A link of an object as it is to be.

@@ -74,13 +74,10 @@ fn is_persistent(state: State) -> bool
 fn is_over_key(columns: &[ColumnSpec], names: &[Name]) -> bool
     ensures { result ≡ spec.is_over_key columns.now names.now }
 {
-    names.iter().any(|name| is_in_key(columns, name))
-}
-
-fn is_in_key(columns: &[ColumnSpec], name: &Name) -> bool
-    ensures { result ≡ is_some (spec.key_place columns.now name.now) }
-{
-    key_place(columns, name).is_some()
+    let Some((name, names)) = names.split_first() else {
+        return false;
+    };
+    key_place(columns, name).is_some() || is_over_key(columns, names)
 }
 
 /// The place of a column in its table's key, if it is a column of the key.
@@ -113,11 +110,11 @@ fn keeps_key(
 fn gives_key(columns: &[ColumnSpec], names: &[Name], own: &[Value], parents: &[Value]) -> bool
     ensures { result ≡ spec.gives_key columns.now names.now own.now parents.now }
 {
-    names.iter().zip(parents.iter()).all(|(name, value)| is_value_at(
-        own,
-        key_place(columns, name),
-        value,
-    ))
+    let (Some((name, names)), Some((value, parents))) = (names.split_first(), parents.split_first())
+    else {
+        return true;
+    };
+    is_value_at(own, key_place(columns, name), value) && gives_key(columns, names, own, parents)
 }
 
 fn is_value_at(own: &[Value], place: Option<usize>, value: &Value) -> bool

@@ -6,10 +6,8 @@ mod change;
 mod keys;
 mod mirror;
 mod parents;
-mod sides;
 
 pub use calls::{LinkCall, is_unloaded, link_change};
 pub use change::{Change, LinkPut};
 pub use mirror::{append, remove, set_one};
 pub use parents::{OldParent, old_parent};
-pub use sides::{joined, left};

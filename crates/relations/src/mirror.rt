@@ -19,11 +19,11 @@ use crate::OldParent;
 use crate::change::{Change, LinkPut, apply, joining, leading, leaving, loading};
 use crate::keys::changes_key;
 use crate::parents::parent_before;
-use crate::sides::is_among;
 use base_core::{ClassId, ObjId, Refusal, RelNo, RequestKind};
 use class_layouts::has_class;
 use class_mapping::{Mapping, Relation};
 use object_arena::{Arena, Link, State};
+use object_parts::is_among;
 use std::alloc::Global;
 
 /// Sets a many-to-one link of a child to a parent, or to none.

@@ -17,7 +17,7 @@ use object_arena::{Arena, Cell, Link, Object};
 use std::alloc::Global;
 
 /// What is known of the object to which a link has led.
-#[derive(Clone, Copy, PartialEq, Eq)]
+#[derive(Clone, Copy)]
 pub enum OldParent {
     /// It is this one, or none.
     Known(Option<ObjId>),
@@ -131,7 +131,10 @@ fn parent_under(arena: &Arena, root: ClassId, key: &Key) -> OldParent
 fn has_null(key: &[Value]) -> bool
     ensures { result ≡ has_null key.now }
 {
-    key.iter().any(|value| is_null(value))
+    let Some((value, key)) = key.split_first() else {
+        return false;
+    };
+    is_null(value) || has_null(key)
 }
 
 fn is_null(value: &Value) -> bool
@@ -147,18 +150,11 @@ fn is_null(value: &Value) -> bool
 fn is_expired_in(attributes: &[Attribute], cells: &[Cell], table: TableId, names: &[Name]) -> bool
     ensures { result ≡ spec.is_expired_in attributes.now cells.now table names.now }
 {
-    names
-        .iter()
-        .any(|name| is_expired(attributes, cells, table, name))
-}
-
-fn is_expired(attributes: &[Attribute], cells: &[Cell], table: TableId, name: &Name) -> bool
-    ensures { result ≡ is_none (spec.column_value attributes.now cells.now table name.now) }
-{
-    match column_value(attributes, cells, table, name) {
-        Some(_) => false,
-        None => true,
-    }
+    let Some((name, names)) = names.split_first() else {
+        return false;
+    };
+    column_value(attributes, cells, table, name).is_none()
+        || is_expired_in(attributes, cells, table, names)
 }
 
 /// The values of these columns.

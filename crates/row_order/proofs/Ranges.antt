@@ -1,9 +1,9 @@
 -- Steps of loops over the places of a list.
-use Rattle.std.proofs.Common.{◌≡◌, ℕ, suc, ◌+◌, ◌-◌, ◌<◌, ◌≤◌, Bool, true, false, cond, ◌||◌, List, [], ◌∷◌, ◌++◌, length, get_or, drop, None, Some, refl, sym, ap, ◌∙◌, add-one, drop-cons, arith}
+use Rattle.std.proofs.Common.{◌≡◌, ℕ, suc, ◌+◌, ◌-◌, ◌<◌, ◌≤◌, Bool, true, false, cond, List, [], ◌∷◌, ◌++◌, length, get_or, drop, None, Some, refl, sym, ap, ◌∙◌, add-one, drop-cons, arith}
 use Rattle.std.proofs.lemmas.List.{drop_all}
 use Rattle.std.proofs.lemmas.List.FromFn.{get_or-range_with_len, length-range_with_len}
 use Rattle.std.specs.Prelude.{nat_eq}
-use Rattle.std.specs.List.{find, list_any, range_with_len}
+use Rattle.std.specs.List.{find, range_with_len}
 use Rattle.std.specs.Option.{option_to_list}
 use Rattle.row_order.specs.Places.{first_places, from_row, is_among, next_place, trail}
 
@@ -25,15 +25,6 @@ find_passed p n i h fails = sym (ap (find p) (range_at n i h) ∙ ap (λ b. cond
 pub find_none : (p : ℕ → Bool) (n i : ℕ) → n ≤ i → find p (drop i (range_with_len 0 n)) ≡ None
 find_none p n i h = ap (find p) (range_end n i h)
 
-pub any_found : (p : ℕ → Bool) (n i : ℕ) → i < n → p i ≡ true → list_any p (drop i (range_with_len 0 n)) ≡ true
-any_found p n i h passes = ap (list_any p) (range_at n i h) ∙ ap (λ b. b || list_any p (drop (i + 1) (range_with_len 0 n))) passes
-
-pub any_passed : (p : ℕ → Bool) (n i : ℕ) → i < n → p i ≡ false → list_any p (drop (i + 1) (range_with_len 0 n)) ≡ list_any p (drop i (range_with_len 0 n))
-any_passed p n i h fails = sym (ap (list_any p) (range_at n i h) ∙ ap (λ b. b || list_any p (drop (i + 1) (range_with_len 0 n))) fails)
-
-pub any_end : (p : ℕ → Bool) (n i : ℕ) → n ≤ i → list_any p (drop i (range_with_len 0 n)) ≡ false
-any_end p n i h = ap (list_any p) (range_end n i h)
-
 pub first_none : (waits : ℕ → ℕ → Bool) (size : ℕ) → [] ≡ first_places waits size 0
 unfolding first_places
 first_none waits size = refl
@@ -43,8 +34,6 @@ unfolding first_places
 first_more waits size n placed e = rw (add-one, e) refl
 
 pub ruleset find_steps = (find_found, find_passed, find_none)
-
-pub ruleset any_steps = (any_found, any_passed, any_end)
 
 -- ---- the list from a row on
 

@@ -7,6 +7,6 @@ mod search;
 mod waiting;
 
 pub use lists::{order_of_lists, order_or_cycle};
-pub use places::{Ordered, Waits, plain_order_or_cycle};
+pub use places::{Ordered, Waits};
 pub use search::Rows;
 pub use waiting::waiting_of;

@@ -1,12 +1,9 @@
 //! The order of rows of which some wait for others.
 
-ghost use Rattle.std.specs.Prelude.{◌≡◌, ◌<◌, ◌≤◌, ◌++◌, ℕ, Bool, not, length, IfOk, IfErr, IfSome, OnOk, OnErr, Some, Ok, Err};
-ghost use Rattle.std.specs.List.{All, find, list_any};
-ghost use Rattle.std.specs.Option.{option_to_list};
+ghost use Rattle.std.specs.Prelude.{◌≡◌, ◌<◌, ◌≤◌, ℕ, Bool, length, IfOk, IfErr};
 ghost use Rattle.base_core.specs.declared.refusal.Refusal.TheVariants.{Memory};
 ghost use Rattle.row_order.specs.Lists.{AreListsOf};
-ghost use Rattle.row_order.specs.Told.{rows_of, order_result};
-ghost use Rattle.row_order.specs.Places.{cycle_from, from_row, holds_up, is_among, is_ready, least_left, next_blocker, next_place, order, order_or_cycle};
+ghost use Rattle.row_order.specs.Places.{cycle_from, from_row, holds_up, is_among, next_blocker, order};
 
 use base_core::{ListOf, Refusal};
 use std::alloc::Global;
@@ -57,72 +54,6 @@ fn holds_up<W: Waits>(rows: &W, placed: &[u32], row: u32, other: u32) -> bool
     !is_among(placed, other) && rows.waits(row, other)
 }
 
-#[tactic(auto, using(crate::proofs::Ranges::any_steps))]
-/// Whether the row is left, and waits for none that is left.
-fn is_ready<W: Waits>(rows: &W, placed: &[u32], row: u32) -> bool
-    requires holds { W.holds rows.now }
-    requires row { row < W.size rows.now }
-    ensures { result ≡ is_ready (W.waits rows.now) (W.size rows.now) placed.now row }
-{
-    if is_among(placed, row) {
-        return false;
-    }
-    for other in 0..rows.size() {
-        if holds_up(rows, placed, row, other) {
-            return false;
-        }
-    }
-    true
-}
-
-#[tactic(auto, using(crate::proofs::Ranges::find_steps), unfolding(crate::specs::Places::next_place))]
-/// The row that comes after these: the least one that is ready.
-fn next_place<W: Waits>(rows: &W, placed: &[u32]) -> Option<u32>
-    requires holds { W.holds rows.now }
-    ensures next { result ≡ next_place (W.waits rows.now) (W.size rows.now) placed.now }
-    ensures within { IfSome result (λ row. row < W.size rows.now) }
-{
-    for row in 0..rows.size() {
-        if is_ready(rows, placed, row) {
-            return Some(row);
-        }
-    }
-    None
-}
-
-/// The row that comes after these goes to their end, if there is one. The only refusal is `Memory`.
-fn place_next<W: Waits>(rows: &W, placed: &mut Vec<u32>) -> Result<(), Refusal>
-    requires holds { W.holds rows.now }
-    ensures placed { OnOk result (placed.new.items ≡ placed.old.items
-        ++ option_to_list (next_place (W.waits rows.now) (W.size rows.now) placed.old.items)) }
-    ensures within { OnOk result (All (λ row. row < W.size rows.now) placed.old.items
-        → All (λ row. row < W.size rows.now) placed.new.items) }
-    ensures cause { IfErr result (λ e. e ≡ Memory) }
-{
-    match next_place(rows, placed.as_slice()) {
-        Some(row) => {
-            placed.push(row)?;
-            Ok(())
-        }
-        None => Ok(()),
-    }
-}
-
-/// The order, as far as it goes.
-fn order<W: Waits>(alloc: Global, rows: &W) -> Result<Vec<u32>, Refusal>
-    requires holds { W.holds rows.now }
-    ensures order { IfOk result
-        (λ placed. placed.items ≡ order (W.waits rows.now) (W.size rows.now)) }
-    ensures within { IfOk result (λ placed. All (λ row. row < W.size rows.now) placed.items) }
-    ensures cause { IfErr result (λ e. e ≡ Memory) }
-{
-    let mut placed = Vec::new(alloc);
-    for _row in 0..rows.size() {
-        place_next(rows, &mut placed)?;
-    }
-    Ok(placed)
-}
-
 #[tactic(auto, using(crate::proofs::Ranges::find_steps), unfolding(crate::specs::Places::next_blocker))]
 /// The least row left for which a row waits.
 fn next_blocker<W: Waits>(rows: &W, placed: &[u32], row: u32) -> u32
@@ -137,20 +68,6 @@ fn next_blocker<W: Waits>(rows: &W, placed: &[u32], row: u32) -> u32
         }
     }
     row
-}
-
-#[tactic(auto, using(crate::proofs::Ranges::find_steps), unfolding(crate::specs::Places::least_left))]
-/// The least row left.
-fn least_left(size: u32, placed: &[u32]) -> Option<u32>
-    ensures least { result ≡ least_left size placed.now }
-    ensures within { IfSome result (λ row. row < size) }
-{
-    for row in 0..size {
-        if !is_among(placed, row) {
-            return Some(row);
-        }
-    }
-    None
 }
 
 #[tactic(auto, using(crate::proofs::Ranges::from_steps))]
@@ -200,24 +117,4 @@ pub(crate) fn cycle_from<W: Waits>(
 pub enum Ordered {
     Order(ListOf<u32>),
     Cycle(ListOf<u32>),
-}
-
-#[tactic(auto, using(crate::proofs::Cycles::cycle_within), unfolding(crate::specs::Places::order_or_cycle))]
-/// The same as `order_or_cycle`, searched plainly: the least row that is ready anew at each place. The only refusal is `Memory`.
-pub fn plain_order_or_cycle<W: Waits>(alloc: Global, rows: &W) -> Result<Ordered, Refusal>
-    requires holds { W.holds rows.now }
-    ensures told { IfOk result
-        (λ ordered. order_result ordered ≡ order_or_cycle (W.waits rows.now) (W.size rows.now)) }
-    ensures within { IfOk result
-        (λ ordered. All (λ row. row < W.size rows.now) (rows_of ordered)) }
-    ensures cause { IfErr result (λ e. e ≡ Memory) }
-{
-    let placed = order(alloc, rows)?;
-    match least_left(rows.size(), placed.as_slice()) {
-        None => Ok(Ordered::Order(ListOf::from_vec(placed))),
-        Some(row) => {
-            let path = cycle_from(alloc, rows, placed.as_slice(), row)?;
-            Ok(Ordered::Cycle(ListOf::from_vec(path)))
-        }
-    }
 }

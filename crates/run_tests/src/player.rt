@@ -1,83 +1,57 @@
 //! Plays lines.
 
-use crate::runs::{Differs, Failing, Outcome, failed_at, nothing, run_once};
-use base_core::Refusal;
+use crate::runs::{NOTHING, Run, ended, only, run_once};
 use notations::{Page, Plays, parted};
 use std::alloc::Global;
 use std::mem;
 
-/// The script so far, its words, and what is to fail.
+/// The script so far.
 #[derive(Drop)]
 pub(crate) struct Player {
     script: String,
-    words: Vec<String>,
-    failing: Failing,
-}
-
-/// Numbers with blanks between them.
-fn numbers(text: &str, page: &mut Page) -> Vec<u64> {
-    let mut numbers = Vec::new(page.alloc());
-    for word in text.split_whitespace() {
-        let done = numbers.push(word.parse::<u64>().unwrap_or(0));
-        page.note(done);
-    }
-    numbers
-}
-
-fn words_of(text: &str, page: &mut Page) -> Vec<String> {
-    let mut words = Vec::new(page.alloc());
-    for word in text.split_whitespace() {
-        let mut copy = String::new(page.alloc());
-        let done = copy.push_str(word);
-        page.note(done);
-        let done = words.push(copy);
-        page.note(done);
-    }
-    words
 }
 
 /// What a run wrote, and its status.
-fn say_outcome(outcome: &Outcome, page: &mut Page) {
-    page.put(std::str::from_utf8(outcome.written.as_slice()).unwrap_or("no text\n"));
-    page.put_number("status ", u64::from(outcome.status.code()));
+fn say_run(run: &Run, page: &mut Page) {
+    page.put(std::str::from_utf8(run.sink.bytes()).unwrap_or("no text\n"));
+    page.put_number("status ", u64::from(run.status.code()));
     page.push('\n');
 }
 
+/// How the run ends in which the call of a kind with this number fails, as `ended` tells it beside the whole one.
+fn failed_at(script: &str, whole: &Run, kind: &str, number: u64, page: &mut Page) -> Option<u8> {
+    match run_once(page.alloc(), script, only(kind, number)) {
+        Ok(one) => ended(whole, &one),
+        Err(_) => {
+            page.lack();
+            None
+        }
+    }
+}
+
 /// The status of all runs before the one that is whole, or the first run that differs from the one before it.
-fn each(
-    words: &Vec<String>,
-    script: &str,
-    whole: &Outcome,
-    kind: &str,
-    page: &mut Page,
-) -> Result<(), Refusal> {
-    let alloc = page.alloc();
-    let first = failed_at(alloc, words, script, whole, kind, 1)?;
+fn say_each(script: &str, whole: &Run, kind: &str, page: &mut Page) {
+    let first = failed_at(script, whole, kind, 1, page);
     for number in 2..1000 {
-        let differs = failed_at(alloc, words, script, whole, kind, number)?;
-        if differs != first {
-            say_each(kind, first, differs, number, page);
-            return Ok(());
+        let status = failed_at(script, whole, kind, number, page);
+        if status != first {
+            let is_whole = status == Some(whole.status.code());
+            say_status(kind, number, if is_whole { first } else { None }, page);
+            return;
         }
     }
     page.put("no run is whole\n");
-    Ok(())
 }
 
-fn say_each(kind: &str, first: Differs, last: Differs, number: u64, page: &mut Page) {
-    match (first, last) {
-        (Differs::Ended(status), Differs::No) => {
-            page.put("each ");
-            page.put(kind);
-            page.put_number(": status ", u64::from(status));
-            page.push('\n');
-        }
-        _ => {
-            page.put(kind);
-            page.put_number(" ", number);
-            page.put(" is answered otherwise\n");
-        }
+/// The status of all runs before the one of this number; with none, this run is neither as they are nor whole.
+fn say_status(kind: &str, number: u64, status: Option<u8>, page: &mut Page) {
+    page.put("each ");
+    page.put(kind);
+    match status {
+        Some(status) => page.put_number(": status ", u64::from(status)),
+        None => page.put_number(" is answered otherwise: ", number),
     }
+    page.push('\n');
 }
 
 impl Player {
@@ -85,49 +59,40 @@ impl Player {
     pub(crate) fn new(alloc: Global) -> Player {
         Player {
             script: String::new(alloc),
-            words: Vec::new(alloc),
-            failing: nothing(alloc),
         }
     }
 
     /// Begins another script.
     fn restart(&mut self, line: &str, page: &mut Page) {
-        drop(mem::replace(self, Player::new(page.alloc())));
+        drop(mem::replace(&mut self.script, String::new(page.alloc())));
         page.put(line);
         page.push('\n');
     }
 
-    fn run(&self, page: &mut Page) -> Result<(), Refusal> {
-        let outcome = run_once(
-            page.alloc(),
-            &self.words,
-            self.script.as_str(),
-            &self.failing,
-        )?;
-        say_outcome(&outcome, page);
-        Ok(())
-    }
-
-    fn run_each(&self, kind: &str, page: &mut Page) -> Result<(), Refusal> {
-        let alloc = page.alloc();
-        let whole = run_once(alloc, &self.words, self.script.as_str(), &nothing(alloc))?;
-        each(&self.words, self.script.as_str(), &whole, kind, page)
-    }
-
-    /// Takes a line that tells what is to be run.
-    fn tell(&mut self, word: &str, text: &str, page: &mut Page) {
-        match word {
-            ">" => {
-                let done = self.script.push_str(text);
-                page.note(done);
-                let done = self.script.push('\n');
-                page.note(done);
-            }
-            "words" => drop(mem::replace(&mut self.words, words_of(text, page))),
-            "reads" => drop(mem::replace(&mut self.failing.reads, numbers(text, page))),
-            "writes" => drop(mem::replace(&mut self.failing.writes, numbers(text, page))),
-            _ => drop(mem::replace(&mut self.failing.calls, numbers(text, page))),
+    /// Runs the script, where what a text names fails: its kind, and its number behind a blank.
+    fn run(&self, failing: &str, page: &mut Page) {
+        let (kind, number) = parted(failing, ' ');
+        let failing = only(kind, number.parse::<u64>().unwrap_or(0));
+        match run_once(page.alloc(), self.script.as_str(), failing) {
+            Ok(run) => say_run(&run, page),
+            Err(_) => page.lack(),
         }
+    }
+
+    /// Runs the script with each call of a kind failing in turn.
+    fn run_each(&self, kind: &str, page: &mut Page) {
+        match run_once(page.alloc(), self.script.as_str(), NOTHING) {
+            Ok(whole) => say_each(self.script.as_str(), &whole, kind, page),
+            Err(_) => page.lack(),
+        }
+    }
+
+    /// A line goes to the end of the script.
+    fn take(&mut self, line: &str, page: &mut Page) {
+        let done = self.script.push_str(line);
+        page.note(done);
+        let done = self.script.push('\n');
+        page.note(done);
     }
 }
 
@@ -136,15 +101,9 @@ impl Plays for Player {
         let (word, text) = parted(line, ' ');
         match word {
             "#" => self.restart(line, page),
-            "run" => {
-                let done = self.run(page);
-                page.note(done);
-            }
-            "each" => {
-                let done = self.run_each(text, page);
-                page.note(done);
-            }
-            _ => self.tell(word, text, page),
+            "run" => self.run(text, page),
+            "each" => self.run_each(text, page),
+            _ => self.take(text, page),
         }
     }
 }

@@ -8,57 +8,58 @@ use keeper_mem::{OverKeepers, over_memory};
 use sqla_shell::{Status, run};
 use std::alloc::Global;
 
-/// The numbers of the calls that fail.
-#[derive(Drop)]
+/// The number of the read, of the write and of the call that fails, from 1; 0 where none does.
+#[derive(Clone, Copy)]
 pub(crate) struct Failing {
-    pub(crate) reads: Vec<u64>,
-    pub(crate) writes: Vec<u64>,
-    pub(crate) calls: Vec<u64>,
+    read: u64,
+    write: u64,
+    call: u64,
 }
 
-/// What a run wrote, and how it ended.
+/// Nothing fails.
+pub(crate) const NOTHING: Failing = Failing {
+    read: 0,
+    write: 0,
+    call: 0,
+};
+
+/// The call of a kind with this number fails alone.
+pub(crate) fn only(kind: &str, number: u64) -> Failing {
+    match kind {
+        "read" => Failing {
+            read: number,
+            write: 0,
+            call: 0,
+        },
+        "write" => Failing {
+            read: 0,
+            write: number,
+            call: 0,
+        },
+        _ => Failing {
+            read: 0,
+            write: 0,
+            call: number,
+        },
+    }
+}
+
+/// A run of a script: what it is read from and what it is answered to, and how it ended.
 #[derive(Drop)]
-pub(crate) struct Outcome {
-    pub(crate) written: Vec<u8>,
+pub(crate) struct Run {
+    alloc: Global,
+    source: MemSource,
+    pub(crate) sink: MemSink,
     pub(crate) status: Status,
 }
 
-/// No call fails.
-pub(crate) fn nothing(alloc: Global) -> Failing {
-    Failing {
-        reads: Vec::new(alloc),
-        writes: Vec::new(alloc),
-        calls: Vec::new(alloc),
-    }
-}
-
-/// The call of a kind with this number fails alone.
-fn only(alloc: Global, kind: &str, number: u64) -> Result<Failing, Refusal> {
-    let mut failing = nothing(alloc);
-    match kind {
-        "read" => failing.reads.push(number)?,
-        "write" => failing.writes.push(number)?,
-        _ => failing.calls.push(number)?,
-    }
-    Ok(failing)
-}
-
-/// A script with its words, what it is read from and what it is answered to, and how it ended.
-#[derive(Drop)]
-struct Script<'x> {
-    alloc: Global,
-    words: &'x Vec<String>,
-    source: MemSource,
-    sink: MemSink,
-    status: Status,
-}
-
-impl OverKeepers for Script<'_> {
+impl OverKeepers for Run {
     fn run<K: Keeper>(&mut self, keeper: &mut K) {
         let hooks = Hooks::new(self.alloc);
+        let words = Vec::new(self.alloc);
         self.status = run(
             self.alloc,
-            self.words,
+            &words,
             &mut self.source,
             &mut self.sink,
             keeper,
@@ -67,62 +68,27 @@ impl OverKeepers for Script<'_> {
     }
 }
 
-/// Runs a script with these words over a new keeper in memory, where these calls fail.
-pub(crate) fn run_once(
-    alloc: Global,
-    words: &Vec<String>,
-    script: &str,
-    failing: &Failing,
-) -> Result<Outcome, Refusal> {
-    let source = MemSource::new(alloc, script.as_bytes(), failing.reads.as_slice())?;
-    let sink = MemSink::new(alloc, failing.writes.as_slice())?;
-    let mut script = Script {
+/// Runs a script over a new keeper in memory, where these calls fail.
+pub(crate) fn run_once(alloc: Global, script: &str, failing: Failing) -> Result<Run, Refusal> {
+    let source = MemSource::new(alloc, script.as_bytes(), &[failing.read])?;
+    let sink = MemSink::new(alloc, &[failing.write])?;
+    let mut run = Run {
         alloc,
-        words,
         source,
         sink,
         status: Status::Memory,
     };
-    over_memory(alloc, failing.calls.as_slice(), &mut script)?;
-    let written = Vec::from_slice(alloc, script.sink.bytes())?;
-    Ok(Outcome {
-        written,
-        status: script.status,
-    })
+    over_memory(alloc, &[failing.call], &mut run)?;
+    Ok(run)
 }
 
-/// How a run differs from the one in which nothing fails.
-#[derive(Clone, Copy, PartialEq, Eq)]
-pub(crate) enum Differs {
-    /// In nothing.
-    No,
-    /// It ended with this status, and wrote the first of what the whole run writes.
-    Ended(u8),
-    /// In what it wrote.
-    Otherwise,
-}
-
-fn difference(whole: &Outcome, one: &Outcome) -> Differs {
-    let (whole_bytes, one_bytes) = (whole.written.as_slice(), one.written.as_slice());
-    if one.status == whole.status && one_bytes == whole_bytes {
-        Differs::No
-    } else if one.status != whole.status && whole_bytes.starts_with(one_bytes) {
-        Differs::Ended(one.status.code())
+/// The status of a run that wrote the first of what the whole one wrote, and all of it where it ended as that one did.
+pub(crate) fn ended(whole: &Run, one: &Run) -> Option<u8> {
+    let (all, first) = (whole.sink.bytes(), one.sink.bytes());
+    let ends_alike = whole.status == one.status;
+    if all.starts_with(first) && (!ends_alike || all.len() == first.len()) {
+        Some(one.status.code())
     } else {
-        Differs::Otherwise
+        None
     }
-}
-
-/// How the run in which the call of a kind with this number fails differs from the whole one.
-pub(crate) fn failed_at(
-    alloc: Global,
-    words: &Vec<String>,
-    script: &str,
-    whole: &Outcome,
-    kind: &str,
-    number: u64,
-) -> Result<Differs, Refusal> {
-    let failing = only(alloc, kind, number)?;
-    let one = run_once(alloc, words, script, &failing)?;
-    Ok(difference(whole, &one))
 }

@@ -1,6 +1,6 @@
 //! The scopes of a session.
 
-ghost use Rattle.std.specs.Prelude.{◌≡◌, ◌<◌, ◌≤◌, ◌∷◌, ◌-◌, drop, nat_le, length, Err, IfErr, OnOk, OnErr};
+ghost use Rattle.std.specs.Prelude.{◌≡◌, ◌==◌, ◌&&◌, ◌<◌, ◌≤◌, ◌∷◌, ◌-◌, drop, nat_le, length, Err, IfErr, OnOk, OnErr};
 ghost use Rattle.std.specs.List.{All};
 ghost use Rattle.base_core.specs.Answers.{Takes};
 ghost use Rattle.base_core.specs.declared.refusal.Refusal.TheVariants.{Memory};
@@ -190,6 +190,13 @@ impl Frames {
         }
         self.scopes.remove(0)
     }
+}
+
+/// Whether the savepoint at a place, the innermost one at 0, has gone already: it was rolled back for a flush that failed.
+pub fn has_gone(failed: bool, place: usize) -> bool
+    ensures { result ≡ (failed && (place == 0)) }
+{
+    failed && place == 0
 }
 
 /// Whether a state is that of a persistent object.

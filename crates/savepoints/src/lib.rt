@@ -6,6 +6,6 @@ mod restoring;
 mod scope;
 mod traces;
 
-pub use frames::Frames;
+pub use frames::{Frames, has_gone};
 pub use scope::{Scope, Standing};
 pub use traces::Trace;

@@ -4,3 +4,4 @@ pub mod Performed
 pub mod Told
 pub mod Built
 pub mod Shells
+pub mod Answers

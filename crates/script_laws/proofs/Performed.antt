@@ -32,10 +32,10 @@ use Rattle.session_calls.specs.Parts.{World}
 use Rattle.session_calls.proofs.Joining.{same_itself}
 use Rattle.session_acts.specs.Steps as acts
 use Rattle.session_acts.specs.Steps.{flush_whole}
-use Rattle.session_dump.specs.Dump.{Filled, scan_each, scan_one, scan_tables}
+use Rattle.session_tables.specs.Dump.{Filled, scan_each, scan_one, scan_tables}
 use Rattle.session_links.specs.Steps.{read_related}
 use Rattle.session_links.specs.declared.reading.Related.{Related}
-use Rattle.session_savepoints.specs.Steps.{begin_savepoint, enter_nested}
+use Rattle.session_acts.specs.Savepoints.{begin_savepoint, enter_nested}
 use Rattle.session_tables.specs.declared.tables.TableChange.TheVariants.{Create, Drop}
 use Rattle.session_values.specs.Steps.{given_fault, made_unless, valid_made}
 use Rattle.shell_parts.specs.declared.names.Bound.TheVariants.{Object as OneObject, Saved}
@@ -50,12 +50,12 @@ use Rattle.session_perform.proofs.Sendable.{plain_but_for_keys}
 use Rattle.shell_steps.specs.declared.stage.Stage.TheVariants.{Configured}
 use Rattle.shell_steps.specs.ShellState.{AreBound}
 use Rattle.shell_steps.proofs.Bindings.{bound_same, bound_stays}
-use Rattle.health_laws.specs.Calls.{Call, after_call}
-use Rattle.health_laws.proofs.Objects.{class_left}
-use Rattle.whole_laws.specs.Whole.{CallsKeepWhole, IsCallOf, IsHale}
-use Rattle.whole_laws.proofs.Keeping.{Holds}
-use Rattle.whole_laws.proofs.Programs as keeps
-use Rattle.whole_laws.proofs.Since.{IsKeyedSince, since_steps}
+use Rattle.session_laws.specs.Health.Calls.{Call, after_call}
+use Rattle.session_laws.proofs.Health.Objects.{class_left}
+use Rattle.session_laws.specs.Whole.{CallsKeepWhole, IsCallOf, IsHale}
+use Rattle.session_laws.proofs.Whole.Keeping.{Holds}
+use Rattle.session_laws.proofs.Whole.Programs as keeps
+use Rattle.session_laws.proofs.Whole.Since.{IsKeyedSince, since_steps}
 use Rattle.script_laws.specs.Lines.{LinesKeepWhole}
 use Rattle.script_laws.proofs.Resolved.{Asks}
 

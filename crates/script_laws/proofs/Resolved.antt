@@ -49,7 +49,7 @@ use Rattle.script_resolve.specs.Bulks.{resolved_bulk}
 use Rattle.script_resolve.specs.Sayable.{is_sayable_bulk}
 use Rattle.script_resolve.specs.Selects.{resolved_select}
 use Rattle.script_resolve.proofs.Whole.{bulk_fits, bulk_once}
-use Rattle.session_link_laws.specs.Laws.{IsLinkCall}
+use Rattle.session_laws.specs.LinkCalls.{IsLinkCall}
 use Rattle.session_perform.proofs.Sendable.{plain_but_for_keys}
 
 -- what a line is asked of a session, so that it stays whole

@@ -43,12 +43,12 @@ use Rattle.shell_steps.specs.Step.{answer_to, close_session, close_session_at, c
 use Rattle.shell_steps.proofs.Bindings.{bound_same, bound_more, none_bound_in}
 use Rattle.sqla_shell.specs.declared.ending.Ending.TheVariants.{Finished}
 use Rattle.sqla_shell.specs.Reference.{close_and_tell, do_and_reply, end_script, end_unless_too_long, script, start, writes}
-use Rattle.prefix_laws.specs.Laws.{IsWellMapped}
-use Rattle.health_laws.specs.Calls.{Call}
-use Rattle.whole_laws.specs.Whole.{CallsKeepWhole, IsHale}
-use Rattle.whole_laws.proofs.Calls.{new_whole}
-use Rattle.whole_laws.proofs.Programs as keeps
-use Rattle.whole_laws.proofs.Since.{IsKeyedSince, since_steps}
+use Rattle.flush_laws.specs.Graphs.{IsWellMapped}
+use Rattle.session_laws.specs.Health.Calls.{Call}
+use Rattle.session_laws.specs.Whole.{CallsKeepWhole, IsHale}
+use Rattle.session_laws.proofs.Whole.Calls.{new_whole}
+use Rattle.session_laws.proofs.Whole.Programs as keeps
+use Rattle.session_laws.proofs.Whole.Since.{IsKeyedSince, since_steps}
 use Rattle.script_laws.specs.Scripts.{HasOneAt, IsBuilt, IsLateBlock, IsLateDeclared, IsWholeAt, IsWholeShell, ScriptsEndWhole, ScriptsHaveOneForEachKey, ScriptsStayWhole, after_lines}
 use Rattle.script_laws.proofs.Built.{built_wider, class_built, configured_well, new_built, table_built}
 use Rattle.script_laws.proofs.Late.{IsLateRun, IsLateSaid, said_late}

@@ -7,12 +7,12 @@ use Rattle.programs.specs.Moment.{AsTold, IsCutOff, IsRun, Moment, Outcome, Runs
 use Rattle.programs.specs.Programs.{Log, Run, ends_early}
 use Rattle.programs.specs.Store.{Store}
 use Rattle.session_calls.specs.Parts.{World}
-use Rattle.session_flush_laws.specs.Laws.{world_of}
+use Rattle.session_laws.specs.Flushes.{world_of}
 use Rattle.session_scopes.specs.SessionState.{SessionState}
 use Rattle.command_resolve.specs.declared.answer.Answer.{Answer}
 use Rattle.command_resolve.specs.declared.resolved.Resolved.{Resolved}
 use Rattle.session_perform.specs.Performing.{IsReady, program_of_resolved}
-use Rattle.whole_laws.specs.Whole.{IsHale}
+use Rattle.session_laws.specs.Whole.{IsHale}
 use Rattle.script_laws.specs.Lines.{IsHaleBeside, LinesKeepWhole}
 
 world_then : {A : Type 0} (run : Run World A) (before : Log) (r : Result A Refusal) (now : Told World) → IfErr r (λ e. ends_early e ≡ false) → Outcome (λ a. a) run before r now → now.world ≡ run.after

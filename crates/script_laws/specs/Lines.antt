@@ -4,11 +4,11 @@ use Rattle.class_types.specs.Rules.{Rules}
 use Rattle.programs.specs.Moment.{Told}
 use Rattle.programs.specs.Store.{Store}
 use Rattle.session_calls.specs.Parts.{World}
-use Rattle.session_flush_laws.specs.Laws.{world_of}
+use Rattle.session_laws.specs.Flushes.{world_of}
 use Rattle.session_scopes.specs.SessionState.{SessionState}
 use Rattle.session_perform.specs.Performing.{IsReady, program_of_resolved}
 use Rattle.command_resolve.specs.declared.resolved.Resolved.{Resolved}
-use Rattle.whole_laws.specs.Whole.{IsHale}
+use Rattle.session_laws.specs.Whole.{IsHale}
 
 -- whatever a resolved line asks for, and whatever it answers, a healthy session that is whole stays so, where all that it names
 -- is there

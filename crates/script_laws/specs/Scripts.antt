@@ -7,7 +7,7 @@ use Rattle.class_types.specs.Rules.{Rules}
 use Rattle.class_layouts.specs.Faults.{is_bad_cascade}
 use Rattle.class_mapping.specs.Lines.{AreLines}
 use Rattle.class_mapping.specs.Mapped.{Mapped}
-use Rattle.configured_laws.specs.Configured.{HasLateLinks, has_late_links}
+use Rattle.flush_laws.specs.Configured.{HasLateLinks, has_late_links}
 use Rattle.keeper_core.specs.Keeping.{new_store}
 use Rattle.programs.specs.Beside.{Beside}
 use Rattle.programs.specs.Programs.{each}
@@ -22,8 +22,8 @@ use Rattle.shell_steps.specs.declared.stage.Stage.{Stage}
 use Rattle.shell_steps.specs.declared.stage.Stage.TheVariants.{Declaring, Configured}
 use Rattle.shell_steps.specs.ShellState.{AreBound, ShellState}
 use Rattle.sqla_shell.specs.Reference.{do_and_reply, reference, start}
-use Rattle.whole_laws.specs.Whole.{IsHale}
-use Rattle.health_laws.specs.Calls.{HasOneForEachKey}
+use Rattle.session_laws.specs.Whole.{IsHale}
+use Rattle.session_laws.specs.Health.Calls.{HasOneForEachKey}
 
 -- what a mapping keeps as tables and classes are declared in so many lines
 pub record IsBuilt (count : ℕ) (mapped : Mapped) : Type 0 where

@@ -11,9 +11,9 @@ use base_core::Refusal;
 use class_types::Hooks;
 use command_resolve::{Answer, Resolved};
 use keeper_core::Keeper;
+use session_laws::calls_keep_whole;
 use session_perform::perform;
 use session_scopes::Session;
-use whole_laws::calls_keep_whole;
 
 /// Whatever a resolved line asks for, and whatever it answers, a session stays healthy and whole, where all that the line names is
 /// there. It does nothing when it runs.

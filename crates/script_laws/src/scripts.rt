@@ -2,7 +2,7 @@
 
 ghost use Rattle.script_laws.specs.Scripts.{ScriptsEndWhole, ScriptsHaveOneForEachKey, ScriptsStayWhole};
 
-use whole_laws::calls_keep_whole;
+use session_laws::calls_keep_whole;
 
 /// Whatever the lines of a script are, fewer than 2^32 of them, and whatever each answers: its session is healthy and whole behind every
 /// line, beside the store that the lines made, and what names stand for is there. It does nothing when it runs.

@@ -12,7 +12,7 @@ use Rattle.session_scopes.specs.SessionState.{SessionState, depth_of}
 use Rattle.session_calls.specs.Calling.{IsSessionCall}
 use Rattle.session_calls.specs.Parts.{World}
 use Rattle.session_calls.proofs.Joining.{err_call, then_call}
-use Rattle.session_savepoints.proofs.Acting.{fewer_than_scopes}
+use Rattle.session_acts.proofs.Savepoints.{fewer_than_scopes}
 use Rattle.session_acts.specs.Steps.{flush_whole, flushing}
 
 -- what is asked was refused

@@ -1,2 +1,3 @@
+pub mod Savepoints
 pub mod Flushing
 pub mod Unwritten

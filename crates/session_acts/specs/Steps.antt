@@ -15,7 +15,7 @@ use Rattle.session_scopes.specs.SessionState.{SessionState}
 use Rattle.session_calls.specs.Parts.{World, checked, fault_if}
 use Rattle.session_calls.specs.Steps.{enter}
 use Rattle.session_flush.specs.Flush.{flush}
-use Rattle.session_savepoints.specs.Steps.{begin_savepoint, check_handle, commit_whole, enter_nested, release_handle}
+use Rattle.session_acts.specs.Savepoints.{begin_savepoint, check_handle, commit_whole, enter_nested, release_handle}
 use Rattle.session_statements.specs.Steps as statements
 
 -- ---- the flush

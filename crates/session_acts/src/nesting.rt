@@ -6,14 +6,14 @@ ghost use Rattle.session_scopes.specs.SessionState.{IsInStep};
 ghost use Rattle.session_calls.specs.Calling.{IsSessionCall};
 ghost use Rattle.session_calls.specs.Refusals.{entered};
 ghost use Rattle.session_calls.specs.Steps.{pending_fault};
-ghost use Rattle.session_savepoints.specs.Steps.{handle_fault, limit_fault};
+ghost use Rattle.session_acts.specs.Savepoints.{handle_fault, limit_fault};
 ghost use Rattle.session_acts.specs.Refusals.{IsRefusedFlushing};
 ghost use Rattle.session_acts.specs.Steps as steps;
 
 use crate::whole::flush_whole;
+use crate::{begin_savepoint, check_handle, enter_nested, release_handle};
 use base_core::Refusal;
 use keeper_core::Keeper;
-use session_savepoints::{begin_savepoint, check_handle, enter_nested, release_handle};
 use session_scopes::Session;
 
 /// Writes what is to be written, and begins a savepoint, whose handle is answered.

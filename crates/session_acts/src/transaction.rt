@@ -9,11 +9,11 @@ ghost use Rattle.session_flush.specs.Outcome.{IsFlushed};
 ghost use Rattle.session_acts.specs.Refusals.{IsRefusedFlushing};
 ghost use Rattle.session_acts.specs.Steps as steps;
 
+use crate::commit_whole;
 use crate::whole::flush_whole;
 use base_core::Refusal;
 use keeper_core::Keeper;
 use session_calls::enter;
-use session_savepoints::commit_whole;
 use session_scopes::Session;
 
 /// Writes what is to be written.

@@ -14,6 +14,7 @@ ghost use Rattle.session_calls.specs.Steps as steps;
 use crate::store::{begin_store, roll_back, roll_back_transaction};
 use base_core::Refusal;
 use keeper_core::Keeper;
+use savepoints::has_gone;
 use session_scopes::Session;
 
 /// A transaction begins where none is in progress.
@@ -140,11 +141,11 @@ fn roll_back_place<K: Keeper>(
     go_back(session, keeper, (count - place) as u32 + 1, place + 1)
 }
 
-/// Whether the savepoint at a place is the innermost one and was rolled back for a flush that failed.
+/// Whether the savepoint at a place has gone already.
 fn is_gone(session: &Session, place: usize) -> bool
     ensures { result ≡ (session.now.failed && (place == 0)) }
 {
-    session.is_failed() && place == 0
+    has_gone(session.is_failed(), place)
 }
 
 /// Ends the transaction without its rows. Pending objects become transient, persistent and deleted ones detached, with their

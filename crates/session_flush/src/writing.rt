@@ -11,8 +11,8 @@ ghost use Rattle.session_flush.specs.Outcome.{IsFlushCause, IsFlushed, IsUntouch
 use crate::preparing::{planned_changes, prepared_changes, prepared_objects};
 use base_core::{Key, ListOf, Refusal};
 use class_mapping::Mapping;
-use fitting_flushes::flushes_fit;
 use flush_settling::settle;
+use graph_flushed::flushes_fit;
 use keeper_core::Keeper;
 use mapping_laws::has_hierarchies;
 use object_arena::Arena;

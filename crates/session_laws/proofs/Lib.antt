@@ -1,6 +1,13 @@
-pub mod Adding
-pub mod Nesting
-pub mod Making
-mod Writing
-pub mod Rereading
+pub mod Scopes
+pub mod Links
+pub mod Sound
+pub mod Calls
+pub mod LinkCalls
+pub mod TableCalls
+pub mod Flushed
+pub mod Flushes
+pub mod Stating
+pub mod SoundFlushes
+pub mod Health
 pub mod Whole
+pub mod Complete

@@ -1,1 +1,12 @@
-pub mod Laws
+pub mod Scopes
+pub mod Links
+pub mod Sound
+pub mod Calls
+pub mod LinkCalls
+pub mod Flushed
+pub mod Flushes
+pub mod Stating
+pub mod SoundFlushes
+pub mod Health
+pub mod Whole
+pub mod Complete

@@ -1,10 +1,55 @@
-//! Laws of the session's calls: each is the contract of a function that does nothing. So there is no body that could be turned
-//! into a wrong one.
+//! Laws of sessions: those that are sound, their scopes, links and calls, their flush over a store that is told, and whole calls one
+//! after another, which keep a session healthy and whole, and whose flushes answer whenever what the objects state can be written.
+//! Each is the contract of a function that does nothing, or that names the laws on which it rests.
 #![tactic(auto)]
 
-mod sound;
+mod complete_laws;
+mod healthy_laws;
+mod link_call_laws;
+mod link_laws;
+mod scope_laws;
+mod second_flush_laws;
+mod sound_calls;
+mod sound_flush_laws;
+mod sound_sessions;
+mod stated_flush_laws;
+mod table_call_laws;
+mod told_flush_laws;
+mod whole_laws;
 
-pub use sound::{
+pub use complete_laws::{
+    flushes_leave_the_stated_rows, stated_links_are_written, stated_objects_are_written,
+};
+pub use healthy_laws::{
+    a_new_session_is_healthy, calls_keep_health, flushing_calls_keep_health,
+    one_object_stands_for_each_key, what_is_told_stays_healthy,
+};
+pub use link_call_laws::changing_links_keeps_sound;
+pub use link_laws::{
+    append_changes_both_sides, calls_change_what_is_found, collections_repeat_no_member,
+    links_alone_change, remove_changes_both_sides, set_changes_three_links,
+};
+pub use scope_laws::{made_since_goes_back, restore_gives_the_start, touches_and_loads_only_grow};
+pub use second_flush_laws::{no_row_changes, no_row_is_new, no_statement_is_planned};
+pub use sound_calls::{
     coming_in_keeps_sound, committing_keeps_sound, making_keeps_sound, savepoints_keep_sound,
     statements_keep_sound,
+};
+pub use sound_flush_laws::{
+    a_flush_keeps_a_told_session_sound, a_flush_that_deletes_nothing_keeps_sound,
+    a_refused_flush_leaves_sound, an_answered_flush_of_a_told_session_leaves_sound,
+};
+pub use sound_sessions::{
+    a_new_session_is_sound, calls_on_objects_keep_sound, closing_keeps_sound, entering_keeps_sound,
+    rolling_back_keeps_sound,
+};
+pub use stated_flush_laws::{a_flush_leaves_the_stated_rows, a_flush_of_stated_tables_answers};
+pub use table_call_laws::{dropping_tables_keeps_sound, making_tables_keeps_sound};
+pub use told_flush_laws::{
+    a_flush_leaves_legal_tables, a_flush_sends_its_plan, a_second_flush_sends_nothing,
+    a_told_flush_is_its_run, an_accepted_flush_answers,
+};
+pub use whole_laws::{
+    a_new_session_is_whole, calls_keep_objects_fitting, calls_keep_whole,
+    sessions_have_one_object_for_each_key,
 };

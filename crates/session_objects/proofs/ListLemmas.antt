@@ -12,7 +12,7 @@ use Rattle.cascades.specs.Closures.{IsClosure, closure_of, is_among}
 use Rattle.cascades.proofs.LeastLemmas.{part_passes, rising_part}
 use Rattle.class_mapping.specs.Mapped.{Mapped}
 use Rattle.object_arena.specs.Graph.{Graph, IsObject, object_at}
-use Rattle.relations.specs.Sides.{without}
+use Rattle.object_parts.specs.Sides.{without}
 use Rattle.session_objects.specs.Taking.{AreMade, AreOnce, coming_objects, is_inside, outsiders}
 use Rattle.session_objects.proofs.OutsiderLemmas.{outsiders_once}
 

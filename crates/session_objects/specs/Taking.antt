@@ -15,7 +15,7 @@ use Rattle.object_arena.specs.Graph.{Graph, IsObject, expired_object, object_at,
 use Rattle.object_arena.specs.Identity.{IsFree, has_key, holds_at}
 use Rattle.cascades.specs.declared.closures.Flag.TheVariants.{SaveUpdate}
 use Rattle.cascades.specs.Closures.{closure_of, is_among}
-use Rattle.relations.specs.Sides.{without}
+use Rattle.object_parts.specs.Sides.{without}
 use Rattle.session_parts.specs.Ends.{object_unmarked}
 use Rattle.session_scopes.specs.Making.{object_with}
 use Rattle.session_scopes.specs.SessionState.{SessionState, with_graph}

@@ -4,7 +4,7 @@ ghost use Rattle.std.specs.Prelude.{◌≡◌, ◌++◌, [], ◌∷◌, cond, no
 ghost use Rattle.std.specs.List.{All};
 ghost use Rattle.base_core.specs.declared.refusal.Refusal.TheVariants.{Memory};
 ghost use Rattle.object_arena.specs.Graph.{IsObject};
-ghost use Rattle.relations.specs.Sides.{without};
+ghost use Rattle.object_parts.specs.Sides.{without};
 ghost use Rattle.session_objects.specs.Taking as spec;
 
 use base_core::{ListOf, ObjId, ObjList, Refusal};

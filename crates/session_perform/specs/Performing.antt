@@ -24,7 +24,7 @@ use Rattle.session_links.specs.Steps as links
 use Rattle.session_links.specs.declared.reading.Related.{Related}
 use Rattle.session_links.specs.declared.reading.Related.TheVariants.{One, Many}
 use Rattle.session_acts.specs.Steps as acts
-use Rattle.session_dump.specs.Dump.{scan_tables}
+use Rattle.session_tables.specs.Dump.{scan_tables}
 use Rattle.shell_parts.specs.declared.names.Bound.{Bound}
 use Rattle.shell_parts.specs.declared.names.Bound.TheVariants.{Nothing, Object, Objects, Saved}
 use Rattle.command_resolve.specs.declared.answer.Answer.{Answer}

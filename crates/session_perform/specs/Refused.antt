@@ -12,7 +12,7 @@ use Rattle.session_scopes.specs.SessionState.{SessionState}
 use Rattle.session_calls.specs.Refusals.{IsRefused, entered, fault_in, mark_fault, read_fault}
 use Rattle.session_calls.specs.Steps.{pending_fault}
 use Rattle.session_tables.specs.Steps.{transaction_fault}
-use Rattle.session_savepoints.specs.Steps.{handle_fault, limit_fault}
+use Rattle.session_acts.specs.Savepoints.{handle_fault, limit_fault}
 use Rattle.session_statements.specs.Steps.{update_fault}
 use Rattle.session_objects.specs.Conflicts.{add_fault}
 use Rattle.session_values.specs.Steps.{judged_fault, valid_made, value_invalid}

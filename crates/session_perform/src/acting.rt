@@ -5,7 +5,7 @@ ghost use Rattle.class_types.specs.Rules.{Rules};
 ghost use Rattle.sql_semantics.specs.Plain.{IsPlainSelect};
 ghost use Rattle.command_resolve.specs.declared.answer.Answer.TheVariants as answer;
 ghost use Rattle.session_acts.specs.Steps as acts;
-ghost use Rattle.session_dump.specs.Dump as dump;
+ghost use Rattle.session_tables.specs.Dump as dump;
 ghost use Rattle.session_scopes.specs.SessionState.{IsInStep};
 ghost use Rattle.session_calls.specs.Calling.{IsSessionCall};
 ghost use Rattle.command_resolve.specs.declared.resolved.Resolved.TheVariants as resolved;
@@ -17,8 +17,8 @@ use command_resolve::Answer;
 use expr_types::{Bulk, Select};
 use keeper_core::Keeper;
 use session_calls::{rollback, rollback_handle};
-use session_dump::scan_tables;
 use session_scopes::Session;
+use session_tables::scan_tables;
 use shell_parts::Bound;
 
 /// The answer where nothing is told.

@@ -7,12 +7,12 @@ use Rattle.base_core.specs.declared.refusal.Refusal.{Refusal}
 use Rattle.base_core.specs.declared.refusal.Refusal.TheVariants.{DetachedInstanceError, InvalidRequestError, NotBuilt}
 use Rattle.base_core.specs.declared.refusal.RequestKind.TheVariants.{NotPersistent}
 use Rattle.base_core.specs.declared.value.Value.{Value}
-use Rattle.class_mapping.specs.Mapped.{Mapped, is_key_attribute}
 use Rattle.object_arena.specs.declared.object.Cell.{Cell}
 use Rattle.object_arena.specs.declared.object.Object.{Object}
 use Rattle.object_arena.specs.declared.object.State.{State}
 use Rattle.object_arena.specs.declared.object.State.TheVariants.{Persistent}
 use Rattle.object_arena.specs.Graph.{Graph, cell_at, is_persistent, key_fault, object_at, with_object, with_value}
+pub use Rattle.object_parts.specs.Cells.{is_kept_cell}
 use Rattle.programs.specs.Programs.{Run, quiet}
 use Rattle.session_scopes.specs.SessionState.{SessionState, with_graph}
 
@@ -20,10 +20,6 @@ use Rattle.session_scopes.specs.SessionState.{SessionState, with_graph}
 abbrev pub changed_unless : Option Refusal → Graph → SessionState → Run SessionState (Unit {0})
 changed_unless (Some fault) graph session = quiet (Err fault) session
 changed_unless None graph session = quiet (Ok tt) (with_graph graph session)
-
--- the cell is of the key of an object with an identity
-abbrev pub is_kept_cell : Mapped → Object → AttrNo → Bool
-is_kept_cell mapped object attr = is_some object.identity && is_key_attribute mapped object.class attr
 
 -- a cell gets a value; an object with an identity keeps the cells of its key
 unfoldable pub value_put : ObjId → AttrNo → Value → SessionState → Run SessionState (Unit {0})

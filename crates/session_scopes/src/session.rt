@@ -4,7 +4,7 @@ ghost use Rattle.std.specs.Prelude.{◌≡◌, ◌<◌, ◌≤◌, ◌+◌, ◌-
 ghost use Rattle.base_core.specs.Counts.{one_more};
 ghost use Rattle.base_core.specs.declared.refusal.Refusal.TheVariants.{Memory};
 ghost use Rattle.keeper_core.specs.declared.notes.Note.TheVariants as note;
-ghost use Rattle.class_mapping.specs.Mapped.{IsAttribute, IsClass, attributes_of, is_key_attribute};
+ghost use Rattle.class_mapping.specs.Mapped.{IsAttribute, IsClass, attributes_of};
 ghost use Rattle.object_arena.specs.Fit.{IsFit};
 ghost use Rattle.object_arena.specs.Graph.{IsCell, IsObject, is_persistent, object_at, value_fault};
 ghost use Rattle.std.specs.List.{All, list_all};
@@ -22,6 +22,7 @@ use base_core::{AttrNo, ClassId, Copied, ObjId, Refusal, RequestKind, Value, War
 use class_mapping::Mapping;
 use keeper_core::{Note, Notes, Sent};
 use object_arena::{Arena, Cell, Object, State};
+use object_parts::is_of_kept_key;
 use savepoints::Frames;
 use session_parts::{commit_all, let_go_all};
 use std::alloc::Global;
@@ -471,25 +472,6 @@ fn note_warnings(notes: &mut Notes, warnings: &[Warning]) -> Result<(), Refusal>
         notes.push(Note::Warn(*warning))?;
     }
     Ok(())
-}
-
-/// Whether an object has an identity and an attribute is of its key.
-fn is_of_kept_key(mapping: &Mapping, object: &Object, attr: AttrNo) -> bool
-    requires declared { IsClass mapping.now object.now.class }
-    requires configured { mapping.now.configured ≡ true }
-    ensures { result ≡ changes.is_kept_cell mapping.now object.now attr }
-{
-    object.identity.is_some() && is_of_key(mapping, object.class, attr)
-}
-
-/// Whether an attribute of a class is of its key.
-fn is_of_key(mapping: &Mapping, class: ClassId, attr: AttrNo) -> bool
-    requires declared { IsClass mapping.now class }
-    requires configured { mapping.now.configured ≡ true }
-    ensures { result ≡ is_key_attribute mapping.now class attr }
-{
-    let keys = mapping.key_attributes(class);
-    keys.iter().any(|key| key.0 == attr.0)
 }
 
 /// Whether what a cell holds and what its row holds are known.

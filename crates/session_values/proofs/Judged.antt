@@ -1,16 +1,12 @@
--- Values that are judged, and the calls that are put together of that.
-use Rattle.std.proofs.Common.{◌≡◌, ℕ, true, List, length, Option, None, Some, Result, Err, refl, sym, ap, subst}
+-- The calls that are put together of what is judged of values.
+use Rattle.std.proofs.Common.{◌≡◌, List, length, None, Some, Result, Err, sym, ap, subst}
 use Rattle.base_core.specs.declared.ids.AttrNo.{AttrNo}
 use Rattle.base_core.specs.declared.ids.ClassId.{ClassId}
 use Rattle.base_core.specs.declared.ids.ObjId.{ObjId}
 use Rattle.base_core.specs.declared.refusal.Refusal.{Refusal}
 use Rattle.base_core.specs.declared.refusal.Refusal.TheVariants.{Memory}
-use Rattle.base_core.specs.declared.value.Kind.{Kind}
-use Rattle.base_core.specs.declared.value.Kind.TheVariants as kinds
 use Rattle.base_core.specs.declared.value.Value.{Value}
-use Rattle.schema_core.specs.Catalog.{same_kind}
-use Rattle.schema_core.specs.Tables.{kind_of_value}
-use Rattle.class_types.specs.Rules.{Rules, Takes, kind_of}
+use Rattle.class_types.specs.Rules.{Rules}
 use Rattle.programs.specs.Alone.{IsOwn, IsQuiet}
 use Rattle.programs.specs.Store.{Store}
 use Rattle.programs.specs.Programs.{Run, quiet}
@@ -22,23 +18,7 @@ use Rattle.session_calls.specs.Calling.{IsSessionCall}
 use Rattle.session_calls.specs.Parts.{World}
 use Rattle.session_calls.specs.Steps as calls
 use Rattle.session_calls.proofs.Joining.{err_call, fails, passes, same_itself, stays_there, then_call}
-use Rattle.session_values.specs.Judging.{takes_kind}
 use Rattle.session_values.specs.Steps.{cell_kept, given_fault, made_unless, set_inside, set_judged, set_valid, valid_made, value_invalid}
-
--- a validator that takes a kind is of it
-same : (a b : Kind) → same_kind a b ≡ true → Some a ≡ Some b
-same kinds.Integer kinds.Integer h = refl
-same kinds.Text kinds.Text h = refl
-same kinds.Boolean kinds.Boolean h = refl
-same kinds.Bytes kinds.Bytes h = refl
-same a b h = absurd cc
-
-takes_its_own : (wanted : Option Kind) (kind : Kind) → takes_kind wanted kind ≡ true → wanted ≡ Some kind
-takes_its_own None kind h = absurd cc
-takes_its_own (Some wanted) kind h = same wanted kind h
-
-pub takes_value : (rules : Rules) (hook : List ℕ) (value : Value) (kind : Kind) → kind_of_value value ≡ Some kind → takes_kind (kind_of rules hook) kind ≡ true → Takes rules hook (kind_of_value value)
-takes_value rules hook value kind is takes = subst (Takes rules hook) (sym is) (takes_its_own (kind_of rules hook) kind takes)
 
 -- ---- objects are made
 

@@ -1,38 +1,20 @@
 -- Why a value is not given to an attribute: a validator of the attribute does not take it, or the attribute is a discriminator.
-use Rattle.std.specs.Prelude.{ℕ, Bool, true, false, not, ◌&&◌, List, [], ◌∷◌, slice_get, Option, None, Some}
+use Rattle.std.specs.Prelude.{ℕ, Bool, true, false, List, [], ◌∷◌, slice_get, Option, None, Some}
 use Rattle.std.specs.List.{find, list_any}
 use Rattle.base_core.specs.declared.ids.AttrNo.{AttrNo}
 use Rattle.base_core.specs.declared.ids.ClassId.{ClassId}
-use Rattle.base_core.specs.declared.value.Kind.{Kind}
 use Rattle.base_core.specs.declared.value.Value.{Value}
 use Rattle.base_core.specs.declared.refusal.Refusal.{Refusal}
 use Rattle.base_core.specs.declared.refusal.Refusal.TheVariants.{InvalidRequestError, ValidationError}
 use Rattle.base_core.specs.declared.refusal.RequestKind.TheVariants.{Discriminator}
-use Rattle.schema_core.specs.Catalog.{same_kind, same_name}
-use Rattle.schema_core.specs.Tables.{kind_of_value}
-use Rattle.class_types.specs.Rules.{Rules, kind_of, passes}
+use Rattle.class_types.specs.Rules.{Rules}
 use Rattle.class_types.specs.declared.mapped.Attribute.{Attribute}
 use Rattle.class_layouts.specs.Faults.{is_named}
 use Rattle.class_mapping.specs.Mapped.{Mapped, attribute_of, attributes_of, class_spec, root_of, validators_of}
 use Rattle.object_arena.specs.Graph.{either_fault}
+pub use Rattle.object_parts.specs.Validators.{is_taken, is_taken_as, refuses, takes_kind}
 
 -- ---- validators
-
-abbrev pub takes_kind : Option Kind → Kind → Bool
-takes_kind None kind = false
-takes_kind (Some wanted) kind = same_kind wanted kind
-
-abbrev pub is_taken_as : Rules → List ℕ → Value → Option Kind → Bool
-is_taken_as rules hook value None = true
-is_taken_as rules hook value (Some kind) = takes_kind (kind_of rules hook) kind && passes rules hook value
-
--- the validator of a name takes the value: NULL always, another one where it is of the validator's kind and as its rule asks
-abbrev pub is_taken : Rules → List ℕ → Value → Bool
-is_taken rules hook value = is_taken_as rules hook value (kind_of_value value)
-
--- a validator, under its attribute, is one of the attribute of a name, and does not take the value
-abbrev pub refuses : Rules → List ℕ → Value → List ℕ × List ℕ → Bool
-refuses rules name value validator = same_name validator.0 name && not (is_taken rules validator.1 value)
 
 abbrev pub told_by : ClassId → AttrNo → Option (List ℕ × List ℕ) → Option Refusal
 told_by class attr None = None

@@ -1,77 +1,19 @@
 //! Whether values are taken by validators, and which attributes are discriminators.
 
-ghost use Rattle.std.specs.Prelude.{◌≡◌, true, Some, IfErr, IfOk, IfSome};
-ghost use Rattle.std.specs.List.{All, find, list_any};
+ghost use Rattle.std.specs.Prelude.{◌≡◌, true, IfErr, IfOk, IfSome};
+ghost use Rattle.std.specs.List.{All, list_any};
 ghost use Rattle.std.specs.Option.{option_copied};
 ghost use Rattle.base_core.specs.declared.refusal.Refusal.TheVariants.{Memory};
-ghost use Rattle.schema_core.specs.Tables.{kind_of_value};
 ghost use Rattle.class_types.specs.Shown.{rules_of};
 ghost use Rattle.class_mapping.specs.Mapped.{IsAttribute, IsClass};
 ghost use Rattle.programs.specs.Alone.{IsOwn};
 ghost use Rattle.session_values.specs.Judging as spec;
 ghost use Rattle.session_values.specs.Steps as steps;
 
-use base_core::{AttrNo, ClassId, Copied, Kind, Name, Refusal, RequestKind, Value};
+use base_core::{AttrNo, ClassId, Copied, Name, Refusal, RequestKind, Value};
 use class_mapping::Mapping;
-use class_types::{Attribute, Hooks, check_value};
-use schema_core::{kind_of_value, same_kind};
-
-fn takes_kind(wanted: Option<Kind>, kind: Kind) -> bool
-    ensures { result ≡ spec.takes_kind wanted kind }
-{
-    match wanted {
-        Some(wanted) => same_kind(wanted, kind),
-        None => false,
-    }
-}
-
-/// Whether the validator of a name takes a value of a kind.
-fn is_taken_as(hooks: &Hooks, hook: &Name, value: &Value, kind: Kind) -> bool
-    requires { kind_of_value value.now ≡ Some kind }
-    ensures { result ≡ spec.is_taken_as (rules_of hooks.now) hook.now value.now (Some kind) }
-{
-    let takes = takes_kind(hooks.kind_of(hook), kind);
-    if takes {
-        check_value(hooks, hook, value)
-    } else {
-        false
-    }
-}
-
-/// Whether the validator of a name takes a value: NULL always, another one where it is of the validator's kind and as its rule asks.
-fn is_taken(hooks: &Hooks, hook: &Name, value: &Value) -> bool
-    ensures { result ≡ spec.is_taken (rules_of hooks.now) hook.now value.now }
-{
-    match kind_of_value(value) {
-        Some(kind) => is_taken_as(hooks, hook, value, kind),
-        None => true,
-    }
-}
-
-/// Whether a validator is one of the attribute of a name, and does not take a value.
-fn refuses(hooks: &Hooks, name: &Name, value: &Value, validator: &(Name, Name)) -> bool
-    ensures { result ≡ spec.refuses (rules_of hooks.now) name.now value.now validator.now }
-{
-    validator.0 == *name && !is_taken(hooks, &validator.1, value)
-}
-
-/// The first validator of an attribute that does not take a value.
-fn first_refusing<'a>(
-    hooks: &Hooks,
-    validators: &'a [(Name, Name)],
-    name: &Name,
-    value: &Value,
-) -> Option<&'a (Name, Name)>
-    ensures { option_copied result
-        ≡ find (spec.refuses (rules_of hooks.now) name.now value.now) validators.now }
-{
-    for validator in validators {
-        if refuses(hooks, name, value, validator) {
-            return Some(validator);
-        }
-    }
-    None
-}
+use class_types::{Attribute, Hooks};
+use object_parts::first_refusing;
 
 /// Why a value is not given to an attribute of a class: the first validator that does not take it. The only refusal is `Memory`.
 pub(crate) fn invalid_fault(

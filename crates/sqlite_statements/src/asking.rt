@@ -1,7 +1,7 @@
 //! Statements sent with their values, and what they answer.
 
 use base_core::{Kind, Refusal, RowList, Text, Value};
-use dialect_sqlite::compile;
+use dialects::sqlite::compile;
 use expr_types::Statement;
 use schema_core::Schema;
 use sql_statements::has_cuts;

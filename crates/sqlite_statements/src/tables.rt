@@ -6,7 +6,7 @@ ghost use Rattle.keeper_core.specs.Keeping.{AreRowsOf};
 
 use crate::asking::{ask_compiled, ask_integer, run_text};
 use base_core::{Kind, Name, Refusal, RowList, TableId, Text, Value};
-use dialect_sqlite::{ddl, drop_text};
+use dialects::sqlite::{ddl, drop_text};
 use schema_core::{ColumnSpec, Schema, TableSpec, kind_of};
 use sql_text::{Compiled, Quoting, Writer};
 use sqlite_database::{Database, Ending};

@@ -1,6 +1,6 @@
 //! Names of sources that stand in one scope. The only error is that memory ran out.
 
-ghost use Rattle.std.specs.Prelude.{◌≡◌, ◌∷◌, [], IfOk};
+ghost use Rattle.std.specs.Prelude.{◌≡◌, ◌++◌, ◌∷◌, [], IfOk, OnOk};
 ghost use Rattle.std.specs.List.{filter_map, list_all};
 ghost use Rattle.std.specs.Option.{option_to_list};
 ghost use Rattle.sql_semantics.specs.Applied.{table_of};
@@ -15,15 +15,29 @@ use expr_types::{Bulk, Expr, Joined, Origin, Select};
 use schema_core::Schema;
 use std::alloc::{AllocError, Global};
 
+/// The name of one more source behind these.
+fn enter(
+    names: &mut Vec<Name>,
+    alloc: Global,
+    schema: &Schema,
+    origin: &Origin,
+) -> Result<(), AllocError>
+    ensures { OnOk result (names.new.items
+        ≡ names.old.items ++ plain.name_of schema.now origin.now ∷ []) }
+{
+    names.push(name_of(alloc, schema, origin)?)?;
+    Ok(())
+}
+
 /// The names of the sources.
 fn names_of(alloc: Global, schema: &Schema, s: &Select) -> Result<Vec<Name>, AllocError>
     ensures { IfOk result (λ names. names.items ≡ names_of schema.now (plain.sources_of
         s.now)) }
 {
     let mut names = Vec::new(alloc);
-    names.push(name_of(alloc, schema, &s.first)?)?;
+    enter(&mut names, alloc, schema, &s.first)?;
     for join in s.joins.as_slice() {
-        names.push(name_of(alloc, schema, &join.origin)?)?;
+        enter(&mut names, alloc, schema, &join.origin)?;
     }
     Ok(names)
 }
@@ -39,9 +53,9 @@ fn joins_apart(
         ≡ spec.joins_apart schema.now (plain.name_of schema.now first.now ∷ []) joins.now) }
 {
     let mut names = Vec::new(alloc);
-    names.push(name_of(alloc, schema, first)?)?;
+    enter(&mut names, alloc, schema, first)?;
     for join in joins {
-        names.push(name_of(alloc, schema, &join.origin)?)?;
+        enter(&mut names, alloc, schema, &join.origin)?;
         if !names_apart(alloc, schema, names.as_slice(), &join.on)? {
             return Ok(false);
         }
@@ -81,34 +95,18 @@ fn groups_apart(
     Ok(true)
 }
 
-fn items_apart(
+/// The same of expressions that have something beside them.
+fn pairs_apart<B>(
     alloc: Global,
     schema: &Schema,
     names: &[Name],
-    items: &[(Expr, Option<Name>)],
+    pairs: &[(Expr, B)],
 ) -> Result<bool, AllocError>
     ensures { IfOk result (λ apart. apart
-        ≡ list_all (λ item. plain.names_apart schema.now item.0 names.now) items.now) }
+        ≡ list_all (λ pair. plain.names_apart schema.now pair.0 names.now) pairs.now) }
 {
-    for item in items {
-        if !names_apart(alloc, schema, names, &item.0)? {
-            return Ok(false);
-        }
-    }
-    Ok(true)
-}
-
-fn keys_apart(
-    alloc: Global,
-    schema: &Schema,
-    names: &[Name],
-    keys: &[(Expr, bool)],
-) -> Result<bool, AllocError>
-    ensures { IfOk result (λ apart. apart
-        ≡ list_all (λ key. plain.names_apart schema.now key.0 names.now) keys.now) }
-{
-    for key in keys {
-        if !names_apart(alloc, schema, names, &key.0)? {
+    for pair in pairs {
+        if !names_apart(alloc, schema, names, &pair.0)? {
             return Ok(false);
         }
     }
@@ -129,11 +127,11 @@ fn parts_apart(
     if !apart_if_given(alloc, schema, names, &s.filter)?
         || !groups_apart(alloc, schema, names, s.groups.as_slice())?
         || !apart_if_given(alloc, schema, names, &s.having)?
-        || !items_apart(alloc, schema, names, s.items.as_slice())?
+        || !pairs_apart(alloc, schema, names, s.items.as_slice())?
     {
         return Ok(false);
     }
-    Ok(keys_apart(alloc, schema, names, s.order.as_slice())?)
+    Ok(pairs_apart(alloc, schema, names, s.order.as_slice())?)
 }
 
 /// Whether no two sources in one scope have one name.

@@ -24,13 +24,23 @@ fn lacks_if_given(e: &Option<Expr>) -> bool
 fn joins_lack(joins: &[Joined]) -> bool
     ensures { result ≡ list_all (λ join. plain.lacks_aggregate join.on) joins.now }
 {
-    joins.iter().all(|join| !has_aggregate(&join.on))
+    for join in joins {
+        if has_aggregate(&join.on) {
+            return false;
+        }
+    }
+    true
 }
 
 fn groups_lack(groups: &[Expr]) -> bool
     ensures { result ≡ list_all plain.lacks_aggregate groups.now }
 {
-    groups.iter().all(|group| !has_aggregate(group))
+    for group in groups {
+        if has_aggregate(group) {
+            return false;
+        }
+    }
+    true
 }
 
 /// Whether no aggregate stands where there are no groups yet.

@@ -40,11 +40,13 @@ use Rattle.programs.specs.Store.{Store}
 use Rattle.schema_core.proofs.TableOrder.{tables_total}
 use Rattle.row_judging.specs.Lost.{some_lost}
 use Rattle.row_judging.specs.declared.losing.Before.TheVariants as before
-use Rattle.table_store.specs.Held.{AreKeysOf, IsDivided, Made, put_all, stand, take_all, with_entry, without_key}
+use Rattle.row_statements.specs.Held.{put_all, stand, with_entry}
+use Rattle.table_store.specs.Taken.{AreKeysOf, IsDivided, Made, take_all, without_key}
 use Rattle.table_store.specs.Written.{Leaves, WroteBulk, keys_to_remove, rows_to_write, unwritten_refusal}
 use Rattle.table_store.proofs.Evaluated.{deletes_evaluated, updates_evaluated}
-use Rattle.table_store.proofs.Noting.{counted, first_key, kept_notes, keys_removed, none_counted, noted_more, notes_either, nothing_noted, some_more, some_noted}
-use Rattle.table_store.proofs.WriteSteps.{changed_tables, kept_scopes, kept_store, left_whole, one_inside, put_together, same_scopes, stand_written, still_created}
+use Rattle.row_statements.proofs.Noting.{counted, kept_notes, none_counted, noted_more, notes_either, nothing_noted, some_more, some_noted}
+use Rattle.table_store.proofs.TakenKeys.{first_key, keys_removed}
+use Rattle.row_statements.proofs.WriteSteps.{changed_tables, kept_scopes, kept_store, left_whole, one_inside, put_together, same_scopes, stand_written, still_created}
 
 -- ---- what is left
 

@@ -1,5 +1,4 @@
 mod BulkSteps
 mod Evaluated
 mod Stored
-mod WriteSteps
-mod Noting
+mod TakenKeys

@@ -37,7 +37,7 @@ use Rattle.keeper_core.specs.Calls.{run_of_bulk, query_refusal, refusal_by, send
 use Rattle.keeper_core.specs.Keeping.{RefusesBulk, RefusesRow, RefusesSelect}
 use Rattle.table_log.specs.Marks.{IsNoted, Marked}
 use Rattle.table_log.proofs.Marking.{none_more}
-use Rattle.table_store.specs.Held.{rows_changed}
+use Rattle.row_statements.specs.Held.{rows_changed}
 use Rattle.table_store.specs.Written.{IsOfEvaluation, Leaves, Stores, given_up}
 
 -- ---- a statement on rows

@@ -11,13 +11,12 @@ ghost use Rattle.sql_semantics.specs.Plain.{IsPlainBulk};
 ghost use Rattle.table_log.specs.Marks.{Notes, rows_there};
 ghost use Rattle.lent_tables.specs.Walks.{entries_left};
 ghost use Rattle.table_rows.specs.Rows.{AreSorted, rows_at, rows_present};
-ghost use Rattle.table_store.specs.Held.{AreKeysOf, IsDivided, Made, put_all, take_all, without_key};
+ghost use Rattle.row_statements.specs.Held.{put_all};
+ghost use Rattle.table_store.specs.Taken.{AreKeysOf, IsDivided, Made, take_all, without_key};
 ghost use Rattle.table_store.specs.Written.{Leaves, WroteBulk, keys_to_remove, rows_to_write};
 
-use crate::references::{index_foreigns, make_indexes, some_lost};
 use crate::refusals::{taking_refusal, unwritten_refusal};
 use crate::wanted::index_bulk;
-use crate::writing::{insert_rows, put_copy, row_under, stand};
 use base_core::{ColumnNo, Copied, Key, ListOf, Refusal, RowValues, TableId};
 use expr_types::{Bulk, Expr};
 use keeper_core::WriteRefusal;
@@ -25,6 +24,9 @@ use keeper_core::calls::table_of_bulk;
 use lent_tables::{EntryWalk, LentTables};
 use row_cells::lacks_value;
 use row_judging::Before;
+use row_statements::{
+    index_foreigns, insert_rows, make_indexes, put_copy, row_under, some_lost, stand,
+};
 use schema_core::{Schema, TableSpec, Unwritten, Violation};
 use std::alloc::{AllocError, Global};
 use table_log::TableLog;

@@ -2,11 +2,9 @@
 #![tactic(auto)]
 
 mod bulk;
-mod references;
 mod refusals;
 mod statements;
 mod wanted;
-mod writing;
 
 pub use statements::{query, rows, write, write_bulk};
 pub use wanted::index_select;

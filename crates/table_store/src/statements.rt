@@ -14,16 +14,16 @@ ghost use Rattle.programs.specs.Programs.{as_refusal};
 ghost use Rattle.keeper_core.specs.Calls as call;
 ghost use Rattle.keeper_core.specs.Calls.{query_refusal, write_refusal};
 ghost use Rattle.keeper_core.specs.Keeping.{RefusesBulk, RefusesRow, RefusesSelect};
-ghost use Rattle.table_store.specs.Held.{rows_changed};
+ghost use Rattle.row_statements.specs.Held.{rows_changed};
 ghost use Rattle.table_store.specs.Written.{Stores};
 
 use crate::bulk::applied;
 use crate::refusals::evaluation_refusal;
-use crate::writing::apply;
 use base_core::{KeyList, RowList, TableId};
 use expr_types::{Bulk, Select};
 use keeper_core::{QueryRefusal, WriteRefusal};
 use lent_tables::LentTables;
+use row_statements::apply;
 use schema_core::{RowStmt, Schema, Unwritten};
 use select_rows::rows_from;
 use std::alloc::{AllocError, Global};

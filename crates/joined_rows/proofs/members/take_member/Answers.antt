@@ -10,7 +10,7 @@ use Rattle.load_rows.specs.Reading.{IsRowOf}
 use Rattle.load_calls.proofs.ReadLemmas.{passed_memory, passed_refusal}
 use Rattle.load_collections.specs.Refusals.{CanRefuseRow}
 use Rattle.load_collections.proofs.RefusalLemmas.{row_refuses}
-use Rattle.joined_parts.specs.Parts.{values_from}
+use Rattle.joined_rows.specs.Parts.{values_from}
 use Rattle.joined_rows.specs.Taking.{are_given, further_keys}
 use Rattle.joined_rows.proofs.MemberLemmas.{is_member, member_refused, member_taken, none_taken}
 use Rattle.joined_rows.proofs.RowLemmas.{is_keyed_row}

@@ -5,7 +5,7 @@ use Rattle.object_arena.specs.Fit.{is_of_root}
 use Rattle.programs.proofs.Sequence.{passed_on}
 use Rattle.load_filling.proofs.LoadedLemmas.{grows_same}
 use Rattle.load_rows.proofs.TakenLemmas.{grows_filled}
-use Rattle.pair_laws.specs.Members.{IsMemberRow}
+use Rattle.load_laws.specs.Pairs.{IsMemberRow}
 use Rattle.load_calls.proofs.ReadLemmas.{passed_refusal, ready_stays}
 use Rattle.load_collections.specs.Refusals.{CanRefuseRows}
 use Rattle.load_collections.proofs.RefusalLemmas.{lost_alone_refuses, of_row}

@@ -3,7 +3,7 @@ use Rattle.session_calls.specs.Refusals.{entered}
 use Rattle.session_calls.specs.Steps.{pending_fault}
 use Rattle.session_calls.proofs.Joining.{passed_call}
 use Rattle.session_calls.proofs.Refusing.{call_calm, passed_on}
-use Rattle.session_savepoints.specs.Steps.{begin_savepoint, limit_fault}
+use Rattle.session_acts.specs.Savepoints.{begin_savepoint, limit_fault}
 use Rattle.session_acts.specs.Refusals.{Asked, IsRefusedFlushing}
 use Rattle.session_acts.specs.Steps.{begin_nested}
 use Rattle.session_acts.proofs.Flushing.{asking_refused, flush_refused, flushed_then, next_drawn}

@@ -4,7 +4,7 @@ use Rattle.session_calls.specs.Steps.{pending_fault}
 use Rattle.session_scopes.specs.SessionState.{in_transaction}
 use Rattle.session_calls.proofs.Joining.{passed_call}
 use Rattle.session_calls.proofs.Refusing.{entered_still, passed_on}
-use Rattle.session_savepoints.specs.Steps.{handle_fault, release_handle}
+use Rattle.session_acts.specs.Savepoints.{handle_fault, release_handle}
 use Rattle.session_acts.specs.Refusals.{Asked, IsRefusedFlushing}
 use Rattle.session_acts.specs.Steps.{commit_handle}
 use Rattle.session_acts.proofs.Flushing.{asking_refused, flush_refused, flushed_then, handle_inside}

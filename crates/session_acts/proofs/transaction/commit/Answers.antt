@@ -2,7 +2,7 @@ use Rattle.std.proofs.Common.{None}
 use Rattle.session_calls.specs.Steps.{pending_fault}
 use Rattle.session_calls.proofs.Joining.{err_call, passed_call, then_call}
 use Rattle.session_calls.proofs.Refusing.{passed_on}
-use Rattle.session_savepoints.specs.Steps.{commit_whole}
+use Rattle.session_acts.specs.Savepoints.{commit_whole}
 use Rattle.session_acts.specs.Refusals.{IsRefusedFlushing}
 use Rattle.session_acts.specs.Steps.{commit}
 use Rattle.session_acts.proofs.Unwritten.{act_stopped}

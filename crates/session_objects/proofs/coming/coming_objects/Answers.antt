@@ -5,7 +5,7 @@ use Rattle.cascades.specs.declared.closures.Flag.TheVariants.{SaveUpdate}
 use Rattle.cascades.specs.Closures.{IsClosure, closure_of}
 use Rattle.class_mapping.specs.Mapped.{Mapped}
 use Rattle.object_arena.specs.Graph.{Graph, IsObject}
-use Rattle.relations.specs.Sides.{without}
+use Rattle.object_parts.specs.Sides.{without}
 use Rattle.session_parts.proofs.ObjectLemmas.{if_ok}
 use Rattle.session_objects.specs.Taking.{outsiders}
 use Rattle.session_objects.proofs.ListLemmas.{coming_is, coming_once}

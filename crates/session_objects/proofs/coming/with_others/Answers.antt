@@ -1,6 +1,6 @@
 use Rattle.std.proofs.Common.{◌∷◌, arith}
 use Rattle.base_core.specs.declared.ids.ObjId.{ObjId}
-use Rattle.relations.specs.Sides.{without}
+use Rattle.object_parts.specs.Sides.{without}
 use Rattle.session_objects.specs.Taking.{outsiders}
 use Rattle.session_objects.proofs.ListLemmas.{other_all, other_more, others_begin}
 use Rattle.session_objects.proofs.coming.with_others.Goals as goal

@@ -1,5 +1,5 @@
 use Rattle.std.proofs.Common.{◌≡◌, ◌++◌, ◌∷◌, drop}
-use Rattle.relations.specs.Sides.{without}
+use Rattle.object_parts.specs.Sides.{without}
 use Rattle.session_objects.specs.Taking.{outsiders}
 use Rattle.session_objects.proofs.coming.with_others.Given as goal
 

@@ -1,8 +1,8 @@
 -- One more row is in, and noted.
 use Rattle.std.proofs.Common.{◌+◌, refl, ◌∙◌}
-use Rattle.table_store.specs.Held.{put_all}
+use Rattle.row_statements.specs.Held.{put_all}
 use Rattle.table_store.proofs.BulkSteps.{entries_step, entry_created}
-use Rattle.table_store.proofs.Noting.{noted_more}
+use Rattle.row_statements.proofs.Noting.{noted_more}
 use Rattle.table_store.proofs.bulk.put_all.Goals as goal
 
 pub loop-entry-preserved : goal.loop-entry-preserved

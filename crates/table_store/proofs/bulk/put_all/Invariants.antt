@@ -2,7 +2,7 @@
 use Rattle.std.proofs.Common.{◌≡◌, true, drop, is_some}
 use Rattle.schema_core.specs.Tables.{rows_in}
 use Rattle.table_log.specs.Marks.{IsNoted}
-use Rattle.table_store.specs.Held.{put_all}
+use Rattle.row_statements.specs.Held.{put_all}
 use Rattle.table_store.proofs.bulk.put_all.Given as goal
 
 abbrev pub invariant-loop-entry : goal.invariant-loop-entry

@@ -1,7 +1,7 @@
 -- One more row is out, set aside and noted.
 use Rattle.std.proofs.Common.{◌∙◌}
 use Rattle.table_rows.specs.Rows.{rows_at}
-use Rattle.table_store.specs.Held.{take_all}
+use Rattle.table_store.specs.Taken.{take_all}
 use Rattle.table_store.proofs.BulkSteps.{key_created, key_noted, keys_step}
 use Rattle.table_store.proofs.bulk.take_all.Goals as goal
 

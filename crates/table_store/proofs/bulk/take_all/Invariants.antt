@@ -3,7 +3,7 @@ use Rattle.std.proofs.Common.{◌≡◌, true, drop, is_some}
 use Rattle.schema_core.specs.Tables.{rows_in}
 use Rattle.table_log.specs.Marks.{IsNoted}
 use Rattle.table_rows.specs.Rows.{rows_at}
-use Rattle.table_store.specs.Held.{AreKeysOf, IsDivided, take_all}
+use Rattle.table_store.specs.Taken.{AreKeysOf, IsDivided, take_all}
 use Rattle.table_store.proofs.bulk.take_all.Given as goal
 
 abbrev pub invariant-loop-key : goal.invariant-loop-key

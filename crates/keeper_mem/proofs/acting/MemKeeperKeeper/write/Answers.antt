@@ -2,7 +2,7 @@
 use Rattle.std.proofs.Common.{refl}
 use Rattle.programs.specs.declared.sent.Sent.TheVariants as sent
 use Rattle.keeper_core.specs.Calls as call
-use Rattle.table_store.specs.Held.{rows_changed}
+use Rattle.row_statements.specs.Held.{rows_changed}
 use Rattle.keeper_mem.proofs.Keeping.{statement_faulted, statement_marked, statement_ran}
 use Rattle.keeper_mem.proofs.acting.MemKeeperKeeper.write.Goals as goal
 

@@ -1,5 +1,0 @@
-use Rattle.answer_laws.proofs.Filters.{rows_of_key}
-use Rattle.answer_laws.proofs.keyed_rows_are_filters.Goals as goal
-
-pub returns : goal.returns
-returns c = λ mapped class tables columns read key all rows reads is whole some. rows_of_key mapped class tables columns read key all rows reads is whole some

@@ -1,5 +1,0 @@
-mod Answering
-mod Leaving
-mod Opened
-mod Reading
-mod Written

@@ -1,4 +1,0 @@
-mod Columns
-mod PartKinds
-mod Links
-pub mod Fitting

@@ -1,0 +1,16 @@
+pub mod Parts
+pub mod Turns
+pub mod Inserting
+pub mod Writing
+pub mod Latest
+pub mod Planned
+pub mod EndKeys
+pub mod Told
+pub mod Links
+pub mod PairEnds
+pub mod PairRows
+pub mod LostRows
+pub mod ObjectRows
+pub mod Switching
+pub mod Changes
+pub mod Roots

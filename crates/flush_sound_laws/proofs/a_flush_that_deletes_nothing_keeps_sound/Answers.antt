@@ -1,5 +1,0 @@
-use Rattle.flush_sound_laws.proofs.Adding.{adding_keeps}
-use Rattle.flush_sound_laws.proofs.a_flush_that_deletes_nothing_keeps_sound.Goals as goal
-
-pub returns : goal.returns
-returns c = adding_keeps c.a_flush_keeps_a_told_session_sound.ensures

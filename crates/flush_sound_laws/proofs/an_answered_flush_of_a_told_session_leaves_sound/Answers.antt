@@ -1,5 +1,0 @@
-use Rattle.flush_sound_laws.proofs.Told.{told_answered}
-use Rattle.flush_sound_laws.proofs.an_answered_flush_of_a_told_session_leaves_sound.Goals as goal
-
-pub returns : goal.returns
-returns c = told_answered c.flushed_objects_hold.ensures c.objects_have_own_rows.ensures c.a_flush_leaves_legal_tables.ensures

@@ -1,0 +1,4 @@
+pub mod Columns
+pub mod PartKinds
+pub mod Links
+pub mod Fitting

@@ -1,8 +1,0 @@
-use Rattle.health_laws.proofs.Acts.{leaves_sound, writes_all}
-use Rattle.health_laws.proofs.Calls.{calls_law}
-use Rattle.health_laws.proofs.calls_keep_health.Goals as goal
-
-pub returns : goal.returns
-returns c =
-    calls_law (leaves_sound c.a_flush_keeps_a_told_session_sound.ensures)
-    (writes_all c.an_answered_flush_of_a_told_session_leaves_sound.ensures)

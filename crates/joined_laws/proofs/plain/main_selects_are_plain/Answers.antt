@@ -1,5 +1,0 @@
-use Rattle.joined_laws.proofs.Main.{main_is_plain}
-use Rattle.joined_laws.proofs.plain.main_selects_are_plain.Goals as goal
-
-pub returns : goal.returns
-returns c = λ mapped query has relations less inside reads plain single few. main_is_plain mapped query has relations less inside reads plain single few

@@ -1,4 +1,0 @@
-mod Steps
-pub mod Widening
-pub mod Targets
-pub mod Options

@@ -1,5 +1,0 @@
-use Rattle.joined_strategies.proofs.Agree.{collections_agree}
-use Rattle.joined_strategies.proofs.joined_collections_agree.Goals as goal
-
-pub returns : goal.returns
-returns c = λ mapped query plain joined all objects answered w first after lazy row place one owner loaded many stage waiting g. collections_agree mapped query plain joined all objects answered w first after row place one owner loaded lazy many stage waiting g

@@ -1,5 +1,0 @@
-use Rattle.joined_strategies.proofs.Fills.{joined_fills}
-use Rattle.joined_strategies.proofs.joined_loads_fill_what_is_related.Goals as goal
-
-pub returns : goal.returns
-returns c = λ mapped query plain joined all answered w after row place owner joining many are g own. joined_fills mapped query plain joined all answered w after row place owner joining many are g own

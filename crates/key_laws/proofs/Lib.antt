@@ -1,2 +1,0 @@
-pub mod KeyKinds
-pub mod KeyColumns

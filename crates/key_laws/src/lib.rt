@@ -1,6 +1,0 @@
-//! Laws of the keys of classes.
-#![tactic(auto)]
-
-mod keys;
-
-pub use keys::keys_are_of_roots;

@@ -1,7 +1,0 @@
-use Rattle.std.proofs.Common.{◌≡◌, ◌*◌, map}
-use Rattle.std.specs.List.{range_with_len}
-use Rattle.load_batches.specs.Batches.{batch_size}
-use Rattle.load_batches.proofs.cuts.batch_starts.Given as goal
-
-abbrev pub invariant-loop-number : goal.invariant-loop-number
-invariant-loop-number l = l.starts.items ≡ map (λ number. batch_size * number) (range_with_len 0 l.number)

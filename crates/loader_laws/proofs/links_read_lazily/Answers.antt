@@ -1,5 +1,0 @@
-use Rattle.loader_laws.proofs.Lazily.{links_read}
-use Rattle.loader_laws.proofs.links_read_lazily.Goals as goal
-
-pub returns : goal.returns
-returns c = λ mapped relation links place owner all w after stage can there ready rows unloaded agrees g. links_read mapped relation place owner all w stage ready rows unloaded links after can there agrees g

@@ -1,5 +1,0 @@
-use Rattle.loader_laws.proofs.Options.{options_links}
-use Rattle.loader_laws.proofs.options_fill_links.Goals as goal
-
-pub returns : goal.returns
-returns c = λ mapped class places place objects owner all w after stage less inside there answered rows held among unloaded agrees g. options_links mapped class places place objects owner all w after stage less inside there answered rows held among unloaded agrees g

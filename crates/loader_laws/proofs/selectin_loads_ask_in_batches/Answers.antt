@@ -1,5 +1,0 @@
-use Rattle.loader_laws.proofs.Statements.{selectin_asks}
-use Rattle.loader_laws.proofs.selectin_loads_ask_in_batches.Goals as goal
-
-pub returns : goal.returns
-returns c = λ mapped relation place owners w after owned g. selectin_asks mapped relation place owners w after owned g

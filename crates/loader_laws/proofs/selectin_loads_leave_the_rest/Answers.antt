@@ -1,5 +1,0 @@
-use Rattle.loader_laws.proofs.Options.{selectin_leaves}
-use Rattle.loader_laws.proofs.selectin_loads_leave_the_rest.Goals as goal
-
-pub returns : goal.returns
-returns c = λ mapped relation place owners w after stage owned g. selectin_leaves mapped relation place owners w after stage owned g

@@ -1,0 +1,15 @@
+pub mod Inherited
+pub mod Rows
+pub mod RowKeys
+pub mod Fits
+pub mod Held
+pub mod First
+pub mod FitLinks
+pub mod FitLoads
+pub mod FitOptions
+pub mod Fresh
+pub mod Settled
+pub mod Joining
+pub mod Related
+pub mod Whole
+pub mod Strategies

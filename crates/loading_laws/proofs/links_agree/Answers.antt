@@ -1,5 +1,0 @@
-use Rattle.loading_laws.proofs.Whole.{links_agree}
-use Rattle.loading_laws.proofs.links_agree.Goals as goal
-
-pub returns : goal.returns
-returns c = λ mapped query objects answered w first after lazy place one owner both own settled g. links_agree mapped query objects answered w first after place one owner both own settled lazy g

@@ -1,5 +1,0 @@
-use Rattle.loading_laws.proofs.Whole as proof
-use Rattle.loading_laws.proofs.loads_answer_alike.Goals as goal
-
-pub returns : goal.returns
-returns c = λ mapped query objects answered w first after both. proof.loads_answer_alike mapped query objects answered w first after both

@@ -1,5 +1,0 @@
-use Rattle.loading_laws.proofs.Strategies as proof
-use Rattle.loading_laws.proofs.strategies_agree.Goals as goal
-
-pub returns : goal.returns
-returns c = λ mapped query links objects answered together w first lazy after batch each step. proof.strategies_agree mapped query links objects answered together w first lazy after batch each step

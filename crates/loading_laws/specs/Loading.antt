@@ -1,0 +1,4 @@
+pub mod Loadable
+pub mod First
+pub mod Whole
+pub mod Strategies

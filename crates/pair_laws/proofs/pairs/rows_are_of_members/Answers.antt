@@ -1,5 +1,0 @@
-use Rattle.pair_laws.proofs.Rows.{batch_rows_are_members}
-use Rattle.pair_laws.proofs.pairs.rows_are_of_members.Goals as goal
-
-pub returns : goal.returns
-returns c = λ mapped relation keys rows has related kinds given. batch_rows_are_members mapped relation keys rows has related kinds given

@@ -1,5 +1,0 @@
-use Rattle.std.proofs.Common.{length}
-use Rattle.plain_rows.proofs.cells.+cell_of.Given as goal
-
-abbrev pub decreases-cell_of : goal.decreases-cell_of
-decreases-cell_of l = length l.columns.now

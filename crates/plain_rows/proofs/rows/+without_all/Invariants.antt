@@ -1,5 +1,0 @@
-use Rattle.std.proofs.Common.{length}
-use Rattle.plain_rows.proofs.rows.+without_all.Given as goal
-
-abbrev pub decreases-without_all : goal.decreases-without_all
-decreases-without_all l = length l.keys.now

@@ -1,9 +1,0 @@
-use Rattle.std.proofs.Common.{◌≡◌, ◌&&◌, not, drop}
-use Rattle.std.specs.List.{list_any}
-use Rattle.schema_core.specs.Tables.{collide, same_values}
-use Rattle.plain_tables.proofs.judging.repeats_unique.Given as goal
-
-abbrev pub invariant-loop-unique : goal.invariant-loop-unique
-invariant-loop-unique l =
-    list_any (λ unique. list_any (λ other. not (same_values l.key other.0) && collide l.spec unique l.row other.1) l.rows) (drop l.unique-index l.spec.uniques)
-    ≡ list_any (λ unique. list_any (λ other. not (same_values l.key other.0) && collide l.spec unique l.row other.1) l.rows) l.spec.uniques

@@ -1,6 +1,0 @@
-use Rattle.std.proofs.Common.{◌≡◌, take}
-use Rattle.relations.specs.Sides.{without}
-use Rattle.relations.proofs.sides.without.Given as goal
-
-abbrev pub invariant-loop-other : goal.invariant-loop-other
-invariant-loop-other l = l.rest ≡ without (take l.other-index l.objects) l.object

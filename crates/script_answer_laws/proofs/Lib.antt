@@ -1,6 +1,0 @@
-mod Answered
-mod Carried
-mod Counted
-mod Ended
-mod Stated
-mod Texts

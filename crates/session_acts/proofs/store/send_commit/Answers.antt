@@ -1,0 +1,12 @@
+use Rattle.std.proofs.Common.{refl}
+use Rattle.keeper_core.specs.Calls as call
+use Rattle.programs.specs.declared.sent.Sent.TheVariants as sent
+use Rattle.session_calls.proofs.Noting.{no_note_room, noted_call}
+use Rattle.session_acts.proofs.store.send_commit.Goals as goal
+
+pub returns-in-Err : goal.returns-in-Err
+returns-in-Err g c = no_note_room g.K.Keeper.moment call.commit 0 c.in-Err.ensures.err
+
+pub returns-in-Ok : goal.returns-in-Ok
+unfolding call.commit
+returns-in-Ok g c = noted_call g.K.Keeper.moment call.commit sent.Commit 0 c.commit.result (g.met.K.Keeper.coherent c.args.keeper.now) (λ w deep. (_, refl)) c.in-Ok.ensures.ok c.requires.in_step.0 c.commit.ensures

@@ -1,0 +1,6 @@
+pub mod Adding
+pub mod Nesting
+pub mod Making
+pub mod Writing
+pub mod Rereading
+pub mod Whole

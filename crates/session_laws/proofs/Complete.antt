@@ -1,0 +1,5 @@
+pub mod Answering
+pub mod Leaving
+pub mod Opened
+pub mod Reading
+pub mod Written

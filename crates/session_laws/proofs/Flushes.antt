@@ -1,0 +1,9 @@
+pub mod Accepting
+pub mod Again
+pub mod Answered
+pub mod Flushing
+pub mod Kept
+pub mod LawProofs
+pub mod Legal
+pub mod Sending
+pub mod Telling

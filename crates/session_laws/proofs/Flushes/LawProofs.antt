@@ -1,0 +1,26 @@
+-- The laws of a flush, of its parts.
+use Rattle.std.proofs.Common.{refl}
+use Rattle.flush_plan.specs.Flushing.{Sofar}
+use Rattle.session_flush.specs.Flush.{flush}
+use Rattle.session_laws.specs.Flushes.{AnswersWhereAccepted, LeavesLegalTables, SendsItsPlan, SendsNothingAgain}
+use Rattle.session_laws.proofs.Flushes.Accepting.{accepted_answers}
+use Rattle.session_laws.proofs.Flushes.Again.{quiet_again}
+use Rattle.session_laws.proofs.Flushes.Flushing.{IsFlushSent, flush_sent}
+use Rattle.session_laws.proofs.Flushes.Legal.{flush_legal}
+
+pub sends_law : SendsItsPlan
+sends_law world is =
+    let sent : IsFlushSent world (flush world).after = flush_sent world is in
+    let sofar : Sofar = record { tables = (flush world).after.store.tables; keys = sent.keys } in
+    (sent.statements, sofar, sent.planned, sent.sent, refl)
+
+pub answers_law : AnswersWhereAccepted
+answers_law world statements sofar planned fit sent = accepted_answers world statements sofar planned fit sent
+
+pub again_law : SendsNothingAgain
+again_law world marks is = quiet_again world marks is
+
+pub legal_law : LeavesLegalTables
+legal_law world legal = flush_legal world legal
+
+pub ruleset flush_laws = (sends_law, answers_law, again_law, legal_law)

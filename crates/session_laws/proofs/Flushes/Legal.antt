@@ -1,0 +1,94 @@
+-- A flush leaves legal tables where it found them, whatever it answers.
+use Rattle.std.proofs.Common.{◌≡◌, ℕ, Bool, true, false, ◌==◌, ◌-◌, length, refl, sym, ap, ◌∙◌, subst}
+use Rattle.std.specs.Prelude.{if◌then◌else◌}
+use Rattle.schema_core.specs.declared.changes.RowChanges.{RowChanges}
+use Rattle.schema_core.specs.Catalog.{Catalog}
+use Rattle.flush_plan.specs.Planning.{plan}
+use Rattle.object_rows.specs.declared.prepared.Prepared.{Prepared}
+use Rattle.row_project.specs.Switch.{project}
+use Rattle.programs.specs.Store.{Store}
+use Rattle.programs.specs.Programs.{Run, ◌>>=◌, ask, give}
+use Rattle.programs.specs.Beside.{by_own, changes, on_own, on_store}
+use Rattle.keeper_core.specs.Calls as call
+use Rattle.legality_laws.specs.Legality.{IsLegalStore, Keeps, KeepsLegal}
+use Rattle.legality_laws.proofs.EachCall.{keeps_rollback, keeps_rollback_to, write_legal}
+use Rattle.legality_laws.proofs.EachJoin.{keeps_give, keeps_guarded, keeps_then}
+use Rattle.session_scopes.specs.Scoping.{session_failed}
+use Rattle.session_scopes.specs.SessionState.{SessionState, with_notes, with_warnings}
+use Rattle.session_calls.specs.Parts.{World, roll_back_scope}
+use Rattle.plan_run.specs.Run.{send_plan}
+use Rattle.session_flush.specs.Flush.{flush, give_up, prepare, prepared_of, session_flushed, write_objects, write_prepared, write_rows, write_warned}
+use Rattle.session_laws.proofs.Flushes.Kept.{IsKeptByWrites, plan_keeps}
+
+module _ (schema : Catalog) where
+  -- a legal store beside a session whose mapping has this schema
+  record IsLegalWorld (w : World) : Type 0 where
+    own : w.own.mapping.schema ≡ schema
+    store : IsLegalStore schema w.store
+
+  noted_keeps : {A : Type 0} (m : Store → Run Store A) → KeepsLegal schema m → Keeps IsLegalWorld (on_store with_notes m)
+  unfolding on_store
+  noted_keeps m legal = record { kept = λ w p. record { own = p.own; store = legal.kept w.store p.store } }
+
+  changed_keeps : (f : SessionState → SessionState) → ((session : SessionState) → (f session).mapping ≡ session.mapping) → Keeps IsLegalWorld (changes f)
+  unfolding changes
+  changed_keeps f same = record { kept = λ w p. record { own = ap (λ m. m.schema) (same w.own) ∙ p.own; store = p.store } }
+
+  chosen_keeps : {A : Type 0} (choose : SessionState → World → Run World A) → ((own : SessionState) → own.mapping.schema ≡ schema → Keeps IsLegalWorld (choose own)) → Keeps IsLegalWorld (by_own choose)
+  unfolding by_own
+  chosen_keeps choose one = record { kept = λ w p. (one w.own p.own).kept w p }
+
+  writes_keep : IsKeptByWrites schema IsLegalWorld
+  writes_keep statement well = noted_keeps (call.write schema statement) (write_legal schema statement well)
+
+  module _ (rows : RowChanges) where
+    asked_keeps : Keeps IsLegalWorld (on_own (ask (λ (session : SessionState). plan session.mapping.schema rows)))
+    unfolding on_own ask
+    asked_keeps = record { kept = λ w p. record { own = p.own; store = p.store } }
+
+    rows_keep : (prepared : Prepared) → Keeps IsLegalWorld (write_rows prepared rows)
+    unfolding write_rows
+    rows_keep prepared =
+        keeps_then IsLegalWorld (on_own (ask (λ session. plan session.mapping.schema rows))) (λ statements. by_own (λ session. send_plan session.mapping.schema rows statements) >>= λ keys. changes (session_flushed prepared rows keys))
+        asked_keeps
+        (λ w statements p answers.
+        keeps_then IsLegalWorld (by_own (λ session. send_plan session.mapping.schema rows statements)) (λ keys. changes (session_flushed prepared rows keys))
+        (chosen_keeps (λ session. send_plan session.mapping.schema rows statements) (λ own is. subst (λ (s : Catalog). Keeps IsLegalWorld (send_plan s rows statements)) (sym is) (plan_keeps schema rows IsLegalWorld writes_keep statements)))
+        (λ v keys q told. changed_keeps (session_flushed prepared rows keys) (λ session. refl)))
+
+    warned_keep : (prepared : Prepared) → Keeps IsLegalWorld (write_warned prepared rows)
+    unfolding write_warned
+    warned_keep prepared =
+        keeps_then IsLegalWorld (changes (with_warnings rows.warnings)) (λ u. write_rows prepared rows) (changed_keeps (with_warnings rows.warnings) (λ session. refl)) (λ w u p answers. rows_keep prepared)
+
+  objects_keep : Keeps IsLegalWorld write_objects
+  unfolding write_objects prepare write_prepared
+  objects_keep =
+      keeps_then IsLegalWorld prepare write_prepared (chosen_keeps (λ session. give (prepared_of session.graph)) (λ own is. keeps_give IsLegalWorld (prepared_of own.graph)))
+      (λ w prepared p answers.
+      chosen_keeps (λ session. write_warned prepared (project session.mapping session.graph prepared)) (λ own is. warned_keep (project own.mapping own.graph prepared) prepared))
+
+  -- ---- a refusal
+
+  scope_keeps : (depth : ℕ) → KeepsLegal schema (roll_back_scope depth)
+  scope_keeps depth = by (depth == 1)
+    where
+      by : (b : Bool) → KeepsLegal schema (if b then call.rollback else call.rollback_to (depth - 1))
+      by true = keeps_rollback _
+      by false = keeps_rollback_to _ (depth - 1)
+
+  give_up_keeps : Keeps IsLegalWorld give_up
+  unfolding give_up
+  give_up_keeps =
+      chosen_keeps (λ session. on_store with_notes (roll_back_scope (length session.frames.scopes)) >>= λ u. changes session_failed)
+      (λ own is.
+      keeps_then IsLegalWorld (on_store with_notes (roll_back_scope (length own.frames.scopes))) (λ u. changes session_failed) (noted_keeps (roll_back_scope (length own.frames.scopes)) (scope_keeps (length own.frames.scopes)))
+      (λ w u p answers. changed_keeps session_failed (λ session. refl)))
+
+  flush_keeps : Keeps IsLegalWorld flush
+  unfolding flush
+  flush_keeps = keeps_guarded IsLegalWorld write_objects give_up objects_keep give_up_keeps
+
+-- whatever a flush answers
+pub flush_legal : (world : World) → IsLegalStore world.own.mapping.schema world.store → IsLegalStore world.own.mapping.schema (flush world).after.store
+flush_legal world legal = ((flush_keeps world.own.mapping.schema).kept world (record { own = refl; store = legal })).store

@@ -1,0 +1,11 @@
+pub mod Objects
+pub mod Named
+pub mod Restored
+pub mod Flushed
+pub mod Sessions
+pub mod Programs
+pub mod Flushes
+pub mod Fits
+pub mod Acts
+pub mod Calls
+pub mod Telling

@@ -1,5 +1,0 @@
-use Rattle.session_laws.proofs.Adding.{add_sound}
-use Rattle.session_laws.proofs.sound.coming_in_keeps_sound.Goals as goal
-
-pub returns : goal.returns
-returns c = add_sound

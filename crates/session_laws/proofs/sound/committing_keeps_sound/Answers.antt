@@ -1,9 +1,0 @@
-use Rattle.session_laws.proofs.Nesting.{commit_sound}
-use Rattle.session_laws.proofs.Whole.{whole_sound}
-use Rattle.session_laws.proofs.sound.committing_keeps_sound.Goals as goal
-
-pub returns-clause-transaction : goal.returns-clause-transaction
-returns-clause-transaction c = commit_sound
-
-pub returns-clause-whole : goal.returns-clause-whole
-returns-clause-whole c = whole_sound

@@ -1,5 +1,0 @@
-use Rattle.stated_flush_laws.proofs.Stated.{leaves_stated}
-use Rattle.stated_flush_laws.proofs.a_flush_leaves_the_stated_rows.Goals as goal
-
-pub returns : goal.returns
-returns c = leaves_stated c.accepted_flushes_are_stated.ensures c.a_flush_sends_its_plan.ensures

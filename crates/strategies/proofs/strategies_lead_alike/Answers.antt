@@ -1,5 +1,0 @@
-use Rattle.strategies.proofs.Together.{lead_alike}
-use Rattle.strategies.proofs.strategies_lead_alike.Goals as goal
-
-pub returns : goal.returns
-returns c = λ mapped relation place owners owner all w lazy together one stage pointing among g h. lead_alike mapped relation place owners owner all w lazy together one stage pointing among g h

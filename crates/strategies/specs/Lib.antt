@@ -1,4 +1,0 @@
-pub mod Standing
-pub mod Filled
-pub mod Ends
-pub mod Paired

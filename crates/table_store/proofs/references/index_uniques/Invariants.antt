@@ -1,5 +1,0 @@
-use Rattle.std.proofs.Common.{◌≡◌}
-use Rattle.table_store.proofs.references.index_uniques.Given as goal
-
-abbrev pub invariant-loop-unique : goal.invariant-loop-unique
-invariant-loop-unique l = l.store ≡ l.fn.store

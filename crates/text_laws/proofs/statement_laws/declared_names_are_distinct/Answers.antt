@@ -1,5 +1,0 @@
-use Rattle.text_laws.proofs.Statements.Declared.{declared_names_are_distinct}
-use Rattle.text_laws.proofs.statement_laws.declared_names_are_distinct.Goals as goal
-
-pub returns : goal.returns
-returns c = declared_names_are_distinct

@@ -1,5 +1,0 @@
-use Rattle.text_laws.proofs.Statements.Statements.{sent_is_plain}
-use Rattle.text_laws.proofs.statement_laws.sent_is_plain.Goals as goal
-
-pub returns : goal.returns
-returns c = sent_is_plain
