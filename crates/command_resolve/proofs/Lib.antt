@@ -1,3 +1,2 @@
-mod Behind
 mod Made
 mod Named

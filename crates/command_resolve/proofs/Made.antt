@@ -7,7 +7,7 @@ use Rattle.base_core.specs.declared.value.Value.{Value}
 use Rattle.class_mapping.specs.Mapped.{IsAttribute, Mapped}
 use Rattle.object_arena.specs.Graph.{Graph}
 use Rattle.session_scopes.specs.SessionState.{IsMadeOf}
-use Rattle.command_resolve.specs.Attributes.{value_fault}
+use Rattle.command_names.specs.Attributes.{value_fault}
 use Rattle.command_resolve.specs.Standing.{HasAttribute, HasValue}
 
 pub has_attribute : (mapped : Mapped) (graph : Graph) (object : ObjId) (class : ClassId) (attr : AttrNo) → IsMadeOf graph object class → IsAttribute mapped class attr → HasAttribute mapped graph object attr

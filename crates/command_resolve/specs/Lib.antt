@@ -1,4 +1,2 @@
-pub mod Attributes
 pub mod Resolving
 pub mod Standing
-pub mod Terms

@@ -15,12 +15,12 @@ use Rattle.script_types.specs.declared.select.SynBulk.{SynBulk}
 use Rattle.script_types.specs.declared.select.SynSelect.{SynSelect}
 use Rattle.script_resolve.specs.Bulks.{resolved_bulk}
 use Rattle.script_resolve.specs.Selects.{resolved_select}
+use Rattle.command_names.specs.declared.members.Member.{Member}
+use Rattle.command_names.specs.declared.members.Member.TheVariants.{Attribute, One, Many}
+use Rattle.command_names.specs.Attributes.{Giving, cells_of, class_named, link_named, member_named, unless_fault, value_fault}
+use Rattle.command_names.specs.Terms.{Bindings, Named, handle_if_named, object_of, shown_of, wrong_kind}
 use Rattle.command_resolve.specs.declared.resolved.Resolved.{Resolved}
 use Rattle.command_resolve.specs.declared.resolved.Resolved.TheVariants as resolved
-use Rattle.command_resolve.specs.declared.members.Member.{Member}
-use Rattle.command_resolve.specs.declared.members.Member.TheVariants.{Attribute, One, Many}
-use Rattle.command_resolve.specs.Attributes.{Giving, cells_of, class_named, link_named, member_named, unless_fault, value_fault}
-use Rattle.command_resolve.specs.Terms.{Bindings, Named, handle_if_named, object_of, shown_of, wrong_kind}
 
 abbrev pub resolved_new : Mapped → List ℕ → List ℕ → List Giving → Checked Resolved
 resolved_new mapped name class given = class_named mapped class >>= λ class. (cells_of mapped class given >>= λ cells. Ok (resolved.New name class cells))

@@ -1,5 +1,5 @@
--- What is kept of names, of resolved lines and of answers: their numbers stand for what is there.
-use Rattle.std.specs.Prelude.{◌≡◌, ℕ, ◌<◌, ◌≤◌, Bool, IsTrue, List, length, Option, None, Some}
+-- What is kept of resolved lines and of answers: their numbers stand for what is there.
+use Rattle.std.specs.Prelude.{◌≡◌, ℕ, ◌<◌, Bool, IsTrue, length, None}
 use Rattle.std.specs.List.{All}
 use Rattle.base_core.specs.declared.ids.AttrNo.{AttrNo}
 use Rattle.base_core.specs.declared.ids.ObjId.{ObjId}
@@ -14,45 +14,14 @@ use Rattle.class_mapping.specs.Mapped.{IsAttribute, IsClass, Mapped, relations_o
 use Rattle.object_arena.specs.Graph.{Graph, IsObject, object_at}
 use Rattle.relations.specs.Calls.{end_of, is_of_collection}
 use Rattle.relations.specs.Keys.{IsEnd}
-use Rattle.session_scopes.specs.SessionState.{IsMadeOf}
 use Rattle.script_resolve.specs.Bulks.{gives_once}
 use Rattle.script_resolve.specs.Refusals.{CanRefuse}
-use Rattle.shell_parts.specs.declared.names.Bound.{Bound}
-use Rattle.shell_parts.specs.declared.names.Bound.TheVariants.{Nothing, Object, Objects, Saved}
-use Rattle.shell_parts.specs.Bindings.{bound_to}
+use Rattle.command_names.specs.Attributes.{IsRelation, cells_fault, value_fault}
+use Rattle.command_names.specs.Standing.{IsDrawnIfNamed, IsOfDeclared, IsThere}
 use Rattle.command_resolve.specs.declared.answer.Answer.{Answer}
 use Rattle.command_resolve.specs.declared.answer.Answer.TheVariants as answer
 use Rattle.command_resolve.specs.declared.resolved.Resolved.{Resolved}
 use Rattle.command_resolve.specs.declared.resolved.Resolved.TheVariants as resolved
-use Rattle.command_resolve.specs.Attributes.{IsRelation, cells_fault, value_fault}
-use Rattle.command_resolve.specs.Terms.{Bindings}
-
--- ---- names
-
--- so many savepoints have begun, and the number is that of one of them; numbers begin at 1
-abbrev pub IsDrawn : ℕ → ℕ → Type 0
-IsDrawn drawn number = (0 < number) × (number ≤ drawn)
-
--- what is bound is there: its objects are of the classes with which they are bound, and its savepoint has begun
-abbrev pub IsThere : Graph → ℕ → Bound → Type 0
-IsThere graph drawn Nothing = Unit {0}
-IsThere graph drawn (Object object class) = IsMadeOf graph object class
-IsThere graph drawn (Objects members) = All (λ member. IsMadeOf graph member.0 member.1) members
-IsThere graph drawn (Saved number) = IsDrawn drawn number
-
--- the objects that are bound are of declared classes
-abbrev pub IsOfDeclared : Mapped → Bound → Type 0
-IsOfDeclared mapped (Object object class) = IsClass mapped class
-IsOfDeclared mapped (Objects members) = All (λ member. IsClass mapped member.1) members
-IsOfDeclared mapped thing = Unit {0}
-
--- all objects that are bound are of declared classes
-abbrev pub AreOfDeclared : Mapped → Bindings → Type 0
-AreOfDeclared mapped names = (name : List ℕ) (thing : Bound) → bound_to names name ≡ Some thing → IsOfDeclared mapped thing
-
--- all that is bound is there
-abbrev pub AreThere : Graph → ℕ → Bindings → Type 0
-AreThere graph drawn names = (name : List ℕ) (thing : Bound) → bound_to names name ≡ Some thing → IsThere graph drawn thing
 
 -- ---- resolved lines
 
@@ -71,10 +40,6 @@ HasLink mapped graph object relation many = IsObject graph object × IsRelation 
 -- an object whose class has a relationship of this number
 abbrev pub HasRelation : Mapped → Graph → ObjId → RelNo → Type 0
 HasRelation mapped graph object relation = IsObject graph object × (relation.0 < length (relations_of mapped (object_at graph object).class))
-
-abbrev pub IsDrawnIfNamed : ℕ → Option ℕ → Type 0
-IsDrawnIfNamed drawn None = Unit {0}
-IsDrawnIfNamed drawn (Some number) = IsDrawn drawn number
 
 -- All that a resolved line names is there, and its values are of their attributes' kinds. A select is plain; a bulk statement
 -- fits its table and gives each column once.

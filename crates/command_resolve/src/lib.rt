@@ -3,16 +3,11 @@
 #![tactic(auto)]
 
 mod answer;
-mod attributes;
-mod cells;
 mod links;
-mod members;
 mod resolved;
 mod resolving;
 mod statements;
-mod terms;
 
 pub use answer::Answer;
-pub use members::Member;
 pub use resolved::Resolved;
 pub use resolving::resolve;

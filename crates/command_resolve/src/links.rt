@@ -4,15 +4,15 @@ ghost use Rattle.std.specs.Prelude.{◌≡◌, ℕ, true, IfErr, IfOk};
 ghost use Rattle.base_core.specs.Answers.{Gives};
 ghost use Rattle.object_arena.specs.Graph.{Graph, IsObject};
 ghost use Rattle.script_resolve.specs.Refusals.{CanRefuse};
+ghost use Rattle.command_names.specs.Standing.{AreOfDeclared, AreThere};
 ghost use Rattle.command_resolve.specs.Resolving as spec;
-ghost use Rattle.command_resolve.specs.Standing.{AreOfDeclared, AreThere, HasLink, IsResolved};
+ghost use Rattle.command_resolve.specs.Standing.{HasLink, IsResolved};
 
-use crate::members::link_named;
 use crate::resolved::Resolved;
 use crate::resolving::id_of_term;
-use crate::terms::object_of;
 use base_core::{Name, ObjId, Refusal, RelNo};
 use class_mapping::Mapping;
+use command_names::{link_named, object_of};
 use relations::LinkCall;
 use script_types::Term;
 use shell_parts::Names;

@@ -8,20 +8,21 @@ ghost use Rattle.object_arena.specs.Graph.{Graph, IsObject};
 ghost use Rattle.session_scopes.specs.SessionState.{IsMadeOf};
 ghost use Rattle.sayable_lines.specs.Sayable.{IsSayable};
 ghost use Rattle.script_resolve.specs.Refusals.{CanRefuse};
-ghost use Rattle.command_resolve.specs.declared.members.Member.TheVariants as member;
-ghost use Rattle.command_resolve.specs.Attributes.{IsMember, IsRelation};
+ghost use Rattle.command_names.specs.declared.members.Member.TheVariants as member;
+ghost use Rattle.command_names.specs.Attributes.{IsMember, IsRelation};
+ghost use Rattle.command_names.specs.Standing.{AreOfDeclared, AreThere};
 ghost use Rattle.command_resolve.specs.Resolving as spec;
-ghost use Rattle.command_resolve.specs.Standing.{AreOfDeclared, AreThere, IsOfResolving, IsResolved};
+ghost use Rattle.command_resolve.specs.Standing.{IsOfResolving, IsResolved};
 
-use crate::attributes::value_fault;
-use crate::cells::cells_of;
 use crate::links::{resolved_append, resolved_remove, resolved_set_one};
-use crate::members::{Member, class_named, member_named};
 use crate::resolved::Resolved;
 use crate::statements::{resolved_rows, resolved_statement};
-use crate::terms::{handle_if_named, object_of, shown_of, wrong_kind};
 use base_core::{AttrNo, ClassId, Copied, Name, ObjId, Refusal, RelNo, Value};
 use class_mapping::Mapping;
+use command_names::{
+    Member, cells_of, class_named, handle_if_named, member_named, object_of, shown_of, value_fault,
+    wrong_kind,
+};
 use relations::LinkCall;
 use schema_core::kind_of_value;
 use script_types::{Command, Term};

@@ -32,7 +32,7 @@ use Rattle.object_rows.specs.Rows.{gone_row, gone_rows, is_discriminator, key_or
 use Rattle.pair_rows.specs.Pairs.{lost_rows}
 use Rattle.flush_laws.specs.Plans.Laws.{AreAsRead, IsOneKind, IsProjected, before, cells_named, changes_to_write}
 use Rattle.flush_laws.specs.Plans.Premises.{IsClear, IsSorted}
-use Rattle.row_project.specs.Switch.{project}
+use Rattle.row_project.specs.Changes.{project}
 use Rattle.flush_laws.specs.Projects.{PostsAreLinks}
 
 -- ---- what is asked

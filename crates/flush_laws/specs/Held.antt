@@ -20,7 +20,7 @@ use Rattle.object_rows.specs.Rows.{key_or_none}
 use Rattle.flush_laws.specs.Plans.Laws.{before}
 use Rattle.flush_laws.specs.Plans.Premises.{IsSorted}
 use Rattle.flush_laws.specs.Graphs.{HaveOwnRows, IsWellMapped}
-use Rattle.row_project.specs.Switch.{project}
+use Rattle.row_project.specs.Changes.{project}
 use Rattle.graph_flushed.specs.Flushed.{graph_flushed}
 
 -- what a row has in a column, if it is there

@@ -28,7 +28,7 @@ use Rattle.object_arena.specs.Graph.{Graph}
 use Rattle.object_arena.specs.Identity.{IsGraph}
 use Rattle.object_rows.specs.declared.prepared.Prepared.{Prepared}
 use Rattle.flush_laws.specs.Graphs.{AreKeyed, IsWellMapped}
-use Rattle.row_project.specs.Switch.{project}
+use Rattle.row_project.specs.Changes.{project}
 
 -- the column takes what a key column holds, if there is one
 abbrev pub takes_part : ColumnSpec → Option ColumnSpec → Bool

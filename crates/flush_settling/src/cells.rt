@@ -27,7 +27,12 @@ fn place_among(keys: &[AttrNo], place: usize) -> Option<usize>
 fn is_among(keys: &[AttrNo], place: usize) -> bool
     ensures { result ≡ list_any (λ key. key.0 == place) keys.now }
 {
-    keys.iter().any(|key| key.0 as usize == place)
+    for key in keys {
+        if key.0 as usize == place {
+            return true;
+        }
+    }
+    false
 }
 
 impl<'a> Flushing<'a> {

@@ -13,7 +13,7 @@ ghost use Rattle.flush_settling.specs.Ready.{IsFlushing, written_of};
 use crate::flushing::Flushing;
 use base_core::{Copied, Key, ListOf, ObjId, Refusal};
 use graph_flushed::{keeps_links, kept_cells, kept_links, prepared_links};
-use object_arena::{Object, State};
+use object_arena::{Cell, Object, State};
 use object_rows::is_among;
 use std::alloc::Global;
 
@@ -60,11 +60,22 @@ impl<'a> Flushing<'a> {
         }
     }
 
-    /// An object that is new no more.
-    fn transient_object(&self, alloc: Global, object: ObjId) -> Result<Object, Refusal>
+    /// An object in a state under an identity, with its links as the preparation leaves them.
+    fn prepared_object(
+        &self,
+        alloc: Global,
+        object: ObjId,
+        state: State,
+        identity: &Option<Key>,
+    ) -> Result<Object, Refusal>
         requires object { IsObject self.now.projection.now.arena.now object }
-        ensures object { IfOk result (λ new. new ≡ spec.new_object (written_of self.now)
-            object None (object_at self.now.projection.now.arena.now object)) }
+        ensures object { IfOk result (λ new. new
+            ≡ record (object_at self.now.projection.now.arena.now object) {
+              state = state;
+              identity = identity.now;
+              links = spec.prepared_links self.now.projection.now.prepared.now object
+                  (object_at self.now.projection.now.arena.now object).links;
+            }) }
         ensures cause { IfErr result (λ e. e ≡ Memory) }
     {
         let old = self.projection.arena.object(object);
@@ -75,16 +86,27 @@ impl<'a> Flushing<'a> {
             old.links.as_slice(),
         )?;
         let cells = old.cells.copied()?;
+        let identity = Copied::copied(identity)?;
         Ok(Object {
             class: old.class,
-            state: State::Transient,
-            identity: None,
+            state,
+            identity,
             added: old.added,
             marked: old.marked,
             orphan: old.orphan,
             cells,
             links,
         })
+    }
+
+    /// An object that is new no more.
+    fn transient_object(&self, alloc: Global, object: ObjId) -> Result<Object, Refusal>
+        requires object { IsObject self.now.projection.now.arena.now object }
+        ensures object { IfOk result (λ new. new ≡ spec.new_object (written_of self.now)
+            object None (object_at self.now.projection.now.arena.now object)) }
+        ensures cause { IfErr result (λ e. e ≡ Memory) }
+    {
+        self.prepared_object(alloc, object, State::Transient, &None)
     }
 
     /// A new object under its key.
@@ -117,16 +139,27 @@ impl<'a> Flushing<'a> {
         })
     }
 
-    /// An object that keeps its rows.
-    fn staying_object(&self, alloc: Global, object: ObjId) -> Result<Object, Refusal>
-        requires flushing { IsFlushing self.now }
+    /// An object of the session in a state, with these cells and a mark, and with its links as they are kept.
+    fn kept_object(
+        &self,
+        alloc: Global,
+        object: ObjId,
+        state: State,
+        marked: bool,
+        cells: ListOf<Cell>,
+    ) -> Result<Object, Refusal>
         requires object { IsObject self.now.projection.now.arena.now object }
-        ensures object { IfOk result (λ new. new ≡ spec.staying_object (written_of self.now)
-            object (object_at self.now.projection.now.arena.now object)) }
+        ensures object { IfOk result (λ new. new
+            ≡ record (object_at self.now.projection.now.arena.now object) {
+              state = state;
+              marked = marked;
+              cells = cells;
+              links = spec.kept_links self.now.projection.now.prepared.now object
+                  (object_at self.now.projection.now.arena.now object).links;
+            }) }
         ensures cause { IfErr result (λ e. e ≡ Memory) }
     {
         let old = self.projection.arena.object(object);
-        let cells = self.staying_cells(alloc, object, old.class, old.cells.as_slice())?;
         let links = kept_links(
             alloc,
             self.projection.prepared,
@@ -136,14 +169,28 @@ impl<'a> Flushing<'a> {
         let identity = Copied::copied(&old.identity)?;
         Ok(Object {
             class: old.class,
-            state: self.state_under(object, &old.identity),
+            state,
             identity,
             added: old.added,
-            marked: old.marked,
+            marked,
             orphan: old.orphan,
             cells,
             links,
         })
+    }
+
+    /// An object that keeps its rows.
+    fn staying_object(&self, alloc: Global, object: ObjId) -> Result<Object, Refusal>
+        requires flushing { IsFlushing self.now }
+        requires object { IsObject self.now.projection.now.arena.now object }
+        ensures object { IfOk result (λ new. new ≡ spec.staying_object (written_of self.now)
+            object (object_at self.now.projection.now.arena.now object)) }
+        ensures cause { IfErr result (λ e. e ≡ Memory) }
+    {
+        let old = self.projection.arena.object(object);
+        let state = self.state_under(object, &old.identity);
+        let cells = self.staying_cells(alloc, object, old.class, old.cells.as_slice())?;
+        self.kept_object(alloc, object, state, old.marked, cells)
     }
 
     /// An object whose rows are deleted.
@@ -155,23 +202,7 @@ impl<'a> Flushing<'a> {
     {
         let old = self.projection.arena.object(object);
         let cells = kept_cells(alloc, old.cells.as_slice())?;
-        let links = kept_links(
-            alloc,
-            self.projection.prepared,
-            object,
-            old.links.as_slice(),
-        )?;
-        let identity = Copied::copied(&old.identity)?;
-        Ok(Object {
-            class: old.class,
-            state: State::Deleted,
-            identity,
-            added: old.added,
-            marked: false,
-            orphan: old.orphan,
-            cells,
-            links,
-        })
+        self.kept_object(alloc, object, State::Deleted, false, cells)
     }
 
     /// An object outside the session.
@@ -182,24 +213,7 @@ impl<'a> Flushing<'a> {
         ensures cause { IfErr result (λ e. e ≡ Memory) }
     {
         let old = self.projection.arena.object(object);
-        let links = prepared_links(
-            alloc,
-            self.projection.prepared,
-            object,
-            old.links.as_slice(),
-        )?;
-        let cells = old.cells.copied()?;
-        let identity = Copied::copied(&old.identity)?;
-        Ok(Object {
-            class: old.class,
-            state: old.state,
-            identity,
-            added: old.added,
-            marked: old.marked,
-            orphan: old.orphan,
-            cells,
-            links,
-        })
+        self.prepared_object(alloc, object, old.state, &old.identity)
     }
 
     /// An object that was pending.

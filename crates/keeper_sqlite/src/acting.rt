@@ -9,7 +9,8 @@ use keeper_core::{Keeper, KeeperStop, QueryRefusal, WriteRefusal};
 use programs::Target;
 use schema_core::{RowStmt, Schema};
 use sqlite_database::{Database, Ending};
-use sqlite_statements::{bulks, rows, scopes, selects, tables};
+use sqlite_statements::{bulks, rows, selects};
+use sqlite_tables::{scopes, tables};
 use std::alloc::Global;
 
 /// The database that a target names.

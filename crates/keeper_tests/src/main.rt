@@ -11,14 +11,12 @@
 #![tactic(auto)]
 
 mod laws;
-mod memory;
-mod sqlite;
 
 use keeper_calls::two_tables;
 use laws::{one_open_key_alone, thousand_is_the_most};
-use memory::play_in_memory;
+use memory_calls::play_in_memory;
 use notations::Page;
-use sqlite::play_over_sqlite;
+use sqlite_calls::play_over_sqlite;
 use sqlite_database::{Database, OverDatabases, over_sqlite};
 use std::alloc::AllocError;
 use std::io;

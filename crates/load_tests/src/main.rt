@@ -23,9 +23,7 @@
 //! and of one whose rows name no class or one beside it.
 #![tactic(auto)]
 
-mod owners;
 mod player;
-mod queries;
 
 use notations::Page;
 use player::play;

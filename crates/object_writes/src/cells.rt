@@ -116,10 +116,7 @@ impl<'a> Projection<'a> {
         ensures cause { IfErr result (λ e. e ≡ Memory) }
     {
         match part {
-            Some(part) => {
-                let cell = self.column_cell(foreign, end, part)?;
-                Ok(Some(cell))
-            }
+            Some(part) => Ok(Some(self.column_cell(foreign, end, part)?)),
             None => Ok(None),
         }
     }
@@ -153,10 +150,7 @@ impl<'a> Projection<'a> {
         ensures cause { IfErr result (λ e. e ≡ Memory) }
     {
         match foreign_at(self.mapping.schema(), table, number) {
-            Some(foreign) => {
-                let cell = self.named_cell(foreign, name, end)?;
-                Ok(cell)
-            }
+            Some(foreign) => self.named_cell(foreign, name, end),
             None => Ok(None),
         }
     }

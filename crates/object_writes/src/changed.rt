@@ -95,10 +95,11 @@ impl<'a> Projection<'a> {
         if column.key {
             return Ok(());
         }
-        if let Some(cell) = self.change_in(object, table, number, column)? {
-            out.push((ColumnNo(number_of(number)?), cell))?;
+        let place = ColumnNo(number_of(number)?);
+        match self.change_in(object, table, number, column)? {
+            Some(cell) => out.push((place, cell)),
+            None => Ok(()),
         }
-        Ok(())
     }
 
     #[tactic(auto, using(class_layouts::proofs::Steps::steps))]

@@ -24,7 +24,7 @@ fn without(alloc: Global, others: &ObjList, objects: &ObjList) -> Result<ObjList
 }
 
 /// The members that a collection was given.
-pub(crate) fn members_added(alloc: Global, link: &Link) -> Result<ObjList, Refusal>
+pub fn members_added(alloc: Global, link: &Link) -> Result<ObjList, Refusal>
     ensures members { IfOk result (λ members. members ≡ spec.members_added link.now) }
     ensures cause { IfErr result (λ e. e ≡ Memory) }
 {
@@ -36,7 +36,7 @@ pub(crate) fn members_added(alloc: Global, link: &Link) -> Result<ObjList, Refus
 }
 
 /// The members that a collection lost.
-pub(crate) fn members_removed(alloc: Global, link: &Link) -> Result<ObjList, Refusal>
+pub fn members_removed(alloc: Global, link: &Link) -> Result<ObjList, Refusal>
     ensures members { IfOk result (λ members. members ≡ spec.members_removed link.now) }
     ensures cause { IfErr result (λ e. e ≡ Memory) }
 {

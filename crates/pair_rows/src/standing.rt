@@ -9,7 +9,7 @@ use object_arena::{Arena, Link, Object};
 use object_rows::{Prepared, is_among};
 
 /// Whether an object is to be deleted.
-pub(crate) fn is_leaving(prepared: &Prepared, object: ObjId) -> bool
+pub fn is_leaving(prepared: &Prepared, object: ObjId) -> bool
     ensures { result ≡ is_leaving prepared.now object }
 {
     is_among(&prepared.deleted, object)
@@ -27,7 +27,7 @@ pub(crate) fn has_key(arena: &Arena, object: ObjId) -> bool
 }
 
 /// The link of a number; for one that is not there stands an unset one.
-pub(crate) fn link_or<'a>(object: &'a Object, number: usize, unset: &'a Link) -> &'a Link
+pub fn link_or<'a>(object: &'a Object, number: usize, unset: &'a Link) -> &'a Link
     requires { unset.now ≡ Unset }
     ensures { result.now ≡ slice_index_or object.now.links number Unset }
 {

@@ -48,8 +48,8 @@ use Rattle.object_rows.proofs.ObjectSteps.{all_made}
 use Rattle.pair_rows.specs.Pairs as pairs
 use Rattle.row_project.specs.Changes.{object_changes}
 use Rattle.row_project.specs.Ready.{AreDeclared}
-use Rattle.row_project.specs.Switch as switch
-use Rattle.row_project.proofs.Each.{all_append, all_filter, all_filter_map, all_flat_map, all_given, all_if, all_map, each_to, flat_map_given, map_given, numbered, numbers_below}
+use Rattle.row_switches.specs.Switch as switch
+use Rattle.row_switches.proofs.Each.{all_append, all_filter, all_filter_map, all_flat_map, all_given, all_if, all_map, each_to, flat_map_given, map_given, numbered, numbers_below}
 
 -- ---- the tables of a class
 

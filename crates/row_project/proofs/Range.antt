@@ -21,12 +21,12 @@ use Rattle.flush_order.specs.Cells.{no_row}
 use Rattle.flush_order.specs.Ready.{AreInRange, IsInTable}
 use Rattle.object_rows.specs.declared.prepared.Prepared.{Prepared}
 use Rattle.object_rows.specs.Rows as rows
-use Rattle.row_project.specs.Changes.{object_changes}
+use Rattle.row_project.specs.Changes.{object_changes, project}
 use Rattle.row_project.specs.Ready.{AreDeclared, AreFew}
-use Rattle.row_project.specs.Switch as switch
+use Rattle.row_switches.specs.Switch as switch
 use Rattle.row_project.proofs.Declared.{column_of, columns_below, objects_declared, same_column}
-use Rattle.row_project.proofs.Each.{all_append, all_filter_map}
-use Rattle.row_project.proofs.RowsAfter.{all_kept, all_left, all_staying, all_switched}
+use Rattle.row_switches.proofs.Each.{all_append, all_filter_map}
+use Rattle.row_switches.proofs.RowsAfter.{all_kept, all_left, all_staying, all_switched}
 
 module _ (mapped : Mapped) (graph : Graph) (changes : RowChanges) (partners : List (Option ℕ)) where
   row_kept_in : (row : ChangedRow) → IsInTable mapped.schema row → IsInTable mapped.schema (switch.row_kept mapped graph changes partners row)
@@ -60,7 +60,7 @@ module _ (mapped : Mapped) (graph : Graph) (changes : RowChanges) (partners : Li
   }
 
 -- all rows of a flush are of declared tables
-pub project_declared : (mapped : Mapped) (graph : Graph) (prepared : Prepared) → AreRelated mapped → IsFit mapped graph → AreDeclared mapped.schema (switch.project mapped graph prepared)
+pub project_declared : (mapped : Mapped) (graph : Graph) (prepared : Prepared) → AreRelated mapped → IsFit mapped graph → AreDeclared mapped.schema (project mapped graph prepared)
 project_declared mapped graph prepared related fit =
     let plain = object_changes mapped graph prepared in
     switch_declared mapped graph plain (switch.partners mapped.schema plain) (objects_declared mapped graph prepared related fit)
@@ -87,7 +87,7 @@ objects_in_range mapped graph prepared changes is related fit few tables narrow 
     in_range mapped.schema changes (subst (AreDeclared mapped.schema) (sym is) (objects_declared mapped graph prepared related fit)) few tables narrow
 
 -- and with the switches
-pub all_in_range : (mapped : Mapped) (graph : Graph) (prepared : Prepared) (changes : RowChanges) → changes ≡ switch.project mapped graph prepared → AreRelated mapped → IsFit mapped graph
+pub all_in_range : (mapped : Mapped) (graph : Graph) (prepared : Prepared) (changes : RowChanges) → changes ≡ project mapped graph prepared → AreRelated mapped → IsFit mapped graph
     → AreFew changes → length mapped.schema.tables ≤ 4294967295 → All (λ (spec : TableSpec). length spec.columns ≤ 4294967295) mapped.schema.tables → AreInRange mapped.schema changes
 all_in_range mapped graph prepared changes is related fit few tables narrow =
     in_range mapped.schema changes (subst (AreDeclared mapped.schema) (sym is) (project_declared mapped graph prepared related fit)) few tables narrow

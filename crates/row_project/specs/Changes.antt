@@ -9,7 +9,8 @@ use Rattle.object_rows.specs.declared.prepared.Prepared.{Prepared}
 use Rattle.object_rows.specs.Late.{late_keys}
 use Rattle.object_rows.specs.Rows.{changed_rows, gone_rows, new_rows}
 use Rattle.pair_rows.specs.Pairs.{lost_rows, made_rows}
-use Rattle.pair_rows.specs.Warnings.{warnings}
+use Rattle.link_warnings.specs.Warnings.{warnings}
+use Rattle.row_switches.specs.Switch.{with_switches}
 
 -- the new rows of objects in the order of adding, and then those of pairs
 abbrev pub fresh_rows : Mapped → Graph → Prepared → List NewRow
@@ -29,3 +30,7 @@ object_changes mapped graph prepared = record {
   post = late_keys mapped;
   warnings = warnings mapped graph prepared;
 }
+
+-- what a flush of a prepared graph changes
+abbrev pub project : Mapped → Graph → Prepared → RowChanges
+project mapped graph prepared = with_switches mapped graph (object_changes mapped graph prepared)

@@ -5,23 +5,56 @@ ghost use Rattle.std.specs.List.{All};
 ghost use Rattle.base_core.specs.declared.refusal.Refusal.TheVariants.{Memory};
 ghost use Rattle.flush_order.specs.Ready.{AreInRange};
 ghost use Rattle.object_arena.specs.Fit.{IsFit};
+ghost use Rattle.object_arena.specs.Graph.{IsObject};
 ghost use Rattle.object_rows.specs.Seen.{AreMade};
+ghost use Rattle.object_writes.specs.Ready.{IsReady};
 ghost use Rattle.row_project.specs.Changes as spec;
-ghost use Rattle.row_project.specs.Ready.{AreFew, IsSwitch};
-ghost use Rattle.row_project.specs.Switch.{changes_by, project, with_switches};
+ghost use Rattle.row_project.specs.Changes.{project};
+ghost use Rattle.row_project.specs.Ready.{AreFew};
 
-use crate::cells::{Switch, numbers_among};
-use crate::partners::partners;
-use crate::staying::rows_left;
-use base_core::{Copied, Refusal, TableId};
+use base_core::{ListOf, Refusal, TableId};
 use class_mapping::Mapping;
-use flush_order::{NewRows, ready_rows};
+use link_warnings::warnings;
 use object_arena::Arena;
 use object_rows::{Prepared, late_keys, new_names};
 use object_writes::{Projection, gone_rows};
-use pair_rows::{push_lost_rows, push_made_rows, warnings};
-use schema_core::{RowChanges, Schema};
+use pair_rows::{push_lost_rows, push_made_rows};
+use row_switches::{both, with_switches};
+use schema_core::{GoneRow, NewRow, RowChanges, Schema};
 use std::alloc::Global;
+
+/// The rows that are new: those of objects, and behind them those of pairs.
+fn rows_made(alloc: Global, projection: &Projection) -> Result<ListOf<NewRow>, Refusal>
+    requires ready { IsReady projection.now }
+    requires made { All
+        (λ row. IsObject projection.now.arena.now row.object) projection.now.names.now }
+    ensures rows { IfOk result (λ rows. rows ≡ spec.fresh_rows projection.now.mapping.now
+        projection.now.arena.now projection.now.prepared.now) }
+    ensures cause { IfErr result (λ e. e ≡ Memory) }
+{
+    let mut rows = projection.new_rows(alloc)?;
+    push_made_rows(&mut rows, projection, alloc)?;
+    Ok(rows)
+}
+
+/// The rows that are taken away: those of objects, and behind them those of pairs.
+fn rows_taken(
+    alloc: Global,
+    arena: &Arena,
+    mapping: &Mapping,
+    prepared: &Prepared,
+) -> Result<ListOf<GoneRow>, Refusal>
+    requires configured { mapping.now.configured ≡ true }
+    requires fit { IsFit mapping.now arena.now }
+    requires made { AreMade arena.now prepared.now }
+    ensures rows { IfOk result
+        (λ rows. rows ≡ spec.rows_lost mapping.now arena.now prepared.now) }
+    ensures cause { IfErr result (λ e. e ≡ Memory) }
+{
+    let mut rows = gone_rows(alloc, arena, mapping, prepared)?;
+    push_lost_rows(&mut rows, alloc, arena, mapping, prepared)?;
+    Ok(rows)
+}
 
 /// What the objects of a prepared graph and their links change, where each new row stands among the new ones and each deleted
 /// row among the deleted ones, also if both have one key.
@@ -66,13 +99,19 @@ pub fn object_changes(
         prepared,
         names: &names,
     };
-    let mut fresh = projection.new_rows(alloc)?;
-    push_made_rows(&mut fresh, &projection, alloc)?;
-    let changed = projection.changed_rows(alloc)?;
-    let mut gone = gone_rows(alloc, arena, mapping, prepared)?;
-    push_lost_rows(&mut gone, alloc, arena, mapping, prepared)?;
-    let post = late_keys(alloc, mapping)?;
-    let warnings = warnings(alloc, arena, mapping, prepared)?;
+    let ((fresh, changed), (gone, (post, warnings))) = both(
+        both(
+            rows_made(alloc, &projection),
+            projection.changed_rows(alloc),
+        ),
+        both(
+            rows_taken(alloc, arena, mapping, prepared),
+            both(
+                late_keys(alloc, mapping),
+                warnings(alloc, arena, mapping, prepared),
+            ),
+        ),
+    )?;
     Ok(RowChanges {
         fresh,
         changed,
@@ -80,63 +119,6 @@ pub fn object_changes(
         post,
         warnings,
     })
-}
-
-impl<'a> Switch<'a> {
-    /// All changes with their switched rows.
-    fn changes(&self, alloc: Global) -> Result<RowChanges, Refusal>
-        requires { IsSwitch self.now }
-        ensures changes { IfOk result (λ changes. changes ≡ changes_by self.now.mapping.now
-            self.now.arena.now self.now.new.now.changes.now self.now.partners.now) }
-        ensures cause { IfErr result (λ e. e ≡ Memory) }
-    {
-        let fresh = self.rows_staying(alloc)?;
-        let mut changed = self.rows_kept(alloc)?;
-        self.push_rows_switched(&mut changed, alloc)?;
-        let gone = rows_left(alloc, self.new.changes, self.partners)?;
-        let post = self.new.changes.post.copied()?;
-        let warnings = self.new.changes.warnings.copied()?;
-        Ok(RowChanges {
-            fresh,
-            changed,
-            gone,
-            post,
-            warnings,
-        })
-    }
-}
-
-/// Changes with their switched rows.
-fn with_switches(
-    alloc: Global,
-    arena: &Arena,
-    mapping: &Mapping,
-    changes: &RowChanges,
-) -> Result<RowChanges, Refusal>
-    requires configured { mapping.now.configured ≡ true }
-    requires fit { IsFit mapping.now arena.now }
-    requires range { AreInRange mapping.now.schema changes.now }
-    ensures changes { IfOk result
-        (λ all. all ≡ with_switches mapping.now arena.now changes.now) }
-    ensures cause { IfErr result (λ e. e ≡ Memory) }
-{
-    let schema = mapping.schema();
-    let rows = ready_rows(alloc, schema, changes)?;
-    let new = NewRows {
-        schema,
-        changes,
-        rows: rows.as_slice(),
-    };
-    let partners = partners(alloc, &new)?;
-    let numbers = numbers_among(alloc, partners.as_slice())?;
-    let switch = Switch {
-        mapping,
-        arena,
-        new: &new,
-        partners: partners.as_slice(),
-        numbers: numbers.as_slice(),
-    };
-    switch.changes(alloc)
 }
 
 /// Whether there are no more rows than have numbers.

@@ -9,7 +9,6 @@
 #![tactic(auto)]
 
 mod player;
-mod runs;
 
 use notations::{Page, play_all};
 use player::Player;

@@ -1,6 +1,6 @@
 //! Plays lines.
 
-use crate::runs::{NOTHING, Run, ended, only, run_once};
+use failing_runs::{NOTHING, Run, ended, only, run_once};
 use notations::{Page, Plays, parted};
 use std::alloc::Global;
 use std::mem;

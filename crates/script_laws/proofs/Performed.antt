@@ -43,13 +43,13 @@ use Rattle.command_resolve.specs.declared.answer.Answer.{Answer}
 use Rattle.command_resolve.specs.declared.answer.Answer.TheVariants as answer
 use Rattle.command_resolve.specs.declared.resolved.Resolved.{Resolved}
 use Rattle.command_resolve.specs.declared.resolved.Resolved.TheVariants as resolved
-use Rattle.command_resolve.specs.Standing.{IsDrawn, IsOfDeclared, IsThere}
-use Rattle.command_resolve.specs.Terms.{Bindings}
+use Rattle.command_names.specs.Standing.{IsDrawn, IsOfDeclared, IsThere}
+use Rattle.command_names.specs.Terms.{Bindings}
 use Rattle.session_perform.specs.Performing.{IsReady, as_it_is, link_shown, program_of_resolved, telling}
 use Rattle.session_perform.proofs.Sendable.{plain_but_for_keys}
-use Rattle.shell_steps.specs.declared.stage.Stage.TheVariants.{Configured}
-use Rattle.shell_steps.specs.ShellState.{AreBound}
-use Rattle.shell_steps.proofs.Bindings.{bound_same, bound_stays}
+use Rattle.shell_stage.specs.declared.stage.Stage.TheVariants.{Configured}
+use Rattle.shell_stage.specs.Stages.{AreBound}
+use Rattle.shell_stage.proofs.Bindings.{bound_same, bound_stays}
 use Rattle.session_laws.specs.Health.Calls.{Call, after_call}
 use Rattle.session_laws.proofs.Health.Objects.{class_left}
 use Rattle.session_laws.specs.Whole.{CallsKeepWhole, IsCallOf, IsHale}

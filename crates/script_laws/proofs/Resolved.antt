@@ -28,14 +28,14 @@ use Rattle.script_types.specs.declared.command.Term.{Term}
 use Rattle.shell_parts.specs.declared.names.Bound.{Bound}
 use Rattle.shell_parts.specs.declared.names.Bound.TheVariants.{Nothing, Object, Objects, Saved}
 use Rattle.shell_parts.specs.Bindings.{bound_to}
-use Rattle.command_resolve.specs.declared.members.Member.{Member}
-use Rattle.command_resolve.specs.declared.members.Member.TheVariants.{Attribute as OfAttribute, One, Many}
+use Rattle.command_names.specs.declared.members.Member.{Member}
+use Rattle.command_names.specs.declared.members.Member.TheVariants.{Attribute as OfAttribute, One, Many}
 use Rattle.command_resolve.specs.declared.resolved.Resolved.{Resolved}
 use Rattle.command_resolve.specs.declared.resolved.Resolved.TheVariants as resolved
-use Rattle.command_resolve.specs.Attributes.{Cells, Giving, as_attribute, as_link, attribute_given, attribute_named, cells_behind, cells_fault, cells_of, class_named, find_relation, IsMember, IsRelation, is_given, link_named, link_or_unknown, member_named, member_or, unless_fault, value_fault}
+use Rattle.command_names.specs.Attributes.{Cells, Giving, as_attribute, as_link, attribute_given, attribute_named, cells_behind, cells_fault, cells_of, class_named, find_relation, IsMember, IsRelation, is_given, link_named, link_or_unknown, member_named, member_or, unless_fault, value_fault}
 use Rattle.command_resolve.specs.Resolving.{Ends, ends_of, id_of_term, resolve, resolved_new, resolved_same, resolved_set, resolved_set_at, resolved_show, resolved_show_at, resolved_statement, set_by, show_by}
-use Rattle.command_resolve.specs.Standing.{AreThere, IsThere}
-use Rattle.command_resolve.specs.Terms.{Bindings, Named, found_or_unknown, found_or_wrong, handle_if_named, object_at, object_of, shown_of, wrong_kind}
+use Rattle.command_names.specs.Standing.{AreThere, IsThere}
+use Rattle.command_names.specs.Terms.{Bindings, Named, found_or_unknown, found_or_wrong, handle_if_named, object_at, object_of, shown_of, wrong_kind}
 use Rattle.base_core.specs.Answers.{Gives}
 use Rattle.expr_types.specs.declared.select.Bulk.{Bulk}
 use Rattle.relations.specs.declared.calls.LinkCall.{LinkCall}

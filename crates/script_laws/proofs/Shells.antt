@@ -30,17 +30,19 @@ use Rattle.command_resolve.specs.declared.answer.Answer.{Answer}
 use Rattle.command_resolve.specs.declared.answer.Answer.TheVariants as answer
 use Rattle.command_resolve.specs.declared.resolved.Resolved.{Resolved}
 use Rattle.command_resolve.specs.Resolving.{resolve}
-use Rattle.command_resolve.specs.Terms.{Bindings}
+use Rattle.command_names.specs.Terms.{Bindings}
 use Rattle.shell_lines.specs.declared.desk.Said.{Said}
 use Rattle.shell_lines.specs.declared.desk.Said.TheVariants.{Nothing, Configure, Declare, Compile, Do}
 use Rattle.shell_lines.specs.Lines.{is_built, is_compiled}
 use Rattle.shell_lines.specs.Desk.{CanBeDone, DeskState, done_if, ends_block, is_configure, is_head, is_skip, is_skipped, next_line, opened, place_of, said_at, said_line, said_read}
-use Rattle.shell_steps.specs.declared.stage.Stage.{Stage}
-use Rattle.shell_steps.specs.declared.stage.Stage.TheVariants.{Declaring, Configured}
-use Rattle.shell_steps.specs.Asking.{asked, has_texts}
-use Rattle.shell_steps.specs.ShellState.{AreBound, ShellState}
-use Rattle.shell_steps.specs.Step.{answer_to, close_session, close_session_at, close_stage, end_of_script, end_of_script_in, end_reply, at_desk, at_stage_of, compile, declared_stage, do_command, do_said, goes, in_session, line_step, names_with, opened_stage, perform, performed, reply_to, run_at, session_stage, stage_over, tell, tell_answer, tell_here, tell_notes, turn, without_notes}
-use Rattle.shell_steps.proofs.Bindings.{bound_same, bound_more, none_bound_in}
+use Rattle.shell_stage.specs.declared.stage.Stage.{Stage}
+use Rattle.shell_stage.specs.declared.stage.Stage.TheVariants.{Declaring, Configured}
+use Rattle.shell_stage.specs.Asking.{asked, has_texts}
+use Rattle.shell_stage.specs.Stages.{AreBound}
+use Rattle.shell_stage.specs.Step.{declared_stage, names_with, opened_stage, performed, session_stage, stage_over, without_notes}
+use Rattle.shell_stage.proofs.Bindings.{bound_same, bound_more, none_bound_in}
+use Rattle.shell_steps.specs.ShellState.{ShellState}
+use Rattle.shell_steps.specs.Step.{answer_to, close_session, close_session_at, close_stage, end_of_script, end_of_script_in, end_reply, at_desk, at_stage_of, compile, do_command, do_said, goes, in_session, line_step, perform, reply_to, run_at, tell, tell_answer, tell_here, tell_notes, turn}
 use Rattle.sqla_shell.specs.declared.ending.Ending.TheVariants.{Finished}
 use Rattle.sqla_shell.specs.Reference.{close_and_tell, do_and_reply, end_script, end_unless_too_long, script, start, writes}
 use Rattle.flush_laws.specs.Graphs.{IsWellMapped}

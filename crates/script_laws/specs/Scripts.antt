@@ -12,15 +12,16 @@ use Rattle.keeper_core.specs.Keeping.{new_store}
 use Rattle.programs.specs.Beside.{Beside}
 use Rattle.programs.specs.Programs.{each}
 use Rattle.programs.specs.Store.{Store}
-use Rattle.command_resolve.specs.Terms.{Bindings}
+use Rattle.command_names.specs.Terms.{Bindings}
 use Rattle.script_lines.specs.Scripts.{lines_of}
 use Rattle.shell_parts.specs.declared.block.Block.{Block}
 use Rattle.shell_parts.specs.declared.block.Declared.{Declared}
 use Rattle.shell_parts.specs.declared.block.Declared.TheVariants.{Table, Class}
 use Rattle.shell_replies.specs.declared.notes.PrintOptions.{PrintOptions}
-use Rattle.shell_steps.specs.declared.stage.Stage.{Stage}
-use Rattle.shell_steps.specs.declared.stage.Stage.TheVariants.{Declaring, Configured}
-use Rattle.shell_steps.specs.ShellState.{AreBound, ShellState}
+use Rattle.shell_stage.specs.declared.stage.Stage.{Stage}
+use Rattle.shell_stage.specs.declared.stage.Stage.TheVariants.{Declaring, Configured}
+use Rattle.shell_stage.specs.Stages.{AreBound}
+use Rattle.shell_steps.specs.ShellState.{ShellState}
 use Rattle.sqla_shell.specs.Reference.{do_and_reply, reference, start}
 use Rattle.session_laws.specs.Whole.{IsHale}
 use Rattle.session_laws.specs.Health.Calls.{HasOneForEachKey}

@@ -16,7 +16,7 @@ use script_types::Command;
 use std::alloc::Global;
 
 #[tactic(auto, unfolding(crate::specs::Bindings::cell))]
-fn cell(tokens: &mut Tokens<'_>) -> Result<(Name, Value), Fault>
+fn cell(_alloc: Global, tokens: &mut Tokens<'_>) -> Result<(Name, Value), Fault>
     ensures { Reads (spec.cell tokens.old) result tokens.new }
 {
     let attribute = name(tokens)?;
@@ -29,13 +29,7 @@ fn cell(tokens: &mut Tokens<'_>) -> Result<(Name, Value), Fault>
 fn cells(alloc: Global, tokens: &mut Tokens<'_>) -> Result<ListOf<(Name, Value)>, Fault>
     ensures { Reads (spec.cells tokens.old) result tokens.new }
 {
-    separated(
-        alloc,
-        tokens,
-        Kind::Comma,
-        Vec::new(alloc),
-        |_alloc, tokens| cell(tokens),
-    )
+    separated(alloc, tokens, Kind::Comma, Vec::new(alloc), cell)
 }
 
 /// Cells, or none where the line ends.

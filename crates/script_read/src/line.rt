@@ -42,7 +42,7 @@ fn ends(tokens: &Tokens<'_>, command: Command) -> Result<Command, Fault>
     if tokens.sees(Kind::LineEnd) {
         return Ok(command);
     }
-    drop(command);
+    command.let_go();
     Err(tokens.refuse())
 }
 

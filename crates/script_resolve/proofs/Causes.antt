@@ -29,7 +29,7 @@ use Rattle.script_names.specs.Scopes.{PathMeaning, Scope, path_in, scope_below}
 use Rattle.script_names.specs.Naming.{faults_behind, faults_before, faults_in, name_faults, name_faults_level, path_faults, table_faults, unknown_if_none}
 use Rattle.script_names.proofs.Folds.{bare as bare_syn, by_levels as by_syn_levels}
 use Rattle.script_names.proofs.Operands.{operands_map}
-use Rattle.statement_judging.specs.Judging.{fault_of}
+use Rattle.statement_kinds.specs.Mismatches.{fault_of}
 use Rattle.script_resolve.specs.Refusals.{CanRefuse}
 
 -- ---- lists

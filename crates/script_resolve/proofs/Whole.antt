@@ -39,9 +39,10 @@ use Rattle.script_names.specs.Naming.{faults_in, name_faults, named_expression, 
 use Rattle.script_names.specs.Scopes.{Scope, find_column, outer_scope}
 use Rattle.statement_names.specs.SelectNames.{faults_under, join_faults, joins_faults, named_select, scope_written, select_name_faults}
 use Rattle.plain_statements.specs.Tested.{names_alone}
-use Rattle.statement_judging.specs.Bulks.{bulk_mismatches, bulk_place_faults, cell_mismatch, expressions_in, judged_bulk, value_faults, values_faults}
-use Rattle.statement_judging.specs.Judging.{has_names_apart, has_parts_in_place, join_mismatches, judged_select, mismatch, mismatch_for, mismatches, mismatches_under, place_faults}
-use Rattle.statement_judging.specs.NormalBulk.{normal_bulk}
+use Rattle.statement_kinds.specs.Mismatches.{bulk_mismatches, cell_mismatch, join_mismatches, mismatch, mismatch_for, mismatches, mismatches_under, value_faults, values_faults}
+use Rattle.statement_kinds.specs.NormalBulk.{normal_bulk}
+use Rattle.statement_judging.specs.Bulks.{bulk_place_faults, expressions_in, judged_bulk}
+use Rattle.statement_judging.specs.Judging.{has_names_apart, has_parts_in_place, judged_select, place_faults}
 use Rattle.statement_judging.proofs.Placing.{bulk_parts}
 use Rattle.script_resolve.specs.Bulks.{bulk_faults, gives_once, resolved_bulk}
 use Rattle.script_resolve.specs.Refusals.{CanRefuse}

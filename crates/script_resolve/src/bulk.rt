@@ -5,7 +5,7 @@ ghost use Rattle.base_core.specs.Answers.{Gives};
 ghost use Rattle.sql_semantics.specs.PlainStatement.{IsFittingBulk};
 ghost use Rattle.statement_names.specs.BulkNames as names;
 ghost use Rattle.script_names.specs.Faults.{TellsFirst};
-ghost use Rattle.statement_judging.specs.NormalBulk as normal;
+ghost use Rattle.statement_kinds.specs.NormalBulk as normal;
 ghost use Rattle.script_resolve.specs.Bulks as spec;
 ghost use Rattle.script_resolve.specs.Refusals.{CanRefuse};
 ghost use Rattle.script_resolve.specs.Sayable.{is_sayable_bulk};

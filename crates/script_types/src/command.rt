@@ -123,3 +123,10 @@ pub enum Command {
     CompileBulk(Dialect, SynBulk),
     CompileTable(Dialect, Name),
 }
+
+impl Command {
+    /// Lets the line go. What holds a line lets it go by this call, so the functions that take its forms apart are proved here alone.
+    pub fn let_go(self) {
+        drop(self);
+    }
+}

@@ -8,7 +8,7 @@ use Rattle.schema_core.specs.declared.changes.Planned.{Planned}
 use Rattle.schema_core.specs.declared.changes.RowChanges.{RowChanges}
 use Rattle.flush_plan.specs.Planning.{plan}
 use Rattle.object_rows.specs.declared.prepared.Prepared.{Prepared}
-use Rattle.row_project.specs.Switch.{project}
+use Rattle.row_project.specs.Changes.{project}
 use Rattle.programs.specs.Store.{Store}
 use Rattle.programs.specs.Programs.{◌>>=◌, Run, give}
 use Rattle.programs.specs.Moment.{Moment}

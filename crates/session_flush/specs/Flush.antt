@@ -8,7 +8,7 @@ use Rattle.schema_core.specs.declared.changes.RowChanges.{RowChanges}
 use Rattle.object_arena.specs.Graph.{Graph, is_persistent, object_at}
 use Rattle.object_rows.specs.declared.prepared.Prepared.{Prepared}
 use Rattle.object_rows.specs.Seen.{object_ids}
-use Rattle.row_project.specs.Switch.{project}
+use Rattle.row_project.specs.Changes.{project}
 use Rattle.flush_plan.specs.Planning.{plan}
 use Rattle.graph_flushed.specs.Flushed.{graph_flushed}
 use Rattle.programs.specs.Programs.{Run, ◌>>=◌, ask, give, with_undo}

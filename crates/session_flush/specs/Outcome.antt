@@ -6,7 +6,7 @@ use Rattle.schema_core.specs.declared.changes.Planned.{Planned}
 use Rattle.schema_core.specs.declared.changes.RowChanges.{RowChanges}
 use Rattle.schema_core.specs.Catalog.{Catalog}
 use Rattle.object_rows.specs.declared.prepared.Prepared.{Prepared}
-use Rattle.row_project.specs.Switch.{project}
+use Rattle.row_project.specs.Changes.{project}
 use Rattle.flush_plan.specs.Planning.{plan}
 use Rattle.programs.specs.Programs.{ends_early}
 use Rattle.programs.specs.Moment.{Moment}

@@ -8,7 +8,7 @@ ghost use Rattle.flush_order.specs.Ready.{AreInRange};
 ghost use Rattle.flush_plan.specs.Planning.{plan};
 ghost use Rattle.object_arena.specs.Graph.{IsObject};
 ghost use Rattle.object_rows.specs.Seen.{AreMade, object_ids};
-ghost use Rattle.row_project.specs.Switch.{project};
+ghost use Rattle.row_project.specs.Changes.{project};
 ghost use Rattle.session_flush.specs.Flush as spec;
 
 use base_core::{ListOf, ObjId, ObjList, Refusal};

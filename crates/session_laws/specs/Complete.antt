@@ -25,7 +25,7 @@ use Rattle.flush_laws.specs.Plans.Laws.{changes_to_write}
 use Rattle.flush_laws.specs.Plans.Premises.{IsClear}
 use Rattle.flush_laws.specs.Graphs.{IsWellMapped}
 use Rattle.legality_laws.specs.Legality.{IsAscendingStore}
-use Rattle.row_project.specs.Switch.{project}
+use Rattle.row_project.specs.Changes.{project}
 use Rattle.savepoints.specs.Scopes.{scope_limit}
 use Rattle.session_calls.specs.Parts.{World}
 use Rattle.session_flush.specs.Flush.{flush, prepared_of}

@@ -3,7 +3,7 @@ use Rattle.std.specs.Prelude.{◌≡◌, [], Ok}
 use Rattle.object_rows.specs.declared.prepared.Prepared.{Prepared}
 use Rattle.object_rows.specs.Rows.{changed_rows, new_rows}
 use Rattle.flush_plan.specs.Planning.{plan}
-use Rattle.row_project.specs.Switch.{project}
+use Rattle.row_project.specs.Changes.{project}
 use Rattle.graph_flushed.specs.Flushed.{Written, graph_written}
 
 -- a preparation that deletes and clears nothing

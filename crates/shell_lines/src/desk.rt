@@ -194,7 +194,7 @@ impl Desk {
         ensures done { IfOk result CanBeDone }
     {
         if ends_block(&command) {
-            drop(command);
+            command.let_go();
             return Ok(Said::Declare(block));
         }
         self.block = Some(with_line(command, block)?);
@@ -210,14 +210,14 @@ impl Desk {
         ensures done { IfOk result CanBeDone }
     {
         if is_skip(&command) {
-            drop(command);
+            command.let_go();
             return Ok(Said::Nothing);
         }
         if is_head(&command) {
             return self.open(alloc, command);
         }
         if is_configure(&command) {
-            drop(command);
+            command.let_go();
             return Ok(Said::Configure);
         }
         done_if_built(command)
@@ -265,7 +265,7 @@ fn done_if_built(command: Command) -> Result<Said, Refusal>
     if is_built(&command) {
         return Ok(Said::Do(command));
     }
-    drop(command);
+    command.let_go();
     Err(Refusal::NotBuilt)
 }
 

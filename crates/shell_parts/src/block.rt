@@ -12,7 +12,6 @@ use class_types::{ClassSpec, Hooks};
 use schema_core::TableSpec;
 use script_types::{Command, Inside};
 use std::alloc::Global;
-use std::mem::drop;
 
 /// What a block has declared so far.
 #[derive(Drop)]
@@ -64,7 +63,7 @@ impl Declared {
                 validators: ListOf::new(alloc),
             })),
             other => {
-                drop(other);
+                other.let_go();
                 Err(Refusal::NotBuilt)
             }
         }
@@ -175,7 +174,7 @@ fn take_table_line(spec: &mut TableSpec, line: Command) -> Result<(), Refusal>
         Command::UniqueLine(columns) => spec.uniques.push(columns),
         Command::ForeignLine(foreign) => spec.foreigns.push(foreign),
         other => {
-            drop(other);
+            other.let_go();
             Ok(())
         }
     }
@@ -191,7 +190,7 @@ fn take_class_line(spec: &mut ClassSpec, line: Command) -> Result<(), Refusal>
         Command::RelationLine(relation) => spec.relations.push(relation),
         Command::ValidateLine(attribute, hook) => spec.validators.push((attribute, hook)),
         other => {
-            drop(other);
+            other.let_go();
             Ok(())
         }
     }

@@ -1,5 +1,4 @@
-pub mod Bindings
 pub mod Commands
 pub mod Lines
 pub mod Replying
-pub mod Stages
+pub mod Turns

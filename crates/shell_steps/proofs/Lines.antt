@@ -1,32 +1,26 @@
 -- A line: what it comes to, and that it is done.
-use Rattle.std.proofs.Common.{◌≡◌, ℕ, List, [], Result, Ok, Err, IfErr, IsErrAnd, refl, sym, ap, subst}
-use Rattle.base_core.specs.Answers.{Gives}
+use Rattle.std.proofs.Common.{◌≡◌, ℕ, List, [], Result, Ok, Err, IsErrAnd, refl, sym, ap, subst}
 use Rattle.base_core.specs.declared.refusal.Refusal.{Refusal}
-use Rattle.base_core.specs.declared.refusal.Refusal.TheVariants.{InvalidRequestError, Memory}
-use Rattle.base_core.specs.declared.refusal.RequestKind.TheVariants.{NotConfigured}
-use Rattle.class_mapping.specs.Mapped.{Mapped}
+use Rattle.base_core.specs.declared.refusal.Refusal.TheVariants.{Memory}
 use Rattle.class_types.specs.Rules.{Rules}
 use Rattle.programs.specs.Store.{Store}
 use Rattle.programs.specs.Programs.{Run}
 use Rattle.programs.specs.Moment.{Moment, Runs}
 use Rattle.programs.specs.Alone.{IsQuiet, Tells, alone}
 use Rattle.programs.specs.Beside.{on_own}
-use Rattle.programs.proofs.AloneLemmas.{alone_err, alone_lost, alone_ok, asked_tells, beside_alone, tells_err, then_own_err, then_own_ok}
+use Rattle.programs.proofs.AloneLemmas.{alone_err, alone_lost, alone_ok, asked_tells, beside_alone, then_own_err, then_own_ok}
 use Rattle.programs.proofs.Sequence.{done}
 use Rattle.script_types.specs.declared.command.Command.{Command}
-use Rattle.session_scopes.specs.SessionState.{SessionState}
-use Rattle.compiled_lines.specs.CompiledLines.{IsOfCompiling, compiled_line}
 use Rattle.shell_lines.specs.declared.desk.Said.{Said}
 use Rattle.shell_lines.specs.declared.desk.Said.TheVariants as said
 use Rattle.shell_lines.specs.Desk.{DeskState, said_line}
-use Rattle.shell_steps.specs.declared.stage.Stage.{Stage}
-use Rattle.shell_steps.specs.declared.stage.Stage.TheVariants.{Declaring, Configured}
-use Rattle.shell_steps.specs.Asking.{compiled_at}
+use Rattle.shell_stage.specs.declared.stage.Stage.{Stage}
+use Rattle.shell_stage.specs.Asking.{compiled_at}
+use Rattle.shell_stage.specs.Stages.{IsReady}
 use Rattle.shell_steps.specs.Calls.{IsShellCall, IsShellCallAlone}
-use Rattle.shell_steps.specs.ShellState.{IsReady, ShellState}
+use Rattle.shell_steps.specs.ShellState.{ShellState}
 use Rattle.shell_steps.specs.Step.{World, at_desk, compile, desk_run, do_said, line_step}
-use Rattle.shell_steps.proofs.Commands.{tells_asked}
-use Rattle.shell_steps.proofs.Stages.{stays}
+use Rattle.shell_steps.proofs.Turns.{stays}
 
 -- ---- the place where the script stands
 
@@ -88,15 +82,6 @@ acts_nothing {moment = moment} rules {own = own} {keeper = keeper} {reply = repl
 pub ruleset acting = (acts, acts_nothing)
 
 -- ---- a line that compiles
-
-pub compiled_none : {stage : Stage} {mapping : Mapped} (command : Command) → stage ≡ Declaring mapping → Tells {X = List ℕ} (λ reply. reply) (compiled_at stage command) (Err (InvalidRequestError NotConfigured))
-compiled_none command is = subst (λ (s : Stage). Tells {X = List ℕ} (λ reply. reply) (compiled_at s command) (Err (InvalidRequestError NotConfigured))) (sym is) (tells_err refl refl refl)
-
-pub compiled_some : {stage : Stage} {session : SessionState} {r : Result (List ℕ) Refusal} (command : Command)
-    → stage ≡ Configured session → Gives (λ (reply : List ℕ). reply) r (compiled_line session.mapping.schema command) → IfErr r IsOfCompiling → Tells (λ (reply : List ℕ). reply) (compiled_at stage command) r
-compiled_some {r = r} command is p cause = subst (λ (s : Stage). Tells (λ (reply : List ℕ). reply) (compiled_at s command) r) (sym is) (tells_asked p cause)
-
-pub ruleset compiling = (compiled_none, compiled_some)
 
 -- it was compiled, and nothing else was done
 pub compiles : {K : Type 0} (moment : K → Moment Store) (command : Command) (inside own : ShellState) (keeper : K) (r : Result (List ℕ) Refusal)

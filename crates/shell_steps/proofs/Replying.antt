@@ -4,10 +4,6 @@ use Rattle.base_core.specs.declared.refusal.Refusal.{Refusal}
 use Rattle.base_core.specs.declared.refusal.Refusal.TheVariants.{Memory, ScriptError}
 use Rattle.class_mapping.specs.Mapped.{Mapped}
 use Rattle.class_types.specs.Rules.{Rules}
-use Rattle.object_arena.specs.Graph.{Graph}
-use Rattle.keeper_core.specs.declared.notes.Note.{Note}
-use Rattle.shell_replies.specs.declared.notes.PrintOptions.{PrintOptions}
-use Rattle.shell_replies.specs.Notes.{notes_text}
 use Rattle.programs.specs.Store.{Store}
 use Rattle.programs.specs.Programs.{ask, ends_early, give, quiet}
 use Rattle.programs.specs.Moment.{Moment, Ran, Runs}
@@ -22,11 +18,13 @@ use Rattle.session_scopes.specs.SessionState.{SessionState}
 use Rattle.session_calls.specs.Calling.{IsSessionCall}
 use Rattle.session_calls.specs.Steps as session
 use Rattle.shell_parts.specs.declared.block.Block.{Block}
-use Rattle.shell_steps.specs.declared.stage.Stage.{Stage}
-use Rattle.shell_steps.specs.declared.stage.Stage.TheVariants.{Declaring, Configured}
+use Rattle.shell_stage.specs.declared.stage.Stage.{Stage}
+use Rattle.shell_stage.specs.declared.stage.Stage.TheVariants.{Declaring, Configured}
+use Rattle.shell_stage.specs.Stages.{IsKept, IsReady}
+use Rattle.shell_stage.specs.Step.{notes_at, without_notes}
 use Rattle.shell_steps.specs.Calls.{IsShellCallAlone}
-use Rattle.shell_steps.specs.ShellState.{IsKept, IsReady, ShellState}
-use Rattle.shell_steps.specs.Step.{answer_to, at_stage, close_session, close_session_at, close_stage, end_of_script, end_of_script_in, error_text, in_session, line_step, notes_at, notes_told, reply_to, shell_refused, tell, tell_here, tell_notes, with_session, without_notes}
+use Rattle.shell_steps.specs.ShellState.{ShellState}
+use Rattle.shell_steps.specs.Step.{answer_to, at_stage, close_session, close_session_at, close_stage, end_of_script, end_of_script_in, error_text, in_session, line_step, notes_told, reply_to, shell_refused, tell, tell_here, tell_notes, with_session}
 use Rattle.shell_steps.proofs.Commands.{session_runs}
 
 -- ---- replies
@@ -108,14 +106,6 @@ pub with_notes_view : (inside own : ShellState) (line : ℕ) (first mid last rep
 with_notes_view inside own line first mid last reply here none number notes is =
     is ∙ ap (λ (text : List ℕ). text ++ reply) (notes ∙ ap (λ (text : List ℕ). text ++ notes_at inside.options line inside.stage) none ∙ ap (λ (n : ℕ). notes_at inside.options n inside.stage) number)
     ∙ ap (λ (s : ShellState). notes_told s ++ reply) here
-
--- what the session noted was told
-pub notes_put : (r : Result (Unit {0}) Refusal) (options : PrintOptions) (line : ℕ) (old new : List ℕ) (mapped own : Mapped) (graph here : Graph) (notes mine : List Note)
-    → mapped ≡ own → graph ≡ here → notes ≡ mine → OnOk r (new ≡ old ++ notes_text options line mapped graph notes) → OnOk r (new ≡ old ++ notes_text options line own here mine)
-notes_put r options line old new mapped own graph here notes mine same objects noted p =
-    subst (λ (m : Mapped). OnOk r (new ≡ old ++ notes_text options line m here mine)) same
-    (subst (λ (g : Graph). OnOk r (new ≡ old ++ notes_text options line mapped g mine)) objects
-    (subst (λ (n : List Note). OnOk r (new ≡ old ++ notes_text options line mapped graph n)) noted p))
 
 -- the line was done, and what it did was told
 pub noted_ok : {K : Type 0} (moment : K → Moment Store) (rules : Rules) (bytes : List ℕ) {own mid now : ShellState} {old new : K} {reply : List ℕ} {r : Result (List ℕ) Refusal}

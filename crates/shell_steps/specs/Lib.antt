@@ -1,4 +1,3 @@
-pub mod Asking
 pub mod Calls
 pub mod ShellState
 pub mod Step

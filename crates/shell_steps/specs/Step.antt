@@ -1,37 +1,28 @@
 -- What the lines of a script do, each as a program of the store and of the shell beside it. A program answers its reply.
 use Rattle.std.specs.Prelude.{ℕ, List, [], ◌++◌, Option, None, Some, Result, Ok, Err}
-use Rattle.base_core.specs.declared.refusal.RequestKind.TheVariants.{Configured as IsConfigured, NotConfigured}
+use Rattle.base_core.specs.declared.refusal.RequestKind.TheVariants.{NotConfigured}
 use Rattle.base_core.specs.declared.refusal.Refusal.{Refusal}
 use Rattle.base_core.specs.declared.refusal.Refusal.TheVariants.{InvalidRequestError, ScriptError}
 use Rattle.class_types.specs.Rules.{Rules}
-use Rattle.printing.specs.Texts.{Names}
-use Rattle.class_mapping.specs.Mapped.{Mapped}
-use Rattle.class_mapping.specs.Declaring as declaring
 use Rattle.script_types.specs.declared.command.Command.{Command}
-use Rattle.script_types.specs.declared.command.Dialect.{Dialect}
 use Rattle.shell_parts.specs.declared.block.Block.{Block}
-use Rattle.shell_parts.specs.Bindings.{bind}
-use Rattle.shell_parts.specs.Blocks.{declare}
 use Rattle.programs.specs.Programs.{Run, ◌>>=◌, ask, becomes, change, give, handle_refusal, quiet}
 use Rattle.programs.specs.Beside.{Beside, by_own, on_own}
-use Rattle.session_scopes.specs.SessionState.{SessionState, new_session}
+use Rattle.session_scopes.specs.SessionState.{SessionState}
 use Rattle.session_calls.specs.Steps as session
-use Rattle.session_perform.specs.Performing.{program_of_resolved}
 use Rattle.command_resolve.specs.declared.answer.Answer.{Answer}
 use Rattle.command_resolve.specs.declared.answer.Answer.TheVariants as answer
-use Rattle.command_resolve.specs.Terms.{Bindings}
 use Rattle.shell_lines.specs.declared.desk.Said.{Said}
 use Rattle.shell_lines.specs.declared.desk.Said.TheVariants.{Nothing, Configure, Declare, Compile, Do}
 use Rattle.shell_lines.specs.Desk.{DeskState, said_line, with_refused}
 use Rattle.shell_replies.specs.Answers.{answer_text}
-use Rattle.shell_replies.specs.Naming.{session_names, table_names}
-use Rattle.shell_replies.specs.Notes.{notes_text}
 use Rattle.shell_replies.specs.Replies.{error_line}
-use Rattle.shell_replies.specs.declared.notes.PrintOptions.{PrintOptions}
-use Rattle.shell_steps.specs.declared.stage.Stage.{Stage}
-use Rattle.shell_steps.specs.declared.stage.Stage.TheVariants.{Declaring, Configured}
-use Rattle.shell_steps.specs.Asking.{asked, compiled_at}
-use Rattle.shell_steps.specs.ShellState.{ShellState, mapping_of}
+use Rattle.shell_stage.specs.declared.stage.Stage.{Stage}
+use Rattle.shell_stage.specs.declared.stage.Stage.TheVariants.{Declaring, Configured}
+use Rattle.shell_stage.specs.Asking.{compiled_at}
+use Rattle.shell_stage.specs.Stages.{mapping_of}
+use Rattle.shell_stage.specs.Step.{declared_stage, names_at, names_with, notes_at, opened_stage, performed, without_notes}
+use Rattle.shell_steps.specs.ShellState.{ShellState}
 
 -- the world of a line: the shell, and the store
 abbrev pub World : Type 0
@@ -75,41 +66,14 @@ at_stage_of shell (Err e) = Err e
 unfoldable pub goes : (Stage → Result Stage Refusal) → ShellState → Run ShellState (Unit {0})
 goes step = becomes (λ shell. at_stage_of shell (step shell.stage))
 
-abbrev pub session_stage : Result (Unit {0} × Mapped) Refusal → Result Stage Refusal
-session_stage (Ok p) = Ok (Configured (new_session p.1))
-session_stage (Err e) = Err e
-
--- all declarations are checked, and a session opens over them
-unfoldable pub opened_stage : Stage → Result Stage Refusal
-opened_stage (Declaring mapping) = session_stage (declaring.configure mapping)
-opened_stage (Configured session) = Err (InvalidRequestError IsConfigured)
-
-abbrev pub stage_over : Result (Unit {0} × Mapped) Refusal → Result Stage Refusal
-stage_over (Ok p) = Ok (Declaring p.1)
-stage_over (Err e) = Err e
-
--- what a block says is declared, where these are the rules of the validators
-unfoldable pub declared_stage : Rules → Block → Stage → Result Stage Refusal
-declared_stage rules block (Declaring mapping) = stage_over (declare rules block.declared mapping)
-declared_stage rules block (Configured session) = Err (InvalidRequestError IsConfigured)
-
 -- the shell goes to another stage, and nothing is told
 unfoldable pub turn : (Stage → Result Stage Refusal) → World → Run World (List ℕ)
 turn step = on_own (goes step) >>= λ u. give []
 
 -- ---- commands
 
--- what the line asks for by these names and the session's mapping is performed
-unfoldable pub performed : Rules → Dialect → Bindings → Command → Beside SessionState → Run (Beside SessionState) Answer
-performed rules dialect names command = on_own (ask (λ session. asked dialect session.mapping names command)) >>= program_of_resolved rules
-
 unfoldable pub perform : Rules → Command → World → Run World Answer
 perform rules command = by_own (λ shell. in_session (performed rules shell.options.dialect shell.names command))
-
--- the names, where the answer is to be bound with one more
-abbrev pub names_with : Answer → Bindings → Bindings
-names_with (answer.Bind name thing) names = bind names name thing
-names_with other names = names
 
 abbrev pub with_answer : Answer → ShellState → ShellState
 with_answer answer shell = record shell { names = names_with answer shell.names }
@@ -145,11 +109,6 @@ line_step rules bytes = on_own (at_desk (said_line bytes)) >>= do_said rules
 abbrev pub shell_refused : ShellState → ShellState
 shell_refused shell = record shell { desk = with_refused shell.desk }
 
--- the names of what refusals have by number
-abbrev pub names_at : Stage → Names
-names_at (Declaring mapping) = table_names mapping.schema
-names_at (Configured session) = session_names session.mapping session.graph
-
 -- the line that says why the line of this number is refused
 abbrev pub error_text : ℕ → Refusal → ShellState → List ℕ
 error_text number e shell = error_line (names_at shell.stage) number e
@@ -165,19 +124,9 @@ tell_here e shell = tell shell.desk.line e shell
 unfoldable pub answer_to : Rules → List ℕ → World → Run World (List ℕ)
 answer_to rules bytes = handle_refusal (λ e. on_own (tell_here e)) (line_step rules bytes)
 
--- what is told of what the session noted in the line of a number
-abbrev pub notes_at : PrintOptions → ℕ → Stage → List ℕ
-notes_at options line (Declaring mapping) = []
-notes_at options line (Configured session) = notes_text options line session.mapping session.graph session.notes
-
 -- what is told of what the line did
 abbrev pub notes_told : ShellState → List ℕ
 notes_told shell = notes_at shell.options shell.desk.line shell.stage
-
--- the session has noted nothing
-abbrev pub without_notes : Stage → Stage
-without_notes (Declaring mapping) = Declaring mapping
-without_notes (Configured session) = Configured (record session { notes = [] })
 
 -- what the line did is told before its reply, and forgotten
 unfoldable pub tell_notes : List ℕ → ShellState → Run ShellState (List ℕ)

@@ -1,6 +1,6 @@
 //! The state of a run between two lines, and what a line answers.
 
-ghost use Rattle.std.specs.Prelude.{◌≡◌, ◌++◌, true, IfErr, IfOk, OnErr, OnOk};
+ghost use Rattle.std.specs.Prelude.{◌≡◌, ◌++◌, true, IfErr, IfOk, OnOk};
 ghost use Rattle.class_types.specs.Shown.{rules_of};
 ghost use Rattle.programs.specs.Alone.{alone};
 ghost use Rattle.programs.specs.Programs.{ends_early};
@@ -8,12 +8,12 @@ ghost use Rattle.programs.specs.Moment.{Runs};
 ghost use Rattle.programs.specs.Beside.{moment_answering, on_own};
 ghost use Rattle.sayable_lines.specs.Sayable.{IsSayable};
 ghost use Rattle.shell_lines.specs.Desk.{CanBeDone, said_line};
+ghost use Rattle.shell_stage.specs.Stages.{IsAnswerAt, IsKept, IsReady};
+ghost use Rattle.shell_stage.specs.Step.{declared_stage, opened_stage};
 ghost use Rattle.shell_steps.specs.Calls.{IsShellCall, IsShellCallAlone};
-ghost use Rattle.shell_steps.specs.ShellState.{IsAnswerAt, IsKept, IsReady, new_shell};
+ghost use Rattle.shell_steps.specs.ShellState.{new_shell};
 ghost use Rattle.shell_steps.specs.Step as step;
 
-use crate::session::perform_line;
-use crate::stage::Stage;
 use base_core::{Refusal, RequestKind};
 use class_mapping::Mapping;
 use class_types::Hooks;
@@ -24,6 +24,7 @@ use session_calls::close;
 use shell_lines::{Desk, Said};
 use shell_parts::{Block, Names};
 use shell_replies::{PrintOptions, Reply, reply_of};
+use shell_stage::{Stage, bind, perform_line};
 use std::alloc::Global;
 use std::marker::Model;
 use std::mem::drop;
@@ -56,7 +57,8 @@ impl Drop for Shell {
 impl Model for Shell {
     ghost use Rattle.std.specs.Coded.{codes};
     ghost use Rattle.expr_types.specs.contracts.expr.Expr as e;
-    ghost use Rattle.shell_steps.specs.ShellState.{AreBound, ShellState};
+    ghost use Rattle.shell_stage.specs.Stages.{AreBound};
+    ghost use Rattle.shell_steps.specs.ShellState.{ShellState};
 
     ghost Value = { ShellState };
 
@@ -69,7 +71,7 @@ impl Model for Shell {
 
 impl Shell {
     /// Nothing is declared or bound.
-    #[tactic(auto, using(crate::proofs::Bindings::bindings))]
+    #[tactic(auto, using(shell_stage::proofs::Bindings::bindings))]
     pub fn new(alloc: Global, options: PrintOptions) -> Shell
         ensures { result ≡ new_shell options }
     {
@@ -213,16 +215,24 @@ impl Shell {
             Said::Nothing => Ok(Reply::new(self.alloc)),
             Said::Configure => self.configure(keeper),
             Said::Declare(block) => self.declare(keeper, hooks, block),
-            Said::Compile(command) => self.compile(keeper, &command),
-            Said::Do(command) => self.command(keeper, hooks, &command),
+            Said::Compile(command) => {
+                let reply = self.compile(keeper, &command);
+                command.let_go();
+                reply
+            }
+            Said::Do(command) => {
+                let reply = self.command(keeper, hooks, &command);
+                command.let_go();
+                reply
+            }
         }
     }
 
     /// Checks all declarations, and opens the session.
-    #[tactic(auto, using(crate::proofs::Bindings::bindings), unfolding(crate::specs::Step::turn))]
+    #[tactic(auto, using(shell_stage::proofs::Bindings::bindings), unfolding(crate::specs::Step::turn))]
     fn configure<K: Keeper>(&mut self, keeper: &K) -> Result<Reply, Refusal>
         requires ready { IsReady self.old.stage (K.moment keeper.now) }
-        ensures { IsShellCall K.moment (step.turn step.opened_stage)
+        ensures { IsShellCall K.moment (step.turn opened_stage)
             (self.old, keeper.now) result (self.new, keeper.now) }
     {
         self.stage.configure(self.alloc)?;
@@ -230,7 +240,7 @@ impl Shell {
     }
 
     /// Declares what a block says.
-    #[tactic(auto, using(crate::proofs::Bindings::bindings), unfolding(crate::specs::Step::turn))]
+    #[tactic(auto, using(shell_stage::proofs::Bindings::bindings), unfolding(crate::specs::Step::turn))]
     fn declare<K: Keeper>(
         &mut self,
         keeper: &K,
@@ -239,7 +249,7 @@ impl Shell {
     ) -> Result<Reply, Refusal>
         requires ready { IsReady self.old.stage (K.moment keeper.now) }
         ensures { IsShellCall K.moment
-            (step.turn (step.declared_stage (rules_of hooks.now) block))
+            (step.turn (declared_stage (rules_of hooks.now) block))
             (self.old, keeper.now) result (self.new, keeper.now) }
     {
         self.stage.declare(hooks, block)?;
@@ -277,7 +287,7 @@ impl Shell {
     ///
     /// # Errors
     /// `NotConfigured`; then those of the line's names and values, and of what it asks for.
-    #[tactic(auto, using(crate::proofs::Commands::performing, crate::proofs::Bindings::bindings), unfolding(crate::specs::Step::perform))]
+    #[tactic(auto, using(crate::proofs::Commands::performing, shell_stage::proofs::Bindings::bindings), unfolding(crate::specs::Step::perform))]
     fn perform<K: Keeper>(
         &mut self,
         keeper: &mut K,
@@ -305,7 +315,7 @@ impl Shell {
     }
 
     /// The reply that tells of an answer; what is to be bound is bound. The only refusal is `Memory`.
-    #[tactic(auto, using(crate::proofs::Commands::answered, crate::proofs::Bindings::bindings), unfolding(crate::specs::Step::tell_answer))]
+    #[tactic(auto, using(crate::proofs::Commands::answered, shell_stage::proofs::Bindings::bindings), unfolding(crate::specs::Step::tell_answer))]
     fn tell_answer(&mut self, answer: Answer) -> Result<Reply, Refusal>
         requires { IsAnswerAt self.old.stage answer }
         ensures call { IsShellCallAlone (step.tell_answer answer) self.old result self.new }
@@ -372,7 +382,7 @@ impl Shell {
     }
 
     /// Closes the session, where there is one.
-    #[tactic(auto, using(crate::proofs::Replying::closes, crate::proofs::Bindings::bindings))]
+    #[tactic(auto, using(crate::proofs::Replying::closes, shell_stage::proofs::Bindings::bindings))]
     fn close_stage<K: Keeper>(&mut self, keeper: &mut K) -> Result<(), Refusal>
         requires { IsReady self.old.stage (K.moment keeper.old) }
         ensures step { Runs (moment_answering K.moment)
@@ -384,20 +394,5 @@ impl Shell {
             return Ok(());
         };
         close(session, keeper)
-    }
-}
-
-/// What an answer binds is bound. The only refusal is `Memory`, and it leaves the names as they were.
-fn bind(names: &mut Names, answer: Answer) -> Result<(), Refusal>
-    ensures ok { OnOk result (names.new ≡ step.names_with answer names.old) }
-    ensures err { OnErr result (names.new ≡ names.old) }
-    ensures cause { IfErr result (λ e. e ≡ Refusal.Memory) }
-{
-    match answer {
-        Answer::Bind(name, thing) => names.bind(&name, thing),
-        other => {
-            drop(other);
-            Ok(())
-        }
     }
 }

@@ -3,14 +3,13 @@
 
 ghost use Rattle.std.specs.Prelude.{◌≡◌, None};
 
-use base_core::{Kind, Name, Refusal, Value};
 use byte_streams::{StdSink, StdSource};
-use class_types::{Hooks, Rule, Validator, has_at, is_nonempty, is_positive, is_short};
+use class_types::Hooks;
 use keeper_core::Keeper;
 use keeper_shelf::{OverKeepers, over_shelf};
+use shipped_validators::{WithValidators, with_shipped};
 use sqla_shell::{Status, refuse_words, run};
 use sqlite_database::{Database, OverDatabases, over_sqlite};
-use std::alloc::Global;
 use std::io::writer;
 use std::process::ExitCode;
 use std::rt::Env;
@@ -64,10 +63,15 @@ struct ScriptRun<'x> {
 
 impl OverKeepers for ScriptRun<'_> {
     fn run<K: Keeper>(&mut self, keeper: &mut K) {
-        self.status = match run_with_hooks(&self.rt, self.words, keeper) {
-            Ok(status) => status,
-            Err(_) => Status::Memory,
-        };
+        if with_shipped(self.rt.alloc(), keeper, self).is_err() {
+            self.status = Status::Memory;
+        }
+    }
+}
+
+impl WithValidators for ScriptRun<'_> {
+    fn run<K: Keeper>(&mut self, keeper: &mut K, hooks: &Hooks) {
+        self.status = run_streams(&self.rt, self.words, keeper, hooks);
     }
 }
 
@@ -84,35 +88,16 @@ fn run_words<D: Database + Drop>(rt: HostRuntime, words: &Vec<String>) -> Status
     }
 }
 
-/// The name of a validator.
-fn hook_name(alloc: Global, name: &str) -> Result<Name, Refusal> {
-    Ok(Name::new(String::from_str(alloc, name)?))
-}
-
-/// Runs it with the validators `positive` (at least 1), `nonempty` (at least one character), `short` (at most 40 characters) and
-/// `has_at` (a text with an `@`). The only refusal is `Memory`.
-fn run_with_hooks<K: Keeper>(
+/// Runs the script of standard input, and answers to standard output.
+fn run_streams<K: Keeper>(
     rt: &(impl Input + Print + AllocGlobal),
     words: &Vec<String>,
     keeper: &mut K,
-) -> Result<Status, Refusal>
+    hooks: &Hooks,
+) -> Status
     requires { (K.moment keeper.old).target ≡ None }
 {
-    let alloc = rt.alloc();
-    let mut hooks = Hooks::new(alloc);
-    let positive = Box::new(alloc, |value: &Value| is_positive(value))?;
-    let positive = Validator::new(Kind::Integer, Rule::AtLeast(1), positive);
-    hooks.put(hook_name(alloc, "positive")?, positive)?;
-    let nonempty = Box::new(alloc, |value: &Value| is_nonempty(value))?;
-    let nonempty = Validator::new(Kind::Text, Rule::MinLength(1), nonempty);
-    hooks.put(hook_name(alloc, "nonempty")?, nonempty)?;
-    let short = Box::new(alloc, |value: &Value| is_short(value))?;
-    let short = Validator::new(Kind::Text, Rule::MaxLength(40), short);
-    hooks.put(hook_name(alloc, "short")?, short)?;
-    let at = Box::new(alloc, |value: &Value| has_at(value))?;
-    let at = Validator::new(Kind::Text, Rule::HasByte(b'@'), at);
-    hooks.put(hook_name(alloc, "has_at")?, at)?;
     let mut source = StdSource::new(rt.reader());
     let mut sink = StdSink::new(writer(rt));
-    Ok(run(alloc, words, &mut source, &mut sink, keeper, &hooks))
+    run(rt.alloc(), words, &mut source, &mut sink, keeper, hooks)
 }

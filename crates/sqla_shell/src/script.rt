@@ -5,7 +5,7 @@ ghost use Rattle.class_types.specs.Shown.{rules_of};
 ghost use Rattle.programs.specs.Programs.{as_refusal};
 ghost use Rattle.programs.specs.Moment.{Runs};
 ghost use Rattle.script_lines.specs.Cutting.{FitsSource, Pending, to_come};
-ghost use Rattle.shell_steps.specs.ShellState.{IsReady};
+ghost use Rattle.shell_stage.specs.Stages.{IsReady};
 ghost use Rattle.sqla_shell.specs.Causes.{CountsFaults, faults, stop_refusal};
 ghost use Rattle.sqla_shell.specs.Outcome.{DoesLines, DoesScript, HasNothingLeft, HasWritten, moment_writing};
 ghost use Rattle.sqla_shell.specs.Reference.{close_and_tell, do_and_reply, end_script, writes};

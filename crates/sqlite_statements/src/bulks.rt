@@ -5,16 +5,16 @@ ghost use Rattle.schema_core.specs.Catalog.{Catalog, IsTable};
 ghost use Rattle.sql_semantics.specs.Plain.{IsPlainBulk};
 ghost use Rattle.sqlite_statements.specs.Endings.{IfRefused, MayRefuseBulk};
 
-use crate::asking::{ask_integer, run_statement};
 use crate::rows::insert;
-use crate::tables::store_without_rows;
-use base_core::{ColumnNo, Copied, ListOf, Refusal, RowList, RowValues, TableId, Value};
+use crate::sending::run_statement;
+use base_core::{ColumnNo, Copied, ListOf, RowList, RowValues, TableId, Value};
 use expr_types::{Bulk, CopiedIn, Expr, Statement};
 use keeper_core::WriteRefusal;
-use schema_core::{Schema, TableSpec, Violation};
-use sql_text::{Quoting, Writer};
+use schema_core::{Schema, Violation};
 use sqlite_database::{Database, Ending};
 use sqlite_items::Boxed;
+use sqlite_tables::lookups::has_reals;
+use sqlite_tables::tables::store_without_rows;
 use std::alloc::{AllocError, Global};
 use table_log::TableLog;
 use table_store::write_bulk;
@@ -77,37 +77,6 @@ fn put_row<D: Database>(
 }
 
 // ---- an UPDATE
-
-/// Writes the select that counts the rows of a table in which one of the columns holds a number that is no integer.
-fn put_count_of_reals(
-    writer: &mut Writer,
-    spec: &TableSpec,
-    cells: &[(ColumnNo, Option<Expr>)],
-) -> Result<(), Refusal> {
-    writer.put_words("SELECT count(*) FROM ")?;
-    writer.put_name(&spec.name)?;
-    writer.put_words(" WHERE 1 = 0")?;
-    for cell in cells {
-        if let Some(column) = spec.columns.get(cell.0.0 as usize) {
-            writer.put_words(" OR typeof(")?;
-            writer.put_name(&column.name)?;
-            writer.put_words(") = 'real'")?;
-        }
-    }
-    Ok(())
-}
-
-/// Whether one of the columns holds a number that is no integer.
-fn has_reals<D: Database>(
-    database: &mut D,
-    alloc: Global,
-    spec: &TableSpec,
-    cells: &[(ColumnNo, Option<Expr>)],
-) -> Result<bool, Ending> {
-    let mut writer = Writer::new(alloc, Quoting::Sqlite);
-    put_count_of_reals(&mut writer, spec, cells)?;
-    Ok(ask_integer(database, alloc, writer)? != Some(0))
-}
 
 /// Rewrites rows. What leaves 64 bits is a number that is no integer to SQLite, and a fault.
 fn rewrite<D: Database>(

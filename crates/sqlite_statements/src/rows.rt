@@ -7,19 +7,17 @@ ghost use Rattle.schema_core.specs.WellFormed.{AreKeysFor, AreKeysOf, IsDrawnFor
 ghost use Rattle.std.specs.List.{list_all};
 ghost use Rattle.sqlite_statements.specs.Endings.{IfRefused, IsKeyFor};
 
-use crate::asking::{ask_compiled, ask_integer, integer_of, run_statement};
-use crate::tables::{has_table, put_names};
-use base_core::{
-    ColumnNo, Copied, Key, KeyList, Kind, ListOf, Refusal, RowList, RowValues, TableId, Value,
-};
+use crate::sending::run_statement;
+use base_core::{ColumnNo, Copied, Key, KeyList, ListOf, RowList, RowValues, TableId, Value};
 use expr_types::Statement;
 use row_cells::{key_of, lacks_given, with_key};
 use schema_core::{
     ColumnSpec, RowStmt, Schema, TableSpec, Violation, has_generated_key, is_required,
 };
-use sql_text::{Quoting, Writer};
 use sqlite_database::{Database, Ending};
 use sqlite_items::Boxed;
+use sqlite_tables::lookups::{greatest_key, is_taken};
+use sqlite_tables::tables::has_table;
 use std::alloc::{AllocError, Global};
 
 /// A list of one key.
@@ -37,7 +35,12 @@ fn one_key(alloc: Global, key: &Key) -> Result<KeyList, AllocError>
 fn are_all_null(values: &[Value]) -> bool
     ensures { result ≡ list_all is_null values.now }
 {
-    values.iter().all(|value| is_null(value))
+    for value in values {
+        if !is_null(value) {
+            return false;
+        }
+    }
+    true
 }
 
 fn is_null(value: &Value) -> bool
@@ -114,39 +117,17 @@ fn rows_with_keys(
     Ok((ListOf::from_vec(filled), ListOf::from_vec(keys)))
 }
 
-/// Writes the select of a table's greatest key, for which SQLite reads the last row alone.
-fn put_greatest_key(writer: &mut Writer, spec: &TableSpec) -> Result<(), Refusal> {
-    put_names(writer, "SELECT ", spec.columns.as_slice(), true)?;
-    writer.put_words(" FROM ")?;
-    writer.put_name(&spec.name)?;
-    put_names(writer, " ORDER BY ", spec.columns.as_slice(), true)?;
-    writer.put_words(" DESC LIMIT 1")
-}
-
-/// The greatest key of a table, none where it is empty.
-fn greatest_key<D: Database>(
-    database: &mut D,
-    alloc: Global,
-    spec: &TableSpec,
-) -> Result<Option<i64>, Ending> {
-    let mut writer = Writer::new(alloc, Quoting::Sqlite);
-    put_greatest_key(&mut writer, spec)?;
-    let rows = ask_compiled(database, alloc, Ok(writer.finish()), &[Kind::Integer])?;
-    if rows.is_empty() {
-        return Ok(None);
-    }
-    integer_of(&rows)
-}
-
 /// Whether a row leaves its key open.
 fn is_open(spec: &TableSpec, row: &RowValues) -> bool {
-    has_generated_key(spec)
-        && spec
-            .columns
-            .as_slice()
-            .iter()
-            .zip(row.as_slice())
-            .any(|(column, cell)| column.key && is_null(cell))
+    if !has_generated_key(spec) {
+        return false;
+    }
+    for (column, cell) in spec.columns.as_slice().iter().zip(row.as_slice()) {
+        if column.key && is_null(cell) {
+            return true;
+        }
+    }
+    false
 }
 
 /// The first number for the keys of rows that leave them open: one above the greatest key, 1 in an empty table.
@@ -173,37 +154,14 @@ fn first_number<D: Database>(
 
 // ---- an INSERT
 
-/// Writes the select that counts the rows of a key.
-fn put_count_of_key(writer: &mut Writer, spec: &TableSpec, key: &Key) -> Result<(), Refusal> {
-    writer.put_words("SELECT count(*) FROM ")?;
-    writer.put_name(&spec.name)?;
-    writer.put_words(" WHERE 1 = 1")?;
-    let mut place = 0;
-    for column in spec.columns.as_slice() {
-        if column.key {
-            let Some(value) = key.get(place) else {
-                return Ok(());
-            };
-            writer.put_words(" AND ")?;
-            writer.put_name(&column.name)?;
-            writer.put_words(" = ")?;
-            writer.put_value(&column.name, value)?;
-            place = place.saturating_add(1);
+/// Whether a key stands before a place.
+fn stands_before(keys: &[Key], place: usize, key: &Key) -> bool {
+    for other in keys.iter().take(place) {
+        if other == key {
+            return true;
         }
     }
-    Ok(())
-}
-
-/// Whether a key is of a row of the table.
-fn is_taken<D: Database>(
-    database: &mut D,
-    alloc: Global,
-    spec: &TableSpec,
-    key: &Key,
-) -> Result<bool, Ending> {
-    let mut writer = Writer::new(alloc, Quoting::Sqlite);
-    put_count_of_key(&mut writer, spec, key)?;
-    Ok(ask_integer(database, alloc, writer)? != Some(0))
+    false
 }
 
 /// Whether a key stands twice, or is of a row of the table.
@@ -214,9 +172,7 @@ fn has_taken<D: Database>(
     keys: &[Key],
 ) -> Result<bool, Ending> {
     for (place, key) in keys.iter().enumerate() {
-        if keys.iter().take(place).any(|other| other == key)
-            || is_taken(database, alloc, spec, key)?
-        {
+        if stands_before(keys, place, key) || is_taken(database, alloc, spec, key)? {
             return Ok(true);
         }
     }
@@ -245,8 +201,12 @@ fn why_refused<D: Database>(
 fn has_lack(spec: &TableSpec, rows: &[RowValues]) -> bool {
     let generated = has_generated_key(spec);
     let columns = spec.columns.as_slice();
-    rows.iter()
-        .any(|row| lacks_given(columns, row.as_slice(), generated))
+    for row in rows {
+        if lacks_given(columns, row.as_slice(), generated) {
+            return true;
+        }
+    }
+    false
 }
 
 /// An INSERT of rows that have their keys.
@@ -295,10 +255,14 @@ pub(crate) fn insert<D: Database>(
 
 /// Whether a NULL is written into a column that takes none.
 fn writes_null(spec: &TableSpec, cells: &[(ColumnNo, Value)]) -> bool {
-    cells.iter().any(|cell| match spec.columns.get(cell.0.0 as usize) {
-        Some(column) => is_null(&cell.1) && is_required(column),
-        None => false,
-    })
+    for cell in cells {
+        if let Some(column) = spec.columns.get(cell.0.0 as usize) {
+            if is_null(&cell.1) && is_required(column) {
+                return true;
+            }
+        }
+    }
+    false
 }
 
 /// A copy of a statement on rows.

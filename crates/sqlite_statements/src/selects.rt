@@ -5,16 +5,24 @@ ghost use Rattle.sql_semantics.specs.Plain.{IsPlainSelect};
 ghost use Rattle.sqlite_selects.specs.ItemShapes.{AreAnswers};
 ghost use Rattle.sqlite_statements.specs.Endings.{IfRefused, MayRefuseSelect};
 
-use crate::asking::text_of;
-use crate::tables::store_without_rows;
+use crate::sending::text_of;
 use base_core::RowList;
 use expr_types::Select;
 use keeper_core::QueryRefusal;
 use schema_core::{Schema, Violation};
+use sql_text::Compiled;
 use sqlite_database::{Database, Ending};
 use sqlite_selects::{ItemShape, answers, item_shapes, kinds_of, statement_of};
+use sqlite_tables::ask_compiled;
+use sqlite_tables::tables::store_without_rows;
 use std::alloc::Global;
 use table_log::TableLog;
+
+/// The text of a select with its values.
+fn select_text(alloc: Global, schema: &Schema, select: &Select) -> Result<Compiled, Ending> {
+    let statement = statement_of(alloc, select)?;
+    text_of(alloc, schema, &statement)
+}
 
 /// The rows that SQLite answers.
 fn ask_rows<D: Database>(
@@ -25,12 +33,10 @@ fn ask_rows<D: Database>(
     shapes: &[ItemShape],
 ) -> Result<RowList, Ending> {
     let kinds = kinds_of(alloc, shapes)?;
-    let statement = statement_of(alloc, select)?;
-    let text = text_of(alloc, schema, &statement)?;
-    database.ask(
+    ask_compiled(
+        database,
         alloc,
-        text.text.get(),
-        text.values.as_slice(),
+        select_text(alloc, schema, select),
         kinds.as_slice(),
     )
 }

@@ -1,4 +1,2 @@
-pub mod Firsts
-pub mod Loops
 pub mod Placing
 pub mod Under

@@ -1,60 +1,18 @@
 -- What is judged of a select once its names are known: kinds as it is written, and then where the parts of its normal form stand.
-use Rattle.std.specs.Prelude.{ℕ, Bool, true, not, ◌&&◌, List, [], ◌∷◌, ◌++◌, length, map, Result, Ok, Err}
-use Rattle.std.specs.List.{flat_map, list_all}
+use Rattle.std.specs.Prelude.{ℕ, Bool, true, not, ◌&&◌, List, [], ◌∷◌, ◌++◌, length, map}
+use Rattle.std.specs.List.{list_all}
 use Rattle.std.specs.Option.{option_to_list}
 use Rattle.base_core.specs.declared.refusal.Refusal.{Refusal}
 use Rattle.base_core.specs.declared.refusal.RequestKind.TheVariants.{DuplicateFrom, NotGrouped}
-use Rattle.base_core.specs.declared.value.Kind.{Kind}
-use Rattle.base_core.specs.declared.value.Kind.TheVariants.{Boolean}
 use Rattle.schema_core.specs.Catalog.{Catalog}
 use Rattle.expr_types.specs.declared.expr.Expr.{Expr}
 use Rattle.expr_types.specs.declared.select.Joined.{Joined}
 use Rattle.expr_types.specs.declared.select.Select.{Select}
 use Rattle.expr_types.specs.NormalSelect.{normal_select}
-use Rattle.sql_semantics.specs.Kinds.{Scope, all_of, expression_kind}
 use Rattle.sql_semantics.specs.Plain.{and_having, are_distinct, is_grouped, is_well_grouped, lacks_aggregate, name_of, names_apart, outputs, sources_of}
-use Rattle.sql_semantics.specs.Shapes.{scope_of}
 use Rattle.plain_statements.specs.Tested.{names_of}
-use Rattle.script_names.specs.Faults.{fault_if, faults_if_given}
-
--- ---- kinds
-
--- the refusal of an answer, if it is one
-abbrev pub fault_of : {A : Type 0} → Result A Refusal → List Refusal
-fault_of (Ok a) = []
-fault_of (Err e) = e ∷ []
-
--- what is refused first of two things that are judged in order
-abbrev pub first_refusal : Result (Unit {0}) Refusal → Result (Unit {0}) Refusal → Result (Unit {0}) Refusal
-first_refusal (Err e) second = Err e
-first_refusal (Ok u) second = second
-
--- the first operand of another kind than its place wants
-abbrev pub mismatch : Catalog → Scope → Expr → List Refusal
-mismatch schema scope e = fault_of (expression_kind schema e scope)
-
--- the same where the expression itself is to be of a kind
-abbrev pub mismatch_for : Catalog → Scope → Kind → Expr → List Refusal
-mismatch_for schema scope wanted e = fault_of (all_of wanted (expression_kind schema e scope ∷ []))
-
--- a condition is true or false; that of a join stands under the sources up to its own
-abbrev pub join_mismatches : Catalog → Scope → List Joined → List Refusal
-join_mismatches schema before [] = []
-join_mismatches schema before (join ∷ joins) =
-    mismatch_for schema (before ++ join.origin.table ∷ []) Boolean join.on ++ join_mismatches schema (before ++ join.origin.table ∷ []) joins
-
-abbrev pub mismatches_under : Catalog → Scope → Select → List Refusal
-mismatches_under schema scope s =
-    flat_map (λ item. mismatch schema scope item.0) s.items
-    ++ join_mismatches schema (s.first.table ∷ []) s.joins
-    ++ faults_if_given (mismatch_for schema scope Boolean) s.filter
-    ++ flat_map (mismatch schema scope) s.groups
-    ++ faults_if_given (mismatch_for schema scope Boolean) s.having
-    ++ flat_map (λ key. mismatch schema scope key.0) s.order
-
--- operands of other kinds than their places want, in reading order
-unfoldable pub mismatches : Catalog → Select → List Refusal
-mismatches schema s = mismatches_under schema (scope_of s) s
+use Rattle.script_names.specs.Faults.{fault_if}
+use Rattle.statement_kinds.specs.Mismatches.{mismatches}
 
 -- ---- groups
 

@@ -5,10 +5,7 @@
 #![tactic(auto)]
 
 mod apart;
-mod faults;
 mod grouping;
 mod judging;
-mod kinds;
-mod normal;
 
 pub use judging::{judge_bulk, judge_select};

@@ -26,7 +26,7 @@ use Rattle.object_rows.specs.Seen.{keeps_rows, object_ids}
 use Rattle.object_rows.proofs.ObjectSteps.{all_made}
 use Rattle.pair_rows.specs.Pairs.{lost_rows}
 use Rattle.row_project.specs.Changes.{object_changes}
-use Rattle.row_project.proofs.Each.{all_filter, each_to}
+use Rattle.row_switches.proofs.Each.{all_filter, each_to}
 use Rattle.flush_laws.proofs.Plans.Differing.{Differ, IsNotIn, apart_both, apart_filter, apart_of}
 use Rattle.flush_laws.specs.Projects.{AreRowsApart}
 use Rattle.flush_laws.proofs.Projects.Apart.{differs, once_of}

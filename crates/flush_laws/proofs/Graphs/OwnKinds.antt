@@ -40,7 +40,7 @@ use Rattle.row_project.specs.Changes.{object_changes}
 use Rattle.flush_laws.specs.Plans.Laws.{IsOneKind, cell_named, cells_named}
 use Rattle.flush_laws.specs.Graphs.{DiscriminatorsAreFree, HasOneKind}
 use Rattle.schema_core.proofs.Names.{same_names}
-use Rattle.row_project.proofs.Each.{all_map}
+use Rattle.row_switches.proofs.Each.{all_map}
 use Rattle.flush_laws.proofs.Projects.Apart.{none_given}
 use Rattle.flush_laws.proofs.Projects.LateKeys.{IsTaken, each_has, foreign_within, meets, taken}
 use Rattle.flush_laws.proofs.Projects.Loose.{IsOwn, by_parent, foreigns_same, has_place, joined_rank, named_once, names_own, tie_of}

@@ -25,7 +25,7 @@ use Rattle.object_rows.specs.Cells.{end_cell, foreign_cell, or_first, part_cell}
 use Rattle.object_rows.specs.Rows as rows
 use Rattle.pair_rows.specs.Pairs as pairs
 use Rattle.row_project.specs.Changes.{object_changes}
-use Rattle.row_project.proofs.Each.{map_given}
+use Rattle.row_switches.proofs.Each.{map_given}
 use Rattle.flush_laws.specs.Plans.Laws.{IsOneKind, cell_named, is_given}
 use Rattle.flush_laws.proofs.Projects.Loose.{foreigns_same, has_place}
 use Rattle.flush_laws.specs.Graphs.{DiscriminatorsAreFree, HasOneKind}

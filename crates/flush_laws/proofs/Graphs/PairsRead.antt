@@ -30,7 +30,7 @@ use Rattle.object_rows.specs.declared.prepared.Prepared.{Prepared}
 use Rattle.object_rows.specs.Seen.{link_of, object_ids}
 use Rattle.object_rows.proofs.ObjectSteps.{all_made}
 use Rattle.pair_rows.specs.Pairs as pairs
-use Rattle.row_project.proofs.Each.{all_given, all_map}
+use Rattle.row_switches.proofs.Each.{all_given, all_map}
 use Rattle.flush_laws.proofs.Plans.Between.{legal_cells, legal_key}
 use Rattle.flush_laws.proofs.Plans.Blend.{Long, legal_is_long}
 use Rattle.flush_laws.proofs.Plans.Complete.{whole_is_long}

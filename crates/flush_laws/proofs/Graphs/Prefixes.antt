@@ -8,8 +8,8 @@ use Rattle.object_arena.specs.Graph.{Graph}
 use Rattle.flush_order.specs.Ready.{IsInTable}
 use Rattle.flush_plan.specs.Flushing.{Sofar}
 use Rattle.object_rows.specs.declared.prepared.Prepared.{Prepared}
-use Rattle.row_project.specs.Switch.{project}
-use Rattle.row_project.proofs.Each.{each_to}
+use Rattle.row_project.specs.Changes.{project}
+use Rattle.row_switches.proofs.Each.{each_to}
 use Rattle.row_project.proofs.Range.{project_declared}
 use Rattle.flush_laws.specs.Plans.Laws.{IsComplete}
 use Rattle.flush_laws.proofs.Plans.FlushLaw.{accepted_stated as plan_stated}

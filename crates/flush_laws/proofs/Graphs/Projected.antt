@@ -14,11 +14,11 @@ use Rattle.flush_plan.specs.Stating.{blend, row_at}
 use Rattle.object_rows.specs.declared.prepared.Prepared.{Prepared}
 use Rattle.object_rows.specs.Rows.{gone_rows}
 use Rattle.pair_rows.specs.Pairs.{lost_rows}
-use Rattle.row_project.specs.Changes.{object_changes}
-use Rattle.row_project.specs.Switch.{partners, project}
-use Rattle.row_project.proofs.Each.{all_append}
+use Rattle.row_project.specs.Changes.{object_changes, project}
+use Rattle.row_switches.specs.Switch.{partners}
+use Rattle.row_switches.proofs.Each.{all_append}
 use Rattle.row_project.proofs.Range.{project_declared}
-use Rattle.row_project.proofs.RowsAfter.{all_left}
+use Rattle.row_switches.proofs.RowsAfter.{all_left}
 use Rattle.flush_laws.specs.Projects.{IsWholeBase}
 use Rattle.flush_laws.proofs.Projects.Apart.{switches_keep_apart}
 use Rattle.flush_laws.proofs.Projects.LateKeys.{each_has, late_keys_fit, taken}

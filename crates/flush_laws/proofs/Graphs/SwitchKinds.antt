@@ -15,9 +15,9 @@ use Rattle.schema_core.specs.Catalog.{Catalog, key_columns, spec_of}
 use Rattle.class_mapping.specs.Mapped.{Mapped}
 use Rattle.object_arena.specs.Graph.{Graph}
 use Rattle.flush_order.specs.Cells.{first_cells, is_late, key_parts, new_at, no_row, table_at}
-use Rattle.row_project.specs.Switch.{cell_after_switch, changes_by, key_cell, numbers_from, row_staying, rows_staying}
-use Rattle.row_project.proofs.Each.{each_to}
-use Rattle.row_project.proofs.RowsAfter.{all_staying}
+use Rattle.row_switches.specs.Switch.{cell_after_switch, changes_by, key_cell, numbers_from, row_staying, rows_staying}
+use Rattle.row_switches.proofs.Each.{each_to}
+use Rattle.row_switches.proofs.RowsAfter.{all_staying}
 use Rattle.flush_laws.specs.Plans.Laws.{IsOneKind, cell_named, cells_named, is_given}
 use Rattle.flush_laws.specs.Projects.{IsWhole}
 use Rattle.flush_laws.specs.Graphs.{HasOneKind}

@@ -12,7 +12,7 @@ use Rattle.schema_core.specs.Tables.{AreAscending, Rows, Tables, table_cmp}
 use Rattle.base_core.specs.Order.{values_cmp}
 use Rattle.flush_laws.specs.Plans.Premises.{IsSorted}
 use Rattle.flush_laws.proofs.Plans.Facts.{true_false}
-use Rattle.row_project.proofs.Each.{each_to}
+use Rattle.row_switches.proofs.Each.{each_to}
 
 both_hold : (a b : Bool) → a ≡ true → T b → T (a && b)
 both_hold true b same rest = rest

@@ -8,7 +8,7 @@ use Rattle.object_arena.specs.Graph as graphs
 use Rattle.object_arena.specs.Graph.{Graph, IsObject, is_persistent, object_at}
 use Rattle.flush_plan.specs.Flushing.{Sofar}
 use Rattle.object_rows.specs.declared.prepared.Prepared.{Prepared}
-use Rattle.row_project.specs.Switch.{project}
+use Rattle.row_project.specs.Changes.{project}
 use Rattle.flush_laws.proofs.Plans.Complete.{IsStated}
 use Rattle.flush_laws.specs.Graphs.{HaveOwnRows, IsWellMapped}
 use Rattle.flush_laws.specs.Held.{HoldsItsRows, IsWhollyKnown, KeepsItsKey}

@@ -23,10 +23,9 @@ use Rattle.graph_flushed.specs.Keys.{key_if_fit, new_key}
 use Rattle.graph_flushed.proofs.ObjectSteps.{flushed_at}
 use Rattle.object_rows.specs.declared.prepared.Prepared.{Prepared}
 use Rattle.object_rows.specs.Seen.{is_new}
-use Rattle.row_project.specs.Changes.{object_changes}
+use Rattle.row_project.specs.Changes.{object_changes, project}
 use Rattle.flush_order.specs.Ready.{IsInTable}
-use Rattle.row_project.specs.Switch.{project}
-use Rattle.row_project.proofs.Each.{each_to}
+use Rattle.row_switches.proofs.Each.{each_to}
 use Rattle.row_project.proofs.Range.{project_declared}
 use Rattle.flush_laws.specs.Plans.Laws.{before}
 use Rattle.flush_laws.proofs.Plans.Facts.{true_false}

@@ -21,9 +21,9 @@ use Rattle.class_mapping.proofs.Lists.{or_left, or_right}
 use Rattle.object_arena.specs.Graph.{Graph}
 use Rattle.flush_order.specs.Cells.{cells_cleared, first_cells, is_late, key_parts, known_value, new_at, no_row, part_at, table_at}
 use Rattle.flush_plan.specs.Flushing.{Keys, key_of_new, value_of_cell}
-use Rattle.row_project.specs.Switch.{cell_after_switch, known_key, numbers_from, partners, row_staying, rows_staying, with_switches}
-use Rattle.row_project.specs.Switch as switch
-use Rattle.row_project.proofs.SwitchSteps.{partner_at, partners_length}
+use Rattle.row_switches.specs.Switch.{cell_after_switch, known_key, numbers_from, partners, row_staying, rows_staying, with_switches}
+use Rattle.row_switches.specs.Switch as switch
+use Rattle.row_switches.proofs.SwitchSteps.{partner_at, partners_length}
 use Rattle.flush_laws.proofs.Plans.Facts.{true_false}
 use Rattle.flush_laws.proofs.Plans.Referring.{AllDrawn, Drawn, key_map}
 use Rattle.flush_laws.specs.Projects.{IsWhole}

@@ -30,8 +30,7 @@ use Rattle.flush_plan.specs.Flushing.{Sofar}
 use Rattle.object_rows.specs.declared.prepared.Prepared.{Prepared}
 use Rattle.object_rows.specs.Rows.{columns_at, is_joined, key_part, new_cell, new_names, new_row, own_cell, row_name, rows_of}
 use Rattle.object_rows.specs.Seen.{new_objects}
-use Rattle.row_project.specs.Changes.{object_changes}
-use Rattle.row_project.specs.Switch.{project}
+use Rattle.row_project.specs.Changes.{object_changes, project}
 use Rattle.flush_laws.proofs.Plans.InsertOrder.{all_drawn}
 use Rattle.flush_laws.proofs.Plans.Facts.{true_false}
 use Rattle.flush_laws.proofs.Plans.Referring.{AllDrawn}

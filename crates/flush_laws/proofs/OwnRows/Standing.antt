@@ -55,7 +55,7 @@ use Rattle.pair_rows.specs.Pairs as pairs
 use Rattle.flush_laws.proofs.Plans.Between.{legal_cells, legal_key}
 use Rattle.flush_laws.proofs.Projects.LateKeys.{each_has}
 use Rattle.flush_laws.proofs.Projects.Loose.{has_place}
-use Rattle.row_project.proofs.Each.{all_filter, all_map}
+use Rattle.row_switches.proofs.Each.{all_filter, all_map}
 use Rattle.flush_laws.specs.Graphs.{HasTablesOnce, IsWellMapped, key_held}
 use Rattle.flush_laws.proofs.Graphs.MappingFacts.{once_law}
 use Rattle.flush_laws.proofs.Graphs.ObjectsApart.{above}

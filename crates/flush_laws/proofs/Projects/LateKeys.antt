@@ -38,7 +38,7 @@ use Rattle.flush_order.specs.Cells.{is_in, late_name}
 use Rattle.object_rows.specs.Late.{is_late, is_late_by, late_in, late_keys}
 use Rattle.object_arena.specs.Graph.{Graph}
 use Rattle.object_rows.specs.declared.prepared.Prepared.{Prepared}
-use Rattle.row_project.specs.Switch.{project}
+use Rattle.row_project.specs.Changes.{project}
 use Rattle.flush_laws.specs.Plans.Premises.{IsFit}
 use Rattle.flush_laws.specs.Projects.{LateKeysAreFit, PostsAreLinks}
 

@@ -46,10 +46,10 @@ use Rattle.object_rows.specs.Rows as rows
 use Rattle.object_rows.specs.Seen.{end_put, is_kept_end, new_objects}
 use Rattle.object_rows.proofs.ObjectSteps.{names_made}
 use Rattle.pair_rows.specs.Pairs as pairs
-use Rattle.row_project.specs.Changes.{object_changes}
-use Rattle.row_project.specs.Switch as switch
-use Rattle.row_project.proofs.Each.{all_append, all_map, map_given, numbered}
-use Rattle.row_project.proofs.RowsAfter.{all_staying}
+use Rattle.row_project.specs.Changes.{object_changes, project}
+use Rattle.row_switches.specs.Switch as switch
+use Rattle.row_switches.proofs.Each.{all_append, all_map, map_given, numbered}
+use Rattle.row_switches.proofs.RowsAfter.{all_staying}
 use Rattle.flush_laws.specs.Plans.Laws.{AreLoose, is_given}
 use Rattle.flush_laws.specs.Projects.{KeyPartsAreForeign}
 use Rattle.flush_laws.proofs.Projects.Columns.{no_key}
@@ -273,7 +273,7 @@ module _ (mapped : Mapped) (lined : length mapped.classes.lines ≡ length mappe
         (λ pair. loose_columns (spec_of mapped.schema pair.0).foreigns (pairs.pair_cell mapped graph (rows.new_names mapped graph prepared) pair) (pair_loose pair) (spec_of mapped.schema pair.0).columns)
         (pairs.made_pairs mapped graph prepared)
 
-    all_loose : AllByRecursion IsLoose (switch.project mapped graph prepared).fresh
+    all_loose : AllByRecursion IsLoose (project mapped graph prepared).fresh
     all_loose =
         let changes = object_changes mapped graph prepared in
         let partners = switch.partners mapped.schema changes in

@@ -21,12 +21,12 @@ use Rattle.object_rows.specs.declared.prepared.Prepared.{Prepared}
 use Rattle.object_rows.specs.Rows as rows
 use Rattle.object_rows.specs.Seen.{keeps_rows, object_ids}
 use Rattle.pair_rows.specs.Pairs as pairs
-use Rattle.row_project.specs.Changes.{object_changes}
-use Rattle.row_project.specs.Switch as switch
+use Rattle.row_project.specs.Changes.{object_changes, project}
+use Rattle.row_switches.specs.Switch as switch
 use Rattle.row_project.proofs.Declared.{column_of, same_column}
-use Rattle.row_project.proofs.Each.{all_append, all_filter, all_given, each_to, flat_map_given, map_given}
+use Rattle.row_switches.proofs.Each.{all_append, all_filter, all_given, each_to, flat_map_given, map_given}
 use Rattle.row_project.proofs.Range.{project_declared}
-use Rattle.row_project.proofs.RowsAfter.{all_kept, all_left, all_staying, all_switched}
+use Rattle.row_switches.proofs.RowsAfter.{all_kept, all_left, all_staying, all_switched}
 use Rattle.flush_laws.specs.Projects.{ChangedCellsAreInOrder, GoneRowsAreWhole, HasOrder, IsWhole, IsWholeBase, NewRowsAreWhole, NewRowsHaveKeys}
 use Rattle.flush_laws.proofs.Projects.Columns.{from_columns, still_in_order}
 use Rattle.flush_laws.proofs.Projects.LateKeys.{taken}
@@ -106,7 +106,7 @@ pub rows_keyed : NewRowsHaveKeys
 rows_keyed mapped graph prepared related fit declared =
     each_to (λ (row : NewRow). IsTable mapped.schema row.name.table) (λ (row : NewRow). has_key (spec_of mapped.schema row.name.table) ≡ true)
     (λ row inside. table_keyed mapped.schema row.name.table declared inside)
-    (switch.project mapped graph prepared).fresh (project_declared mapped graph prepared related fit).new
+    (project mapped graph prepared).fresh (project_declared mapped graph prepared related fit).new
 
 -- ---- deleted rows
 

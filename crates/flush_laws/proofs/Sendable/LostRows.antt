@@ -42,7 +42,7 @@ use Rattle.flush_laws.proofs.Graphs.Named.{opposite}
 use Rattle.flush_laws.proofs.Graphs.PairsRead.{IsParted, lost_parted, parted_related}
 use Rattle.flush_laws.proofs.Projects.LateKeys.{each_has}
 use Rattle.flush_laws.proofs.Projects.Loose.{foreigns_same, has_place}
-use Rattle.row_project.proofs.Each.{all_map}
+use Rattle.row_switches.proofs.Each.{all_map}
 use Rattle.flush_laws.specs.Sendable.{IsFitGone}
 use Rattle.flush_laws.proofs.Sendable.EndKeys.{end_taken}
 use Rattle.flush_laws.proofs.Sendable.Links.{foreign_gives, into_class, under_root}

@@ -15,11 +15,12 @@ use Rattle.shell_lines.specs.declared.desk.Said.{Said}
 use Rattle.shell_lines.specs.declared.desk.Said.TheVariants.{Do}
 use Rattle.shell_parts.specs.declared.block.Block.{Block}
 use Rattle.shell_replies.specs.Answers.{answer_text}
-use Rattle.shell_steps.specs.Asking.{asked}
-use Rattle.shell_steps.specs.declared.stage.Stage.{Stage}
-use Rattle.shell_steps.specs.declared.stage.Stage.TheVariants.{Configured}
+use Rattle.shell_stage.specs.Asking.{asked}
+use Rattle.shell_stage.specs.declared.stage.Stage.{Stage}
+use Rattle.shell_stage.specs.declared.stage.Stage.TheVariants.{Configured}
+use Rattle.shell_stage.specs.Step.{performed, without_notes}
 use Rattle.shell_steps.specs.ShellState.{ShellState}
-use Rattle.shell_steps.specs.Step.{answer_to, at_desk, at_stage, do_command, do_said, in_session, line_step, notes_told, perform, performed, reply_to, run_at, session_run, tell_answer, tell_here, tell_notes, with_answer, with_session, without_notes}
+use Rattle.shell_steps.specs.Step.{answer_to, at_desk, at_stage, do_command, do_said, in_session, line_step, notes_told, perform, reply_to, run_at, session_run, tell_answer, tell_here, tell_notes, with_answer, with_session}
 use Rattle.sqla_shell.specs.Reference.{do_and_reply, writes}
 use Rattle.script_laws.specs.Answers.Lines.{ReadsAs}
 

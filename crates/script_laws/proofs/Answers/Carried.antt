@@ -19,10 +19,11 @@ use Rattle.shell_lines.specs.declared.desk.Said.TheVariants.{Do}
 use Rattle.shell_parts.specs.Bindings.{bind}
 use Rattle.shell_parts.specs.declared.names.Bound.TheVariants.{Saved}
 use Rattle.shell_replies.specs.Answers.{answer_text}
-use Rattle.shell_steps.specs.Asking.{asked}
-use Rattle.shell_steps.specs.declared.stage.Stage.{Stage}
-use Rattle.shell_steps.specs.declared.stage.Stage.TheVariants.{Declaring, Configured}
-use Rattle.shell_steps.specs.Step.{names_with, notes_told}
+use Rattle.shell_stage.specs.Asking.{asked}
+use Rattle.shell_stage.specs.declared.stage.Stage.{Stage}
+use Rattle.shell_stage.specs.declared.stage.Stage.TheVariants.{Declaring, Configured}
+use Rattle.shell_stage.specs.Step.{names_with}
+use Rattle.shell_steps.specs.Step.{notes_told}
 use Rattle.sqla_shell.specs.Reference.{do_and_reply}
 use Rattle.session_laws.specs.Complete.{BeginAnswersWhere, CommitAnswersWhere, FlushAnswersWhere, MayBeWritten}
 use Rattle.session_laws.specs.Whole.{IsHale}

@@ -19,10 +19,11 @@ use Rattle.shell_lines.specs.declared.desk.Said.TheVariants.{Nothing, Configure,
 use Rattle.shell_parts.specs.Blocks.{block_of}
 use Rattle.shell_parts.specs.declared.block.Block.{Block}
 use Rattle.shell_replies.specs.declared.notes.PrintOptions.{PrintOptions}
-use Rattle.shell_steps.specs.declared.stage.Stage.{Stage}
-use Rattle.shell_steps.specs.declared.stage.Stage.TheVariants.{Declaring, Configured}
+use Rattle.shell_stage.specs.declared.stage.Stage.{Stage}
+use Rattle.shell_stage.specs.declared.stage.Stage.TheVariants.{Declaring, Configured}
+use Rattle.shell_stage.specs.Step.{performed}
 use Rattle.shell_steps.specs.ShellState.{ShellState}
-use Rattle.shell_steps.specs.Step.{answer_to, at_desk, at_stage_of, close_session, close_session_at, close_stage, compile, do_command, do_said, end_of_script, end_of_script_in, end_reply, goes, in_session, line_step, perform, performed, reply_to, run_at, tell, tell_answer, tell_here, tell_notes, turn}
+use Rattle.shell_steps.specs.Step.{answer_to, at_desk, at_stage_of, close_session, close_session_at, close_stage, compile, do_command, do_said, end_of_script, end_of_script_in, end_reply, goes, in_session, line_step, perform, reply_to, run_at, tell, tell_answer, tell_here, tell_notes, turn}
 use Rattle.sqla_shell.specs.declared.ending.Ending.{Ending}
 use Rattle.sqla_shell.specs.declared.ending.Ending.TheVariants.{Finished}
 use Rattle.sqla_shell.specs.Reference.{close_and_tell, do_and_reply, end_script, end_unless_too_long, reference, script, start, writes}

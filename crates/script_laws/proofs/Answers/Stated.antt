@@ -16,9 +16,9 @@ use Rattle.session_scopes.specs.SessionState.{SessionState}
 use Rattle.shell_lines.specs.Desk.{DeskState, said_outside}
 use Rattle.shell_lines.specs.declared.desk.Said.TheVariants.{Do}
 use Rattle.shell_parts.specs.declared.names.Bound.TheVariants.{Saved}
-use Rattle.shell_steps.specs.Asking.{asked}
-use Rattle.shell_steps.specs.declared.stage.Stage.{Stage}
-use Rattle.shell_steps.specs.declared.stage.Stage.TheVariants.{Declaring, Configured}
+use Rattle.shell_stage.specs.Asking.{asked}
+use Rattle.shell_stage.specs.declared.stage.Stage.{Stage}
+use Rattle.shell_stage.specs.declared.stage.Stage.TheVariants.{Declaring, Configured}
 use Rattle.shell_steps.specs.Step.{line_step}
 use Rattle.sqla_shell.specs.Reference.{do_and_reply}
 use Rattle.session_laws.specs.Complete.{CommitsLeaveStatedRows, FlushesLeaveStatedRows, ObjectsState, SavepointsLeaveStatedRows}

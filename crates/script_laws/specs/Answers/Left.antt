@@ -5,8 +5,8 @@ use Rattle.class_types.specs.Rules.{Rules}
 use Rattle.programs.specs.Beside.{Beside}
 use Rattle.programs.specs.Store.{Store}
 use Rattle.script_types.specs.declared.command.Command.{Command}
-use Rattle.shell_steps.specs.declared.stage.Stage.{Stage}
-use Rattle.shell_steps.specs.declared.stage.Stage.TheVariants.{Declaring, Configured}
+use Rattle.shell_stage.specs.declared.stage.Stage.{Stage}
+use Rattle.shell_stage.specs.declared.stage.Stage.TheVariants.{Declaring, Configured}
 use Rattle.shell_steps.specs.ShellState.{ShellState}
 use Rattle.shell_steps.specs.Step.{line_step}
 use Rattle.sqla_shell.specs.Reference.{do_and_reply}

@@ -15,8 +15,8 @@ use Rattle.shell_lines.specs.Desk.{DeskState, next_line}
 use Rattle.shell_parts.specs.Bindings.{bind}
 use Rattle.shell_parts.specs.declared.names.Bound.TheVariants.{Saved}
 use Rattle.shell_replies.specs.declared.notes.PrintOptions.{PrintOptions}
-use Rattle.shell_steps.specs.declared.stage.Stage.{Stage}
-use Rattle.shell_steps.specs.declared.stage.Stage.TheVariants.{Declaring, Configured}
+use Rattle.shell_stage.specs.declared.stage.Stage.{Stage}
+use Rattle.shell_stage.specs.declared.stage.Stage.TheVariants.{Declaring, Configured}
 use Rattle.shell_steps.specs.ShellState.{ShellState}
 use Rattle.shell_steps.specs.Step.{line_step, notes_told, reply_to}
 use Rattle.sqla_shell.specs.Reference.{do_and_reply}

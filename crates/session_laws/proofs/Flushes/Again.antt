@@ -18,7 +18,7 @@ use Rattle.object_arena.specs.Identity.{id_of_place}
 use Rattle.object_rows.specs.declared.prepared.Prepared.{Prepared}
 use Rattle.object_rows.specs.Seen.{object_ids}
 use Rattle.flush_plan.specs.Planning.{plan}
-use Rattle.row_project.specs.Switch.{project}
+use Rattle.row_project.specs.Changes.{project}
 use Rattle.graph_flushed.specs.Flushed.{Written, deleted_object, graph_written, key_of, new_object, object_in, staying_object, state_under, written_with}
 use Rattle.session_laws.specs.Flushed.{nothing_prepared}
 use Rattle.session_laws.proofs.Flushed.{at_each, no_statement, nothing_passes}

@@ -12,7 +12,7 @@ use Rattle.object_arena.specs.Graph.{Graph}
 use Rattle.flush_plan.specs.Flushing.{Keys, send_all}
 use Rattle.flush_plan.specs.Planning.{plan}
 use Rattle.object_rows.specs.declared.prepared.Prepared.{Prepared}
-use Rattle.row_project.specs.Switch.{project}
+use Rattle.row_project.specs.Changes.{project}
 use Rattle.graph_flushed.specs.Flushed.{graph_flushed}
 use Rattle.programs.specs.Store.{Store}
 use Rattle.programs.specs.Programs.{Run, ◌>>=◌, ask, each, give}

@@ -6,7 +6,7 @@ use Rattle.schema_core.specs.declared.changes.RowChanges.{RowChanges}
 use Rattle.schema_core.specs.Catalog.{Catalog}
 use Rattle.flush_plan.specs.Planning.{plan}
 use Rattle.object_rows.specs.declared.prepared.Prepared.{Prepared}
-use Rattle.row_project.specs.Switch.{project}
+use Rattle.row_project.specs.Changes.{project}
 use Rattle.keeper_core.specs.Calls as call
 use Rattle.legality_laws.specs.Legality.{Keeps, KeepsAscending}
 use Rattle.legality_laws.proofs.EachCall.{write_ascends}

@@ -8,7 +8,7 @@ use Rattle.object_arena.specs.Graph.{Graph}
 use Rattle.object_arena.specs.Identity.{IsGraph}
 use Rattle.object_rows.specs.declared.prepared.Prepared.{Prepared}
 use Rattle.flush_plan.specs.Planning.{plan}
-use Rattle.row_project.specs.Switch.{project}
+use Rattle.row_project.specs.Changes.{project}
 use Rattle.plan_run.specs.Run.{send_plan}
 use Rattle.programs.specs.Store.{Store}
 use Rattle.programs.specs.Programs.{Event, Run, ◌>>=◌, ask, continue_from, give, refuse, undo_on_refusal, with_undo}

@@ -18,7 +18,7 @@ use Rattle.plan_run.specs.Run.{send_plan}
 use Rattle.programs.specs.Programs.{Event, Run, ◌>>=◌, ask, each, give}
 use Rattle.programs.specs.Beside.{by_own, changes, on_own, on_store}
 use Rattle.programs.specs.Store.{Store}
-use Rattle.row_project.specs.Switch.{project}
+use Rattle.row_project.specs.Changes.{project}
 use Rattle.sql_semantics.specs.Applied.{table_of}
 use Rattle.session_scopes.specs.Scoping.{session_closed, session_released}
 use Rattle.session_scopes.specs.SessionState.{SessionState, in_transaction, with_notes, with_warnings}

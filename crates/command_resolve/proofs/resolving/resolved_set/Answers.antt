@@ -1,5 +1,5 @@
 use Rattle.std.proofs.Common.{subst}
-use Rattle.command_resolve.specs.Attributes.{IsMember}
+use Rattle.command_names.specs.Attributes.{IsMember}
 use Rattle.command_resolve.proofs.resolving.resolved_set.Goals as goal
 
 pub set_cell-requires-clause-attr : goal.set_cell-requires-clause-attr

@@ -1,5 +1,5 @@
 use Rattle.std.proofs.Common.{sym, ap, ◌∙◌}
-use Rattle.command_resolve.specs.Attributes.{value_fault}
+use Rattle.command_names.specs.Attributes.{value_fault}
 use Rattle.command_resolve.proofs.Made.{has_value}
 use Rattle.command_resolve.proofs.resolving.set_cell.Goals as goal
 

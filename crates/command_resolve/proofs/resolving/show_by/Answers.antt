@@ -1,6 +1,6 @@
 use Rattle.std.proofs.Common.{subst}
-use Rattle.command_resolve.specs.declared.members.Member.TheVariants.{Attribute, One, Many}
-use Rattle.command_resolve.specs.Attributes.{IsMember}
+use Rattle.command_names.specs.declared.members.Member.TheVariants.{Attribute, One, Many}
+use Rattle.command_names.specs.Attributes.{IsMember}
 use Rattle.command_resolve.proofs.Named.{shows}
 use Rattle.command_resolve.proofs.resolving.show_by.Goals as goal
 

@@ -2,7 +2,7 @@ use Rattle.std.proofs.Common.{◌≡◌, ◌≤◌, ◌∙◌, ap, length, refl,
 use Rattle.std.specs.List.{All}
 use Rattle.schema_core.specs.declared.table.TableSpec.{TableSpec}
 use Rattle.schema_core.specs.Catalog.{Catalog}
-use Rattle.row_project.specs.Switch.{with_switches}
+use Rattle.row_switches.specs.Switch.{with_switches}
 use Rattle.row_project.proofs.Range.{all_in_range, objects_in_range}
 use Rattle.row_project.proofs.changes.project.Goals as goal
 

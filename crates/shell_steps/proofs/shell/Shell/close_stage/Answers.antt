@@ -1,4 +1,4 @@
-use Rattle.shell_steps.proofs.Bindings.{bound_in_session}
+use Rattle.shell_stage.proofs.Bindings.{bound_in_session}
 use Rattle.shell_steps.proofs.shell.Shell.close_stage.Goals as goal
 
 pub invariant_of-self-2 : goal.invariant_of-self-2

@@ -1,5 +1,5 @@
-use Rattle.shell_steps.specs.Step.{opened_stage}
-use Rattle.shell_steps.proofs.Stages.{turns, turns_not}
+use Rattle.shell_stage.specs.Step.{opened_stage}
+use Rattle.shell_steps.proofs.Turns.{turns, turns_not}
 use Rattle.shell_steps.proofs.shell.Shell.configure.Goals as goal
 
 pub returns-in_err-configure : goal.returns-in_err-configure

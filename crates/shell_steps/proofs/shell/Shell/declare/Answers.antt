@@ -1,6 +1,6 @@
 use Rattle.class_types.specs.Shown.{rules_of}
-use Rattle.shell_steps.specs.Step.{declared_stage}
-use Rattle.shell_steps.proofs.Stages.{turns, turns_not}
+use Rattle.shell_stage.specs.Step.{declared_stage}
+use Rattle.shell_steps.proofs.Turns.{turns, turns_not}
 use Rattle.shell_steps.proofs.shell.Shell.declare.Goals as goal
 
 pub returns-in_err-declare : goal.returns-in_err-declare

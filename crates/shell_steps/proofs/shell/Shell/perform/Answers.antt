@@ -1,5 +1,5 @@
 use Rattle.class_types.specs.Shown.{rules_of}
-use Rattle.shell_steps.proofs.Bindings.{bound_after}
+use Rattle.shell_stage.proofs.Bindings.{bound_after}
 use Rattle.shell_steps.proofs.Commands.{performs_view}
 use Rattle.shell_steps.proofs.shell.Shell.perform.Goals as goal
 

@@ -1,6 +1,7 @@
 use Rattle.std.proofs.Common.{refl, ap, sym, subst}
-use Rattle.shell_steps.specs.ShellState.{IsAnswerAt, ShellState}
-use Rattle.shell_steps.proofs.Bindings.{bound_more}
+use Rattle.shell_stage.specs.Stages.{IsAnswerAt}
+use Rattle.shell_stage.proofs.Bindings.{bound_more}
+use Rattle.shell_steps.specs.ShellState.{ShellState}
 use Rattle.shell_steps.proofs.Commands.{tells_lost, tells_view}
 use Rattle.shell_steps.proofs.shell.Shell.tell_answer.Goals as goal
 

@@ -1,0 +1,8 @@
+use Rattle.std.proofs.Common.{sym}
+use Rattle.command_names.proofs.terms.shown_of.Goals as goal
+
+pub returns-in-Some-clause-there : goal.returns-in-Some-clause-there
+returns-in-Some-clause-there c = λ graph drawn there. c.shown_at.ensures.there graph drawn (there c.args.term.now.name c.in-Some.thing.now (sym c.in-Some.ensures))
+
+pub returns-in-Some-clause-declared : goal.returns-in-Some-clause-declared
+returns-in-Some-clause-declared c = λ mapped declared. c.shown_at.ensures.declared mapped (declared c.args.term.now.name c.in-Some.thing.now (sym c.in-Some.ensures))

@@ -1,0 +1,4 @@
+pub mod Each
+pub mod PartnerSteps
+pub mod RowsAfter
+pub mod SwitchSteps

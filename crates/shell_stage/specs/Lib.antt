@@ -1,0 +1,4 @@
+pub mod Asking
+pub mod Calls
+pub mod Stages
+pub mod Step

@@ -1,0 +1,197 @@
+//! Declarations, and then the session.
+
+ghost use Rattle.std.specs.Prelude.{◌≡◌, ◌++◌, IfErr, OnOk};
+ghost use Rattle.base_core.specs.Answers.{Gives};
+ghost use Rattle.class_types.specs.Shown.{rules_of};
+ghost use Rattle.compiled_lines.specs.CompiledLines.{IsOfCompiling, compiled_line};
+ghost use Rattle.programs.specs.Alone.{Tells};
+ghost use Rattle.sayable_lines.specs.Sayable.{IsSayable};
+ghost use Rattle.shell_replies.specs.Replies.{error_line};
+ghost use Rattle.shell_stage.specs.Asking.{compiled_at};
+ghost use Rattle.shell_stage.specs.Calls.{IsStageTurn};
+ghost use Rattle.shell_stage.specs.Stages.{IsKept, mapping_of};
+ghost use Rattle.shell_stage.specs.Step as step;
+
+use base_core::{Refusal, RequestKind};
+use class_mapping::Mapping;
+use class_types::Hooks;
+use compiled_lines::compile_line;
+use script_types::Command;
+use session_scopes::Session;
+use shell_parts::Block;
+use shell_replies::{PrintOptions, Reply, SessionNames, TableNames, put_notes};
+use std::alloc::Global;
+use std::mem::{drop, replace};
+
+/// Declarations until `configure`, and from then on the session.
+pub enum Stage {
+    Declaring(Mapping),
+    Configured(Session),
+}
+
+impl Drop for Stage {
+    fn drop(self) {
+        match self {
+            Stage::Declaring(_) => {}
+            Stage::Configured(_) => {}
+        }
+    }
+}
+
+impl Stage {
+    /// Checks all declarations, closes the mapping and opens the session.
+    ///
+    /// # Errors
+    /// `Configured` where that was done, and `ArgumentError` for the first wrong declaration.
+    #[tactic(auto, using(programs::proofs::AloneLemmas::standing, crate::proofs::Stages::opening), unfolding(crate::specs::Step::opened_stage))]
+    pub fn configure(&mut self, alloc: Global) -> Result<(), Refusal>
+        ensures { IsStageTurn step.opened_stage self.old result self.new }
+    {
+        let Stage::Declaring(mapping) = self else {
+            return Err(Refusal::InvalidRequestError(RequestKind::Configured));
+        };
+        mapping.configure()?;
+        let mapping = replace(mapping, Mapping::new(alloc));
+        drop(replace(self, Stage::Configured(Session::new(alloc, mapping))));
+        Ok(())
+    }
+
+    /// Declares what a block says, where these validators are known.
+    ///
+    /// # Errors
+    /// `Configured` where the session is open; then the declaration's own refusals.
+    #[tactic(auto, using(programs::proofs::AloneLemmas::standing, crate::proofs::Stages::declaring), unfolding(crate::specs::Step::declared_stage))]
+    pub fn declare(&mut self, hooks: &Hooks, block: Block) -> Result<(), Refusal>
+        ensures { IsStageTurn (step.declared_stage (rules_of hooks.now) block)
+            self.old result self.new }
+    {
+        match self {
+            Stage::Declaring(mapping) => block.declare(hooks, mapping),
+            Stage::Configured(_) => {
+                drop(block);
+                Err(Refusal::InvalidRequestError(RequestKind::Configured))
+            }
+        }
+    }
+
+    /// The mapping that is declared, or that of the session.
+    pub fn mapping(&self) -> &Mapping
+        ensures { result.now ≡ mapping_of self.now }
+    {
+        match self {
+            Stage::Declaring(mapping) => mapping,
+            Stage::Configured(session) => session.mapping(),
+        }
+    }
+
+    /// The line that says why the line of this number is refused, as all of a reply. The only refusal is `Memory`.
+    pub fn put_error(
+        &self,
+        reply: &mut Reply,
+        number: u32,
+        refusal: &Refusal,
+    ) -> Result<(), Refusal>
+        ensures ok { OnOk result
+            (reply.new ≡ error_line (step.names_at self.now) number refusal.now) }
+        ensures cause { IfErr result (λ e. e ≡ Refusal.Memory) }
+    {
+        match self {
+            Stage::Declaring(mapping) => {
+                reply.put_error(number, refusal, &TableNames { mapping })
+            }
+            Stage::Configured(session) => {
+                let names = SessionNames {
+                    mapping: session.mapping(),
+                    arena: session.arena(),
+                };
+                reply.put_error(number, refusal, &names)
+            }
+        }
+    }
+
+    /// What is answered to a line that compiles.
+    ///
+    /// # Errors
+    /// `NotConfigured` before there is a session; then as those of `compile_line`.
+    #[tactic(auto, using(programs::proofs::AloneLemmas::standing, crate::proofs::Asking::compiling))]
+    pub fn compile(&self, alloc: Global, command: &Command) -> Result<Reply, Refusal>
+        requires sayable { IsSayable command.now }
+        ensures { Tells (λ reply. reply) (compiled_at self.now command.now) result }
+    {
+        match self {
+            Stage::Declaring(_) => { Err(Refusal::InvalidRequestError(RequestKind::NotConfigured)) }
+            Stage::Configured(session) => compiled(alloc, session, command),
+        }
+    }
+
+    /// What is told of what the session noted in the line of a number goes behind a reply. The only refusal is `Memory`.
+    pub fn put_notes(
+        &self,
+        alloc: Global,
+        options: PrintOptions,
+        line: u32,
+        reply: &mut Reply,
+    ) -> Result<(), Refusal>
+        ensures ok { OnOk result
+            (reply.new ≡ reply.old ++ step.notes_at options line self.now) }
+        ensures cause { IfErr result (λ e. e ≡ Refusal.Memory) }
+    {
+        match self {
+            Stage::Declaring(_) => Ok(()),
+            Stage::Configured(session) => {
+                put_session_notes(alloc, options, line, session, reply)
+            }
+        }
+    }
+
+    /// What the session noted is forgotten.
+    #[tactic(auto, using(crate::proofs::Stages::forgetting))]
+    pub fn forget_notes(&mut self)
+        ensures stage { self.new ≡ step.without_notes self.old }
+        ensures kept { IsKept self.old self.new }
+    {
+        match self {
+            Stage::Declaring(_) => {}
+            Stage::Configured(session) => session.clear_notes(),
+        }
+    }
+}
+
+/// What is answered to a line that compiles.
+fn compiled(alloc: Global, session: &Session, command: &Command) -> Result<Reply, Refusal>
+    requires sayable { IsSayable command.now }
+    ensures told { Gives (λ reply. reply) result
+        (compiled_line session.now.mapping.schema command.now) }
+    ensures cause { IfErr result IsOfCompiling }
+{
+    let text = compile_line(alloc, session.mapping().schema(), command)?;
+    Ok(Reply::of_text(text))
+}
+
+/// What is told of what a session noted in the line of a number goes behind a reply. The only refusal is `Memory`.
+fn put_session_notes(
+    alloc: Global,
+    options: PrintOptions,
+    line: u32,
+    session: &Session,
+    reply: &mut Reply,
+) -> Result<(), Refusal>
+    ensures ok { OnOk result (reply.new ≡ reply.old
+        ++ step.notes_at options line (Stage.Configured session.now)) }
+    ensures cause { IfErr result (λ e. e ≡ Refusal.Memory) }
+{
+    let mapping = session.mapping();
+    let _resolved = mapping.is_configured();
+    let names = SessionNames {
+        mapping,
+        arena: session.arena(),
+    };
+    put_notes(
+        reply,
+        alloc,
+        options,
+        line,
+        &names,
+        session.notes().as_slice(),
+    )
+}

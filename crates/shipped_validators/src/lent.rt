@@ -1,0 +1,57 @@
+//! The shipped validators, and who is lent them.
+
+ghost use Rattle.std.specs.Prelude.{◌≡◌, None, IfErr, IfOk};
+ghost use Rattle.base_core.specs.declared.refusal.Refusal.TheVariants.{Memory};
+ghost use Rattle.class_types.specs.Shown.{rules_of};
+ghost use Rattle.shipped_validators.specs.Shipped.{shipped_rules};
+
+use base_core::{Kind, Name, Refusal, Value};
+use class_types::{Hooks, Rule, Validator, has_at, is_nonempty, is_positive, is_short};
+use keeper_core::Keeper;
+use std::alloc::Global;
+
+/// What is done with validators over a keeper that was given no target.
+pub trait WithValidators {
+    /// Does it with the shipped ones.
+    fn run<K: Keeper>(&mut self, keeper: &mut K, hooks: &Hooks)
+        requires fresh { (K.moment keeper.old).target ≡ None }
+        requires shipped { rules_of hooks.now ≡ shipped_rules };
+}
+
+/// The name of a validator.
+fn hook_name(alloc: Global, name: &str) -> Result<Name, Refusal>
+    ensures ok { IfOk result (λ made. made ≡ name.now) }
+    ensures cause { IfErr result (λ e. e ≡ Memory) }
+{
+    Ok(Name::new(String::from_str(alloc, name)?))
+}
+
+/// Does it over a keeper with the validators `positive` (an integer that is at least 1), `nonempty` (a text of at least one character),
+/// `short` (a text of at most 40 characters) and `has_at` (a text with an `@`).
+///
+/// # Errors
+/// `Memory`, and then nothing is done.
+pub fn with_shipped<K: Keeper, P: WithValidators>(
+    alloc: Global,
+    keeper: &mut K,
+    program: &mut P,
+) -> Result<(), Refusal>
+    requires { (K.moment keeper.old).target ≡ None }
+    ensures { IfErr result (λ e. e ≡ Memory) }
+{
+    let mut hooks = Hooks::new(alloc);
+    let positive = Box::new(alloc, |value: &Value| is_positive(value))?;
+    let positive = Validator::new(Kind::Integer, Rule::AtLeast(1), positive);
+    hooks.put(hook_name(alloc, "positive")?, positive)?;
+    let nonempty = Box::new(alloc, |value: &Value| is_nonempty(value))?;
+    let nonempty = Validator::new(Kind::Text, Rule::MinLength(1), nonempty);
+    hooks.put(hook_name(alloc, "nonempty")?, nonempty)?;
+    let short = Box::new(alloc, |value: &Value| is_short(value))?;
+    let short = Validator::new(Kind::Text, Rule::MaxLength(40), short);
+    hooks.put(hook_name(alloc, "short")?, short)?;
+    let at = Box::new(alloc, |value: &Value| has_at(value))?;
+    let at = Validator::new(Kind::Text, Rule::HasByte(b'@'), at);
+    hooks.put(hook_name(alloc, "has_at")?, at)?;
+    program.run(keeper, &hooks);
+    Ok(())
+}

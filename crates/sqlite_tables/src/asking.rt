@@ -1,0 +1,70 @@
+//! Texts sent with their values, and what they answer.
+
+use base_core::{Kind, Name, Refusal, RowList, Text, Value};
+use sql_text::{Compiled, Writer};
+use sqlite_database::{Database, Ending};
+use std::alloc::Global;
+
+/// Runs a text, where it could be made.
+pub(crate) fn run_text<D: Database>(
+    database: &mut D,
+    alloc: Global,
+    text: Result<Text, Refusal>,
+) -> Result<u64, Ending> {
+    let text = text?;
+    database.run(alloc, text.get(), &[])
+}
+
+/// The rows of a select, where its text could be made, with a value of each kind.
+pub fn ask_compiled<D: Database>(
+    database: &mut D,
+    alloc: Global,
+    compiled: Result<Compiled, Ending>,
+    kinds: &[Kind],
+) -> Result<RowList, Ending> {
+    let compiled = compiled?;
+    database.ask(
+        alloc,
+        compiled.text.get(),
+        compiled.values.as_slice(),
+        kinds,
+    )
+}
+
+/// The integer that is the first value of the first row, or none where it is NULL. Another answer is a fault.
+pub(crate) fn integer_of(rows: &RowList) -> Result<Option<i64>, Ending> {
+    let Some(row) = rows.get(0) else {
+        return Err(Ending::Fault);
+    };
+    match row.get(0) {
+        Some(Value::Int(n)) => Ok(Some(*n)),
+        Some(Value::Null) => Ok(None),
+        _ => Err(Ending::Fault),
+    }
+}
+
+/// What was written, where it could be.
+pub(crate) fn finished(writer: Writer, written: Result<(), Refusal>) -> Result<Compiled, Ending> {
+    written?;
+    Ok(writer.finish())
+}
+
+/// Whether a select of a count, where its text could be made, counts some row.
+pub(crate) fn counts_some<D: Database>(
+    database: &mut D,
+    alloc: Global,
+    select: Result<Compiled, Ending>,
+) -> Result<bool, Ending> {
+    let rows = ask_compiled(database, alloc, select, &[Kind::Integer])?;
+    Ok(integer_of(&rows)? != Some(0))
+}
+
+/// Writes words, and a name behind them.
+pub(crate) fn put_words_and_name(
+    writer: &mut Writer,
+    words: &'static str,
+    name: &Name,
+) -> Result<(), Refusal> {
+    writer.put_words(words)?;
+    writer.put_name(name)
+}

@@ -1,7 +1,0 @@
-use Rattle.std.proofs.Common.{◌≡◌, drop}
-use Rattle.std.specs.List.{flat_map}
-use Rattle.statement_judging.specs.Bulks.{cell_mismatch}
-use Rattle.statement_judging.proofs.kinds.judge_cells.Given as goal
-
-abbrev pub invariant-loop-cell : goal.invariant-loop-cell
-invariant-loop-cell l = flat_map (cell_mismatch l.schema l.table) (drop l.cell-index l.cells) ≡ flat_map (cell_mismatch l.schema l.table) l.cells

@@ -1,6 +1,0 @@
-use Rattle.std.proofs.Common.{◌≡◌, ◌∷◌, [], drop}
-use Rattle.statement_judging.specs.Judging.{join_mismatches}
-use Rattle.statement_judging.proofs.kinds.judge_joins.Given as goal
-
-abbrev pub invariant-loop-join : goal.invariant-loop-join
-invariant-loop-join l = join_mismatches l.schema l.scope.items (drop l.join-index l.joins) ≡ join_mismatches l.schema (l.fn.first ∷ []) l.joins

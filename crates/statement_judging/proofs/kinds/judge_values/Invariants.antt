@@ -1,6 +1,0 @@
-use Rattle.std.proofs.Common.{◌≡◌, drop}
-use Rattle.statement_judging.specs.Bulks.{values_faults}
-use Rattle.statement_judging.proofs.kinds.judge_values.Given as goal
-
-abbrev pub invariant-loop-place : goal.invariant-loop-place
-invariant-loop-place l = values_faults l.schema l.table (drop l.place l.columns) (drop l.place l.values) ≡ values_faults l.schema l.table l.columns l.values

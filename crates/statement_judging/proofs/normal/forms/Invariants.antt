@@ -1,6 +1,0 @@
-use Rattle.std.proofs.Common.{◌≡◌, ◌++◌, map, drop}
-use Rattle.expr_types.specs.Normal.{normal}
-use Rattle.statement_judging.proofs.normal.forms.Given as goal
-
-abbrev pub invariant-loop-e : goal.invariant-loop-e
-invariant-loop-e l = l.out ++ map normal (drop l.e-index l.e-items) ≡ map normal l.es
