@@ -4,13 +4,9 @@
 mod connections;
 mod database;
 mod ending;
-mod link;
 mod new_files;
-mod over;
 mod values;
 
 pub use connections::Opens;
 pub use database::Database;
 pub use ending::Ending;
-pub use link::Link;
-pub use over::{OverDatabases, over_sqlite};

@@ -1,9 +1,8 @@
 //! What is done over databases of SQLite by those that name none.
 
-use crate::connections::Opens;
-use crate::database::Database;
 use crate::link::Link;
 use sqlite::{Connection, File, FileStore, MemStore};
+use sqlite_database::{Database, Opens};
 
 /// What is done over databases of one kind, whichever it is.
 pub trait OverDatabases {

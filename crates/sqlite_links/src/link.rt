@@ -1,8 +1,7 @@
 //! A database of SQLite in memory or in a file.
 
-use crate::database::Database;
-use crate::ending::Ending;
 use base_core::{Kind, RowList, Value};
+use sqlite_database::{Database, Ending};
 use std::alloc::Global;
 
 /// A database in memory or in a file.
