@@ -13,7 +13,7 @@ use Rattle.object_arena.specs.Fit.{is_empty}
 use Rattle.object_arena.proofs.GraphLemmas.{same_equiv}
 use Rattle.load_rows.specs.Reading.{identity_key}
 use Rattle.load_ends.specs.Ends.{with_first}
-use Rattle.load_queries.specs.Queries.{firsts, with_first as with_first_object}
+use Rattle.object_parts.specs.Lists.{firsts, with_first as with_first_object}
 use Rattle.loading_laws.proofs.Members.Ranks.{same_equal}
 use Rattle.loading_laws.proofs.Strategies.KeyOrder.{key_of_stand}
 use Rattle.loading_laws.proofs.Strategies.Standing.{found_stands}

@@ -26,7 +26,8 @@ use Rattle.load_rows.specs.Loading.{Loading}
 use Rattle.load_rows.specs.Reading.{identity_key}
 use Rattle.load_calls.specs.Reading.{World, read}
 use Rattle.load_collections.specs.Collections.{take_rows}
-use Rattle.load_queries.specs.Queries.{firsts, load_select, take_objects}
+use Rattle.object_parts.specs.Lists.{firsts}
+use Rattle.load_queries.specs.Queries.{load_select, take_objects}
 use Rattle.joined_rows.specs.declared.parts.Part.{Part}
 use Rattle.joined_rows.specs.Parts.{own_values, part_at, parts_from, parts_of, width_of}
 use Rattle.object_parts.specs.declared.answers.Taken.{Taken}

@@ -22,7 +22,7 @@ use Rattle.object_arena.specs.Identity.{find_identity}
 use Rattle.relations.specs.Mirror.{is_of}
 use Rattle.load_filling.specs.Rows.{row_key}
 use Rattle.load_links.specs.Links.{link_at}
-use Rattle.load_queries.specs.Queries.{firsts, with_first}
+use Rattle.object_parts.specs.Lists.{firsts, with_first}
 use Rattle.joined_rows.specs.declared.parts.Part.{Part}
 use Rattle.joined_rows.specs.Parts.{own_values}
 use Rattle.object_parts.specs.declared.answers.Taken.{Taken}

@@ -37,7 +37,8 @@ use Rattle.load_rows.specs.Loading.{Loading, take_row}
 use Rattle.load_rows.specs.Reading.{IsRowOf}
 use Rattle.load_calls.specs.Reading.{World, read}
 use Rattle.load_collections.specs.Collections.{take_next, take_rows}
-use Rattle.load_queries.specs.Queries.{firsts, load_select, take_objects}
+use Rattle.object_parts.specs.Lists.{firsts}
+use Rattle.load_queries.specs.Queries.{load_select, take_objects}
 use Rattle.load_queries.proofs.FirstSteps.{firsts_all}
 use Rattle.load_queries.proofs.QuerySteps.{query_rows}
 use Rattle.load_selectin.proofs.OwnerLemmas.{owner_under}

@@ -42,7 +42,8 @@ use Rattle.load_rows.specs.Loading.{Loading, filled, found_in_row, is_same_colum
 use Rattle.load_rows.specs.Reading.{identity_key}
 use Rattle.load_calls.specs.Reading.{World, read}
 use Rattle.load_collections.specs.Collections.{take_next, take_rows}
-use Rattle.load_queries.specs.Queries.{firsts, load_select, take_objects}
+use Rattle.object_parts.specs.Lists.{firsts}
+use Rattle.load_queries.specs.Queries.{load_select, take_objects}
 use Rattle.load_targets.specs.ForeignKeys.{value_of}
 use Rattle.legality_laws.specs.Legality.{AreSound}
 use Rattle.loading_laws.proofs.Members.Choices.{Choice, chosen}

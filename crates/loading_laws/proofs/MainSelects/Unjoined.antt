@@ -18,7 +18,8 @@ use Rattle.load_filling.specs.Rows.{row_object}
 use Rattle.load_rows.specs.Loading.{Loading, take_row, taken_as}
 use Rattle.load_calls.specs.Reading.{World, read}
 use Rattle.load_collections.specs.Collections.{take_next, take_rows}
-use Rattle.load_queries.specs.Queries.{firsts, load_select, take_objects}
+use Rattle.object_parts.specs.Lists.{firsts}
+use Rattle.load_queries.specs.Queries.{load_select, take_objects}
 use Rattle.main_selects.specs.MainSelect.{main_select, with_joined, with_shifted}
 use Rattle.main_selects.specs.Shifted.{shifted}
 use Rattle.joined_rows.specs.Parts.{parts_of}
